@@ -31,7 +31,7 @@ module _ {V B : Type 0} {step : V → Event → V} {old new : V} {limit : Option
       → TakesBytes step old new limit place (b ∷ []) next
   performs-escape {parser} {next} is e holds place s closed =
       let reads : BytesLead limit place (escape ∷ []) (closing_events_at limit place) AtEscape =
-      reads-escape limit place (stands-place parser place s) in
+      reads-escape (stands-place parser place s) in
       subst (λ c. TakesBytes step old new limit place (c ∷ []) next) (sym is)
       (record {
         told = closing_events_at limit place;

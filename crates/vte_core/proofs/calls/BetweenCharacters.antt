@@ -31,7 +31,7 @@ module _ {V B : Type 0} {step : V → Event → V} {old new : V} {limit : Option
         next = InText [];
         performed = performed;
         stands = s;
-        leads = text-whole limit [] b whole;
+        leads = text-whole whole;
       })
 
   -- a byte that begins none
@@ -46,7 +46,7 @@ module _ {V B : Type 0} {step : V → Event → V} {old new : V} {limit : Option
         next = InText [];
         performed = performed;
         stands = s;
-        leads = text-lone limit b whole more;
+        leads = text-lone whole more;
       })
 
   -- a character of ASCII that is printed
@@ -85,7 +85,7 @@ performs-opened {limit} {b} {v} {next} e n carries state =
       next = InText (b ∷ []);
       performed = refl;
       stands = stands-by state (carries.0, more);
-      leads = text-unfinished limit [] b;
+      leads = text-unfinished;
     })
 
 -- ---- what a byte tells that is neither printed nor begins a longer one
@@ -109,8 +109,8 @@ byte-single limit b n other no_lead = elim (cases_lt b 0x80) [
   | inl low ↦ record {
     told = character_event b ∷ [];
     reads =
-        reads-byte limit (InText []) (InText []) b _ (not_escape b n)
-        (text-whole limit [] b (ascii_alone b low).is_whole);
+        reads-byte (not_escape b n)
+        (text-whole (ascii_alone b low).is_whole);
     events_are = quiet-control b (grind (arith, nat_tests));
   }
   | inr high ↦
@@ -118,8 +118,8 @@ byte-single limit b n other no_lead = elim (cases_lt b 0x80) [
       record {
         told = malformed_event (b ∷ []) ∷ [];
         reads =
-            reads-byte limit (InText []) (InText []) b _ (not_escape b n)
-            (text-lone limit b lone.is_whole lone.is_open);
+            reads-byte (not_escape b n)
+            (text-lone lone.is_whole lone.is_open);
         events_are = quiet-malformed b;
       }
 ]

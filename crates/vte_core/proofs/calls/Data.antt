@@ -20,7 +20,7 @@ advances-by {call} {parser} (suc n) i begun within are none =
     rw (drop_more call.bytes i 0 here) (advances-moved (omega arith) (advances-then
     (advances-part
     (advances-in begun here refl (λ does. absurd (false≢true (sym none ∙ does))) (data_ends_nothing _ put)
-    (takes-in_data parser (takes-byte (Put b ∷ []) InDeviceData refl (stands-by begun tt) (data-put _ b put)))
+    (takes-in_data parser (takes-byte (Put b ∷ []) InDeviceData refl (stands-by begun tt) (data-put put)))
     (settled-by _ _ begun tt)))
     (advances-by n (i + 1) begun (omega (arith, within))
     (λ k low high. are k (omega (arith, low)) (omega (arith, high))) none)))

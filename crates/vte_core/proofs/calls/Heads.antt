@@ -136,8 +136,8 @@ head-stands DeviceHead limit progress parser head e s = record { by = rw e s }
 
 head-leads : (shape : Shape) (limit : Option ℕ) (head : List ℕ) (b : ℕ) → is_head_byte (class_of b) ≡ true
     → Leads limit (in_head shape head) b [] (in_head shape (head ++ b ∷ []))
-head-leads ControlHead limit head b is = control-head limit head b is
-head-leads DeviceHead limit head b is = device-head limit head b is
+head-leads ControlHead limit head b is = control-head is
+head-leads DeviceHead limit head b is = device-head is
 
 head-is_place : (shape : Shape) (head : List ℕ) → IsPlace (in_head shape head)
 head-is_place ControlHead head = tt
@@ -170,7 +170,7 @@ module _ {V : Type 0} {call : ChunkCall V} where
       let both : AreInClass is_head_byte (b ∷ take n (drop (i + 1) call.bytes)) = rw cut at more in
       let place = head-is_place shape (head ++ b ∷ []) in
       let reads =
-      reads-byte call.limit (in_head shape head) (in_head shape (head ++ b ∷ [])) b []
+      reads-byte
       (no_escape b (head_ends_nothing (class_of b) both.0)) (head-leads shape call.limit head b both.0) in
       let one =
       come-settled place (head-settled_place shape (head ++ b ∷ []))

@@ -75,9 +75,9 @@ module _ {V B : Type 0} {call : ChunkCall V} {old mid : V} {stream : List ℕ} w
         has_come =
             come-carried {these = []} t.begun within is (truncated-some (bytes_of u) opened)
             (breaks-unfinished (bytes_of u) b more)
-            (reads-byte call.limit (InText (bytes_of u)) (InText (bytes_of u ++ b ∷ [])) b []
+            (reads-byte
             (carried_is_no_escape (bytes_of u) b opened (inr more))
-            (text-unfinished call.limit (bytes_of u) b)) refl (may_continue-truncated (bytes_of u ++ b ∷ []) more)
+            (text-unfinished)) refl (may_continue-truncated (bytes_of u ++ b ∷ []) more)
             (subst (ProgressInside call old mid stream i) t.same s.has_come);
       }
 
@@ -94,8 +94,8 @@ module _ {V B : Type 0} {call : ChunkCall V} {old mid : V} {stream : List ℕ} w
       {these = character_event (scalar_of (bytes_of u ++ b ∷ [])) ∷ []} t.begun within is
       (truncated-some (bytes_of u) opened)
       (breaks-whole (bytes_of u) b carries.0)
-      (reads-byte call.limit (InText (bytes_of u)) (InText []) b _
-      (carried_is_no_escape (bytes_of u) b opened (inl carries.0)) (text-whole call.limit (bytes_of u) b carries.0))
+      (reads-byte
+      (carried_is_no_escape (bytes_of u) b opened (inl carries.0)) (text-whole carries.0))
       (performed ∙ ap (λ n. call.step mid (character_event n)) carries.1) refl
       (subst (ProgressInside call old mid stream i) t.same s.has_come) in
       subst (λ n. StandsAt call old new stream n next) (sym later)

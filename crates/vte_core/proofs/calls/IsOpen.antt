@@ -28,7 +28,7 @@ probe-gives : (limit : Option ℕ) (stream : List ℕ) {place next : Place} {b :
     → IsProbe b → IsAfter limit stream place → Leads limit place b told next → IsPlace next
     → added limit stream (b ∷ []) ≡ told
 probe-gives limit stream {place} {next} {b} {told} d a leads =
-    added-reads limit stream (b ∷ []) place next told a (reads-byte limit place next b told d.other leads)
+    added-reads limit stream (b ∷ []) place next told a (reads-byte d.other leads)
 
 -- it breaks a character
 probe-in_character : (limit : Option ℕ) (stream u : List ℕ) (b : ℕ)
@@ -49,19 +49,19 @@ probe-not_alone limit stream (InText (c ∷ u)) b d is a other = λ alone.
     let e = sym alone ∙ probe-in_character limit stream (c ∷ u) b d is a in
     let same : b ≡ replacement = cc in omega (arith, same, d.high)
 probe-not_alone limit stream AtEscape b d is a other = λ alone.
-    let e = sym alone ∙ probe-gives limit stream d a (escape-end limit b Digit d.class refl d.key) refl in cc
+    let e = sym alone ∙ probe-gives limit stream d a (escape-end d.class refl d.key) refl in cc
 probe-not_alone limit stream (InEscape ints) b d is a other = λ alone.
-    let e = sym alone ∙ probe-gives limit stream d a (intermediate-end limit ints b Digit d.class refl) refl in cc
+    let e = sym alone ∙ probe-gives limit stream d a (intermediate-end d.class refl) refl in cc
 probe-not_alone limit stream (InControlSequence head) b d is a other = λ alone.
-    let e = sym alone ∙ probe-gives limit stream d a (control-head limit head b (rw d.class refl)) tt in cc
+    let e = sym alone ∙ probe-gives limit stream d a (control-head (rw d.class refl)) tt in cc
 probe-not_alone limit stream (InDeviceControl head) b d is a other = λ alone.
-    let e = sym alone ∙ probe-gives limit stream d a (device-head limit head b (rw d.class refl)) tt in cc
+    let e = sym alone ∙ probe-gives limit stream d a (device-head (rw d.class refl)) tt in cc
 probe-not_alone limit stream InDeviceData b d is a other = λ alone.
-    let e = sym alone ∙ probe-gives limit stream d a (data-put limit b (rw d.class refl)) tt in cc
+    let e = sym alone ∙ probe-gives limit stream d a (data-put (rw d.class refl)) tt in cc
 probe-not_alone limit stream (InSystemCommand items) b d is a other = λ alone.
-    let e = sym alone ∙ probe-gives limit stream d a (command-item limit items b d.low) tt in cc
+    let e = sym alone ∙ probe-gives limit stream d a (command-item d.low) tt in cc
 probe-not_alone limit stream InIgnoredString b d is a other = λ alone.
-    let e = sym alone ∙ probe-gives limit stream d a (ignored-more limit b (rw d.class refl)) tt in cc
+    let e = sym alone ∙ probe-gives limit stream d a (ignored-more (rw d.class refl)) tt in cc
 
 -- the state between characters
 pub record IsClosed (state : State) : Type 0 where

@@ -34,7 +34,7 @@ performs-dropped {limit} {b} {parser} begun head final ordinary control =
     let dropped = left_is_dropped (class_of b) head final ordinary control in
     performs-in begun ordinary
     (takes-at_escape parser
-    (λ holds. takes-byte [] AtEscape refl (stands-by begun holds) (byte-dropped limit AtEscape b _ refl refl dropped)))
+    (λ holds. takes-byte [] AtEscape refl (stands-by begun holds) (byte-dropped refl refl dropped)))
 
 -- ESC [
 pub advances-bracket : {outside V B : Type 0} {call : ChunkCall V} {value : V} {i b : ℕ} {parser next : Machine B}
@@ -46,4 +46,4 @@ advances-bracket {call} {parser} begun within is may_go_on bracket state holds =
     advances-when tt (advances-in begun within is may_go_on (rw bracket refl)
     (takes-at_escape parser
     (λ before. takes-byte [] (InControlSequence []) refl (stands-by state (holds before))
-    (rw bracket (escape-key call.limit 0x5b _ refl refl refl)))) (settled-by _ _ state tt))
+    (rw bracket (escape-key _ refl refl refl)))) (settled-by _ _ state tt))

@@ -38,5 +38,5 @@ item_is_no_escape b low = grind (arith, nat_tests)
 pub reads-item : (limit : Option ℕ) (items : List ℕ) (b : ℕ) → 0x20 ≤ b
     → BytesLead limit (InSystemCommand items) (b ∷ []) [] (InSystemCommand (items ++ b ∷ []))
 reads-item limit items b low =
-    reads-byte limit (InSystemCommand items) (InSystemCommand (items ++ b ∷ [])) b [] (item_is_no_escape b low)
-    (command-item limit items b low)
+    reads-byte (item_is_no_escape b low)
+    (command-item low)

@@ -103,16 +103,16 @@ data-by_place limit parser _ s = absurd s
 
 reads-data : (limit : Option ℕ) (bytes : List ℕ) (n i : ℕ) → i + n ≤ length bytes → ArePut bytes i (i + n)
     → BytesLead limit InDeviceData (take n (drop i bytes)) (map Put (take n (drop i bytes))) InDeviceData
-reads-data limit bytes zero i within are = reads-nothing limit InDeviceData
+reads-data limit bytes zero i within are = reads-nothing
 reads-data limit bytes (suc n) i within are =
     let b : ℕ = slice_index bytes i in
     let here : i < length bytes = omega (arith, within) in
     let put = are i (omega arith) (omega arith) in
     let rest : List ℕ = take n (drop (i + 1) bytes) in
     rw (drop_more bytes i 0 here)
-    (reads-append limit InDeviceData InDeviceData InDeviceData (b ∷ []) rest (Put b ∷ []) (map Put rest)
-    (reads-byte limit InDeviceData InDeviceData b (Put b ∷ []) (no_escape b (data_ends_nothing (class_of b) put))
-    (data-put limit b put))
+    (reads-append
+    (reads-byte (no_escape b (data_ends_nothing (class_of b) put))
+    (data-put put))
     (reads-data limit bytes n (i + 1) (omega (arith, within))
     (λ k low high. are k (omega (arith, low)) (omega (arith, high)))))
 

@@ -22,15 +22,15 @@ drops InDeviceData = false
 drops (InSystemCommand items) = false
 drops _ = true
 
-pub byte-dropped : (limit : Option ℕ) (place : Place) (b : ℕ) (k : Class) → drops place ≡ true → class_of b ≡ k
+pub byte-dropped : {limit : Option ℕ} {place : Place} {b : ℕ} {k : Class} → drops place ≡ true → class_of b ≡ k
     → is_dropped k ≡ true → Leads limit place b [] place
 unfolding body_outcome escape_from control_sequence_from device_control_from ignored_string_outcome executed_events
-byte-dropped limit (InText u) b k at e h = cc
-byte-dropped limit InDeviceData b k at e h = cc
-byte-dropped limit (InSystemCommand items) b k at e h = cc
-byte-dropped limit _ b Delete at e h = record { leads = λ rest. simp e }
-byte-dropped limit _ b High at e h = record { leads = λ rest. simp e }
-byte-dropped limit _ b _ at e h = cc
+byte-dropped {place = InText u} at e h = cc
+byte-dropped {place = InDeviceData} at e h = cc
+byte-dropped {place = InSystemCommand items} at e h = cc
+byte-dropped {k = Delete} at e h = record { leads = λ rest. simp e }
+byte-dropped {k = High} at e h = record { leads = λ rest. simp e }
+byte-dropped at e h = cc
 
 -- ---- C0
 
@@ -41,20 +41,20 @@ executes (InEscape intermediates) = true
 executes (InControlSequence head) = true
 executes _ = false
 
-pub byte-executed : (limit : Option ℕ) (place : Place) (b : ℕ) → executes place ≡ true → class_of b ≡ Control
+pub byte-executed : {limit : Option ℕ} {place : Place} {b : ℕ} → executes place ≡ true → class_of b ≡ Control
     → Leads limit place b (Execute b ∷ []) place
 unfolding body_outcome escape_from control_sequence_from executed_events
-byte-executed limit AtEscape b at e = record { leads = λ rest. simp e }
-byte-executed limit (InEscape ints) b at e = record { leads = λ rest. simp e }
-byte-executed limit (InControlSequence head) b at e = record { leads = λ rest. simp e }
-byte-executed limit _ b at e = cc
+byte-executed {place = AtEscape} at e = record { leads = λ rest. simp e }
+byte-executed {place = InEscape ints} at e = record { leads = λ rest. simp e }
+byte-executed {place = InControlSequence head} at e = record { leads = λ rest. simp e }
+byte-executed at e = cc
 
 -- ---- after ESC
 
-pub escape-intermediate : (limit : Option ℕ) (b : ℕ) → class_of b ≡ Intermediate
+pub escape-intermediate : {limit : Option ℕ} {b : ℕ} → class_of b ≡ Intermediate
     → Leads limit AtEscape b [] (InEscape (b ∷ []))
 unfolding body_outcome executed_events escape_outcome escape_from
-escape-intermediate limit b e =
+escape-intermediate {b} e =
     let s = spans b Intermediate e in record { leads = λ rest. simp (e, below_finals b (omega arith)) }
 
 -- the place after a key that begins a body
@@ -69,89 +69,89 @@ abbrev pub begins_body : SequenceKind → Bool
 begins_body EscapeSequence = false
 begins_body _ = true
 
-pub escape-key : (limit : Option ℕ) (b : ℕ) (k : SequenceKind) → class_of b ≡ Final → sequence_kind b ≡ k
+pub escape-key : {limit : Option ℕ} {b : ℕ} (k : SequenceKind) → class_of b ≡ Final → sequence_kind b ≡ k
     → begins_body k ≡ true
     → Leads limit AtEscape b [] (begun_by k)
 unfolding body_outcome executed_events control_sequence_outcome control_sequence_from device_control_outcome
     device_control_from system_command_outcome system_command_from
-escape-key limit b EscapeSequence e is begins = cc
-escape-key limit b _ e is begins = record { leads = λ rest. simp (e, is) }
+escape-key EscapeSequence e is begins = cc
+escape-key _ e is begins = record { leads = λ rest. simp (e, is) }
 
 -- ---- after ESC and intermediates
 
-pub intermediate-more : (limit : Option ℕ) (ints : List ℕ) (b : ℕ) → class_of b ≡ Intermediate
+pub intermediate-more : {limit : Option ℕ} {ints : List ℕ} {b : ℕ} → class_of b ≡ Intermediate
     → Leads limit (InEscape ints) b [] (InEscape (ints ++ b ∷ []))
 unfolding escape_from executed_events
-intermediate-more limit ints b e = record { leads = λ rest. simp (e, append_assoc) }
+intermediate-more e = record { leads = λ rest. simp (e, append_assoc) }
 
-pub intermediate-end : (limit : Option ℕ) (ints : List ℕ) (b : ℕ) (k : Class) → class_of b ≡ k
+pub intermediate-end : {limit : Option ℕ} {ints : List ℕ} {b : ℕ} {k : Class} → class_of b ≡ k
     → dispatches_escape k ≡ true
     → Leads limit (InEscape ints) b (EscDispatch (first_two ints) (are_too_many ints) b ∷ []) (InText [])
 unfolding escape_from executed_events
-intermediate-end limit ints b Digit e h = record { leads = λ rest. simp (e, append-nil) }
-intermediate-end limit ints b Colon e h = record { leads = λ rest. simp (e, append-nil) }
-intermediate-end limit ints b Semicolon e h = record { leads = λ rest. simp (e, append-nil) }
-intermediate-end limit ints b Marker e h = record { leads = λ rest. simp (e, append-nil) }
-intermediate-end limit ints b Final e h = record { leads = λ rest. simp (e, append-nil) }
-intermediate-end limit ints b _ e h = cc
+intermediate-end {k = Digit} e h = record { leads = λ rest. simp (e, append-nil) }
+intermediate-end {k = Colon} e h = record { leads = λ rest. simp (e, append-nil) }
+intermediate-end {k = Semicolon} e h = record { leads = λ rest. simp (e, append-nil) }
+intermediate-end {k = Marker} e h = record { leads = λ rest. simp (e, append-nil) }
+intermediate-end {k = Final} e h = record { leads = λ rest. simp (e, append-nil) }
+intermediate-end e h = cc
 
 -- where it has no other meaning after ESC
-pub escape-end : (limit : Option ℕ) (b : ℕ) (k : Class) → class_of b ≡ k → dispatches_escape k ≡ true
+pub escape-end : {limit : Option ℕ} {b : ℕ} {k : Class} → class_of b ≡ k → dispatches_escape k ≡ true
     → sequence_kind b ≡ EscapeSequence
     → Leads limit AtEscape b (EscDispatch [] false b ∷ []) (InText [])
 unfolding body_outcome executed_events escape_outcome
-escape-end limit b Digit e h key = record { leads = λ rest. simp (e, key) }
-escape-end limit b Colon e h key = record { leads = λ rest. simp (e, key) }
-escape-end limit b Semicolon e h key = record { leads = λ rest. simp (e, key) }
-escape-end limit b Marker e h key = record { leads = λ rest. simp (e, key) }
-escape-end limit b Final e h key = record { leads = λ rest. simp (e, key) }
-escape-end limit b _ e h key = cc
+escape-end {k = Digit} e h key = record { leads = λ rest. simp (e, key) }
+escape-end {k = Colon} e h key = record { leads = λ rest. simp (e, key) }
+escape-end {k = Semicolon} e h key = record { leads = λ rest. simp (e, key) }
+escape-end {k = Marker} e h key = record { leads = λ rest. simp (e, key) }
+escape-end {k = Final} e h key = record { leads = λ rest. simp (e, key) }
+escape-end e h key = cc
 
 -- ---- in the head of a control sequence
 
-pub control-head : (limit : Option ℕ) (head : List ℕ) (b : ℕ) → is_head_byte (class_of b) ≡ true
+pub control-head : {limit : Option ℕ} {head : List ℕ} {b : ℕ} → is_head_byte (class_of b) ≡ true
     → Leads limit (InControlSequence head) b [] (InControlSequence (head ++ b ∷ []))
 unfolding control_sequence_from executed_events
-control-head limit head b is =
+control-head {b} is =
     record {
       leads = λ rest.
           simp (is, head_is_no_control (class_of b) is, head_is_no_end (class_of b) is, append_assoc);
     }
 
-pub control-dispatched : (limit : Option ℕ) (head : List ℕ) (b : ℕ) → class_of b ≡ Final
+pub control-dispatched : {limit : Option ℕ} {head : List ℕ} {b : ℕ} → class_of b ≡ Final
     → is_well_shaped (head_of head) ≡ true
     → Leads limit (InControlSequence head) b (sequence_event CsiDispatch (head_of head) b ∷ []) (InText [])
 unfolding control_sequence_from control_sequence_end executed_events
-control-dispatched limit head b e well = record { leads = λ rest. simp (e, append-nil, well) }
+control-dispatched e well = record { leads = λ rest. simp (e, append-nil, well) }
 
-pub control-silent : (limit : Option ℕ) (head : List ℕ) (b : ℕ) → class_of b ≡ Final
+pub control-silent : {limit : Option ℕ} {head : List ℕ} {b : ℕ} → class_of b ≡ Final
     → is_well_shaped (head_of head) ≡ false → Leads limit (InControlSequence head) b [] (InText [])
 unfolding control_sequence_from control_sequence_end executed_events
-control-silent limit head b e ill = record { leads = λ rest. simp (e, append-nil, ill) }
+control-silent e ill = record { leads = λ rest. simp (e, append-nil, ill) }
 
 -- ---- in the head of a device control string
 
-pub device-dropped : (limit : Option ℕ) (head : List ℕ) (b : ℕ) (k : Class) → class_of b ≡ k
+pub device-dropped : {limit : Option ℕ} {head : List ℕ} {b : ℕ} {k : Class} → class_of b ≡ k
     → is_dropped_in_head k ≡ true → Leads limit (InDeviceControl head) b [] (InDeviceControl head)
 unfolding device_control_from
-device-dropped limit head b Control e h = record { leads = λ rest. simp e }
-device-dropped limit head b k e h = byte-dropped limit (InDeviceControl head) b k refl e h
+device-dropped {k = Control} e h = record { leads = λ rest. simp e }
+device-dropped e h = byte-dropped refl e h
 
-pub device-head : (limit : Option ℕ) (head : List ℕ) (b : ℕ) → is_head_byte (class_of b) ≡ true
+pub device-head : {limit : Option ℕ} {head : List ℕ} {b : ℕ} → is_head_byte (class_of b) ≡ true
     → Leads limit (InDeviceControl head) b [] (InDeviceControl (head ++ b ∷ []))
 unfolding device_control_from
-device-head limit head b is = record { leads = λ rest. simp (is, head_is_no_end (class_of b) is, append_assoc) }
+device-head {b} is = record { leads = λ rest. simp (is, head_is_no_end (class_of b) is, append_assoc) }
 
-pub device-well_shaped : (limit : Option ℕ) (head : List ℕ) (b : ℕ) → class_of b ≡ Final
+pub device-well_shaped : {limit : Option ℕ} {head : List ℕ} {b : ℕ} → class_of b ≡ Final
     → is_well_shaped (head_of head) ≡ true
     → Leads limit (InDeviceControl head) b (sequence_event Hook (head_of head) b ∷ []) InDeviceData
 unfolding device_control_from device_control_after_head
-device-well_shaped limit head b e well = record { leads = λ rest. simp (e, append-nil, well) }
+device-well_shaped e well = record { leads = λ rest. simp (e, append-nil, well) }
 
-pub device-ill_shaped : (limit : Option ℕ) (head : List ℕ) (b : ℕ) → class_of b ≡ Final
+pub device-ill_shaped : {limit : Option ℕ} {head : List ℕ} {b : ℕ} → class_of b ≡ Final
     → is_well_shaped (head_of head) ≡ false → Leads limit (InDeviceControl head) b [] InIgnoredString
 unfolding device_control_from device_control_after_head
-device-ill_shaped limit head b e ill = record { leads = λ rest. simp (e, append-nil, ill) }
+device-ill_shaped e ill = record { leads = λ rest. simp (e, append-nil, ill) }
 
 -- ---- in the data of a hooked string
 
@@ -160,20 +160,20 @@ data_is_no_end : (b : ℕ) → is_device_data (class_of b) ≡ true → ends_dev
 unfolding class_of
 data_is_no_end b h = grind (arith, nat_tests)
 
-pub data-put : (limit : Option ℕ) (b : ℕ) → is_device_data (class_of b) ≡ true
+pub data-put : {limit : Option ℕ} {b : ℕ} → is_device_data (class_of b) ≡ true
     → Leads limit InDeviceData b (Put b ∷ []) InDeviceData
 unfolding device_data_outcome
-data-put limit b is = record { leads = λ rest. simp (is, data_is_no_end b is) }
+data-put {b} is = record { leads = λ rest. simp (is, data_is_no_end b is) }
 
-pub data-dropped : (limit : Option ℕ) (b : ℕ) → ends_device_data b ≡ false → is_device_data (class_of b) ≡ false
+pub data-dropped : {limit : Option ℕ} {b : ℕ} → ends_device_data b ≡ false → is_device_data (class_of b) ≡ false
     → Leads limit InDeviceData b [] InDeviceData
 unfolding device_data_outcome
-data-dropped limit b on none = record { leads = λ rest. simp (on, none) }
+data-dropped on none = record { leads = λ rest. simp (on, none) }
 
-pub data-terminator : (limit : Option ℕ) (b : ℕ) → class_of b ≡ High → eqb b 0x9c ≡ true
+pub data-terminator : {limit : Option ℕ} {b : ℕ} → class_of b ≡ High → eqb b 0x9c ≡ true
     → Leads limit InDeviceData b (Unhook ∷ []) (InText [])
 unfolding device_data_outcome
-data-terminator limit b e is = record { leads = λ rest. simp (e, is) }
+data-terminator e is = record { leads = λ rest. simp (e, is) }
 
 -- ---- in an operating system command
 
@@ -181,44 +181,44 @@ item_is_no_end : (b : ℕ) → 0x20 ≤ b → ends_command b ≡ false
 unfolding class_of
 item_is_no_end b low = grind (arith, nat_tests)
 
-pub command-item : (limit : Option ℕ) (items : List ℕ) (b : ℕ) → 0x20 ≤ b
+pub command-item : {limit : Option ℕ} {items : List ℕ} {b : ℕ} → 0x20 ≤ b
     → Leads limit (InSystemCommand items) b [] (InSystemCommand (items ++ b ∷ []))
 unfolding system_command_from
-command-item limit items b low =
+command-item {b} low =
     let is : nat_le 0x20 b ≡ true =
     grind (arith, nat_tests) in record { leads = λ rest. simp (item_is_no_end b low, is, append_assoc) }
 
 -- C0 but BEL is dropped
-pub command-control : (limit : Option ℕ) (items : List ℕ) (b : ℕ) → class_of b ≡ Control → eqb b bell ≡ false
+pub command-control : {limit : Option ℕ} {items : List ℕ} {b : ℕ} → class_of b ≡ Control → eqb b bell ≡ false
     → Leads limit (InSystemCommand items) b [] (InSystemCommand items)
 unfolding system_command_from
-command-control limit items b e other =
+command-control {b} e other =
     let low = spans b Control e in
     let none : nat_le 0x20 b ≡ false = grind (arith, nat_tests) in
     record { leads = λ rest. simp (e, other, none) }
 
-pub command-bell : (limit : Option ℕ) (items : List ℕ) (b : ℕ) → class_of b ≡ Control → eqb b bell ≡ true
+pub command-bell : {limit : Option ℕ} {items : List ℕ} {b : ℕ} → class_of b ≡ Control → eqb b bell ≡ true
     → Leads limit (InSystemCommand items) b (OscDispatch (pieces_of limit items) true ∷ []) (InText [])
 unfolding system_command_from
-command-bell limit items b e is = record { leads = λ rest. simp (e, is, append-nil) }
+command-bell e is = record { leads = λ rest. simp (e, is, append-nil) }
 
 -- ---- in a string that means nothing
 
-pub ignored-more : (limit : Option ℕ) (b : ℕ) → is_cancel (class_of b) ≡ false
+pub ignored-more : {limit : Option ℕ} {b : ℕ} → is_cancel (class_of b) ≡ false
     → Leads limit InIgnoredString b [] InIgnoredString
 unfolding ignored_string_outcome
-ignored-more limit b other = record { leads = λ rest. simp other }
+ignored-more other = record { leads = λ rest. simp other }
 
 -- ---- in a text
 
-pub text-unfinished : (limit : Option ℕ) (u : List ℕ) (b : ℕ) → Leads limit (InText u) b [] (InText (u ++ b ∷ []))
-text-unfinished limit u b = record { leads = λ rest. ap text_outcome (sym (append_assoc u (b ∷ []) rest)) }
+pub text-unfinished : {limit : Option ℕ} {u : List ℕ} {b : ℕ} → Leads limit (InText u) b [] (InText (u ++ b ∷ []))
+text-unfinished {u} {b} = record { leads = λ rest. ap text_outcome (sym (append_assoc u (b ∷ []) rest)) }
 
-pub text-whole : (limit : Option ℕ) (u : List ℕ) (b : ℕ) → is_well_formed (u ++ b ∷ []) ≡ true
+pub text-whole : {limit : Option ℕ} {u : List ℕ} {b : ℕ} → is_well_formed (u ++ b ∷ []) ≡ true
     → Leads limit (InText u) b (character_event (scalar_of (u ++ b ∷ [])) ∷ []) (InText [])
-text-whole limit u b whole =
+text-whole {u} {b} whole =
     record { leads = λ rest. rw append_assoc at (text_outcome-well_formed (u ++ b ∷ []) rest whole) }
 
-pub text-lone : (limit : Option ℕ) (b : ℕ) → is_well_formed (b ∷ []) ≡ false → is_truncated (b ∷ []) ≡ false
+pub text-lone : {limit : Option ℕ} {b : ℕ} → is_well_formed (b ∷ []) ≡ false → is_truncated (b ∷ []) ≡ false
     → Leads limit (InText []) b (malformed_event (b ∷ []) ∷ []) (InText [])
-text-lone limit b whole more = record { leads = λ rest. text_lone rest b whole more }
+text-lone {b} whole more = record { leads = λ rest. text_lone rest b whole more }

@@ -58,7 +58,7 @@ module _ {limit : Option ℕ} {place next : Place} {b : ℕ} where
         told = told;
         next = next;
         is_place = none.2;
-        reads = reads-byte limit place next b told other leads;
+        reads = reads-byte other leads;
         brief = brief;
         grows = λ _. omega (arith, none.1);
         leaves = inl none.0;
@@ -89,22 +89,22 @@ step-final : (limit : Option ℕ) (b : ℕ) (k : SequenceKind) → class_of b �
     → Steps limit AtEscape b
 step-final limit b EscapeSequence is k =
     let s = spans b Final is in
-    step-sequenced is refl (tt, tt) (escape-end limit b Final is refl k) (λ _ _. (omega arith, s.1, omega arith))
+    step-sequenced is refl (tt, tt) (escape-end is refl k) (λ _ _. (omega arith, s.1, omega arith))
     (λ _. tt)
-step-final limit b key is k = step-silent is refl (tt, tt) (escape-key limit b key is k refl)
+step-final limit b key is k = step-silent is refl (tt, tt) (escape-key key is k refl)
 
 step-escape : (limit : Option ℕ) (b : ℕ) (k : Class) → class_of b ≡ k → ends_body k ≡ false → Steps limit AtEscape b
-step-escape limit b Control is no_end = step-executed is (tt, tt) (byte-executed limit AtEscape b refl is)
-step-escape limit b Intermediate is no_end = step-silent is no_end (tt, tt) (escape-intermediate limit b is)
+step-escape limit b Control is no_end = step-executed is (tt, tt) (byte-executed refl is)
+step-escape limit b Intermediate is no_end = step-silent is no_end (tt, tt) (escape-intermediate is)
 step-escape limit b Final is no_end = step-final limit b (sequence_kind b) is refl
 step-escape limit b Delete is no_end =
-    step-silent is no_end (tt, tt) (byte-dropped limit AtEscape b Delete refl is refl)
-step-escape limit b High is no_end = step-silent is no_end (tt, tt) (byte-dropped limit AtEscape b High refl is refl)
+    step-silent is no_end (tt, tt) (byte-dropped refl is refl)
+step-escape limit b High is no_end = step-silent is no_end (tt, tt) (byte-dropped refl is refl)
 step-escape limit b Cancel is no_end = cc
 step-escape limit b Escape is no_end = cc
 step-escape limit b k is no_end =
     let s = spans b k is in
-    step-sequenced is no_end (tt, tt) (escape-end limit b k is refl (below_finals b (omega arith)))
+    step-sequenced is no_end (tt, tt) (escape-end is refl (below_finals b (omega arith)))
     (λ _ _. (omega arith, omega arith, omega arith)) (λ _. tt)
 
 -- ---- after ESC and intermediates
@@ -112,18 +112,18 @@ step-escape limit b k is no_end =
 step-intermediate : (limit : Option ℕ) (ints : List ℕ) (b : ℕ) (k : Class) → class_of b ≡ k → ends_body k ≡ false
     → Steps limit (InEscape ints) b
 step-intermediate limit ints b Control is no_end =
-    step-executed is (tt, tt) (byte-executed limit (InEscape ints) b refl is)
+    step-executed is (tt, tt) (byte-executed refl is)
 step-intermediate limit ints b Intermediate is no_end =
-    step-silent is no_end (tt, tt) (intermediate-more limit ints b is)
+    step-silent is no_end (tt, tt) (intermediate-more is)
 step-intermediate limit ints b Delete is no_end =
-    step-silent is no_end (tt, tt) (byte-dropped limit (InEscape ints) b Delete refl is refl)
+    step-silent is no_end (tt, tt) (byte-dropped refl is refl)
 step-intermediate limit ints b High is no_end =
-    step-silent is no_end (tt, tt) (byte-dropped limit (InEscape ints) b High refl is refl)
+    step-silent is no_end (tt, tt) (byte-dropped refl is refl)
 step-intermediate limit ints b Cancel is no_end = cc
 step-intermediate limit ints b Escape is no_end = cc
 step-intermediate limit ints b k is no_end =
     let s = spans b k is in
-    step-sequenced is no_end (tt, tt) (intermediate-end limit ints b k is refl)
+    step-sequenced is no_end (tt, tt) (intermediate-end is refl)
     (λ _ _. (two_at_most ints, omega arith, omega arith)) (λ _. tt)
 
 -- ---- in the head of a control sequence
@@ -132,20 +132,20 @@ step-control : (limit : Option ℕ) (head : List ℕ) (b : ℕ) (k : Class) → 
     → Steps limit (InControlSequence head) b
 unfolding sequence_event
 step-control limit head b Control is no_end =
-    step-executed is (tt, tt) (byte-executed limit (InControlSequence head) b refl is)
+    step-executed is (tt, tt) (byte-executed refl is)
 step-control limit head b Final is no_end = elim (cases_Bool (is_well_shaped (head_of head))) [
   | inl well ↦
-      step-sequenced is no_end (tt, tt) (control-dispatched limit head b is well)
+      step-sequenced is no_end (tt, tt) (control-dispatched is well)
       (λ size _. (bounded-head size (head_of head) b (spans b Final is)).0) (λ _. tt)
-  | inr ill ↦ step-silent is no_end (tt, tt) (control-silent limit head b is ill)
+  | inr ill ↦ step-silent is no_end (tt, tt) (control-silent is ill)
 ]
 step-control limit head b Delete is no_end =
-    step-silent is no_end (tt, tt) (byte-dropped limit (InControlSequence head) b Delete refl is refl)
+    step-silent is no_end (tt, tt) (byte-dropped refl is refl)
 step-control limit head b High is no_end =
-    step-silent is no_end (tt, tt) (byte-dropped limit (InControlSequence head) b High refl is refl)
+    step-silent is no_end (tt, tt) (byte-dropped refl is refl)
 step-control limit head b Cancel is no_end = cc
 step-control limit head b Escape is no_end = cc
-step-control limit head b k is no_end = step-silent is no_end (tt, tt) (control-head limit head b (rw is refl))
+step-control limit head b k is no_end = step-silent is no_end (tt, tt) (control-head (rw is refl))
 
 -- ---- in a device control string
 
@@ -153,18 +153,18 @@ step-device : (limit : Option ℕ) (head : List ℕ) (b : ℕ) (k : Class) → c
     → Steps limit (InDeviceControl head) b
 unfolding sequence_event
 step-device limit head b Control is no_end =
-    step-silent is no_end (tt, tt) (device-dropped limit head b Control is refl)
+    step-silent is no_end (tt, tt) (device-dropped is refl)
 step-device limit head b Final is no_end = elim (cases_Bool (is_well_shaped (head_of head))) [
   | inl well ↦
-      step-sequenced is no_end (tt, tt) (device-well_shaped limit head b is well)
+      step-sequenced is no_end (tt, tt) (device-well_shaped is well)
       (λ size _. (bounded-head size (head_of head) b (spans b Final is)).1) (λ _. tt)
-  | inr ill ↦ step-silent is no_end (tt, tt) (device-ill_shaped limit head b is ill)
+  | inr ill ↦ step-silent is no_end (tt, tt) (device-ill_shaped is ill)
 ]
-step-device limit head b Delete is no_end = step-silent is no_end (tt, tt) (device-dropped limit head b Delete is refl)
-step-device limit head b High is no_end = step-silent is no_end (tt, tt) (device-dropped limit head b High is refl)
+step-device limit head b Delete is no_end = step-silent is no_end (tt, tt) (device-dropped is refl)
+step-device limit head b High is no_end = step-silent is no_end (tt, tt) (device-dropped is refl)
 step-device limit head b Cancel is no_end = cc
 step-device limit head b Escape is no_end = cc
-step-device limit head b k is no_end = step-silent is no_end (tt, tt) (device-head limit head b (rw is refl))
+step-device limit head b k is no_end = step-silent is no_end (tt, tt) (device-head (rw is refl))
 
 -- ---- in its data
 
@@ -174,16 +174,16 @@ delete_is_no_terminator b s = grind (arith, nat_tests)
 step-data : (limit : Option ℕ) (b : ℕ) (k : Class) → class_of b ≡ k → ends_body k ≡ false → Steps limit InDeviceData b
 step-data limit b Delete is no_end =
     step-sequenced is no_end (tt, tt)
-    (data-dropped limit b (rw is (delete_is_no_terminator b (spans b Delete is))) (rw is refl)) (λ _ _. tt) (λ _. tt)
+    (data-dropped (rw is (delete_is_no_terminator b (spans b Delete is))) (rw is refl)) (λ _ _. tt) (λ _. tt)
 step-data limit b High is no_end = elim (cases_Bool (eqb b 0x9c)) [
   | inl ends ↦
-      step-sequenced is no_end (tt, tt) (data-terminator limit b is ends) (λ _ _. tt) (λ _. tt)
-  | inr other ↦ step-silent is no_end (tt, tt) (data-dropped limit b (rw is other) (rw is refl))
+      step-sequenced is no_end (tt, tt) (data-terminator is ends) (λ _ _. tt) (λ _. tt)
+  | inr other ↦ step-silent is no_end (tt, tt) (data-dropped (rw is other) (rw is refl))
 ]
 step-data limit b Cancel is no_end = cc
 step-data limit b Escape is no_end = cc
 step-data limit b k is no_end =
-    step-sequenced is no_end (tt, tt) (data-put limit b (rw is refl)) (λ _ _. rw is refl)
+    step-sequenced is no_end (tt, tt) (data-put (rw is refl)) (λ _ _. rw is refl)
     (λ outside. absurd (false≢true (sym outside ∙ rw is refl)))
 
 -- ---- in an operating system command
@@ -197,7 +197,7 @@ step-in_command {limit} {items} {later} {b} other leads grows = record {
   told = [];
   next = InSystemCommand later;
   is_place = tt;
-  reads = reads-byte limit (InSystemCommand items) (InSystemCommand later) b [] other leads;
+  reads = reads-byte other leads;
   brief = λ _ _. tt;
   grows = grows;
   leaves = inl refl;
@@ -209,16 +209,16 @@ step-command : (limit : Option ℕ) (items : List ℕ) (b : ℕ) (k : Class) →
     → Steps limit (InSystemCommand items) b
 step-command limit items b Control is no_end = elim (cases_Bool (eqb b bell)) [
   | inl ends ↦
-      step-sequenced is no_end (tt, tt) (command-bell limit items b is ends)
+      step-sequenced is no_end (tt, tt) (command-bell is ends)
       (λ _ fits. (few_pieces limit items, fits, some_pieces limit items)) (λ _. tt)
   | inr other ↦
-      step-in_command (no_escape-class b Control is no_end) (command-control limit items b is other) (λ _. omega arith)
+      step-in_command (no_escape-class b Control is no_end) (command-control is other) (λ _. omega arith)
 ]
 step-command limit items b Cancel is no_end = cc
 step-command limit items b Escape is no_end = cc
 step-command limit items b k is no_end =
     let s = spans b k is in
-    step-in_command (no_escape-class b k is no_end) (command-item limit items b (omega arith))
+    step-in_command (no_escape-class b k is no_end) (command-item (omega arith))
     (λ none. rw none (pieces_push items b))
 
 -- ---- any place
@@ -234,7 +234,7 @@ step-ordinary limit (InDeviceControl head) b k placed is no_end = step-device li
 step-ordinary limit InDeviceData b k placed is no_end = step-data limit b k is no_end
 step-ordinary limit (InSystemCommand items) b k placed is no_end = step-command limit items b k is no_end
 step-ordinary limit InIgnoredString b k placed is no_end =
-    step-silent is no_end (tt, tt) (ignored-more limit b (rw is (ends_not_cancel k no_end)))
+    step-silent is no_end (tt, tt) (ignored-more (rw is (ends_not_cancel k no_end)))
 
 -- ESC breaks a character
 little-escape : (limit : Option ℕ) (place : Place) → IsPlace place → IsText place
@@ -267,7 +267,7 @@ step-by_class limit place b Escape placed is =
       told = closing_events_at limit place;
       next = AtEscape;
       is_place = tt;
-      reads = reads-escape limit place placed;
+      reads = reads-escape placed;
       brief = λ size fits. closing_alone_brief limit size place fits;
       grows = λ _. omega arith;
       leaves = inl refl;

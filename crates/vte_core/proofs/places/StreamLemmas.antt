@@ -21,10 +21,10 @@ unfolding outcome_from
 outcome_from-byte limit place b more e = simp e
 
 -- what a byte does in a text or a body, it does in the stream
-pub reads-byte : (limit : Option ℕ) (place next : Place) (b : ℕ) (told : List Event) → eqb b escape ≡ false
+pub reads-byte : {limit : Option ℕ} {place next : Place} {b : ℕ} {told : List Event} → eqb b escape ≡ false
     → Leads limit place b told next → BytesLead limit place (b ∷ []) told next
 unfolding outcome_from
-reads-byte limit place next b told e l = record {
+reads-byte {limit} {place} {next} {b} {told} e l = record {
   reads = λ more.
       let cut = cut_at_escape more in
       outcome_from-byte limit place b more e
@@ -52,17 +52,17 @@ outcome_from-escape limit place more is =
     ap (λ part. tell (events_before_escape part) (outcome_from limit AtEscape more))
     (rest_outcome-nothing limit place is)
 
-pub reads-escape : (limit : Option ℕ) (place : Place) → IsPlace place
+pub reads-escape : {limit : Option ℕ} {place : Place} → IsPlace place
     → BytesLead limit place (escape ∷ []) (closing_events_at limit place) AtEscape
-reads-escape limit place is = record { reads = λ more. outcome_from-escape limit place more is }
+reads-escape {limit} {place} is = record { reads = λ more. outcome_from-escape limit place more is }
 
-pub reads-nothing : (limit : Option ℕ) (place : Place) → BytesLead limit place [] [] place
-reads-nothing limit place = record { reads = λ more. refl }
+pub reads-nothing : {limit : Option ℕ} {place : Place} → BytesLead limit place [] [] place
+reads-nothing = record { reads = λ more. refl }
 
-pub reads-append : (limit : Option ℕ) (place next last : Place) (bytes these : List ℕ) (told more_told : List Event)
+pub reads-append : {limit : Option ℕ} {place next last : Place} {bytes these : List ℕ} {told more_told : List Event}
     → BytesLead limit place bytes told next → BytesLead limit next these more_told last
     → BytesLead limit place (bytes ++ these) (told ++ more_told) last
-reads-append limit place next last bytes these told more_told r s = record {
+reads-append {limit} {place} {last} {bytes} {these} {told} {more_told} r s = record {
   reads = λ more.
       ap (outcome_from limit place) (append_assoc bytes these more)
       ∙ r.reads (these ++ more)

@@ -71,7 +71,7 @@ step-little {limit} {u} {v} {b} {told} little e leads is = record {
   told = told;
   next = InText v;
   is_place = is;
-  reads = reads-byte limit (InText u) (InText v) b told e leads;
+  reads = reads-byte e leads;
   brief = λ size _. tiny_brief size told (little-is_short (InText v) told little);
   grows = λ _. omega (arith, text_left limit v);
   leaves = elim little [ inl nothing ↦ inr (inl nothing) | inr closed ↦ inl closed.0 ];
@@ -84,9 +84,9 @@ step-by_tests : (limit : Option ℕ) (u : List ℕ) (b : ℕ) → eqb b escape �
     → (is_well_formed (u ++ b ∷ []) ≡ false → is_truncated (u ++ b ∷ []) ≡ false → Steps limit (InText u) b)
     → Steps limit (InText u) b
 step-by_tests limit u b e neither = elim (cases_Bool (is_well_formed (u ++ b ∷ []))) [
-  | inl whole ↦ step-little (inr (refl, short-character (u ++ b ∷ []) whole)) e (text-whole limit u b whole) refl
+  | inl whole ↦ step-little (inr (refl, short-character (u ++ b ∷ []) whole)) e (text-whole whole) refl
   | inr part ↦ elim (cases_Bool (is_truncated (u ++ b ∷ []))) [
-    | inl still ↦ step-little (inl refl) e (text-unfinished limit u b) (may_continue-truncated (u ++ b ∷ []) still)
+    | inl still ↦ step-little (inl refl) e (text-unfinished) (may_continue-truncated (u ++ b ∷ []) still)
     | inr none ↦ neither part none
   ]
 ]
@@ -94,7 +94,7 @@ step-by_tests limit u b e neither = elim (cases_Bool (is_well_formed (u ++ b ∷
 step-settled : (limit : Option ℕ) (b : ℕ) → eqb b escape ≡ false → Steps limit (InText []) b
 step-settled limit b e =
     step-by_tests limit [] b e
-    (λ part none. step-little (inr (refl, short-malformed b)) e (text-lone limit b part none) refl)
+    (λ part none. step-little (inr (refl, short-malformed b)) e (text-lone part none) refl)
 
 -- the byte belongs to no character with those before it
 step-broken : (limit : Option ℕ) (u : List ℕ) (b : ℕ) → eqb b escape ≡ false → is_truncated u ≡ true

@@ -10,14 +10,14 @@ use Rattle.vte_core.proofs.streams.StreamSteps.{told_by_stream}
 
 reads-head : (limit : Option ℕ) (head bytes : List ℕ) → AreInClass is_parameter_text bytes
     → BytesLead limit (InControlSequence head) bytes [] (InControlSequence (head ++ bytes))
-reads-head limit head [] are = rw append-nil (reads-nothing limit (InControlSequence head))
+reads-head limit head [] are = rw append-nil (reads-nothing)
 reads-head limit head (b ∷ bytes) are =
     let is = parameter_is_head (class_of b) are.0 in
     let one =
-    reads-byte limit (InControlSequence head) _ b [] (no_escape b (head_ends_nothing (class_of b) is))
-    (control-head limit head b is) in
+    reads-byte (no_escape b (head_ends_nothing (class_of b) is))
+    (control-head is) in
     let rest = reads-head limit (head ++ b ∷ []) bytes are.1 in
-    rw append_assoc at (reads-append limit (InControlSequence head) _ _ (b ∷ []) bytes [] [] one rest)
+    rw append_assoc at (reads-append one rest)
 
 -- ESC, `[`, the bytes and `m`
 reads-shown : (limit : Option ℕ) (bytes : List ℕ) → AreInClass is_parameter_text bytes
@@ -28,16 +28,15 @@ reads-shown limit bytes are =
     let well_shaped : is_well_shaped (head_of bytes) ≡ true =
     rw append-nil at (held-well_shaped [] bytes [] tt are tt) in
     let begun =
-    reads-append limit (InText []) AtEscape (InControlSequence []) (escape ∷ []) (0x5b ∷ []) [] []
-    (reads-escape limit (InText []) refl)
-    (reads-byte limit AtEscape _ 0x5b [] refl (escape-key limit 0x5b _ refl refl refl)) in
+    reads-append
+    (reads-escape refl)
+    (reads-byte refl (escape-key _ refl refl refl)) in
     let last =
-    reads-byte limit (InControlSequence bytes) _ 0x6d _ refl (control-dispatched limit bytes 0x6d refl well_shaped) in
+    reads-byte refl (control-dispatched refl well_shaped) in
     let rest =
-    reads-append limit (InControlSequence []) (InControlSequence bytes) (InText []) bytes (0x6d ∷ []) [] _
+    reads-append
     (reads-head limit [] bytes are) last in
-    reads-append limit (InText []) (InControlSequence []) (InText []) (0x1b ∷ 0x5b ∷ []) (bytes ++ 0x6d ∷ [])
-    [] _ begun rest
+    reads-append begun rest
 
 pub shown_dispatched : (limit : Option ℕ) (groups : List (List ℕ)) → AreParameters groups → DispatchesShown limit groups
 unfolding sequence_event

@@ -20,7 +20,7 @@ takes-performs step old new limit place byte parser e t = record {
   next = t.next;
   performed = t.performed;
   stands = t.stands;
-  reads = reads-byte limit place t.next byte t.told e t.leads;
+  reads = reads-byte e t.leads;
 }
 
 -- ---- a byte that is offered to an open character

@@ -47,7 +47,7 @@ arrives limit size place [] is fits =
       told = [];
       next = place;
       is_place = is;
-      reads = reads-nothing limit place;
+      reads = reads-nothing;
       bounded = All-nil (IsBounded size);
       grows = λ _. omega arith;
     }
@@ -59,7 +59,7 @@ arrives limit size place (b ∷ bytes) is fits =
       told = first.told ++ rest.told;
       next = rest.next;
       is_place = rest.is_place;
-      reads = reads-append limit place first.next rest.next (b ∷ []) bytes first.told rest.told first.reads rest.reads;
+      reads = reads-append first.reads rest.reads;
       bounded =
           All-append (IsBounded size) first.told rest.told
           (brief_bounded size first.told (first.brief size (fits place (λ _. omega arith)))) rest.bounded;
@@ -114,7 +114,7 @@ resyncs_after : (limit : Option ℕ) (end : ℕ) → class_of end ≡ Cancel →
 resyncs_after limit end e stream more =
     let a = leads_to limit stream in
     let last =
-    reads-byte limit a.place (InText []) end _ (cancel_is_no_escape end e)
+    reads-byte (cancel_is_no_escape end e)
     (byte-cancels limit a.place end a.is_place e) in
     grows_after limit stream (end ∷ []) more a (InText []) _ refl last
     ∙ ap (λ es. events limit (stream ++ end ∷ []) ++ es) (sym (events-after_nothing limit more))
@@ -131,7 +131,7 @@ resynchronises limit = record {
   substitute = resyncs_after limit 0x1a refl;
   escape = λ stream more.
       let a = leads_to limit stream in
-      grows_after limit stream (escape ∷ []) more a AtEscape _ tt (reads-escape limit a.place a.is_place)
+      grows_after limit stream (escape ∷ []) more a AtEscape _ tt (reads-escape a.is_place)
       ∙ ap (λ es. events limit (stream ++ escape ∷ []) ++ es) (sym (escape_at_first limit more));
 }
 

@@ -15,14 +15,14 @@ pub returns-then-byte-eq80-clause-takes : goal.returns-then-byte-eq80-clause-tak
 unfolding sequence_kind
 returns-then-byte-eq80-clause-takes g c = λ s.
     takes-byte [] (InDeviceControl []) refl (record { by = c.begin_head.ensures (stands-escape _ s) })
-    (escape-key _ c.args.byte DeviceControl (class-final _ c.requires.ends) (rw c.if-byte-eq80.true refl) refl)
+    (escape-key DeviceControl (class-final _ c.requires.ends) (rw c.if-byte-eq80.true refl) refl)
 
 -- `]`: a command.
 pub returns-then-byte-eq93-clause-takes : goal.returns-then-byte-eq93-clause-takes
 unfolding sequence_kind
 returns-then-byte-eq93-clause-takes g c = λ s.
     takes-byte [] (InSystemCommand []) refl (record { by = c.clear.ensures.holds })
-    (escape-key _ c.args.byte SystemCommand (class-final _ c.requires.ends) (rw c.if-byte-eq93.true refl) refl)
+    (escape-key SystemCommand (class-final _ c.requires.ends) (rw c.if-byte-eq93.true refl) refl)
 
 -- `X`, `^` and `_`: an ignored string.
 pub returns-then-begins_ignored_string-clause-takes : goal.returns-then-begins_ignored_string-clause-takes
@@ -31,7 +31,7 @@ returns-then-begins_ignored_string-clause-takes g c = λ s.
     other_key c.args.byte c.requires.other c.if-byte-eq80.false c.if-byte-eq93.false
     ∙ rw (← c.begins_ignored_string.ensures, c.if-begins_ignored_string.true) refl in
     takes-byte [] InIgnoredString refl (record { by = tt })
-    (escape-key _ c.args.byte IgnoredString (class-final _ c.requires.ends) key refl)
+    (escape-key IgnoredString (class-final _ c.requires.ends) key refl)
 
 -- Any other key is the final byte of an escape sequence.
 pub returns-else-begins_ignored_string-clause-takes : goal.returns-else-begins_ignored_string-clause-takes
@@ -44,7 +44,7 @@ returns-else-begins_ignored_string-clause-takes g c = λ s.
     takes-byte (EscDispatch [] false c.args.byte ∷ []) (InText [])
     (rw (holds.kept, holds.too_many_intermediates) at d.tells.value)
     (stands-text_begun _ d.text)
-    (escape-end _ c.args.byte _ (class-final _ c.requires.ends) refl key)
+    (escape-end (class-final _ c.requires.ends) refl key)
 
 pub returns-else-begins_ignored_string-clause-handles : goal.returns-else-begins_ignored_string-clause-handles
 returns-else-begins_ignored_string-clause-handles g c =

@@ -16,7 +16,7 @@ returns-in-IllShaped-clause-takes g c = λ head s.
       next = InText [];
       performed = refl;
       stands = record { by = (refl, refl) };
-      leads = control-silent _ head _ (class-final _ c.requires.final_byte) ill;
+      leads = control-silent (class-final _ c.requires.final_byte) ill;
     }
 
 -- A whole one.
@@ -31,7 +31,7 @@ returns-clause-takes g c = λ head s.
           ∙ ap (g.P.CountedPerform.step (g.P.CountedPerform.value_of c.args.performer.now))
           (dispatched-ready CsiDispatch _ _ head c.args.byte ready);
       stands = stands-text_begun _ d.text;
-      leads = control-dispatched _ head _ (class-final _ c.requires.final_byte) ready.well_shaped;
+      leads = control-dispatched (class-final _ c.requires.final_byte) ready.well_shaped;
     }
 
 pub returns-clause-handles : goal.returns-clause-handles

@@ -14,7 +14,7 @@ returns-in-IllShaped-clause-takes g c = λ head s.
       next = InIgnoredString;
       performed = refl;
       stands = record { by = tt };
-      leads = device-ill_shaped _ head _ (class-final _ c.requires) ill;
+      leads = device-ill_shaped (class-final _ c.requires) ill;
     }
 
 -- A whole one.
@@ -29,7 +29,7 @@ returns-clause-takes g c = λ head s.
           ∙ ap (g.P.CountedPerform.step (g.P.CountedPerform.value_of c.args.performer.now))
           (dispatched-ready Hook _ _ head c.args.byte f);
       stands = record { by = tt };
-      leads = device-well_shaped _ head _ (class-final _ c.requires) f.well_shaped;
+      leads = device-well_shaped (class-final _ c.requires) f.well_shaped;
     }
 
 pub returns-clause-handles : goal.returns-clause-handles

@@ -24,7 +24,7 @@ returns-then-is_intermediate-clause-performs g c =
     let is = class-intermediate _ (sym c.is_intermediate.ensures ∙ c.if-is_intermediate.true) in
     performs-in c.requires.begun (rw is refl)
     (takes-at_escape c.args.self.now (λ holds. takes-byte [] (InEscape (c.args.byte ∷ [])) refl
-    (record { by = c.collect.ensures.holds [] holds }) (escape-intermediate _ c.args.byte is)))
+    (record { by = c.collect.ensures.holds [] holds }) (escape-intermediate is)))
 
 -- Digits, `:`, `;` and markers dispatch: keys begin at `@`, which is later.
 pub returns-then-is_head_byte-clause-performs : goal.returns-then-is_head_byte-clause-performs
@@ -38,7 +38,7 @@ returns-then-is_head_byte-clause-performs g c =
     (λ holds. takes-byte (EscDispatch [] false b ∷ []) (InText [])
     (rw (holds.kept, holds.too_many_intermediates) at d.tells.value)
     (stands-text_begun _ d.text)
-    (escape-end _ b _ refl ends (below_finals b (below_final b head)))))
+    (escape-end refl ends (below_finals b (below_final b head)))))
 
 -- A control is executed; the place stays after ESC.
 pub returns-then-is_plain_control-clause-performs : goal.returns-then-is_plain_control-clause-performs
@@ -48,7 +48,7 @@ returns-then-is_plain_control-clause-performs g c =
     performs-in c.requires.begun (rw is refl)
     (takes-at_escape c.args.self.now
     (λ holds. takes-byte (Execute b ∷ []) AtEscape c.execute_control.ensures.value (stands-by c.requires.begun holds)
-    (byte-executed _ AtEscape b refl is)))
+    (byte-executed refl is)))
 
 -- What is left is DEL and 80 to FF, which is dropped.
 pub returns-else-is_plain_control-clause-performs : goal.returns-else-is_plain_control-clause-performs

@@ -49,7 +49,7 @@ returns-in-Some-clause-advances g c =
           (advances-past_head ControlHead c.requires.begun read.reads.head next c.requires.may_go_on
           (performs-head ControlHead progress refl (rw is refl) (λ bytes stands.
           takes-byte (Execute b ∷ []) (InControlSequence bytes) w.execute_control.ensures.value (stands-by refl stands)
-          (byte-executed _ (InControlSequence bytes) b refl is))) tt)
+          (byte-executed refl is))) tt)
       -- A byte that is dropped.
       | else-ends_body+else-is_plain_control w ↦
           let ordinary = sym c.ends_body.ensures ∙ w.if-ends_body.false in
@@ -61,7 +61,7 @@ returns-in-Some-clause-advances g c =
           (advances-past_head ControlHead c.requires.begun read.reads.head next c.requires.may_go_on
           (performs-head ControlHead progress refl ordinary (λ bytes stands.
           takes-byte [] (InControlSequence bytes) refl (stands-by refl stands)
-          (byte-dropped _ (InControlSequence bytes) b _ refl refl dropped))) tt)
+          (byte-dropped refl refl dropped))) tt)
     ]
 
 -- All bytes are of the head.

@@ -39,7 +39,7 @@ returns-in-Some g c =
             (advances-past_head DeviceHead c.requires.begun read.reads.head next c.requires.may_go_on
             (performs-head DeviceHead progress refl ordinary (λ bytes stands.
             takes-byte [] (InDeviceControl bytes) refl (stands-by refl stands)
-            (device-dropped _ bytes b _ refl dropped))) tt)
+            (device-dropped refl dropped))) tt)
       ];
       moves = search rules;
     }

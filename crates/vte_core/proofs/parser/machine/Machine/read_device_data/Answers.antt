@@ -30,7 +30,7 @@ loop-position-preserved g c =
           (advances-part (advances-in v.begun (omega arith) c.at-byte.ensures.value v.may_go_on (data_ends_nothing _ is)
           (takes-in_data c.loop-position.self
           (takes-byte (Put c.at-byte.result ∷ []) InDeviceData c.put_byte.ensures.value (stands-by v.begun tt)
-          (data-put _ c.at-byte.result is))) (settled-by _ _ v.begun tt)));
+          (data-put is))) (settled-by _ _ v.begun tt)));
       may_go_on = (λ does. elim c.else-this-ne0.branch [
         | else-this-ne0-via-then-this-ne0+else-terminated w ↦ sym w.terminated.ensures ∙ w.if-terminated.false
         | else-this-ne0-via-else-this-ne0 w ↦ absurd (may_stop-none g.row.MAY_STOP w.if-this-ne0.false does)
@@ -48,7 +48,7 @@ returns-then-terminated-clause-advances g c =
     (advances-part (advances-in v.begun (omega arith) c.at-byte.ensures.value v.may_go_on (data_ends_nothing _ is)
     (takes-in_data c.loop-position.self
     (takes-byte (Put c.at-byte.result ∷ []) InDeviceData c.put_byte.ensures.value (stands-by v.begun tt)
-    (data-put _ c.at-byte.result is))) (settled-by _ _ v.begun tt)))
+    (data-put is))) (settled-by _ _ v.begun tt)))
 
 -- A call that does not ask: all data up to the byte that is not put.
 pub returns-then-not-this-clause-advances : goal.returns-then-not-this-clause-advances

@@ -20,7 +20,7 @@ advances-by {call} {parser} (suc n) i begun within are may_go_on =
     (advances-when tt (advances-in begun (omega (arith, within)) refl may_go_on ordinary
     (takes-in_ignored parser
     (takes-byte [] InIgnoredString refl (stands-by begun tt)
-    (ignored-more _ (slice_index call.bytes i) (ends_not_cancel _ ordinary)))) (settled-by _ _ begun tt)))
+    (ignored-more (ends_not_cancel _ ordinary)))) (settled-by _ _ begun tt)))
     (advances-by n (i + 1) begun (omega (arith, within))
     (λ k low high. are k (omega (arith, low)) (omega (arith, high))) may_go_on))
 

@@ -34,7 +34,7 @@ loop-position-preserved g c =
             rw w.self-is
             (advances-when tt (advances-in v.begun (omega arith) c.at-byte.ensures.value v.may_go_on (rw is refl)
             (takes-in_escape parser (λ ints holds. takes-byte [] (InEscape (ints ++ b ∷ [])) refl
-            (stands-by v.begun (w.collect.ensures.holds ints holds)) (intermediate-more _ ints b is)))
+            (stands-by v.begun (w.collect.ensures.holds ints holds)) (intermediate-more is)))
             (settled-by _ _ v.begun tt)))
         -- A byte that is dropped.
         | else-is_intermediate+else-dispatches_escape+else-ends_body+else-is_plain_control w ↦
@@ -48,7 +48,7 @@ loop-position-preserved g c =
             (takes-in_escape parser
             (λ ints holds.
             takes-byte [] (InEscape ints) refl (stands-by v.begun holds)
-            (byte-dropped _ (InEscape ints) b _ refl refl dropped))) (settled-by _ _ v.begun tt)))
+            (byte-dropped refl refl dropped))) (settled-by _ _ v.begun tt)))
       ]);
       may_go_on = v.may_go_on;
       begun = elim c.if-is_intermediate.branch [
@@ -71,7 +71,7 @@ returns-then-dispatches_escape-clause-advances g c =
     (takes-in_escape c.loop-position.self
     (λ ints holds. takes-byte (EscDispatch (first_two ints) (are_too_many ints) b ∷ []) (InText [])
     (rw (holds.kept, holds.too_many_intermediates) at d.tells.value) (stands-text_begun _ d.text)
-    (intermediate-end _ ints b _ refl ends))) (settled-by _ _ d.text tt)))
+    (intermediate-end refl ends))) (settled-by _ _ d.text tt)))
 
 -- CAN, SUB or ESC: the sequence is left without being told.
 pub returns-then-ends_body-clause-advances : goal.returns-then-ends_body-clause-advances
@@ -92,4 +92,4 @@ returns-then-is_plain_control-clause-advances g c =
     (advances-when tt (advances-in v.begun (omega arith) c.at-byte.ensures.value v.may_go_on (rw is refl)
     (takes-in_escape c.loop-position.self
     (λ ints holds. takes-byte (Execute b ∷ []) (InEscape ints) c.execute_control.ensures.value (stands-by v.begun holds)
-    (byte-executed _ (InEscape ints) b refl is))) (settled-by _ _ v.begun tt)))
+    (byte-executed refl is))) (settled-by _ _ v.begun tt)))

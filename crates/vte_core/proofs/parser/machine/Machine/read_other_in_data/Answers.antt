@@ -22,11 +22,11 @@ returns-clause-advances g c =
           (advances-when c.requires.other (advances-in r.begun r.within r.looked_at r.may_go_on ordinary
           (takes-in_data parser
           (takes-byte (Unhook ∷ []) (InText []) w.unhook.ensures.value (record { by = (refl, refl) })
-          (data-terminator _ c.args.byte (terminator_is_high is) (rw is refl)))) tt))
+          (data-terminator (terminator_is_high is) (rw is refl)))) tt))
       -- A byte that is dropped.
       | else-byte-eq-STRING_TERMINATOR w ↦
           let dropped =
-          data-dropped _ c.args.byte
+          data-dropped
           (ends_no_data c.args.byte ordinary w.if-byte-eq-STRING_TERMINATOR.false) c.requires.other in
           rw (w.self-is, w.performer-is)
           (advances-when c.requires.other (advances-in r.begun r.within r.looked_at r.may_go_on ordinary

@@ -59,7 +59,7 @@ returns-clause-advances g c =
           (stands-by begun
           (subst (λ b. HoldsItems limit w.end_piece.new.self (items ++ b ∷ [])) (sym is)
           (w.end_piece.ensures.holds items keeps)))
-          (command-item limit items byte (omega (arith, is))))) (settled-by _ _ begun tt)))
+          (command-item (omega (arith, is))))) (settled-by _ _ begun tt)))
       -- BEL: the command is told.
       | else-byte-eq59+then-byte-eq-BELL w ↦
           rw (w.self-is, w.performer-is)
@@ -67,7 +67,7 @@ returns-clause-advances g c =
           (takes-in_system_command after_data
           (λ items keeps. takes-byte (OscDispatch (pieces_of limit items) true ∷ []) (InText [])
           (rw (pieces_held _ _ items keeps) w.dispatch.ensures.value) (record { by = (refl, refl) })
-          (command-bell limit items byte (left_is_control byte ordinary no_data w.if-byte-eq59.false)
+          (command-bell (left_is_control byte ordinary no_data w.if-byte-eq59.false)
           (rw w.if-byte-eq-BELL.true refl)))) tt))
       -- Another control is dropped.
       | else-byte-eq59+else-byte-eq-BELL w ↦
@@ -75,6 +75,6 @@ returns-clause-advances g c =
           (advances-when tt (advances-in begun within here.1 r.may_go_on ordinary
           (takes-in_system_command after_data
           (λ items keeps. takes-byte [] (InSystemCommand items) refl (stands-by begun keeps)
-          (command-control limit items byte (left_is_control byte ordinary no_data w.if-byte-eq59.false)
+          (command-control (left_is_control byte ordinary no_data w.if-byte-eq59.false)
           (ne_eqb _ _ w.if-byte-eq-BELL.false)))) (settled-by _ _ begun tt)))
     ])

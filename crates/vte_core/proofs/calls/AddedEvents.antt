@@ -126,7 +126,7 @@ module _ {limit : Option ℕ} {stream bytes : List ℕ} {i : ℕ} where
       → b ≡ slice_index bytes i → IsAfter limit (resumed_stream stream bytes i) place
       → IsPlace place → IsQuietAt place b → AddsOutsideRuns limit stream bytes i (i + 1)
   adds-outside_runs {b} {place} within is a is_place outside =
-      let s = steps limit place b is_place in
+      let s = steps is_place in
       adds-reads within is a s.reads s.is_place (quiet-all s.told (s.outside_runs outside))
 
   -- what is told of a character whose first byte told nothing

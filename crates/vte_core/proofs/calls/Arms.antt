@@ -9,10 +9,10 @@ use Rattle.vte_core.proofs.streams.Performing.{takes-performs}
 use Rattle.vte_core.proofs.places.StreamLemmas.{no_escape, reads-escape}
 
 module _ {V B : Type 0} {step : V → Event → V} {old new : V} {limit : Option ℕ} where
-  pub takes-byte : {place : Place} {byte : ℕ} {parser : Machine B} (told : List Event) (next : Place)
+  pub takes-byte : {place : Place} {byte : ℕ} {parser : Machine B} {told : List Event} {next : Place}
       → new ≡ after step old told → StandsAtPlace limit parser next → Leads limit place byte told next
       → TakesByte step old new limit place byte parser
-  takes-byte told next performed stands leads =
+  takes-byte {told} {next} performed stands leads =
       record { told = told; next = next; performed = performed; stands = stands; leads = leads }
 
   -- a byte other than CAN, SUB and ESC, read in a state
@@ -22,7 +22,7 @@ module _ {V B : Type 0} {step : V → Event → V} {old new : V} {limit : Option
       → (place : Place) → StandsAtPlace limit parser place → IsSettledPlace place
       → TakesBytes step old new limit place (b ∷ []) next
   performs-in {b} {next} e ordinary takes place s settled =
-      takes-performs step old new limit place b next (no_escape b ordinary) (takes place (stands-in e s))
+      takes-performs (no_escape b ordinary) (takes place (stands-in e s))
 
   -- ESC closes what is open at a place
   pub performs-escape : {b : ℕ} {parser next : Machine B} → b ≡ escape
@@ -31,7 +31,7 @@ module _ {V B : Type 0} {step : V → Event → V} {old new : V} {limit : Option
       → TakesBytes step old new limit place (b ∷ []) next
   performs-escape {parser} {next} is e holds place s closed =
       let reads : BytesLead limit place (escape ∷ []) (closing_events_at limit place) AtEscape =
-      reads-escape (stands-place parser place s) in
+      reads-escape (stands-place s) in
       subst (λ c. TakesBytes step old new limit place (c ∷ []) next) (sym is)
       (record {
         told = closing_events_at limit place;

@@ -144,5 +144,5 @@ pub advances-single : {outside V B : Type 0} {call : ChunkCall V} {old new : V} 
 advances-single r n other no_lead control malformed =
     advances-telling
     (advances-byte r.within r.looked_at r.may_go_on (performs-single r.begun n no_lead control malformed)
-    (settled-by _ _ r.begun tt))
+    (settled-by r.begun tt))
     (λ stream place s. adds-single _ r.begun n other no_lead r.within r.looked_at s)

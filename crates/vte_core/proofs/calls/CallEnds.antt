@@ -19,8 +19,8 @@ pub settled-place : {B : Type 0} {limit : Option ℕ} (parser : Machine B) → I
     → StandsAtPlace limit parser place → IsSettledPlace place
 settled-place {limit} parser settled place s = by_settled limit parser.state parser place settled s.by
 
-pub settled-by : (state other : State) → state ≡ other → IsSettled other → IsSettled state
-settled-by state other e settled = subst IsSettled (sym e) settled
+pub settled-by : {state other : State} → state ≡ other → IsSettled other → IsSettled state
+settled-by e settled = subst IsSettled (sym e) settled
 
 pub settled-nothing : (u : Unfinished) → bytes_of u ≡ [] → IsSettled (Text u)
 settled-nothing Nothing e = tt
@@ -41,7 +41,7 @@ module _ {V B : Type 0} {call : ChunkCall V} where
         place = s.place;
         stands = s.stands;
         settled = λ _. place_is;
-        has_come = come-settled (stands-place parser s.place s.stands) place_is s.has_come;
+        has_come = come-settled (stands-place s.stands) place_is s.has_come;
       }
 
   pub inside-all : {old value : V} {stream : List ℕ} {i : ℕ} {parser : Machine B}
@@ -74,7 +74,7 @@ module _ {V B : Type 0} {call : ChunkCall V} where
       → ComesTo call.step call.is_terminated old call.limit stream call.bytes value n
   ends-comes {parser} does within s =
       come-to does within
-      (λ left. come-starts (stands-place parser s.place s.stands) (s.settled left) left s.has_come) s.has_come
+      (λ left. come-starts (stands-place s.stands) (s.settled left) left s.has_come) s.has_come
 
   pub ends-stops : {old value : V} {stream : List ℕ} {n : ℕ} {parser : Machine B} → call.may_stop ≡ true
       → n ≤ length call.bytes → (n < length call.bytes → call.is_terminated value ≡ true)

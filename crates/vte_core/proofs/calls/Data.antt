@@ -12,7 +12,7 @@ advances-by : {V B : Type 0} {call : ChunkCall V} {value : V} {parser : Machine 
     → parser.state ≡ DeviceData → i + n ≤ length call.bytes → ArePut call.bytes i (i + n) → call.may_stop ≡ false
     → Advances ⊥ call value (after call.step value (map Put (take n (drop i call.bytes)))) i (i + n) parser parser
 advances-by zero i begun within are none =
-    advances-moved (omega arith) (advances-nothing (λ _. settled-by _ _ begun tt))
+    advances-moved (omega arith) (advances-nothing (λ _. settled-by begun tt))
 advances-by {call} {parser} (suc n) i begun within are none =
     let here : i < length call.bytes = omega (arith, within) in
     let b : ℕ = slice_index call.bytes i in
@@ -20,8 +20,8 @@ advances-by {call} {parser} (suc n) i begun within are none =
     rw (drop_more call.bytes i 0 here) (advances-moved (omega arith) (advances-then
     (advances-part
     (advances-in begun here refl (λ does. absurd (false≢true (sym none ∙ does))) (data_ends_nothing _ put)
-    (takes-in_data parser (takes-byte (Put b ∷ []) InDeviceData refl (stands-by begun tt) (data-put put)))
-    (settled-by _ _ begun tt)))
+    (takes-in_data parser (takes-byte refl (stands-by begun tt) (data-put put)))
+    (settled-by begun tt)))
     (advances-by n (i + 1) begun (omega (arith, within))
     (λ k low high. are k (omega (arith, low)) (omega (arith, high))) none)))
 

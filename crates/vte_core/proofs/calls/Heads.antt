@@ -96,7 +96,7 @@ reads_head-parameter {from} {i} {b} {reached} {old} {new} may within at is keeps
     rw (part_after-more reached from (i + 1) (omega (arith, before.low)))
     (reads_head-then before (reads_head-byte within at (parameter_is_head (class_of b) is)
     (λ head s.
-    holds-parameter old new (part_after reached from i) head b (part_after-may reached from i may) s is keeps counts)))
+    holds-parameter head b (part_after-may reached from i may) s is keeps counts)))
 
 -- ---- the shapes that have a head
 
@@ -127,17 +127,17 @@ head-place ControlHead limit progress parser _ s = absurd s
 head-place DeviceHead limit progress parser (InDeviceControl head) s = record { head = head; same = refl; stands = s }
 head-place DeviceHead limit progress parser _ s = absurd s
 
-head-stands : {B : Type 0} (shape : Shape) (limit : Option ℕ) (progress : HeadProgress) (parser : Machine B)
+head-stands : {B : Type 0} (shape : Shape) {limit : Option ℕ} (progress : HeadProgress) {parser : Machine B}
     (head : List ℕ)
     → parser.state ≡ state_of shape progress
     → StandsInHead parser.collected progress head → StandsAtPlace limit parser (in_head shape head)
-head-stands ControlHead limit progress parser head e s = record { by = rw e s }
-head-stands DeviceHead limit progress parser head e s = record { by = rw e s }
+head-stands ControlHead progress head e s = record { by = rw e s }
+head-stands DeviceHead progress head e s = record { by = rw e s }
 
-head-leads : (shape : Shape) (limit : Option ℕ) (head : List ℕ) (b : ℕ) → is_head_byte (class_of b) ≡ true
+head-leads : (shape : Shape) {limit : Option ℕ} (head : List ℕ) {b : ℕ} → is_head_byte (class_of b) ≡ true
     → Leads limit (in_head shape head) b [] (in_head shape (head ++ b ∷ []))
-head-leads ControlHead limit head b is = control-head is
-head-leads DeviceHead limit head b is = device-head is
+head-leads ControlHead head is = control-head is
+head-leads DeviceHead head is = device-head is
 
 head-is_place : (shape : Shape) (head : List ℕ) → IsPlace (in_head shape head)
 head-is_place ControlHead head = tt
@@ -171,7 +171,7 @@ module _ {V : Type 0} {call : ChunkCall V} where
       let place = head-is_place shape (head ++ b ∷ []) in
       let reads =
       reads-byte
-      (no_escape b (head_ends_nothing (class_of b) both.0)) (head-leads shape call.limit head b both.0) in
+      (no_escape b (head_ends_nothing (class_of b) both.0)) (head-leads shape head both.0) in
       let one =
       come-settled place (head-settled_place shape (head ++ b ∷ []))
       (come-byte here refl may_go_on reads refl place c) in
@@ -194,7 +194,7 @@ module _ {V : Type 0} {call : ChunkCall V} where
       let run : List ℕ = take (j - i) (drop i call.bytes) in
       record {
         place = in_head shape (k.head ++ run);
-        stands = head-stands shape call.limit progress next (k.head ++ run) state (reads.stands k.head k.stands);
+        stands = head-stands shape progress (k.head ++ run) state (reads.stands k.head k.stands);
         settled = λ _. head-settled_place shape (k.head ++ run);
         has_come = rw end at
             (come-head shape (j - i) k.head (omega (arith, reads.high, end)) reads.head_bytes may_go_on here);
@@ -208,7 +208,7 @@ module _ {V : Type 0} {call : ChunkCall V} where
       → next.state ≡ state_of shape progress → Advances outside call value value i j parser next
   advances-head {progress} {next} shape begun reads may_go_on state = record {
     goes_on = λ old stream s. stands-head shape begun reads may_go_on state s;
-    settled = λ _. settled-by _ _ state (head-settled shape progress);
+    settled = λ _. settled-by state (head-settled shape progress);
     outside_runs = λ _ old stream s.
         adds-same (told-at
         (stands-head {next = next} shape begun reads (λ does. absurd (false≢true does)) state (keeps-at s)));

@@ -11,10 +11,10 @@ use Rattle.vte_core.proofs.calls.Progress.{come-settled, come-broken, come-carri
 use Rattle.vte_core.proofs.streams.After.{after-open_character}
 use Rattle.vte_core.proofs.places.StreamLemmas.{reads-byte}
 
-stands-in_text : {B : Type 0} {limit : Option ℕ} (parser : Machine B) (v : Unfinished) (u : List ℕ)
+stands-in_text : {B : Type 0} {limit : Option ℕ} {parser : Machine B} {v : Unfinished} {u : List ℕ}
     → parser.state ≡ Text v → bytes_of v ≡ u
     → may_continue u ≡ true → StandsAtPlace limit parser (InText u)
-stands-in_text parser v u e same more = stands-by e (same, more)
+stands-in_text e same more = stands-by e (same, more)
 
 -- the parser, inside a character of these bytes
 abbrev pub in_text : {B : Type 0} → Machine B → Unfinished → Machine B
@@ -40,10 +40,11 @@ record AtText (u : Unfinished) (place : Place) : Type 0 where
   same : place ≡ InText (bytes_of u)
   begun : may_continue (bytes_of u) ≡ true
 
-text-by_place : {B : Type 0} (limit : Option ℕ) (parser : Machine B) (u : Unfinished) (place : Place)
+text-by_place : {B : Type 0} (limit : Option ℕ) (parser : Machine B) {u : Unfinished} {place : Place}
     → StandsBy limit (Text u) parser place → AtText u place
-text-by_place limit parser u (InText bytes) s = record { same = ap InText (sym s.0); begun = ap may_continue s.0 ∙ s.1 }
-text-by_place limit parser u _ s = absurd s
+text-by_place limit parser {place = InText bytes} s =
+    record { same = ap InText (sym s.0); begun = ap may_continue s.0 ∙ s.1 }
+text-by_place limit parser s = absurd s
 
 -- an unfinished character has bytes
 pub unfinished-some : (x : ℕ) (u : List ℕ) → x ∷ u ≢ []
@@ -57,7 +58,7 @@ truncated-some (x ∷ u) more none = cc
 module _ {V B : Type 0} {call : ChunkCall V} {old mid : V} {stream : List ℕ} where
   pub inside-open : {i : ℕ} {u : Unfinished} {parser : Machine B} → parser.state ≡ Text u
       → StandsInside call old mid stream i parser → may_continue (bytes_of u) ≡ true
-  inside-open {u} {parser} e s = (text-by_place call.limit parser u s.place (stands-in e s.stands)).begun
+  inside-open {u} {parser} e s = (text-by_place call.limit parser (stands-in e s.stands)).begun
 
   -- a byte that the character goes on with
   pub carried-more : {i b : ℕ} {u v : Unfinished} {parser next : Machine B} → parser.state ≡ Text u
@@ -65,12 +66,12 @@ module _ {V B : Type 0} {call : ChunkCall V} {old mid : V} {stream : List ℕ} w
       → StandsInside call old mid stream i parser → i < length call.bytes → b ≡ slice_index call.bytes i
       → StandsInside call old mid stream (i + 1) next
   carried-more {i} {b} {u} {v} {parser} {next} e opened carries state s within is =
-      let t = text-by_place call.limit parser u s.place (stands-in e s.stands) in
+      let t = text-by_place call.limit parser (stands-in e s.stands) in
       let more : is_truncated (bytes_of u ++ b ∷ []) ≡ true = subst (λ x. is_truncated x ≡ true) carries.0 carries.1 in
       record {
         place = InText (bytes_of u ++ b ∷ []);
         stands =
-            stands-in_text next v (bytes_of u ++ b ∷ []) state carries.0
+            stands-in_text state carries.0
             (may_continue-truncated (bytes_of u ++ b ∷ []) more);
         has_come =
             come-carried {these = []} t.begun within is (truncated-some (bytes_of u) opened)
@@ -88,7 +89,7 @@ module _ {V B : Type 0} {call : ChunkCall V} {old mid : V} {stream : List ℕ} w
       → b ≡ slice_index call.bytes i → j ≡ i + 1 → StandsAt call old new stream j next
   carried-whole {new} {i} {b} {u} {parser}
       {next} e opened carries state performed s within is later =
-      let t = text-by_place call.limit parser u s.place (stands-in e s.stands) in
+      let t = text-by_place call.limit parser (stands-in e s.stands) in
       let c =
       come-carried {new = new} {next = InText []}
       {these = character_event (scalar_of (bytes_of u ++ b ∷ [])) ∷ []} t.begun within is
@@ -101,7 +102,7 @@ module _ {V B : Type 0} {call : ChunkCall V} {old mid : V} {stream : List ℕ} w
       subst (λ n. StandsAt call old new stream n next) (sym later)
       (record {
         place = InText [];
-        stands = stands-in_text next Nothing [] state refl refl;
+        stands = stands-in_text state refl refl;
         settled = λ _. refl;
         has_come = come-settled refl refl c;
       })
@@ -112,10 +113,10 @@ module _ {V B : Type 0} {call : ChunkCall V} {old mid : V} {stream : List ℕ} w
       → new ≡ call.step mid (Print replacement) → StandsInside call old mid stream i parser → i < length call.bytes
       → b ≡ slice_index call.bytes i → StandsAt call old new stream i next
   carried-broken {i} {b} {u} {parser} {next} e opened carries state performed s within is =
-      let t = text-by_place call.limit parser u s.place (stands-in e s.stands) in
+      let t = text-by_place call.limit parser (stands-in e s.stands) in
       record {
         place = InText [];
-        stands = stands-in_text next Nothing [] state refl refl;
+        stands = stands-in_text state refl refl;
         settled = λ _. refl;
         has_come = come-broken t.begun within is (breaks-broken (bytes_of u) b opened carries.0 carries.1) performed
             (subst (ProgressInside call old mid stream i) t.same s.has_come);
@@ -126,7 +127,7 @@ pub opens-text : {B : Type 0} {limit : Option ℕ} {stream : List ℕ} {u : Unfi
     → parser.state ≡ Text u → bytes_of u ≢ [] → HasReadWithLimit limit parser stream
     → open_character stream ≡ [] → ⊥
 opens-text {limit} {stream} {u} parser e some h none =
-    let t = text-by_place limit parser u h.place (stands-in e h.stands) in
+    let t = text-by_place limit parser (stands-in e h.stands) in
     some
     (sym (ap open_at t.same)
-    ∙ sym (after-open_character limit stream h.place h.is_after (stands-place parser h.place h.stands)) ∙ none)
+    ∙ sym (after-open_character h.is_after (stands-place h.stands)) ∙ none)

@@ -24,44 +24,44 @@ unfolding class_of sequence_kind
 probe-zero = record { class = refl; key = refl; low = omega arith; high = omega arith; other = refl }
 
 -- what a digit gives after a stream
-probe-gives : (limit : Option ℕ) (stream : List ℕ) {place next : Place} {b : ℕ} {told : List Event}
+probe-gives : {limit : Option ℕ} {stream : List ℕ} {place next : Place} {b : ℕ} {told : List Event}
     → IsProbe b → IsAfter limit stream place → Leads limit place b told next → IsPlace next
     → added limit stream (b ∷ []) ≡ told
-probe-gives limit stream {place} {next} {b} {told} d a leads =
+probe-gives {limit} {stream} {place} {next} {b} {told} d a leads =
     added-reads limit stream (b ∷ []) place next told a (reads-byte d.other leads)
 
 -- it breaks a character
-probe-in_character : (limit : Option ℕ) (stream u : List ℕ) (b : ℕ)
+probe-in_character : {limit : Option ℕ} {stream u : List ℕ} {b : ℕ}
     → IsProbe b → is_truncated u ≡ true → IsAfter limit stream (InText u)
     → added limit stream (b ∷ []) ≡ Print replacement ∷ events_from limit (InText []) (b ∷ [])
-probe-in_character limit stream u b d is a =
+probe-in_character {limit} {u} {b} d is a =
     let tests = ascii_breaks u b is d.high in
     let broken = text_broken u b is tests.is_whole tests.is_open in
-    added-after limit stream (b ∷ []) (InText u) a
+    added-after (b ∷ []) a
     ∙ ap (λ o. o.told) (waits-byte limit (InText u) (InText []) b (Print replacement ∷ []) [] d.other broken)
 
 -- it isn't printed alone, but between characters
-probe-not_alone : (limit : Option ℕ) (stream : List ℕ) (place : Place) (b : ℕ)
+probe-not_alone : {limit : Option ℕ} {stream : List ℕ} {place : Place} {b : ℕ}
     → IsProbe b → IsPlace place → IsAfter limit stream place → place ≢ InText []
     → added limit stream (b ∷ []) ≢ Print b ∷ []
-probe-not_alone limit stream (InText []) b d is a other = absurd (other refl)
-probe-not_alone limit stream (InText (c ∷ u)) b d is a other = λ alone.
-    let e = sym alone ∙ probe-in_character limit stream (c ∷ u) b d is a in
+probe-not_alone {place = InText []} d is a other = absurd (other refl)
+probe-not_alone {place = InText (c ∷ u)} {b} d is a other = λ alone.
+    let e = sym alone ∙ probe-in_character d is a in
     let same : b ≡ replacement = cc in omega (arith, same, d.high)
-probe-not_alone limit stream AtEscape b d is a other = λ alone.
-    let e = sym alone ∙ probe-gives limit stream d a (escape-end d.class refl d.key) refl in cc
-probe-not_alone limit stream (InEscape ints) b d is a other = λ alone.
-    let e = sym alone ∙ probe-gives limit stream d a (intermediate-end d.class refl) refl in cc
-probe-not_alone limit stream (InControlSequence head) b d is a other = λ alone.
-    let e = sym alone ∙ probe-gives limit stream d a (control-head (rw d.class refl)) tt in cc
-probe-not_alone limit stream (InDeviceControl head) b d is a other = λ alone.
-    let e = sym alone ∙ probe-gives limit stream d a (device-head (rw d.class refl)) tt in cc
-probe-not_alone limit stream InDeviceData b d is a other = λ alone.
-    let e = sym alone ∙ probe-gives limit stream d a (data-put (rw d.class refl)) tt in cc
-probe-not_alone limit stream (InSystemCommand items) b d is a other = λ alone.
-    let e = sym alone ∙ probe-gives limit stream d a (command-item d.low) tt in cc
-probe-not_alone limit stream InIgnoredString b d is a other = λ alone.
-    let e = sym alone ∙ probe-gives limit stream d a (ignored-more (rw d.class refl)) tt in cc
+probe-not_alone {place = AtEscape} d is a other = λ alone.
+    let e = sym alone ∙ probe-gives d a (escape-end d.class refl d.key) refl in cc
+probe-not_alone {place = InEscape ints} d is a other = λ alone.
+    let e = sym alone ∙ probe-gives d a (intermediate-end d.class refl) refl in cc
+probe-not_alone {place = InControlSequence head} d is a other = λ alone.
+    let e = sym alone ∙ probe-gives d a (control-head (rw d.class refl)) tt in cc
+probe-not_alone {place = InDeviceControl head} d is a other = λ alone.
+    let e = sym alone ∙ probe-gives d a (device-head (rw d.class refl)) tt in cc
+probe-not_alone {place = InDeviceData} d is a other = λ alone.
+    let e = sym alone ∙ probe-gives d a (data-put (rw d.class refl)) tt in cc
+probe-not_alone {place = InSystemCommand items} d is a other = λ alone.
+    let e = sym alone ∙ probe-gives d a (command-item d.low) tt in cc
+probe-not_alone {place = InIgnoredString} d is a other = λ alone.
+    let e = sym alone ∙ probe-gives d a (ignored-more (rw d.class refl)) tt in cc
 
 -- the state between characters
 pub record IsClosed (state : State) : Type 0 where
@@ -74,15 +74,15 @@ closed-by_state : {B : Type 0} (limit : Option ℕ) (state : State) (parser : Ma
 closed-by_state limit (Text u) parser s = record { unfinished = u; begun = refl; nothing = s.0 }
 closed-by_state limit _ parser s = absurd s
 
-pub is_unfinished-open : {B : Type 0} {limit : Option ℕ} {stream : List ℕ} (parser : Machine B)
+pub is_unfinished-open : {B : Type 0} {limit : Option ℕ} {stream : List ℕ} {parser : Machine B}
     → HasReadWithLimit limit parser stream → (IsClosed parser.state → ⊥) → IsUnfinished limit stream
-is_unfinished-open {limit} {stream} parser h other =
-    probe-not_alone limit stream h.place 0x30 probe-zero (stands-place parser h.place h.stands) h.is_after
+is_unfinished-open {limit} {stream} {parser} h other =
+    probe-not_alone probe-zero (stands-place h.stands) h.is_after
     (λ here. other (closed-by_state limit parser.state parser (subst (StandsAtPlace limit parser) here h.stands).by))
 
 pub is_finished-settled : {limit : Option ℕ} {stream : List ℕ} → IsAfter limit stream (InText [])
     → IsFinished limit stream
 is_finished-settled {limit} {stream} a more =
-    added-after limit stream more (InText []) a
-    ∙ sym (after-events limit [] more (InText []) (after-nothing limit)
+    added-after more a
+    ∙ sym (after-events more (after-nothing)
     ∙ ap (λ es. es ++ events_from limit (InText []) more) (events-empty limit))

@@ -21,7 +21,7 @@ advances-first {call} {i} {first} {parser} r lead fits completes = record {
       completes.stands_at value stream (in_text parser (One first)) refl
       (reads-byte_at r.within r.looked_at r.may_go_on
       (performs-opened r.begun (λ e. omega (arith, e, lead)) (refl, first_truncated first lead fits) refl) s);
-  settled = λ within. settled-by _ _ (completes.text within) tt;
+  settled = λ within. settled-by (completes.text within) tt;
   outside_runs = λ given value stream s.
       let inside =
       reads-byte_at r.within r.looked_at r.may_go_on

@@ -14,7 +14,7 @@ use Rattle.vte_core.proofs.calls.CallEnds.{ends-performs, ends-reads, ends-reads
 use Rattle.vte_core.proofs.calls.States.{reads-all}
 
 pub continues-long : {A V Answer : Type 0} (may_stop : Bool) (step : V → Event → V) (is_terminated : V → Bool)
-    (old new : V) {bytes : List ℕ} {parser next : LongParser A} (result : Result Answer Refused) {rate n : ℕ}
+    (old new : V) {bytes : List ℕ} {parser next : LongParser A} {result : Result Answer Refused} {rate n : ℕ}
     {later : List ℕ → List ℕ} → ((stream : List ℕ) → HasReadLong parser stream → HasReadLong next (later stream))
     → IfErr result
     (λ refused. ReadsUntilRefused (chunk_call may_stop step is_terminated None bytes) old new refused.read
@@ -22,7 +22,7 @@ pub continues-long : {A V Answer : Type 0} (may_stop : Bool) (step : V → Event
     → memory_of parser ≤ memory_of next → looks_long next ≤ looks_long parser + rate * length bytes + 8
     → IfOk result (λ _. looks_long next ≤ looks_long parser + rate * n + 8) → looks_long parser + n ≤ looks_long next
     → ContinuesLong rate bytes result n later parser next
-continues-long may_stop step is_terminated old new result reads refuses memory count count_if_ok least = record {
+continues-long may_stop step is_terminated old new {result} reads refuses memory count count_if_ok least = record {
   reads = reads;
   stores = λ stream h. stores_pieces _ _ (reads stream h);
   within = IfErr-weaker result _ _ (λ refused r. r.within) refuses;
@@ -36,11 +36,11 @@ continues-long may_stop step is_terminated old new result reads refuses memory c
 }
 
 pub passes-long : {V B Answer : Type 0} {step : V → Event → V} {is_terminated : V → Bool} {old new : V} {bytes : List ℕ}
-    {before : Machine B} (parser : Machine B) (result : Result Answer Refused)
+    {before : Machine B} (parser : Machine B) {result : Result Answer Refused}
     → IfErr result
     (λ refused. ReadsUntilRefused (chunk_call true step is_terminated None bytes) old new refused.read before parser)
     → PassesLong step is_terminated old new (HasReadWithLimit None before) bytes result
-passes-long parser result refuses = record {
+passes-long parser {result} refuses = record {
   passes =
       IfErr-weaker result _ _ (λ refused r stream h. let come = (refuses-inside r stream h).has_come in
       record { performed = come.performed; earlier = come.earlier refl }) refuses;
@@ -58,7 +58,7 @@ module _ {A V : Type 0} {step : V → Event → V} {is_terminated : V → Bool} 
   advance-refused refused refuses costs = record {
     performs = λ stream h. (refuses-inside refuses stream h).has_come.performed;
     continues =
-        continues-long false step is_terminated old new (Err refused)
+        continues-long false step is_terminated old new
         (λ stream h. inside-reads (refuses-inside refuses stream h)) refuses costs.memory costs.count tt (search rules);
   }
 
@@ -72,13 +72,13 @@ module _ {A V : Type 0} {step : V → Event → V} {is_terminated : V → Bool} 
       record {
         performs = λ stream h. ends-performs all (reads.stands_at stream h);
         continues =
-            continues-long false step is_terminated old new (Ok tt)
+            continues-long false step is_terminated old new
             (λ stream h. ends-reads_all all (reads.stands_at stream h)) tt costs.memory costs.count costs.count
             (search rules);
       }
 
   -- `advance_until_terminated`
-  pub advance-until : (result : Result ℕ Refused)
+  pub advance-until : {result : Result ℕ Refused}
       → IfOk result
       (λ read. ReadsUpTo (chunk_call true step is_terminated None bytes) old new read parser.machine next.machine)
       → IfErr result
@@ -86,12 +86,12 @@ module _ {A V : Type 0} {step : V → Event → V} {is_terminated : V → Bool} 
       parser.machine next.machine)
       → Costs 5 bytes result (read_count result) parser.machine next.machine parser.looks next.looks
       → ReadsUntilTerminatedLong step is_terminated old new bytes result parser next
-  advance-until result reads refuses costs = record {
+  advance-until {result} reads refuses costs = record {
     within = read_count-by_result result reads refuses (λ read r. r.within) (λ refused r. omega (arith, r.within));
     stops = IfOk-weaker result _ _ (λ read r stream h. ends-stops refl r.within r.stops (r.stands_at stream h)) reads;
-    refuses = passes-long _ result refuses;
+    refuses = passes-long _ refuses;
     continues =
-        continues-long true step is_terminated old new result
+        continues-long true step is_terminated old new
         (λ stream h. read_count-by_result result reads refuses (λ read r. ends-reads (r.stands_at stream h))
         (λ refused r. ends-reads (r.stands_at stream h)))
         refuses costs.memory costs.count costs.count_if_ok costs.least;
@@ -106,10 +106,10 @@ module _ {A V : Type 0} {step : V → Event → V} {is_terminated : V → Bool} 
       → ReadsToRunLong step is_terminated old new bytes (Err refused) parser next
   to_run-refused refused refuses costs others = record {
     returns = tt;
-    refuses = passes-long next.machine (Err refused) refuses;
+    refuses = passes-long next.machine refuses;
     outside_runs = others;
     continues =
-        continues-long true step is_terminated old new (Err refused)
+        continues-long true step is_terminated old new
         (λ stream h. ends-reads (refuses.stands_at stream h)) refuses costs.memory costs.count tt costs.least;
   }
 
@@ -122,10 +122,10 @@ module _ {A V : Type 0} {step : V → Event → V} {is_terminated : V → Bool} 
       → ReadsToRunLong step is_terminated old new bytes (Ok run) parser next
   to_run-read run comes starts ends taken costs others = record {
     returns = returns-run run comes starts ends taken refl;
-    refuses = passes-long next.machine (Ok run) tt;
+    refuses = passes-long next.machine tt;
     outside_runs = λ stream h. rw starts (others stream h);
     continues =
-        continues-long true step is_terminated old new (Ok run) (reads-run run comes starts ends taken) tt
+        continues-long true step is_terminated old new (reads-run run comes starts ends taken) tt
         costs.memory costs.count
         (rw ends costs.count_if_ok) (rw ends costs.least);
   }

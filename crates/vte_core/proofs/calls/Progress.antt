@@ -73,7 +73,7 @@ module _ {V : Type 0} {call : ChunkCall V} {old : V} {stream : List ℕ} where
   come-settled {i} {place} is between c =
       come-whole
       (breaks_at-settled stream call.bytes i
-      (after-open_character call.limit (stream ++ take i call.bytes) place c.is_after is
+      (after-open_character c.is_after is
       ∙ open_at-settled place between)) c
 
   pub come-all : {value : V} {i : ℕ} {place : Place} → length call.bytes ≤ i
@@ -88,7 +88,7 @@ module _ {V : Type 0} {call : ChunkCall V} {old : V} {stream : List ℕ} where
   come-broken {i} {b} {place} is_place within is broken performed c =
       let here : breaks_at stream call.bytes i ≡ true =
       breaks_at-byte stream call.bytes (open_at place) i b within is
-      (after-open_character call.limit (stream ++ take i call.bytes) place c.is_after is_place) ∙ broken in
+      (after-open_character c.is_after is_place) ∙ broken in
       record {
         performed =
             performed ∙ ap (λ v. call.step v (Print replacement)) c.performed
@@ -97,7 +97,7 @@ module _ {V : Type 0} {call : ChunkCall V} {old : V} {stream : List ℕ} where
             ∙ ap (after call.step old) (sym (told-broken call.limit stream call.bytes i here));
         is_after =
             subst (λ s. IsAfter call.limit s (InText [])) (sym (resumed_stream-broken stream call.bytes i here))
-            (after-nothing call.limit);
+            (after-nothing);
         earlier = c.earlier;
       }
 
@@ -122,8 +122,7 @@ module _ {V : Type 0} {call : ChunkCall V} {old : V} {stream : List ℕ} where
             (take (j - i) (drop i call.bytes)) place next these c.is_after r is_place)));
         is_after =
             stretch-after call.limit stream call.bytes i j in_order next
-            (after-reads call.limit (resumed_stream stream call.bytes i)
-            (take (j - i) (drop i call.bytes)) place next these c.is_after r is_place);
+            (after-reads c.is_after r is_place);
         earlier = λ does k below start. elim (cases_lt k i) [
           | inl front ↦ c.earlier does k front start
           | inr from ↦ elim (cases_lt i k) [
@@ -163,7 +162,7 @@ module _ {V : Type 0} {call : ChunkCall V} {old : V} {stream : List ℕ} where
       → ProgressInside call old new stream (i + 1) next
   come-carried {i} {b} {place} is_here within is some whole r performed is_place c =
       let ends : open_character (stream ++ take i call.bytes) ≡ open_at place =
-      after-open_character call.limit (stream ++ take i call.bytes) place c.is_after is_here in
+      after-open_character c.is_after is_here in
       come-one within is
       (λ _ start. absurd (no_start stream call.bytes (open_at place) i b within is ends some whole start)) r
       performed is_place
@@ -180,7 +179,7 @@ module _ {V : Type 0} {call : ChunkCall V} {old : V} {stream : List ℕ} where
       let here : i < length call.bytes = omega (arith, within) in
       let b : ℕ = slice_index call.bytes i in
       let is_item : 0x20 ≤ b = low i (omega arith) (omega arith) in
-      let one = come-settled tt tt (come-byte here refl may_go_on (reads-item call.limit items b is_item) refl tt c) in
+      let one = come-settled tt tt (come-byte here refl may_go_on (reads-item is_item) refl tt c) in
       let rest =
       come-items {i = i + 1} n (items ++ b ∷ []) (omega (arith, within))
       (λ k from to. low k (omega (arith, from)) (omega (arith, to))) may_go_on one in
@@ -211,8 +210,8 @@ module _ {V : Type 0} {call : ChunkCall V} {old : V} {stream : List ℕ} where
         subst (λ s. IsAfter call.limit s (InSystemCommand items)) (resumed_stream-broken stream call.bytes i broken)
         c.is_after in
         let none =
-        sym (after-left call.limit [] (InText []) (after-nothing call.limit) refl)
-        ∙ after-left call.limit [] (InSystemCommand items) a tt in
+        sym (after-left (after-nothing) refl)
+        ∙ after-left a tt in
         let f : ⊥ = cc in absurd f
     | inr whole ↦ come-back whole c
   ]
@@ -225,7 +224,7 @@ module _ {V : Type 0} {call : ChunkCall V} {old : V} {stream : List ℕ} where
     | inl broken ↦ starts-broken stream call.bytes i within broken
     | inr whole ↦ starts-settled stream call.bytes i within
         (ap open_character (sym (resumed_stream-settled stream call.bytes i whole))
-        ∙ after-open_character call.limit (resumed_stream stream call.bytes i) place c.is_after is
+        ∙ after-open_character c.is_after is
         ∙ open_at-settled place between)
   ]
 

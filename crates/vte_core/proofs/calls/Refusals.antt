@@ -17,7 +17,7 @@ inside-reads s = record { place = s.place; stands = s.stands; is_after = s.has_c
 -- what a stream leaves is what its place leaves
 left-at_place : {B : Type 0} (parser : Machine B) (stream : List ℕ) (h : HasReadWithLimit None parser stream)
     → (outcome None stream).left ≡ left_at None h.place
-left-at_place parser stream h = after-left None stream h.place h.is_after (stands-place parser h.place h.stands)
+left-at_place parser stream h = after-left h.is_after (stands-place h.stands)
 
 -- a byte that is refused is a data byte of an open command
 pub meets_data : {B : Type 0} {parser : Machine B} {stream bytes : List ℕ} {from : ℕ}
@@ -25,12 +25,12 @@ pub meets_data : {B : Type 0} {parser : Machine B} {stream bytes : List ℕ} {fr
     → HasReadWithLimit None parser stream → MeetsData stream (slice_index bytes from)
 meets_data {parser} {stream} {bytes} {from} refused h =
     let byte : ℕ = slice_index bytes from in
-    let k = in_command parser h.place refused.inside h.stands in
-    let o = open_for parser.command k.items byte k.keeps refused.few refused.is_data.1 in
+    let k = in_command refused.inside h.stands in
+    let o = open_for k.keeps refused.few refused.is_data.1 in
     let last : Place = InSystemCommand (k.items ++ byte ∷ []) in
     let joined : IsAfter None (stream ++ byte ∷ []) last =
-    after-reads None stream (byte ∷ []) (InSystemCommand k.items) last []
-    (subst (IsAfter None stream) k.same h.is_after) (reads-item None k.items byte refused.is_data.0) tt in
+    after-reads
+    (subst (IsAfter None stream) k.same h.is_after) (reads-item refused.is_data.0) tt in
     record {
       pieces = o.pieces;
       last = o.last;
@@ -40,7 +40,7 @@ meets_data {parser} {stream} {bytes} {from} refused h =
           left-at_place parser stream h ∙ ap (left_at None) k.same
           ∙ ap (λ those. CommandToClose those (loses_data None k.items)) o.before;
       is_data = refused.is_data;
-      joins = after-left None (stream ++ byte ∷ []) last joined tt
+      joins = after-left joined tt
           ∙ ap (λ those. CommandToClose those (loses_data None (k.items ++ byte ∷ []))) o.later
           ∙ ap (λ d. CommandToClose (o.pieces ++ (o.last ++ byte ∷ []) ∷ []) d) o.lost;
     }
@@ -67,7 +67,7 @@ pub refuses-inside : {V B : Type 0} {call : ChunkCall V} {old new : V} {n : ℕ}
     → StandsInside call old new stream n parser
 refuses-inside {call} {old} {new} {n} {parser} r stream h =
     let s = r.stands_at stream h in
-    let k = in_command parser s.place r.refused.inside s.stands in
+    let k = in_command r.refused.inside s.stands in
     record {
       place = InSystemCommand k.items;
       stands = stands-by r.refused.inside k.keeps;
@@ -81,7 +81,7 @@ pub stored_is_open : {B : Type 0} (parser : Machine B) (stream : List ℕ) → p
     → HasReadWithLimit None parser stream
     → length parser.command.bytes ≡ open_command_size stream
 stored_is_open parser stream e h =
-    let k = in_command parser h.place e h.stands in
+    let k = in_command e h.stands in
     pieces_stored None parser.command k.items k.keeps
     ∙ sym (ap open_data_count (left-at_place parser stream h ∙ ap (left_at None) k.same))
 
@@ -90,20 +90,20 @@ command-by_state : {B : Type 0} (state : State) (parser : Machine B) (items : Li
 command-by_state SystemCommand parser items s = refl
 command-by_state _ parser items s = absurd s
 
-command-by_place : {B : Type 0} (parser : Machine B) (place : Place) (pieces : List (List ℕ)) (lost : Bool)
+command-by_place : {B : Type 0} {parser : Machine B} {place : Place} {pieces : List (List ℕ)} {lost : Bool}
     → StandsAtPlace None parser place → left_at None place ≡ CommandToClose pieces lost
     → parser.state ≡ SystemCommand
-command-by_place parser (InText []) pieces lost s e = cc
-command-by_place parser (InText (a ∷ u)) pieces lost s e = cc
-command-by_place parser (InSystemCommand items) pieces lost s e = command-by_state parser.state parser items s.by
-command-by_place parser _ pieces lost s e = cc
+command-by_place {place = InText []} s e = cc
+command-by_place {place = InText (a ∷ u)} s e = cc
+command-by_place {parser} {place = InSystemCommand items} s e = command-by_state parser.state parser items s.by
+command-by_place s e = cc
 
 -- a command is open in that state alone
 state-in_command : {B : Type 0} (parser : Machine B) (stream : List ℕ) → HasReadWithLimit None parser stream
     → (pieces : List (List ℕ)) (lost : Bool) → (outcome None stream).left ≡ CommandToClose pieces lost
     → parser.state ≡ SystemCommand
 state-in_command parser stream h pieces lost open_command =
-    command-by_place parser h.place pieces lost h.stands (sym (left-at_place parser stream h) ∙ open_command)
+    command-by_place h.stands (sym (left-at_place parser stream h) ∙ open_command)
 
 -- of an open command the bytes of its pieces
 pub stores_pieces : {B : Type 0} (parser : Machine B) (stream : List ℕ) → HasReadWithLimit None parser stream

@@ -8,12 +8,12 @@ use Rattle.vte_core.proofs.calls.CallEnds.{settled-by}
 use Rattle.vte_core.proofs.calls.Stretches.{advances-byte, advances-when}
 use Rattle.vte_core.proofs.places.PlaceLeads.{byte-dropped, escape-key}
 
-takes-escape : {V B : Type 0} (step : V → Event → V) (value : V) (limit : Option ℕ) (b : ℕ) (parser : Machine B)
-    (place : Place) → parser.state ≡ Escape → b ≡ 0x1b
+takes-escape : {V B : Type 0} {step : V → Event → V} {value : V} {limit : Option ℕ} {b : ℕ} {parser : Machine B}
+    {place : Place} → parser.state ≡ Escape → b ≡ 0x1b
     → StandsAtPlace limit parser place → StandsBy limit Escape parser place
     → TakesBytes step value value limit place (b ∷ []) parser
-takes-escape step value limit b parser AtEscape e is s by = performs-escape is e by AtEscape s refl
-takes-escape step value limit b parser _ e is s by = absurd by
+takes-escape {place = AtEscape} e is s by = performs-escape is e by AtEscape s refl
+takes-escape e is s by = absurd by
 
 -- ESC once more
 pub advances-again : {outside V B : Type 0} {call : ChunkCall V} {value : V} {i b : ℕ} {parser : Machine B}
@@ -21,8 +21,8 @@ pub advances-again : {outside V B : Type 0} {call : ChunkCall V} {value : V} {i 
     → Advances outside call value value i (i + 1) parser parser
 advances-again {call} {value} {b} {parser} begun within is may_go_on same =
     advances-when (rw begun tt) (advances-byte within is may_go_on
-    (λ place s between. takes-escape call.step value call.limit b parser place begun same s (stands-in begun s))
-    (settled-by _ _ begun tt))
+    (λ place s between. takes-escape begun same s (stands-in begun s))
+    (settled-by begun tt))
 
 -- DEL and 80..FF
 pub performs-dropped : {V B : Type 0} {step : V → Event → V} {value : V} {limit : Option ℕ} {b : ℕ} {parser : Machine B}
@@ -34,7 +34,7 @@ performs-dropped {limit} {b} {parser} begun head final ordinary control =
     let dropped = left_is_dropped (class_of b) head final ordinary control in
     performs-in begun ordinary
     (takes-at_escape parser
-    (λ holds. takes-byte [] AtEscape refl (stands-by begun holds) (byte-dropped refl refl dropped)))
+    (λ holds. takes-byte refl (stands-by begun holds) (byte-dropped refl refl dropped)))
 
 -- ESC [
 pub advances-bracket : {outside V B : Type 0} {call : ChunkCall V} {value : V} {i b : ℕ} {parser next : Machine B}
@@ -45,5 +45,5 @@ unfolding class_of sequence_kind
 advances-bracket {call} {parser} begun within is may_go_on bracket state holds =
     advances-when tt (advances-in begun within is may_go_on (rw bracket refl)
     (takes-at_escape parser
-    (λ before. takes-byte [] (InControlSequence []) refl (stands-by state (holds before))
-    (rw bracket (escape-key _ refl refl refl)))) (settled-by _ _ state tt))
+    (λ before. takes-byte {told = []} {next = InControlSequence []} refl (stands-by state (holds before))
+    (rw bracket (escape-key _ refl refl refl)))) (settled-by state tt))

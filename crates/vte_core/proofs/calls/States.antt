@@ -22,8 +22,8 @@ place-settled_text {limit} parser place e s = text-by_place limit parser place (
 pub may_stop-some : (n : ℕ) → (n ≡ 0 → ⊥) → not (eqb n 0) ≡ true
 may_stop-some n some = grind (arith, nat_tests)
 
-pub may_stop-none : (n : ℕ) → n ≡ 0 → not (eqb n 0) ≡ true → ⊥
-may_stop-none n none is = let e : not (eqb 0 0) ≡ true = rw none at is in cc
+pub may_stop-none : {n : ℕ} → n ≡ 0 → not (eqb n 0) ≡ true → ⊥
+may_stop-none none is = let e : not (eqb 0 0) ≡ true = rw none at is in cc
 
 -- a call that may stop nothing reads all
 pub reads-all : (n size : ℕ) → n ≤ size → (n < size → false ≡ true) → n ≡ size
@@ -35,8 +35,8 @@ reads-all n size within asked =
 item_is_no_escape : (b : ℕ) → 0x20 ≤ b → eqb b escape ≡ false
 item_is_no_escape b low = grind (arith, nat_tests)
 
-pub reads-item : (limit : Option ℕ) (items : List ℕ) (b : ℕ) → 0x20 ≤ b
+pub reads-item : {limit : Option ℕ} {items : List ℕ} {b : ℕ} → 0x20 ≤ b
     → BytesLead limit (InSystemCommand items) (b ∷ []) [] (InSystemCommand (items ++ b ∷ []))
-reads-item limit items b low =
+reads-item {b} low =
     reads-byte (item_is_no_escape b low)
     (command-item low)

@@ -19,10 +19,10 @@ use Rattle.vte_core.proofs.streams.StreamSteps.{told_by_stream}
 
 -- ---- what a text gives, and a run
 
-reads-characters : (limit : Option ℕ) (text : List ℕ) → IsUtf8 text → All (λ b. b ≢ escape) text
+reads-characters : {limit : Option ℕ} {text : List ℕ} → IsUtf8 text → All (λ b. b ≢ escape) text
     → BytesLead limit (InText []) text (map character_event (chars text)) (InText [])
 unfolding outcome_from
-reads-characters limit text is none = record {
+reads-characters {limit} {text} is none = record {
   reads = λ more.
       let cut = cut_at_escape more in
       ap (λ c. with_bodies limit (text_outcome c.text) c.bodies) (cut-text text more none)
@@ -35,7 +35,7 @@ reads-characters limit text is none = record {
 pub told_as_characters : (limit : Option ℕ) (text : List ℕ) → IsUtf8 text → All (λ b. b ≢ escape) text
     → events limit text ≡ map character_event (chars text)
 told_as_characters limit text is none =
-    told_by_stream limit (InText []) text (map character_event (chars text)) refl (reads-characters limit text is none)
+    told_by_stream limit (InText []) text (map character_event (chars text)) refl (reads-characters is none)
 
 plain-event : (layout : Bool) (c : ℕ) → StaysInRun layout c → character_event c ≡ run_event layout c
 unfolding character_event
@@ -71,11 +71,11 @@ no_escape-run : (layout : Bool) (run : List ℕ) → IsUtf8Run layout run → Al
 no_escape-run layout run are =
     subst (All (λ b. b ≢ escape)) (encodes-chars run are.utf8) (no_escape-encodes layout (chars run) are.plain)
 
-pub reads-text : (limit : Option ℕ) (layout : Bool) (run : List ℕ) → IsUtf8Run layout run
+pub reads-text : {limit : Option ℕ} {layout : Bool} {run : List ℕ} → IsUtf8Run layout run
     → BytesLead limit (InText []) run (map (run_event layout) (chars run)) (InText [])
-reads-text limit layout run are =
+reads-text {limit} {layout} {run} are =
     subst (λ es. BytesLead limit (InText []) run es (InText [])) (plain-events layout (chars run) are.plain)
-    (reads-characters limit run are.utf8 (no_escape-run layout run are))
+    (reads-characters are.utf8 (no_escape-run layout run are))
 
 -- ---- what it does
 
@@ -148,8 +148,8 @@ pub advances-text : {V B : Type 0} {call : ChunkCall V} {layout : Bool} {old new
     → PrintsRun layout call.step old new call.bytes i j → Advances ⊥ call old new i j parser parser
 advances-text {V} {call} {layout} {old} {new} {i} {j} {parser}
     never may_go_on e in_order high prints = record {
-      goes_on = λ value stream s. settles (settled-by parser.state (Text Nothing) e tt) (inside-next value stream s);
-      settled = λ _. settled-by parser.state (Text Nothing) e tt;
+      goes_on = λ value stream s. settles (settled-by e tt) (inside-next value stream s);
+      settled = λ _. settled-by e tt;
       outside_runs = λ no. absurd no;
     }
   where
@@ -171,7 +171,7 @@ advances-text {V} {call} {layout} {old} {new} {i} {j} {parser}
         ≡ map (run_event layout) (chars run) =
         sym (added-append call.limit from front rest) ∙ ap (added call.limit from) (sym parts)
         ∙ added-reads call.limit from run (InText []) (InText []) _ c.is_after
-        (reads-text call.limit layout run prints.run) refl in
+        (reads-text prints.run) refl in
         not_stopped-told layout call (never does) value stream k
         (ap (λ es. call.is_terminated (after call.step value es)) (stretch-added call.limit stream call.bytes i k past)
         ∙ ap call.is_terminated
@@ -191,5 +191,5 @@ advances-text {V} {call} {layout} {old} {new} {i} {j} {parser}
           stands = subst (StandsAtPlace call.limit parser) here s.stands;
           has_come =
               come-further in_order high (λ does _. may_go_on does) (inside value stream c)
-              (reads-text call.limit layout run prints.run) prints.printed refl c;
+              (reads-text prints.run) prints.printed refl c;
         }

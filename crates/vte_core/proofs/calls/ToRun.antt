@@ -52,18 +52,18 @@ text-by_unfinished : (unfinished : Unfinished) → IsSettled (Text unfinished) �
 text-by_unfinished Nothing settled = refl
 text-by_unfinished _ settled = absurd settled
 
-pub settled-text : {state : State} (unfinished : Unfinished) → state ≡ Text unfinished → IsSettled state
+pub settled-text : {state : State} {unfinished : Unfinished} → state ≡ Text unfinished → IsSettled state
     → state ≡ Text Nothing
-settled-text unfinished e settled = e ∙ text-by_unfinished unfinished (subst IsSettled e settled)
+settled-text {unfinished} e settled = e ∙ text-by_unfinished unfinished (subst IsSettled e settled)
 
 -- bytes that lead from the parser's place to the same
-has-run : {B : Type 0} {limit : Option ℕ} {bytes : List ℕ} {place : RunRange} {parser : Machine B} (here : Place)
+has-run : {B : Type 0} {limit : Option ℕ} {bytes : List ℕ} {place : RunRange} {parser : Machine B} {here : Place}
     → IsPlace here
     → ((at : Place) → StandsAtPlace limit parser at → at ≡ here)
     → BytesLead limit here (bytes_at bytes place) (kind_events place.kind (bytes_at bytes place)) here
     → IsRange bytes place.start place.end → AreOfKind place.kind (bytes_at bytes place)
     → IsWholeAt bytes place place.kind → HasRun limit bytes place parser
-has-run {limit} {bytes} {place} {parser} here is only reads range kind whole =
+has-run {limit} {bytes} {place} {parser} {here} is only reads range kind whole =
     let these : List ℕ = bytes_at bytes place in
     let events : List Event = kind_events place.kind these in
     record {
@@ -78,7 +78,7 @@ has-run {limit} {bytes} {place} {parser} here is only reads range kind whole =
         place = here;
         stands = subst (StandsAtPlace limit parser) (only h.place h.stands) h.stands;
         is_after =
-            after-reads limit stream these here here events
+            after-reads
             (subst (IsAfter limit stream) (only h.place h.stands) h.is_after) reads is;
       };
     }
@@ -89,8 +89,8 @@ pub has-text : {B : Type 0} {limit : Option ℕ} {bytes : List ℕ} {from end : 
     → IsRun false bytes from end → HasNoRunAt false bytes end
     → HasRun limit bytes (record { start = from; end = end; kind = OfText }) parser
 has-text {limit} {bytes} {from} {end} {parser} between low high are ended =
-    has-run (InText []) refl (λ place s. place-settled_text parser place between s)
-    (reads-text limit false (take (end - from) (drop from bytes)) are)
+    has-run refl (λ place s. place-settled_text parser place between s)
+    (reads-text are)
     (record { in_order = omega (arith, low); within = high }) are (low, ended)
 
 -- ---- data
@@ -101,10 +101,10 @@ data-by_place : {B : Type 0} (limit : Option ℕ) (parser : Machine B) (place : 
 data-by_place limit parser InDeviceData s = refl
 data-by_place limit parser _ s = absurd s
 
-reads-data : (limit : Option ℕ) (bytes : List ℕ) (n i : ℕ) → i + n ≤ length bytes → ArePut bytes i (i + n)
+reads-data : {limit : Option ℕ} (bytes : List ℕ) (n i : ℕ) → i + n ≤ length bytes → ArePut bytes i (i + n)
     → BytesLead limit InDeviceData (take n (drop i bytes)) (map Put (take n (drop i bytes))) InDeviceData
-reads-data limit bytes zero i within are = reads-nothing
-reads-data limit bytes (suc n) i within are =
+reads-data bytes zero i within are = reads-nothing
+reads-data {limit} bytes (suc n) i within are =
     let b : ℕ = slice_index bytes i in
     let here : i < length bytes = omega (arith, within) in
     let put = are i (omega arith) (omega arith) in
@@ -113,7 +113,7 @@ reads-data limit bytes (suc n) i within are =
     (reads-append
     (reads-byte (no_escape b (data_ends_nothing (class_of b) put))
     (data-put put))
-    (reads-data limit bytes n (i + 1) (omega (arith, within))
+    (reads-data bytes n (i + 1) (omega (arith, within))
     (λ k low high. are k (omega (arith, low)) (omega (arith, high)))))
 
 pub has-data : {B : Type 0} {limit : Option ℕ} {bytes : List ℕ} {from end : ℕ} {parser : Machine B}
@@ -121,8 +121,8 @@ pub has-data : {B : Type 0} {limit : Option ℕ} {bytes : List ℕ} {from end : 
     → ArePut bytes from end → (end < length bytes → IsDeviceData (slice_index bytes end) → ⊥)
     → HasRun limit bytes (record { start = from; end = end; kind = OfData }) parser
 has-data {limit} {bytes} {from} {end} {parser} begun low high are ended =
-    has-run InDeviceData tt (λ place s. data-by_place limit parser place (stands-in begun s))
-    (reads-data limit bytes (end - from) from (omega (arith, low, high))
+    has-run tt (λ place s. data-by_place limit parser place (stands-in begun s))
+    (reads-data bytes (end - from) from (omega (arith, low, high))
     (λ k above below. are k above (omega (arith, low, below))))
     (record { in_order = omega (arith, low); within = high }) tt (low, ended)
 
@@ -134,7 +134,7 @@ pub reads-anew : {B : Type 0} {limit : Option ℕ} {stream : List ℕ} (parser :
 reads-anew {limit} parser begun h = record {
   place = InText [];
   stands = subst (StandsAtPlace limit parser) (place-settled_text parser h.place begun h.stands) h.stands;
-  is_after = after-nothing limit;
+  is_after = after-nothing;
 }
 
 -- ---- where a call comes

@@ -16,7 +16,7 @@ stands_by-cloned limit (DeviceControl progress) old new (InDeviceControl head) s
     subst (λ collected. StandsInHead collected progress head) (sym same) s
 stands_by-cloned limit DeviceData old new InDeviceData same items s = tt
 stands_by-cloned limit SystemCommand old new (InSystemCommand command) same items s =
-    keeps-same limit old.command new.command command items s
+    keeps-same items s
 stands_by-cloned limit IgnoredString old new InIgnoredString same items s = tt
 stands_by-cloned limit _ old new _ same items s = absurd s
 

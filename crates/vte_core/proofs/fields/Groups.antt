@@ -31,9 +31,9 @@ sum_rest n lengths numbers whole =
     let apart : sum (n ∷ lengths) ≡ n + sum lengths = sum_by-cons (λ (m : ℕ). m) n lengths in
     (omega arith, omega (arith, length-drop n numbers))
 
-pub AreLengths-rest : (n : ℕ) (lengths numbers : List ℕ) → AreLengths (n ∷ lengths) numbers
+pub AreLengths-rest : {n : ℕ} {lengths numbers : List ℕ} → AreLengths (n ∷ lengths) numbers
     → AreLengths lengths (drop n numbers)
-AreLengths-rest n lengths numbers ok = record {
+AreLengths-rest {n} {lengths} {numbers} ok = record {
   whole = (sum_rest n lengths numbers ok.whole).1;
   filled = All-tail (λ m. 0 < m) n lengths ok.filled;
 }
@@ -47,7 +47,7 @@ pub count_of-cut_by_lengths : (lengths numbers : List ℕ) → AreLengths length
 count_of-cut_by_lengths [] numbers ok = ok.whole
 count_of-cut_by_lengths (n ∷ lengths) numbers ok =
     let rest = sum_rest n lengths numbers ok.whole in
-    let more = count_of-cut_by_lengths lengths (drop n numbers) (AreLengths-rest n lengths numbers ok) in
+    let more = count_of-cut_by_lengths lengths (drop n numbers) (AreLengths-rest ok) in
     omega (
       arith,
       rest,
@@ -58,14 +58,14 @@ count_of-cut_by_lengths (n ∷ lengths) numbers ok =
           (cut_by_lengths lengths (drop n numbers)),
     )
 
-pub filled-cut_by_lengths : (lengths numbers : List ℕ) → AreLengths lengths numbers
+pub filled-cut_by_lengths : {lengths numbers : List ℕ} → AreLengths lengths numbers
     → All IsFilled (cut_by_lengths lengths numbers)
-filled-cut_by_lengths [] numbers ok = All-nil IsFilled
-filled-cut_by_lengths (n ∷ lengths) numbers ok =
+filled-cut_by_lengths {lengths = []} ok = All-nil IsFilled
+filled-cut_by_lengths {lengths = n ∷ lengths} {numbers} ok =
     let rest = sum_rest n lengths numbers ok.whole in
     All-cons IsFilled (take n numbers) (cut_by_lengths lengths (drop n numbers))
     (omega (arith, All-head (λ m. 0 < m) n lengths ok.filled, length-take-le n numbers rest.0))
-    (filled-cut_by_lengths lengths (drop n numbers) (AreLengths-rest n lengths numbers ok))
+    (filled-cut_by_lengths (AreLengths-rest ok))
 
 small-cut_by_lengths : (lengths numbers : List ℕ) → AreSmall numbers → All AreSmall (cut_by_lengths lengths numbers)
 small-cut_by_lengths [] numbers small = All-nil AreSmall
@@ -80,7 +80,7 @@ pub AreGroups-cut_by_lengths : (lengths numbers : List ℕ) → AreFlatGroups le
 AreGroups-cut_by_lengths lengths numbers ok few = record {
   few = omega (arith, count_of-cut_by_lengths lengths numbers ok.lengths_fit);
   small = small-cut_by_lengths lengths numbers ok.small;
-  filled = filled-cut_by_lengths lengths numbers ok.lengths_fit;
+  filled = filled-cut_by_lengths ok.lengths_fit;
 }
 
 -- ---- a number more
@@ -135,12 +135,12 @@ pub record IsPushed (joined : Bool) (lengths rest numbers : List ℕ) (last : Op
       ≡ with_number (cut_by_lengths lengths numbers) (numbered joined value)
   pub lengths_fit : AreLengths (rest ++ (unwrap_or last 0 + 1) ∷ []) (numbers ++ value ∷ [])
 
-cut_by_lengths-more : (joined : Bool) (lengths rest numbers : List ℕ) (last : Option ℕ) (value : ℕ)
+cut_by_lengths-more : {joined : Bool} {lengths rest numbers : List ℕ} {last : Option ℕ} {value : ℕ}
     → sum rest + unwrap_or last 0 ≡ length numbers → All (λ n. 0 < n) rest
     → cut_by_lengths rest (take (sum rest) numbers) ++ (drop (sum rest) numbers ++ value ∷ []) ∷ []
     ≡ with_number (cut_by_lengths lengths numbers) (numbered joined value)
     → IsPushed joined lengths rest numbers last value
-cut_by_lengths-more joined lengths rest numbers last value whole filled same = record {
+cut_by_lengths-more {rest} {numbers} {last} {value} whole filled same = record {
   room = omega (arith, length_le_sum rest filled);
   groups = cut_by_lengths-last rest numbers (value ∷ []) (unwrap_or last 0) (unwrap_or last 0 + 1) whole refl ∙ same;
   lengths_fit = record {
@@ -149,14 +149,14 @@ cut_by_lengths-more joined lengths rest numbers last value whole filled same = r
   };
 }
 
-pushed-alone : (joined : Bool) (lengths rest numbers : List ℕ) (value : ℕ) → AreLengths lengths numbers
+pushed-alone : {joined : Bool} {lengths rest numbers : List ℕ} {value : ℕ} → AreLengths lengths numbers
     → lengths ≡ rest ++ []
     → with_number (cut_by_lengths lengths numbers) (numbered false value)
     ≡ with_number (cut_by_lengths lengths numbers) (numbered joined value)
     → IsPushed joined lengths rest numbers None value
-pushed-alone joined lengths rest numbers value ok parts same =
+pushed-alone {joined} {lengths} {rest} {numbers} {value} ok parts same =
     subst (λ rest. IsPushed joined lengths rest numbers None value) (parts ∙ append-nil rest)
-    (cut_by_lengths-more joined lengths lengths numbers None value (omega (arith, ok.whole)) ok.filled
+    (cut_by_lengths-more (omega (arith, ok.whole)) ok.filled
     (rw (
       take_all (sum lengths) numbers (omega (arith, ok.whole)),
       drop_all (sum lengths) numbers
@@ -169,16 +169,16 @@ pub pushed : (joined : Bool) (lengths rest numbers : List ℕ) (last : Option �
 pushed true lengths rest numbers (Some n) value ok taken =
     let whole : sum rest + n ≡ length numbers = sym (sum_push rest n) ∙ ap sum (sym taken.parts) ∙ ok.whole in
     let old = simp append-nil at (cut_by_lengths-last rest numbers [] n n whole (omega arith)) in
-    cut_by_lengths-more true lengths rest numbers (Some n) value whole
+    cut_by_lengths-more whole
     (All-pop (λ m. 0 < m) lengths rest (Some n) taken.parts ok.filled).0
     (sym (with_number-joins (cut_by_lengths rest (take (sum rest) numbers)) (drop (sum rest) numbers) value)
     ∙ ap (λ groups. with_number groups (numbered true value))
     (sym old ∙ ap (λ those. cut_by_lengths those numbers) (sym taken.parts)))
-pushed true [] rest numbers None value ok taken = pushed-alone true [] rest numbers value ok taken.parts refl
+pushed true [] rest numbers None value ok taken = pushed-alone ok taken.parts refl
 pushed true (n ∷ lengths) rest numbers None value ok taken = absurd (omega (arith, taken.found refl refl))
 pushed false lengths rest numbers (Some n) value ok taken = let h = taken.alone refl in cc
 pushed false lengths rest numbers None value ok taken =
-    pushed-alone false lengths rest numbers value ok taken.parts refl
+    pushed-alone ok taken.parts refl
 
 -- ---- lengths that are added up one after another
 

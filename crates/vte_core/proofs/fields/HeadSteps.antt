@@ -8,9 +8,9 @@ use Rattle.vte_core.proofs.shapes.HeadLemmas.{begins-intermediates, head_of-part
 use Rattle.vte_core.proofs.bytes.ClassCases.{AreInClass-append}
 
 -- the numbers that are held are those of the same text
-pub CountsNumbers-kept : (old new : Collected) (text : List ℕ) → SameNumbers old new → CountsNumbers old text
+pub CountsNumbers-kept : {old new : Collected} {text : List ℕ} → SameNumbers old new → CountsNumbers old text
     → CountsNumbers new text
-CountsNumbers-kept old new text k c = record {
+CountsNumbers-kept k c = record {
   front = c.front;
   digits = c.digits;
   goes_on = rw k.joined c.goes_on;
@@ -18,21 +18,21 @@ CountsNumbers-kept old new text k c = record {
   number = k.number ∙ c.number;
 }
 
-Holds-kept : (old new : Collected) (ints : List ℕ) → SameIntermediates old new → HoldsIntermediates old ints
+Holds-kept : {old new : Collected} {ints : List ℕ} → SameIntermediates old new → HoldsIntermediates old ints
     → HoldsIntermediates new ints
-Holds-kept old new ints k h = record {
+Holds-kept k h = record {
   kept = cc;
   too_many_intermediates = k.too_many_intermediates
       ∙ h.too_many_intermediates;
 }
 
 -- an intermediate, wherever the head has come
-pub holds-intermediate : (old new : Collected) (progress : HeadProgress) (head : List ℕ) (b : ℕ)
+pub holds-intermediate : {old new : Collected} {progress : HeadProgress} {head : List ℕ} (b : ℕ)
     → HoldsHead old progress head
     → class_of b ≡ Intermediate
     → SameNumbers old new → ((ints : List ℕ) → HoldsIntermediates old ints → HoldsIntermediates new (ints ++ b ∷ []))
     → HoldsHead new Intermediates (head ++ b ∷ [])
-holds-intermediate old new progress head b h e k more = record {
+holds-intermediate b h e k more = record {
   marker = h.marker;
   parameters = h.parameters;
   intermediates = h.intermediates ++ b ∷ [];
@@ -42,7 +42,7 @@ holds-intermediate old new progress head b h e k more = record {
   are_intermediates = AreInClass-append is_intermediate h.intermediates (b ∷ []) h.are_intermediates (rw e refl, tt);
   reaches = omega (arith, length-append {A = ℕ});
   holds = rw append_assoc at (more (h.marker ++ h.intermediates) h.holds);
-  counts = CountsNumbers-kept old new h.parameters k h.counts;
+  counts = CountsNumbers-kept k h.counts;
 }
 
 -- a marker, where nothing has come
@@ -63,17 +63,17 @@ holds-marker old new head b h e k more =
       are_intermediates = tt;
       reaches = (omega arith, refl);
       holds = more [] none;
-      counts = CountsNumbers-kept old new h.parameters k h.counts;
+      counts = CountsNumbers-kept k h.counts;
     }
 
 -- a byte of the parameters
-after_no_intermediate : (old new : Collected) (progress : HeadProgress) (head : List ℕ) (b : ℕ)
+after_no_intermediate : {old new : Collected} (progress : HeadProgress) (head : List ℕ) (b : ℕ)
     (h : HoldsHead old progress head)
     → h.intermediates ≡ []
     → is_parameter_text (class_of b) ≡ true → SameIntermediates old new
     → ((text : List ℕ) → CountsNumbers old text → CountsNumbers new (text ++ b ∷ []))
     → HoldsHead new Parameters (head ++ b ∷ [])
-after_no_intermediate old new progress head b h none is k more =
+after_no_intermediate {old} progress head b h none is k more =
     let kept : HoldsIntermediates old (h.marker ++ []) = rw none at h.holds in
     record {
       marker = h.marker;
@@ -84,21 +84,21 @@ after_no_intermediate old new progress head b h none is k more =
       are_parameters = AreInClass-append is_parameter_text h.parameters (b ∷ []) h.are_parameters (is, tt);
       are_intermediates = tt;
       reaches = (omega (arith, length-append {A = ℕ}), refl);
-      holds = Holds-kept old new (h.marker ++ []) k kept;
+      holds = Holds-kept k kept;
       counts = more h.parameters h.counts;
     }
 
 -- no intermediate is held where the head may have parameters
-pub holds-parameter : (old new : Collected) (progress : HeadProgress) (head : List ℕ) (b : ℕ)
+pub holds-parameter : {old new : Collected} {progress : HeadProgress} (head : List ℕ) (b : ℕ)
     → (progress ≡ Entry) ⊎ (progress ≡ Parameters) → StandsInHead old progress head
     → is_parameter_text (class_of b) ≡ true → SameIntermediates old new
     → ((text : List ℕ) → CountsNumbers old text → CountsNumbers new (text ++ b ∷ []))
     → HoldsHead new Parameters (head ++ b ∷ [])
-holds-parameter old new progress head b (inl e) s is k more =
-    let h : HoldsHead old Entry head = rw e at s in after_no_intermediate old new Entry head b h h.reaches.2 is k more
-holds-parameter old new progress head b (inr e) s is k more =
+holds-parameter {old} head b (inl e) s is k more =
+    let h : HoldsHead old Entry head = rw e at s in after_no_intermediate Entry head b h h.reaches.2 is k more
+holds-parameter {old} head b (inr e) s is k more =
     let h : HoldsHead old Parameters head =
-    rw e at s in after_no_intermediate old new Parameters head b h h.reaches.1 is k more
+    rw e at s in after_no_intermediate Parameters head b h h.reaches.1 is k more
 
 -- a marker after a marker or a parameter
 malformed-marker : (old : Collected) (head : List ℕ) (b : ℕ) → HoldsHead old Parameters head → class_of b ≡ Marker
@@ -134,18 +134,18 @@ ill_shaped-after_intermediate old head b h is = record {
 pub ill_shaped-more : (head : List ℕ) (b : ℕ) → StaysIllShaped head → StaysIllShaped (head ++ b ∷ [])
 ill_shaped-more head b s = record { stays = λ more. rw append_assoc (s.stays (b ∷ more)) }
 
-pub ill_shaped-now : (head : List ℕ) → StaysIllShaped head → is_well_shaped (head_of head) ≡ false
-ill_shaped-now head s = rw append-nil at (s.stays [])
+pub ill_shaped-now : {head : List ℕ} → StaysIllShaped head → is_well_shaped (head_of head) ≡ false
+ill_shaped-now s = rw append-nil at (s.stays [])
 
 -- at the end of a head that is well shaped
-pub head-ready : (old new : Collected) (more ignored : Bool) (progress : HeadProgress) (head : List ℕ)
+pub head-ready : {old new : Collected} (more : Bool) {ignored : Bool} {progress : HeadProgress} {head : List ℕ}
     → ((text : List ℕ) → CountsNumbers old text → HoldsNumbers new more text)
     → SameIntermediates old new → HoldsHead old progress head → ignored ≡ (new.too_many_intermediates || more)
     → IsReady new ignored head
-head-ready old new more ignored progress head settles k h is =
+head-ready more settles k h is =
     let parts = held-parts h.marker h.parameters h.intermediates h.is_marker h.are_parameters h.are_intermediates in
     let s = settles h.parameters h.counts in
-    let holds = Holds-kept old new (h.marker ++ h.intermediates) k h.holds in
+    let holds = Holds-kept k h.holds in
     record {
       well_shaped =
           rw h.shape
@@ -188,14 +188,14 @@ ill_shaped-late old Intermediates head b s h i p n = ill_shaped-after_intermedia
 ill_shaped-late old IllShaped head b s h i p n = ill_shaped-more head b s
 
 -- what is handed over at the end of a head
-pub dispatched-ready : (call : List (List ℕ) → List ℕ → Bool → ℕ → Event) (held : Collected) (ignored : Bool)
-    (head : List ℕ) (final : ℕ)
+pub dispatched-ready : (call : List (List ℕ) → List ℕ → Bool → ℕ → Event) {held : Collected} {ignored : Bool}
+    {head : List ℕ} (final : ℕ)
     → IsReady held ignored head
     → call held.params held.intermediates.items ignored final ≡ sequence_event call (head_of head) final
 unfolding sequence_event
-dispatched-ready call held ignored head final f = rw (f.groups, f.intermediates, f.ignore) refl
+dispatched-ready call final f = rw (f.groups, f.intermediates, f.ignore) refl
 
-pub head-holds : (held : Collected) (progress : HeadProgress) (head : List ℕ) → (progress ≡ IllShaped → ⊥)
+pub head-holds : {held : Collected} {progress : HeadProgress} {head : List ℕ} → (progress ≡ IllShaped → ⊥)
     → StandsInHead held progress head → HoldsHead held progress head
-head-holds held IllShaped head n s = absurd (n refl)
-head-holds held progress head n s = s
+head-holds {progress = IllShaped} n s = absurd (n refl)
+head-holds n s = s

@@ -19,11 +19,11 @@ counts-held collected text k =
     ap count_of k.params ∙ count_of-grouped (take most_numbers k.front) ∙ length-take most_numbers k.front
 
 -- where there is no room for the last number
-pub settles-full : (collected : Collected) (text : List ℕ) → CountsNumbers collected text
+pub settles-full : {collected : Collected} {text : List ℕ} → CountsNumbers collected text
     → 32 ≤ count_of collected.params
     → HoldsNumbers collected true text
 unfolding groups_of has_too_many_numbers
-settles-full collected text k full =
+settles-full {collected} {text} k full =
     let c = counts-held collected text k in
     let last = numbered collected.joined collected.number in
     let n : length (k.front ++ last ∷ []) ≡ length k.front + 1 = length-append k.front (last ∷ []) in
@@ -36,10 +36,10 @@ settles-full collected text k full =
     }
 
 -- where there is room for it
-pub settles-push : (old new : Collected) (text : List ℕ) → CountsNumbers old text → count_of old.params < 32
+pub settles-push : {old new : Collected} {text : List ℕ} → CountsNumbers old text → count_of old.params < 32
     → new.params ≡ with_number old.params (numbered old.joined old.number) → HoldsNumbers new false text
 unfolding groups_of has_too_many_numbers
-settles-push old new text k room pushed =
+settles-push {old} {text} k room pushed =
     let c = counts-held old text k in
     let last = numbered old.joined old.number in
     let n : length (k.front ++ last ∷ []) ≡ length k.front + 1 = length-append k.front (last ∷ []) in
@@ -54,11 +54,11 @@ settles-push old new text k room pushed =
     }
 
 -- after a separator
-pub counts-separator : (old settled new : Collected) (more : Bool) (text : List ℕ) (b : ℕ) → CountsNumbers old text
+pub counts-separator : {old settled new : Collected} {more : Bool} {text : List ℕ} (b : ℕ) → CountsNumbers old text
     → HoldsNumbers settled more text → is_separator b ≡ true
     → new.params ≡ settled.params → new.joined ≡ is_colon b → new.number ≡ 0 → CountsNumbers new (text ++ b ∷ [])
 unfolding groups_of
-counts-separator old settled new more text b k s is params joined number = record {
+counts-separator {old} {text} b k s is params joined number = record {
   front = k.front ++ numbered old.joined old.number ∷ [];
   digits = [];
   goes_on =
@@ -69,11 +69,11 @@ counts-separator old settled new more text b k s is params joined number = recor
 }
 
 -- after a digit
-pub counts-digit : (old new : Collected) (text : List ℕ) (d : ℕ) → CountsNumbers old text → 48 ≤ d → d < 58
+pub counts-digit : {old new : Collected} {text : List ℕ} (d : ℕ) → CountsNumbers old text → 48 ≤ d → d < 58
     → new.params ≡ old.params
     → new.joined ≡ old.joined → new.number ≡ min greatest_number (10 * old.number + (d - 48))
     → CountsNumbers new (text ++ d ∷ [])
-counts-digit old new text d k low high params joined number = record {
+counts-digit {text} d k low high params joined number = record {
   front = k.front;
   digits = k.digits ++ d ∷ [];
   goes_on =

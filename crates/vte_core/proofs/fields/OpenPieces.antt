@@ -71,9 +71,9 @@ loss-same items byte pieces last before later other =
       more,
     ) (grind (arith, nat_tests))
 
-pub open_for : (held : Stored) (items : List ℕ) (byte : ℕ) → HoldsItems None held items → length held.ends < most_pieces
+pub open_for : {held : Stored} {items : List ℕ} {byte : ℕ} → HoldsItems None held items → length held.ends < most_pieces
     → byte ≢ semicolon → IsOpenFor items byte
-open_for held items byte keeps few other =
+open_for {held} {items} {byte} keeps few other =
     let g = piece-goes_on most_pieces 0 held.bytes held.ends byte keeps.end in
     let some : length g.pieces < most_pieces = omega (arith, g.ended) in
     let more =

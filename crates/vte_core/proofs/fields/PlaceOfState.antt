@@ -35,14 +35,14 @@ pub record InCommandAt {B : Type 0} (limit : Option ℕ) (parser : Machine B) (p
   pub same : place ≡ InSystemCommand items
   pub keeps : HoldsItems limit parser.command items
 
-command-by_place : {B : Type 0} (limit : Option ℕ) (parser : Machine B) (place : Place)
+command-by_place : {B : Type 0} {limit : Option ℕ} {parser : Machine B} {place : Place}
     → StandsBy limit SystemCommand parser place → InCommandAt limit parser place
-command-by_place limit parser (InSystemCommand items) s = record { items = items; same = refl; keeps = s }
-command-by_place limit parser _ s = absurd s
+command-by_place {place = InSystemCommand items} s = record { items = items; same = refl; keeps = s }
+command-by_place s = absurd s
 
-pub in_command : {B : Type 0} {limit : Option ℕ} (parser : Machine B) (place : Place) → parser.state ≡ SystemCommand
+pub in_command : {B : Type 0} {limit : Option ℕ} {parser : Machine B} {place : Place} → parser.state ≡ SystemCommand
     → StandsAtPlace limit parser place → InCommandAt limit parser place
-in_command {limit} parser place e s = command-by_place limit parser place (stands-in e s)
+in_command {limit} e s = command-by_place (stands-in e s)
 
 -- what is true of a place where some parser stands
 abbrev pub IsPlace : Place → Type 0
@@ -55,10 +55,10 @@ is_place-by_state limit (Text unfinished) parser (InText u) s = s.1
 is_place-by_state limit _ parser (InText u) s = absurd s
 is_place-by_state limit _ parser _ s = tt
 
-pub stands-place : {B : Type 0} {limit : Option ℕ} (parser : Machine B) (place : Place)
+pub stands-place : {B : Type 0} {limit : Option ℕ} {parser : Machine B} {place : Place}
     → StandsAtPlace limit parser place
     → IsPlace place
-stands-place {limit} parser place s = is_place-by_state limit parser.state parser place s.by
+stands-place {limit} {parser} {place} s = is_place-by_state limit parser.state parser place s.by
 
 pub may_continue-truncated : (u : List ℕ) → is_truncated u ≡ true → may_continue u ≡ true
 may_continue-truncated [] more = refl
@@ -96,13 +96,13 @@ open_at-settled (InText u) none = none
 open_at-settled _ none = refl
 
 -- between characters
-pub stands-text_begun : {B : Type 0} {limit : Option ℕ} (parser : Machine B) → parser.state ≡ Text Nothing
+pub stands-text_begun : {B : Type 0} {limit : Option ℕ} {parser : Machine B} → parser.state ≡ Text Nothing
     → StandsAtPlace limit parser (InText [])
-stands-text_begun parser e = stands-by e (refl, refl)
+stands-text_begun e = stands-by e (refl, refl)
 
-pub keeps-same : (limit : Option ℕ) (old new : Stored) (items : List ℕ) → SameItems old new → HoldsItems limit old items
+pub keeps-same : {limit : Option ℕ} {old new : Stored} {items : List ℕ} → SameItems old new → HoldsItems limit old items
     → HoldsItems limit new items
-keeps-same limit old new items same keeps = record {
+keeps-same same keeps = record {
   goes_on = rw (same.bytes, same.ends) keeps.goes_on;
   end = rw (same.bytes, same.ends) keeps.end;
   fewer = rw same.bytes keeps.fewer;

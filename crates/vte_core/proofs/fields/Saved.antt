@@ -48,31 +48,31 @@ items-saved h r old_is new_is = record {
   lost = r.lost new_is ∙ h.lost old_is;
 }
 
-stands_by-saved : {B C : Type 0} (limit : Option ℕ) {saved : Saved} (state : State) (old : Machine B) (new : Machine C)
+stands_by-saved : {B C : Type 0} (limit : Option ℕ) {saved : Saved} {state : State} {old : Machine B} {new : Machine C}
     (place : Place) → HasSaved saved old → IsRestored saved new
     → old.state ≡ state → new.state ≡ state → StandsBy limit state old place → StandsBy limit state new place
-stands_by-saved limit (Text unfinished) old new (InText u) h r o n s = s
-stands_by-saved limit Escape old new AtEscape h r o n s = holds-saved h r s
-stands_by-saved limit EscapeIntermediate old new (InEscape bytes) h r o n s = holds-saved h r s
-stands_by-saved limit (ControlSequence progress) old new (InControlSequence head) h r o n s =
+stands_by-saved limit {state = Text unfinished} (InText u) h r o n s = s
+stands_by-saved limit {state = Escape} AtEscape h r o n s = holds-saved h r s
+stands_by-saved limit {state = EscapeIntermediate} (InEscape bytes) h r o n s = holds-saved h r s
+stands_by-saved limit {state = ControlSequence progress} (InControlSequence head) h r o n s =
     subst (λ collected. StandsInHead collected progress head) (collected-saved h r (rw o tt) (rw n tt)) s
-stands_by-saved limit (DeviceControl progress) old new (InDeviceControl head) h r o n s =
+stands_by-saved limit {state = DeviceControl progress} (InDeviceControl head) h r o n s =
     subst (λ collected. StandsInHead collected progress head) (collected-saved h r (rw o tt) (rw n tt)) s
-stands_by-saved limit DeviceData old new InDeviceData h r o n s = tt
-stands_by-saved limit SystemCommand old new (InSystemCommand items) h r o n s =
-    keeps-same limit old.command new.command items (items-saved h r o n) s
-stands_by-saved limit IgnoredString old new InIgnoredString h r o n s = tt
-stands_by-saved limit _ old new _ h r o n s = absurd s
+stands_by-saved limit {state = DeviceData} InDeviceData h r o n s = tt
+stands_by-saved limit {state = SystemCommand} (InSystemCommand items) h r o n s =
+    keeps-same (items-saved h r o n) s
+stands_by-saved limit {state = IgnoredString} InIgnoredString h r o n s = tt
+stands_by-saved limit _ h r o n s = absurd s
 
 -- what was saved has read what the machine has
-pub reads_saved : {B : Type 0} (saved : Saved) (machine : Machine B) → HasSaved saved machine
+pub reads_saved : {B : Type 0} {saved : Saved} {machine : Machine B} → HasSaved saved machine
     → (stream : List ℕ) → HasReadWithLimit usual_limit machine stream → HasReadSaved saved stream
-reads_saved saved machine h stream has_read = record {
+reads_saved {machine} h stream has_read = record {
   reads = λ parser r. record {
     place = has_read.place;
     stands = let same : parser.machine.state ≡ machine.state = r.state machine.state h.state in
         stands-by same
-        (stands_by-saved _ machine.state machine parser.machine has_read.place h r refl same has_read.stands.by);
+        (stands_by-saved _ has_read.place h r refl same has_read.stands.by);
     is_after = has_read.is_after;
   };
 }

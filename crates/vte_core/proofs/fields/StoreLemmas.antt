@@ -141,10 +141,10 @@ count-end items = rw (filter-append is_data_item items (semicolon ∷ []), appen
 
 -- The flag of a store that held `before` of `count` data bytes, and holds `after` of them when n
 -- more have come.
-loses-more : (before after count n : ℕ) (old new : Bool) → before ≤ count → before ≤ after → after ≤ before + n
+loses-more : (before after count n : ℕ) {old new : Bool} → before ≤ count → before ≤ after → after ≤ before + n
     → old ≡ nat_lt before count
     → new ≡ (old || nat_lt (after - before) n) → new ≡ nat_lt after (count + n)
-loses-more before after count n old new some low high was is = grind (arith, nat_tests, some, low, high, was, is)
+loses-more before after count n some low high was is = grind (arith, nat_tests, some, low, high, was, is)
 
 length-fitting : (limit : Option ℕ) (count : ℕ) (run : List ℕ) → length (fitting limit count run) ≤ length run
 length-fitting None count run = omega arith
@@ -167,16 +167,17 @@ abbrev pub IsDone : Option ℕ → Stored → Type 0
 IsDone limit held = (more : List ℕ) → pieces_from limit held.bytes held.ends more ≡ cut_pieces held.bytes held.ends
 
 -- after 16 ends
-pub done-complete : (limit : Option ℕ) (held : Stored) (items : List ℕ) → length held.ends ≡ most_pieces
+pub done-complete : {limit : Option ℕ} {held : Stored} {items : List ℕ} → length held.ends ≡ most_pieces
     → HoldsItems limit held items → IsDone limit held
-done-complete limit held items complete keeps more =
+done-complete {limit} {held} complete keeps more =
     let kept = kept_after limit (length held.bytes) more in
     rw complete at (ends-complete 0 held.bytes held.ends (filter is_data_item kept)
     (ends_after (length held.bytes) kept) (rw complete keeps.end))
 
-none-counts : (limit : Option ℕ) (held : Stored) (items more : List ℕ) → IsDone limit held → HoldsItems limit held items
+none-counts : {limit : Option ℕ} {held : Stored} {items : List ℕ} (more : List ℕ) → IsDone limit held
+    → HoldsItems limit held items
     → (later : List ℕ) → pieces_of limit ((items ++ more) ++ later) ≡ pieces_from limit held.bytes held.ends later
-none-counts limit held items more done keeps later =
+none-counts {items} more done keeps later =
     rw (append_assoc items more later) (keeps.goes_on (more ++ later) ∙ done (more ++ later) ∙ sym (done later))
 
 -- after 16 ends, data bytes are dropped
@@ -188,20 +189,20 @@ pub keeps-later : (limit : Option ℕ) (old new : Stored) (items run : List ℕ)
 keeps-later limit old new items run complete none bytes ends lost keeps = record {
   goes_on =
       λ more.
-      rw (bytes, ends) (none-counts limit old items run (done-complete limit old items complete keeps) keeps more);
+      rw (bytes, ends) (none-counts run (done-complete complete keeps) keeps more);
   end = rw (bytes, ends) keeps.end;
   fewer = rw (bytes, count-run items run none) (omega (arith, keeps.fewer));
   lost =
       rw (bytes, count-run items run none)
-      (loses-more (length old.bytes) (length old.bytes) _ (length run) old.lost new.lost
+      (loses-more (length old.bytes) (length old.bytes) _ (length run)
       keeps.fewer (omega arith) (omega arith) keeps.lost (rw bytes at lost));
 }
 
 -- if no more items count, a `;` changes nothing
-pub keeps-done : (limit : Option ℕ) (held : Stored) (items : List ℕ) → IsDone limit held → HoldsItems limit held items
+pub keeps-done : {limit : Option ℕ} {held : Stored} {items : List ℕ} → IsDone limit held → HoldsItems limit held items
     → HoldsItems limit held (items ++ semicolon ∷ [])
-keeps-done limit held items done keeps = record {
-  goes_on = none-counts limit held items (semicolon ∷ []) done keeps;
+keeps-done {items} done keeps = record {
+  goes_on = none-counts (semicolon ∷ []) done keeps;
   end = keeps.end;
   fewer = rw (count-end items) keeps.fewer;
   lost = rw (count-end items) keeps.lost;
@@ -228,7 +229,7 @@ keeps-run limit old new items run few none bytes ends lost keeps =
       fewer = omega (arith, size, keeps.fewer, fit, count-run items run none);
       lost =
           rw (count-run items run none)
-          (loses-more (length old.bytes) (length new.bytes) _ (length run) old.lost new.lost
+          (loses-more (length old.bytes) (length new.bytes) _ (length run)
           keeps.fewer (omega (arith, size)) (omega (arith, size, fit)) keeps.lost lost);
     }
 
@@ -261,7 +262,7 @@ pieces_stored limit held items keeps =
     rw (pieces_held limit held items keeps) (omega (arith, ends-stored most_pieces 0 held.bytes held.ends keeps.end))
 
 -- a store knows whether data bytes were dropped
-pub loses_held : (limit : Option ℕ) (held : Stored) (items : List ℕ) → HoldsItems limit held items
+pub loses_held : {limit : Option ℕ} {held : Stored} {items : List ℕ} → HoldsItems limit held items
     → loses_data limit items ≡ held.lost
 unfolding loses_data
-loses_held limit held items keeps = rw (pieces_stored limit held items keeps) at (sym keeps.lost)
+loses_held {limit} {held} {items} keeps = rw (pieces_stored limit held items keeps) at (sym keeps.lost)

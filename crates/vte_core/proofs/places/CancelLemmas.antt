@@ -24,20 +24,20 @@ text_outcome-cancel rest b low =
     rw control at (text_outcome-well_formed (b ∷ []) rest (ascii_alone b (omega arith)).is_whole)
 
 -- what is closed comes first, then the byte is executed
-pub byte-cancels : (limit : Option ℕ) (place : Place) (b : ℕ) → IsPlace place → class_of b ≡ Cancel
+pub byte-cancels : {limit : Option ℕ} {place : Place} {b : ℕ} → IsPlace place → class_of b ≡ Cancel
     → Leads limit place b (closing_events_at limit place ++ Execute b ∷ []) (InText [])
 unfolding body_outcome executed_events escape_from control_sequence_from control_sequence_end device_control_from
     device_control_after_head device_data_outcome system_command_from ignored_string_outcome
-byte-cancels limit (InText []) b is e = record { leads = λ rest. text_outcome-cancel rest b (spans b Cancel e) }
-byte-cancels limit (InText (a ∷ u)) b is e =
+byte-cancels {place = InText []} {b} is e = record { leads = λ rest. text_outcome-cancel rest b (spans b Cancel e) }
+byte-cancels {place = InText (a ∷ u)} {b} is e =
     let low : b < 0x20 = spans b Cancel e in
     let tests : Tests (a ∷ u ++ b ∷ []) false false = ascii_breaks (a ∷ u) b is (omega arith) in
     record {
       leads = λ rest. text_broken (a ∷ u) b is tests.is_whole tests.is_open rest
           ∙ ap (tell (Print replacement ∷ [])) (text_outcome-cancel rest b low);
     }
-byte-cancels limit (InSystemCommand items) b is e = record { leads = λ rest. simp (e, no_bell b e, append-nil) }
-byte-cancels limit _ b is e = record { leads = λ rest. simp e }
+byte-cancels {place = InSystemCommand items} {b} is e = record { leads = λ rest. simp (e, no_bell b e, append-nil) }
+byte-cancels is e = record { leads = λ rest. simp e }
 
 -- ---- both are little
 

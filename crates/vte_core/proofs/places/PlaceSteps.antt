@@ -45,8 +45,8 @@ nothing_open limit (InSystemCommand (item ∷ items)) none = absurd none
 nothing_open limit _ none = (refl, refl, tt)
 
 -- a byte of the class, of which the class says that it is not ESC
-pub no_escape-class : (b : ℕ) (k : Class) → class_of b ≡ k → ends_body k ≡ false → eqb b escape ≡ false
-no_escape-class b k is no_end = no_escape b (rw is no_end)
+pub no_escape-class : (b : ℕ) {k : Class} → class_of b ≡ k → ends_body k ≡ false → eqb b escape ≡ false
+no_escape-class b is no_end = no_escape b (rw is no_end)
 
 module _ {limit : Option ℕ} {place next : Place} {b : ℕ} where
   step-sequenced_by : {told : List Event} → eqb b escape ≡ false → Sequenced place next → Leads limit place b told next
@@ -71,7 +71,7 @@ module _ {limit : Option ℕ} {place next : Place} {b : ℕ} where
       → Leads limit place b told next
       → ((size : Option ℕ) → FitsLeft size (left_at limit place) → AreFromOneByte size told)
       → (IsQuietAt place b → AreQuietEvents told) → Steps limit place b
-  step-sequenced is no_end = step-sequenced_by (no_escape-class _ _ is no_end)
+  step-sequenced is no_end = step-sequenced_by (no_escape-class _ is no_end)
 
   -- a byte that tells nothing
   step-silent : {k : Class} → class_of b ≡ k → ends_body k ≡ false → Sequenced place next → Leads limit place b [] next
@@ -85,104 +85,104 @@ module _ {limit : Option ℕ} {place next : Place} {b : ℕ} where
 
 -- ---- after ESC
 
-step-final : (limit : Option ℕ) (b : ℕ) (k : SequenceKind) → class_of b ≡ Final → sequence_kind b ≡ k
+step-final : {limit : Option ℕ} {b : ℕ} {k : SequenceKind} → class_of b ≡ Final → sequence_kind b ≡ k
     → Steps limit AtEscape b
-step-final limit b EscapeSequence is k =
+step-final {b} {k = EscapeSequence} is k =
     let s = spans b Final is in
     step-sequenced is refl (tt, tt) (escape-end is refl k) (λ _ _. (omega arith, s.1, omega arith))
     (λ _. tt)
-step-final limit b key is k = step-silent is refl (tt, tt) (escape-key key is k refl)
+step-final {k = key} is k = step-silent is refl (tt, tt) (escape-key key is k refl)
 
-step-escape : (limit : Option ℕ) (b : ℕ) (k : Class) → class_of b ≡ k → ends_body k ≡ false → Steps limit AtEscape b
-step-escape limit b Control is no_end = step-executed is (tt, tt) (byte-executed refl is)
-step-escape limit b Intermediate is no_end = step-silent is no_end (tt, tt) (escape-intermediate is)
-step-escape limit b Final is no_end = step-final limit b (sequence_kind b) is refl
-step-escape limit b Delete is no_end =
+step-escape : {limit : Option ℕ} {b : ℕ} {k : Class} → class_of b ≡ k → ends_body k ≡ false → Steps limit AtEscape b
+step-escape {k = Control} is no_end = step-executed is (tt, tt) (byte-executed refl is)
+step-escape {k = Intermediate} is no_end = step-silent is no_end (tt, tt) (escape-intermediate is)
+step-escape {k = Final} is no_end = step-final is refl
+step-escape {k = Delete} is no_end =
     step-silent is no_end (tt, tt) (byte-dropped refl is refl)
-step-escape limit b High is no_end = step-silent is no_end (tt, tt) (byte-dropped refl is refl)
-step-escape limit b Cancel is no_end = cc
-step-escape limit b Escape is no_end = cc
-step-escape limit b k is no_end =
+step-escape {k = High} is no_end = step-silent is no_end (tt, tt) (byte-dropped refl is refl)
+step-escape {k = Cancel} is no_end = cc
+step-escape {k = Escape} is no_end = cc
+step-escape {b} {k} is no_end =
     let s = spans b k is in
     step-sequenced is no_end (tt, tt) (escape-end is refl (below_finals b (omega arith)))
     (λ _ _. (omega arith, omega arith, omega arith)) (λ _. tt)
 
 -- ---- after ESC and intermediates
 
-step-intermediate : (limit : Option ℕ) (ints : List ℕ) (b : ℕ) (k : Class) → class_of b ≡ k → ends_body k ≡ false
+step-intermediate : {limit : Option ℕ} {ints : List ℕ} {b : ℕ} {k : Class} → class_of b ≡ k → ends_body k ≡ false
     → Steps limit (InEscape ints) b
-step-intermediate limit ints b Control is no_end =
+step-intermediate {k = Control} is no_end =
     step-executed is (tt, tt) (byte-executed refl is)
-step-intermediate limit ints b Intermediate is no_end =
+step-intermediate {k = Intermediate} is no_end =
     step-silent is no_end (tt, tt) (intermediate-more is)
-step-intermediate limit ints b Delete is no_end =
+step-intermediate {k = Delete} is no_end =
     step-silent is no_end (tt, tt) (byte-dropped refl is refl)
-step-intermediate limit ints b High is no_end =
+step-intermediate {k = High} is no_end =
     step-silent is no_end (tt, tt) (byte-dropped refl is refl)
-step-intermediate limit ints b Cancel is no_end = cc
-step-intermediate limit ints b Escape is no_end = cc
-step-intermediate limit ints b k is no_end =
+step-intermediate {k = Cancel} is no_end = cc
+step-intermediate {k = Escape} is no_end = cc
+step-intermediate {ints} {b} {k} is no_end =
     let s = spans b k is in
     step-sequenced is no_end (tt, tt) (intermediate-end is refl)
     (λ _ _. (two_at_most ints, omega arith, omega arith)) (λ _. tt)
 
 -- ---- in the head of a control sequence
 
-step-control : (limit : Option ℕ) (head : List ℕ) (b : ℕ) (k : Class) → class_of b ≡ k → ends_body k ≡ false
+step-control : {limit : Option ℕ} {head : List ℕ} {b : ℕ} {k : Class} → class_of b ≡ k → ends_body k ≡ false
     → Steps limit (InControlSequence head) b
 unfolding sequence_event
-step-control limit head b Control is no_end =
+step-control {k = Control} is no_end =
     step-executed is (tt, tt) (byte-executed refl is)
-step-control limit head b Final is no_end = elim (cases_Bool (is_well_shaped (head_of head))) [
+step-control {head} {b} {k = Final} is no_end = elim (cases_Bool (is_well_shaped (head_of head))) [
   | inl well ↦
       step-sequenced is no_end (tt, tt) (control-dispatched is well)
       (λ size _. (bounded-head size (head_of head) b (spans b Final is)).0) (λ _. tt)
   | inr ill ↦ step-silent is no_end (tt, tt) (control-silent is ill)
 ]
-step-control limit head b Delete is no_end =
+step-control {k = Delete} is no_end =
     step-silent is no_end (tt, tt) (byte-dropped refl is refl)
-step-control limit head b High is no_end =
+step-control {k = High} is no_end =
     step-silent is no_end (tt, tt) (byte-dropped refl is refl)
-step-control limit head b Cancel is no_end = cc
-step-control limit head b Escape is no_end = cc
-step-control limit head b k is no_end = step-silent is no_end (tt, tt) (control-head (rw is refl))
+step-control {k = Cancel} is no_end = cc
+step-control {k = Escape} is no_end = cc
+step-control is no_end = step-silent is no_end (tt, tt) (control-head (rw is refl))
 
 -- ---- in a device control string
 
-step-device : (limit : Option ℕ) (head : List ℕ) (b : ℕ) (k : Class) → class_of b ≡ k → ends_body k ≡ false
+step-device : {limit : Option ℕ} {head : List ℕ} {b : ℕ} {k : Class} → class_of b ≡ k → ends_body k ≡ false
     → Steps limit (InDeviceControl head) b
 unfolding sequence_event
-step-device limit head b Control is no_end =
+step-device {k = Control} is no_end =
     step-silent is no_end (tt, tt) (device-dropped is refl)
-step-device limit head b Final is no_end = elim (cases_Bool (is_well_shaped (head_of head))) [
+step-device {head} {b} {k = Final} is no_end = elim (cases_Bool (is_well_shaped (head_of head))) [
   | inl well ↦
       step-sequenced is no_end (tt, tt) (device-well_shaped is well)
       (λ size _. (bounded-head size (head_of head) b (spans b Final is)).1) (λ _. tt)
   | inr ill ↦ step-silent is no_end (tt, tt) (device-ill_shaped is ill)
 ]
-step-device limit head b Delete is no_end = step-silent is no_end (tt, tt) (device-dropped is refl)
-step-device limit head b High is no_end = step-silent is no_end (tt, tt) (device-dropped is refl)
-step-device limit head b Cancel is no_end = cc
-step-device limit head b Escape is no_end = cc
-step-device limit head b k is no_end = step-silent is no_end (tt, tt) (device-head (rw is refl))
+step-device {k = Delete} is no_end = step-silent is no_end (tt, tt) (device-dropped is refl)
+step-device {k = High} is no_end = step-silent is no_end (tt, tt) (device-dropped is refl)
+step-device {k = Cancel} is no_end = cc
+step-device {k = Escape} is no_end = cc
+step-device is no_end = step-silent is no_end (tt, tt) (device-head (rw is refl))
 
 -- ---- in its data
 
 delete_is_no_terminator : (b : ℕ) → Spans Delete b → eqb b 0x9c ≡ false
 delete_is_no_terminator b s = grind (arith, nat_tests)
 
-step-data : (limit : Option ℕ) (b : ℕ) (k : Class) → class_of b ≡ k → ends_body k ≡ false → Steps limit InDeviceData b
-step-data limit b Delete is no_end =
+step-data : {limit : Option ℕ} {b : ℕ} {k : Class} → class_of b ≡ k → ends_body k ≡ false → Steps limit InDeviceData b
+step-data {b} {k = Delete} is no_end =
     step-sequenced is no_end (tt, tt)
     (data-dropped (rw is (delete_is_no_terminator b (spans b Delete is))) (rw is refl)) (λ _ _. tt) (λ _. tt)
-step-data limit b High is no_end = elim (cases_Bool (eqb b 0x9c)) [
+step-data {b} {k = High} is no_end = elim (cases_Bool (eqb b 0x9c)) [
   | inl ends ↦
       step-sequenced is no_end (tt, tt) (data-terminator is ends) (λ _ _. tt) (λ _. tt)
   | inr other ↦ step-silent is no_end (tt, tt) (data-dropped (rw is other) (rw is refl))
 ]
-step-data limit b Cancel is no_end = cc
-step-data limit b Escape is no_end = cc
-step-data limit b k is no_end =
+step-data {k = Cancel} is no_end = cc
+step-data {k = Escape} is no_end = cc
+step-data is no_end =
     step-sequenced is no_end (tt, tt) (data-put (rw is refl)) (λ _ _. rw is refl)
     (λ outside. absurd (false≢true (sym outside ∙ rw is refl)))
 
@@ -205,20 +205,20 @@ step-in_command {limit} {items} {later} {b} other leads grows = record {
   outside_runs = λ _. tt;
 }
 
-step-command : (limit : Option ℕ) (items : List ℕ) (b : ℕ) (k : Class) → class_of b ≡ k → ends_body k ≡ false
+step-command : {limit : Option ℕ} {items : List ℕ} {b : ℕ} {k : Class} → class_of b ≡ k → ends_body k ≡ false
     → Steps limit (InSystemCommand items) b
-step-command limit items b Control is no_end = elim (cases_Bool (eqb b bell)) [
+step-command {limit} {items} {b} {k = Control} is no_end = elim (cases_Bool (eqb b bell)) [
   | inl ends ↦
       step-sequenced is no_end (tt, tt) (command-bell is ends)
       (λ _ fits. (few_pieces limit items, fits, some_pieces limit items)) (λ _. tt)
   | inr other ↦
-      step-in_command (no_escape-class b Control is no_end) (command-control is other) (λ _. omega arith)
+      step-in_command (no_escape-class b is no_end) (command-control is other) (λ _. omega arith)
 ]
-step-command limit items b Cancel is no_end = cc
-step-command limit items b Escape is no_end = cc
-step-command limit items b k is no_end =
+step-command {k = Cancel} is no_end = cc
+step-command {k = Escape} is no_end = cc
+step-command {items} {b} {k} is no_end =
     let s = spans b k is in
-    step-in_command (no_escape-class b k is no_end) (command-item (omega arith))
+    step-in_command (no_escape-class b is no_end) (command-item (omega arith))
     (λ none. rw none (pieces_push items b))
 
 -- ---- any place
@@ -226,13 +226,13 @@ step-command limit items b k is no_end =
 step-ordinary : (limit : Option ℕ) (place : Place) (b : ℕ) (k : Class) → IsPlace place → class_of b ≡ k
     → ends_body k ≡ false
     → Steps limit place b
-step-ordinary limit (InText u) b k placed is no_end = step-text limit u b (no_escape-class b k is no_end) placed
-step-ordinary limit AtEscape b k placed is no_end = step-escape limit b k is no_end
-step-ordinary limit (InEscape intermediates) b k placed is no_end = step-intermediate limit intermediates b k is no_end
-step-ordinary limit (InControlSequence head) b k placed is no_end = step-control limit head b k is no_end
-step-ordinary limit (InDeviceControl head) b k placed is no_end = step-device limit head b k is no_end
-step-ordinary limit InDeviceData b k placed is no_end = step-data limit b k is no_end
-step-ordinary limit (InSystemCommand items) b k placed is no_end = step-command limit items b k is no_end
+step-ordinary limit (InText u) b k placed is no_end = step-text limit u b (no_escape-class b is no_end) placed
+step-ordinary limit AtEscape b k placed is no_end = step-escape is no_end
+step-ordinary limit (InEscape intermediates) b k placed is no_end = step-intermediate is no_end
+step-ordinary limit (InControlSequence head) b k placed is no_end = step-control is no_end
+step-ordinary limit (InDeviceControl head) b k placed is no_end = step-device is no_end
+step-ordinary limit InDeviceData b k placed is no_end = step-data is no_end
+step-ordinary limit (InSystemCommand items) b k placed is no_end = step-command is no_end
 step-ordinary limit InIgnoredString b k placed is no_end =
     step-silent is no_end (tt, tt) (ignored-more (rw is (ends_not_cancel k no_end)))
 
@@ -276,10 +276,10 @@ step-by_class limit place b Escape placed is =
     })
 step-by_class limit (InText u) b Cancel placed is = step-text limit u b (cancel_is_no_escape b is) placed
 step-by_class limit place b Cancel placed is =
-    step-sequenced_by (cancel_is_no_escape b is) (tt, tt) (byte-cancels limit place b placed is)
+    step-sequenced_by (cancel_is_no_escape b is) (tt, tt) (byte-cancels placed is)
     (λ size fits. closing_brief limit size place b fits (spans b Cancel is)) (quiet-cancel limit place b)
 step-by_class limit place b k placed is = step-ordinary limit place b k placed is refl
 
 -- Each byte reports at most two events after each place, and leads to a next place.
-pub steps : (limit : Option ℕ) (place : Place) (b : ℕ) → IsPlace place → Steps limit place b
-steps limit place b placed = step-by_class limit place b (class_of b) placed refl
+pub steps : {limit : Option ℕ} {place : Place} {b : ℕ} → IsPlace place → Steps limit place b
+steps {limit} {place} {b} placed = step-by_class limit place b (class_of b) placed refl

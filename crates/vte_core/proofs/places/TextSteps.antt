@@ -80,10 +80,10 @@ step-little {limit} {u} {v} {b} {told} little e leads is = record {
 }
 
 -- the byte ends the character, or belongs to it, or neither
-step-by_tests : (limit : Option ℕ) (u : List ℕ) (b : ℕ) → eqb b escape ≡ false
+step-by_tests : {limit : Option ℕ} {u : List ℕ} {b : ℕ} → eqb b escape ≡ false
     → (is_well_formed (u ++ b ∷ []) ≡ false → is_truncated (u ++ b ∷ []) ≡ false → Steps limit (InText u) b)
     → Steps limit (InText u) b
-step-by_tests limit u b e neither = elim (cases_Bool (is_well_formed (u ++ b ∷ []))) [
+step-by_tests {u} {b} e neither = elim (cases_Bool (is_well_formed (u ++ b ∷ []))) [
   | inl whole ↦ step-little (inr (refl, short-character (u ++ b ∷ []) whole)) e (text-whole whole) refl
   | inr part ↦ elim (cases_Bool (is_truncated (u ++ b ∷ []))) [
     | inl still ↦ step-little (inl refl) e (text-unfinished) (may_continue-truncated (u ++ b ∷ []) still)
@@ -91,16 +91,16 @@ step-by_tests limit u b e neither = elim (cases_Bool (is_well_formed (u ++ b ∷
   ]
 ]
 
-step-settled : (limit : Option ℕ) (b : ℕ) → eqb b escape ≡ false → Steps limit (InText []) b
-step-settled limit b e =
-    step-by_tests limit [] b e
+step-settled : {limit : Option ℕ} {b : ℕ} → eqb b escape ≡ false → Steps limit (InText []) b
+step-settled {b} e =
+    step-by_tests e
     (λ part none. step-little (inr (refl, short-malformed b)) e (text-lone part none) refl)
 
 -- the byte belongs to no character with those before it
 step-broken : (limit : Option ℕ) (u : List ℕ) (b : ℕ) → eqb b escape ≡ false → is_truncated u ≡ true
     → is_well_formed (u ++ b ∷ []) ≡ false → is_truncated (u ++ b ∷ []) ≡ false → Steps limit (InText u) b
 step-broken limit u b e more part none =
-    let s : Steps limit (InText []) b = step-settled limit b e in
+    let s : Steps limit (InText []) b = step-settled e in
     let little : IsLittle s.next s.told = s.little tt refl in
     record {
       told = Print replacement ∷ s.told;
@@ -125,6 +125,6 @@ step-broken limit u b e more part none =
 
 pub step-text : (limit : Option ℕ) (u : List ℕ) (b : ℕ) → eqb b escape ≡ false → may_continue u ≡ true
     → Steps limit (InText u) b
-step-text limit [] b e begun = step-settled limit b e
+step-text limit [] b e begun = step-settled e
 step-text limit (a ∷ u) b e more =
-    step-by_tests limit (a ∷ u) b e (λ part none. step-broken limit (a ∷ u) b e more part none)
+    step-by_tests e (λ part none. step-broken limit (a ∷ u) b e more part none)

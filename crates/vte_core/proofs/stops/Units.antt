@@ -71,10 +71,10 @@ after_from limit stream rest place false is a = a
 ends_from : (stream rest : List ℕ) (broken : Bool) → (broken ≡ true → breaks (open_character stream) rest ≡ true)
     → open_character (stream ++ rest) ≡ open_character ((if broken then [] else stream) ++ rest)
 ends_from stream rest broken is =
-    let a : LeadsTo None ((if broken then [] else stream) ++ rest) = leads_to None _ in
-    after-open_character None (stream ++ rest) a.place
+    let a : LeadsTo None ((if broken then [] else stream) ++ rest) = leads_to in
+    after-open_character
     (after_from None stream rest a.place broken is a.is_after) a.is_place
-    ∙ sym (after-open_character None _ a.place a.is_after a.is_place)
+    ∙ sym (after-open_character a.is_after a.is_place)
 
 -- what the bytes before a position add, by the last start before it
 record Added (limit : Option ℕ) (stream bytes : List ℕ) (i : ℕ) : Type 0 where

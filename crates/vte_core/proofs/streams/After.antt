@@ -18,35 +18,35 @@ pub events-told : (limit : Option ℕ) (stream : List ℕ) → events limit stre
 unfolding events
 events-told limit stream = refl
 
-pub after-nothing : (limit : Option ℕ) → IsAfter limit [] (InText [])
-after-nothing limit = record {
+pub after-nothing : {limit : Option ℕ} → IsAfter limit [] (InText [])
+after-nothing {limit} = record {
   goes_on =
       λ more. outcome-after_nothing limit more
       ∙ ap (λ es. tell es (outcome_from limit (InText []) more)) (sym (events-empty limit));
 }
 
-pub after-events : (limit : Option ℕ) (stream more : List ℕ) (place : Place) → IsAfter limit stream place
+pub after-events : {limit : Option ℕ} {stream : List ℕ} (more : List ℕ) {place : Place} → IsAfter limit stream place
     → events limit (stream ++ more) ≡ events limit stream ++ events_from limit place more
-after-events limit stream more place a = events-told limit (stream ++ more) ∙ ap (λ o. o.told) (a.goes_on more)
+after-events {limit} {stream} more a = events-told limit (stream ++ more) ∙ ap (λ o. o.told) (a.goes_on more)
 
 -- what the stream leaves open is open at the place
-pub after-left : (limit : Option ℕ) (stream : List ℕ) (place : Place) → IsAfter limit stream place → IsPlace place
+pub after-left : {limit : Option ℕ} {stream : List ℕ} {place : Place} → IsAfter limit stream place → IsPlace place
     → (outcome limit stream).left ≡ left_at limit place
-after-left limit stream place a is =
+after-left {limit} {stream} {place} a is =
     ap (λ s. (outcome limit s).left) (sym (append-nil stream)) ∙ ap (λ o. o.left) (a.goes_on [])
     ∙ ap (λ o. o.left) (outcome_from-nothing limit place is)
 
-pub after-open_character : (limit : Option ℕ) (stream : List ℕ) (place : Place) → IsAfter limit stream place
+pub after-open_character : {limit : Option ℕ} {stream : List ℕ} {place : Place} → IsAfter limit stream place
     → IsPlace place
     → open_character stream ≡ open_at place
-after-open_character limit stream place a is =
-    sym (open_bytes-any limit stream) ∙ ap open_bytes (after-left limit stream place a is) ∙ open_bytes-at limit place
+after-open_character {limit} {stream} {place} a is =
+    sym (open_bytes-any limit stream) ∙ ap open_bytes (after-left a is) ∙ open_bytes-at limit place
 
 -- the bytes lead from one place to another
-pub after-reads : (limit : Option ℕ) (stream bytes : List ℕ) (place next : Place) (these : List Event)
+pub after-reads : {limit : Option ℕ} {stream bytes : List ℕ} {place next : Place} {these : List Event}
     → IsAfter limit stream place → BytesLead limit place bytes these next → IsPlace next
     → IsAfter limit (stream ++ bytes) next
-after-reads limit stream bytes place next these a r is = record {
+after-reads {limit} {stream} {bytes} {next} {these} a r is = record {
   goes_on = λ more. go more ∙ ap (λ es. tell es (outcome_from limit next more)) (sym all);
 }
   where
@@ -68,10 +68,10 @@ after-reads limit stream bytes place next these a r is = record {
         ∙ append-nil (events limit stream ++ these)
 
 -- what is added to a stream is what follows its place
-pub added-after : (limit : Option ℕ) (stream bytes : List ℕ) (place : Place) → IsAfter limit stream place
+pub added-after : {limit : Option ℕ} {stream : List ℕ} (bytes : List ℕ) {place : Place} → IsAfter limit stream place
     → added limit stream bytes ≡ events_from limit place bytes
-added-after limit stream bytes place a =
-    ap (drop (length (events limit stream))) (after-events limit stream bytes place a)
+added-after {limit} {stream} bytes {place} a =
+    ap (drop (length (events limit stream))) (after-events bytes a)
     ∙ drop-append_seam (events limit stream) (events_from limit place bytes)
 
 -- what bytes that lead to a place add is what they tell
@@ -79,11 +79,11 @@ pub added-reads : (limit : Option ℕ) (stream bytes : List ℕ) (place next : P
     → IsAfter limit stream place → BytesLead limit place bytes these next → IsPlace next
     → added limit stream bytes ≡ these
 added-reads limit stream bytes place next these a r is =
-    added-after limit stream bytes place a
+    added-after bytes a
     ∙ ap (events_from limit place) (sym (append-nil bytes)) ∙ ap (λ o. o.told) (r.reads [])
     ∙ ap (λ es. these ++ es) (events_from-nothing limit next is) ∙ append-nil these
 
 -- a parser between characters of a text has read nothing
-pub has_read-nothing : {B : Type 0} (limit : Option ℕ) (parser : Machine B) → StandsAtPlace limit parser (InText [])
+pub has_read-nothing : {B : Type 0} {limit : Option ℕ} {parser : Machine B} → StandsAtPlace limit parser (InText [])
     → HasReadWithLimit limit parser []
-has_read-nothing limit parser s = record { place = InText []; stands = s; is_after = after-nothing limit }
+has_read-nothing s = record { place = InText []; stands = s; is_after = after-nothing }

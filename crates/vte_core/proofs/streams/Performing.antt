@@ -12,10 +12,10 @@ after_events-append step value [] ys = refl
 after_events-append step value (x ∷ xs) ys = after_events-append step (step value x) xs ys
 
 -- one byte that is no ESC
-pub takes-performs : {V B : Type 0} (step : V → Event → V) (old new : V) (limit : Option ℕ) (place : Place) (byte : ℕ)
-    (parser : Machine B) → eqb byte escape ≡ false
+pub takes-performs : {V B : Type 0} {step : V → Event → V} {old new : V} {limit : Option ℕ} {place : Place} {byte : ℕ}
+    {parser : Machine B} → eqb byte escape ≡ false
     → TakesByte step old new limit place byte parser → TakesBytes step old new limit place (byte ∷ []) parser
-takes-performs step old new limit place byte parser e t = record {
+takes-performs e t = record {
   told = t.told;
   next = t.next;
   performed = t.performed;

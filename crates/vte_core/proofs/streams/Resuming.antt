@@ -25,10 +25,10 @@ outcome-broken : (limit : Option ℕ) (stream unread more : List ℕ) → breaks
     ≡ tell (events limit stream ++ Print replacement ∷ []) (outcome limit (unread ++ more))
 outcome-broken limit stream [] more broken = absurd (false≢true (sym (breaks-no_byte (open_character stream)) ∙ broken))
 outcome-broken limit stream (b ∷ unread) more broken =
-    let a = leads_to limit stream in
+    let a = leads_to in
     let here : breaks (open_at a.place) (b ∷ unread) ≡ true =
     ap (λ (u : List ℕ). breaks u (b ∷ unread))
-    (sym (after-open_character limit stream a.place a.is_after a.is_place)) ∙ broken in
+    (sym (after-open_character a.is_after a.is_place)) ∙ broken in
     a.is_after.goes_on (b ∷ (unread ++ more))
     ∙ ap (tell (events limit stream)) (outcome_from-broken limit a.place b unread (unread ++ more) a.is_place here)
     ∙ sym

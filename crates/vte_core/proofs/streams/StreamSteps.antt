@@ -52,7 +52,7 @@ arrives limit size place [] is fits =
       grows = λ _. omega arith;
     }
 arrives limit size place (b ∷ bytes) is fits =
-    let first = steps limit place b is in
+    let first = steps is in
     let rest = arrives limit size first.next bytes first.is_place
     (λ on_way few. fits on_way (λ none. omega (arith, few none, first.grows none))) in
     record {
@@ -72,7 +72,7 @@ pub told_by_stream : (limit : Option ℕ) (next : Place) (stream : List ℕ) (to
     → BytesLead limit (InText []) stream told next → events limit stream ≡ told
 told_by_stream limit next stream told is r =
     ap (λ es. drop (length es) (events limit stream)) (sym (events-empty limit))
-    ∙ added-reads limit [] stream (InText []) next told (after-nothing limit) r is
+    ∙ added-reads limit [] stream (InText []) next told (after-nothing) r is
 
 -- each stream leads to a place
 pub record LeadsTo (limit : Option ℕ) (stream : List ℕ) : Type 0 where
@@ -81,14 +81,14 @@ pub record LeadsTo (limit : Option ℕ) (stream : List ℕ) : Type 0 where
   pub is_after : IsAfter limit stream place
   pub bounded : All (IsBounded limit) (events limit stream)
 
-pub leads_to : (limit : Option ℕ) (stream : List ℕ) → LeadsTo limit stream
-leads_to limit stream =
+pub leads_to : {limit : Option ℕ} {stream : List ℕ} → LeadsTo limit stream
+leads_to {limit} {stream} =
     let a : Arrives limit limit (InText []) stream =
     arrives limit limit (InText []) stream refl (λ place _. left-fits limit place) in
     record {
       place = a.next;
       is_place = a.is_place;
-      is_after = after-reads limit [] stream (InText []) a.next a.told (after-nothing limit) a.reads a.is_place;
+      is_after = after-reads (after-nothing) a.reads a.is_place;
       bounded = rw (told_by_stream limit a.next stream a.told a.is_place a.reads) a.bounded;
     }
 
@@ -96,27 +96,28 @@ leads_to limit stream =
 
 pub events_grow : (limit : Option ℕ) → Grows limit
 events_grow limit stream more =
-    let a = leads_to limit stream in
-    after-events limit stream more a.place a.is_after
-    ∙ ap (λ es. events limit stream ++ es) (sym (added-after limit stream more a.place a.is_after))
+    let a = leads_to in
+    after-events more a.is_after
+    ∙ ap (λ es. events limit stream ++ es) (sym (added-after more a.is_after))
 
-grows_after : (limit : Option ℕ) (stream bytes more : List ℕ) (a : LeadsTo limit stream) (next : Place)
-    (told : List Event) → IsPlace next
+grows_after : {limit : Option ℕ} (stream : List ℕ) {bytes : List ℕ} (more : List ℕ)
+    (a : LeadsTo limit stream) {next : Place}
+    {told : List Event} → IsPlace next
     → BytesLead limit a.place bytes told next
     → events limit (stream ++ (bytes ++ more)) ≡ events limit (stream ++ bytes) ++ events_from limit next more
-grows_after limit stream bytes more a next told is reads =
+grows_after {limit} stream {bytes} more a is reads =
     ap (events limit) (sym (append_assoc stream bytes more))
-    ∙ after-events limit (stream ++ bytes) more next
-    (after-reads limit stream bytes a.place next told a.is_after reads is)
+    ∙ after-events more
+    (after-reads a.is_after reads is)
 
 -- where the byte leads to a text between characters, what follows begins as a new stream
 resyncs_after : (limit : Option ℕ) (end : ℕ) → class_of end ≡ Cancel → ResyncsAfter limit end
 resyncs_after limit end e stream more =
-    let a = leads_to limit stream in
+    let a = leads_to in
     let last =
     reads-byte (cancel_is_no_escape end e)
-    (byte-cancels limit a.place end a.is_place e) in
-    grows_after limit stream (end ∷ []) more a (InText []) _ refl last
+    (byte-cancels a.is_place e) in
+    grows_after stream more a refl last
     ∙ ap (λ es. events limit (stream ++ end ∷ []) ++ es) (sym (events-after_nothing limit more))
 
 escape_at_first : (limit : Option ℕ) (more : List ℕ) → events limit (escape ∷ more) ≡ events_from limit AtEscape more
@@ -130,8 +131,8 @@ resynchronises limit = record {
   cancel = resyncs_after limit 0x18 refl;
   substitute = resyncs_after limit 0x1a refl;
   escape = λ stream more.
-      let a = leads_to limit stream in
-      grows_after limit stream (escape ∷ []) more a AtEscape _ tt (reads-escape a.is_place)
+      let a = leads_to in
+      grows_after stream more a tt (reads-escape a.is_place)
       ∙ ap (λ es. events limit (stream ++ escape ∷ []) ++ es) (sym (escape_at_first limit more));
 }
 
@@ -146,14 +147,14 @@ pub record AddedByByte (limit : Option ℕ) (stream : List ℕ) (b : ℕ) : Type
 
 pub added-byte : (limit : Option ℕ) (stream : List ℕ) (b : ℕ) → AddedByByte limit stream b
 added-byte limit stream b =
-    let a = leads_to limit stream in
-    let s = steps limit a.place b a.is_place in
-    let later = after-reads limit stream (b ∷ []) a.place s.next s.told a.is_after s.reads s.is_place in
+    let a = leads_to in
+    let s = steps a.is_place in
+    let later = after-reads a.is_after s.reads s.is_place in
     record {
       place = a.place;
-      begun = after-open_character limit stream a.place a.is_after a.is_place;
+      begun = after-open_character a.is_after a.is_place;
       step = s;
-      ends = after-open_character limit (stream ++ b ∷ []) s.next later s.is_place;
+      ends = after-open_character later s.is_place;
       told = added-reads limit stream (b ∷ []) a.place s.next s.told a.is_after s.reads s.is_place;
     }
 
@@ -172,4 +173,4 @@ opens_silently limit stream b =
 -- ---- what all bytes tell
 
 pub events_are_bounded : (limit : Option ℕ) (stream : List ℕ) → All (IsBounded limit) (events limit stream)
-events_are_bounded limit stream = (leads_to limit stream).bounded
+events_are_bounded limit stream = (leads_to).bounded

@@ -8,9 +8,8 @@ use Rattle.vte_core.proofs.head.Collected.collect_head_byte.Goals as goal
 pub returns-then-is_intermediate : goal.returns-then-is_intermediate
 returns-then-is_intermediate c = λ head s.
     let is = class-intermediate (class_of c.args.byte) (sym c.is_intermediate.ensures ∙ c.if-is_intermediate.true) in
-    holds-intermediate _ _ c.args.progress head c.args.byte
-    (head-holds _ c.args.progress head c.in_default.not-IllShaped s) is c.collect.ensures.numbers
-    c.collect.ensures.holds
+    holds-intermediate c.args.byte
+    (head-holds c.in_default.not-IllShaped s) is c.collect.ensures.numbers c.collect.ensures.holds
 
 pub returns-in-Entry : goal.returns-in-Entry
 returns-in-Entry c = λ head s.

@@ -6,11 +6,11 @@ use Rattle.vte_core.proofs.head.Collected.end_head.Goals as goal
 pub returns-then-self : goal.returns-then-self
 returns-then-self c =
     λ progress head h.
-    head-ready _ _ _ _ progress head c.settle_number-too_many_numbers.ensures.settles
+    head-ready _ c.settle_number-too_many_numbers.ensures.settles
     c.settle_number-too_many_numbers.ensures.same h (rw c.if-self.true refl)
 
 pub returns-else-self : goal.returns-else-self
 returns-else-self c =
     λ progress head h.
-    head-ready _ _ _ _ progress head c.settle_number-too_many_numbers.ensures.settles
+    head-ready _ c.settle_number-too_many_numbers.ensures.settles
     c.settle_number-too_many_numbers.ensures.same h (rw c.if-self.false refl)

@@ -32,8 +32,7 @@ loop-position-preserved g c =
             (reads_head-parameter c.requires.may (omega arith) c.at-byte.ensures.value is.3
             (record { intermediates = refl; too_many_intermediates = refl })
             (λ text k.
-            counts-digit (with_open_number held c.loop-position.number)
-            (with_open_number held w.min-number.result) text c.at-byte.result k is.0 is.1 refl refl
+            counts-digit c.at-byte.result k is.0 is.1 refl refl
             (omega (arith, w.min-number.ensures, is.2))) v.reads)
         -- A separator.
         | in_default+then-several+then-is_separator w ↦
@@ -47,7 +46,7 @@ loop-position-preserved g c =
               too_many_intermediates =
                   settled.same.too_many_intermediates;
             })
-            (λ text k. counts-separator _ _ _ _ text c.at-byte.result k (settled.settles text k)
+            (λ text k. counts-separator c.at-byte.result k (settled.settles text k)
             (sym separator.value ∙ is) refl refl refl) v.reads)
       ];
       count = omega arith;

@@ -7,11 +7,11 @@ use Rattle.vte_core.proofs.head.Collected.settle_number.Goals as goal
 pub returns-then-is_full-clause-settles : goal.returns-then-is_full-clause-settles
 returns-then-is_full-clause-settles c = λ text k.
     let s =
-    settles-full (with_open_number c.args.self.now c.args.number) text k
+    settles-full k
     (c.is_full.ensures.0 c.if-is_full.true) in
     record { groups = s.groups; more = s.more }
 
 pub returns-clause-settles : goal.returns-clause-settles
 returns-clause-settles c = λ text k.
     let room : count_of c.args.self.now.params < 32 = grind arith in
-    settles-push (with_open_number c.args.self.now c.args.number) _ text k room c.push.ensures
+    settles-push k room c.push.ensures

@@ -14,14 +14,14 @@ use Rattle.vte_core.proofs.parser.machine.Machine.begin_or_dispatch.Goals as goa
 pub returns-then-byte-eq80-clause-takes : goal.returns-then-byte-eq80-clause-takes
 unfolding sequence_kind
 returns-then-byte-eq80-clause-takes g c = λ s.
-    takes-byte [] (InDeviceControl []) refl (record { by = c.begin_head.ensures (stands-escape _ s) })
+    takes-byte refl (record { by = c.begin_head.ensures (stands-escape _ s) })
     (escape-key DeviceControl (class-final _ c.requires.ends) (rw c.if-byte-eq80.true refl) refl)
 
 -- `]`: a command.
 pub returns-then-byte-eq93-clause-takes : goal.returns-then-byte-eq93-clause-takes
 unfolding sequence_kind
 returns-then-byte-eq93-clause-takes g c = λ s.
-    takes-byte [] (InSystemCommand []) refl (record { by = c.clear.ensures.holds })
+    takes-byte refl (record { by = c.clear.ensures.holds })
     (escape-key SystemCommand (class-final _ c.requires.ends) (rw c.if-byte-eq93.true refl) refl)
 
 -- `X`, `^` and `_`: an ignored string.
@@ -30,7 +30,7 @@ returns-then-begins_ignored_string-clause-takes g c = λ s.
     let key =
     other_key c.args.byte c.requires.other c.if-byte-eq80.false c.if-byte-eq93.false
     ∙ rw (← c.begins_ignored_string.ensures, c.if-begins_ignored_string.true) refl in
-    takes-byte [] InIgnoredString refl (record { by = tt })
+    takes-byte refl (record { by = tt })
     (escape-key IgnoredString (class-final _ c.requires.ends) key refl)
 
 -- Any other key is the final byte of an escape sequence.
@@ -41,12 +41,12 @@ returns-else-begins_ignored_string-clause-takes g c = λ s.
     ∙ rw (← c.begins_ignored_string.ensures, c.if-begins_ignored_string.false) refl in
     let d = c.dispatch_escape.ensures in
     let holds = stands-escape _ s in
-    takes-byte (EscDispatch [] false c.args.byte ∷ []) (InText [])
+    takes-byte
     (rw (holds.kept, holds.too_many_intermediates) at d.tells.value)
-    (stands-text_begun _ d.text)
+    (stands-text_begun d.text)
     (escape-end (class-final _ c.requires.ends) refl key)
 
 pub returns-else-begins_ignored_string-clause-handles : goal.returns-else-begins_ignored_string-clause-handles
 returns-else-begins_ignored_string-clause-handles g c =
     let d = c.dispatch_escape.ensures in
-    record { settled = settled-by _ _ d.text tt; count = omega arith; least = omega arith; memory = d.memory }
+    record { settled = settled-by d.text tt; count = omega arith; least = omega arith; memory = d.memory }

@@ -15,13 +15,13 @@ by_place : {B : Type 0} (limit : Option ℕ) (parser : Machine B) (place : Place
 by_place limit parser (InText []) s = tt
 by_place limit parser (InText (a ∷ u)) s = tt
 by_place limit parser (InSystemCommand items) s =
-    sym (loses_held limit parser.command items (by_state limit parser.state parser items s.by))
+    sym (loses_held (by_state limit parser.state parser items s.by))
 by_place limit parser _ s = tt
 
 pub returns-clause-open : goal.returns-clause-open
 returns-clause-open g c = λ stream h.
     let parser = c.args.self.now in
     let limit = g.B.Buffer.limit in
-    let left = after-left limit stream h.place h.is_after (stands-place parser h.place h.stands) in
+    let left = after-left h.is_after (stands-place h.stands) in
     subst (λ left. SaysLoss left c.has_lost_data.result) (sym left)
     (subst (SaysLoss (left_at limit h.place)) (sym c.has_lost_data.ensures) (by_place limit parser h.place h.stands))

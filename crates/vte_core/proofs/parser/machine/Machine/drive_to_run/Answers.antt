@@ -17,7 +17,7 @@ pub returns-then-end-position-clause-comes : goal.returns-then-end-position-clau
 returns-then-end-position-clause-comes g c =
     let v = c.loop-position.invariant in
     let found = c.find_run_end-end.ensures in
-    let settled = settled-text c.in-Text.field-0 c.in-Text.is (v.settled (omega arith)) in
+    let settled = settled-text c.in-Text.is (v.settled (omega arith)) in
     comes-to_run (has-text settled (omega arith) found.scans.high found.scans.are found.ended) (omega arith)
     (sym c.terminated.ensures ∙ c.if-not-terminated.true) v.stands_at
 

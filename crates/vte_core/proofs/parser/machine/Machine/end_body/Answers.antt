@@ -17,14 +17,14 @@ returns-clause-performs g c = λ place s b.
     let step = g.P.CountedPerform.step in
     let limit = g.B.Buffer.limit in
     let e = ends_by_cancel c.args.byte c.requires c.if-byte-eq-ESCAPE.false in
-    takes-performs _ _ _ limit place _ _ (cancel_is_no_escape c.args.byte e)
-    (takes-byte (closing_events_at limit place ++ Execute c.args.byte ∷ []) (InText [])
+    takes-performs (cancel_is_no_escape c.args.byte e)
+    (takes-byte
     (c.execute_control.ensures.value ∙ ap (λ v. step v (Execute c.args.byte)) (c.report_end.ensures.told place s b)
     ∙ sym
     (after_events-append step (g.P.CountedPerform.value_of c.args.performer.now) (closing_events_at limit place)
     (Execute c.args.byte ∷ [])))
     (record { by = (refl, refl) })
-    (byte-cancels limit place c.args.byte (stands-place _ place s) e))
+    (byte-cancels (stands-place s) e))
 
 pub returns-clause-handles : goal.returns-clause-handles
 returns-clause-handles g c = search rules

@@ -10,7 +10,7 @@ use Rattle.vte_core.proofs.parser.machine.Machine.end_control_sequence.Goals as 
 -- A malformed head.
 pub returns-in-IllShaped-clause-takes : goal.returns-in-IllShaped-clause-takes
 returns-in-IllShaped-clause-takes g c = λ head s.
-    let ill = ill_shaped-now head (rw c.in-IllShaped.is at s) in
+    let ill = ill_shaped-now (rw c.in-IllShaped.is at s) in
     record {
       told = [];
       next = InText [];
@@ -22,19 +22,19 @@ returns-in-IllShaped-clause-takes g c = λ head s.
 -- A whole one.
 pub returns-clause-takes : goal.returns-clause-takes
 returns-clause-takes g c = λ head s.
-    let ready = c.end_head-ignore.ensures c.args.progress head (head-holds _ _ head c.in_default.not-IllShaped s) in
+    let ready = c.end_head-ignore.ensures c.args.progress head (head-holds c.in_default.not-IllShaped s) in
     let d = c.dispatch_control_sequence.ensures.dispatches in
     record {
       told = sequence_event CsiDispatch (head_of head) c.args.byte ∷ [];
       next = InText [];
       performed = d.tells.value
           ∙ ap (g.P.CountedPerform.step (g.P.CountedPerform.value_of c.args.performer.now))
-          (dispatched-ready CsiDispatch _ _ head c.args.byte ready);
-      stands = stands-text_begun _ d.text;
+          (dispatched-ready CsiDispatch c.args.byte ready);
+      stands = stands-text_begun d.text;
       leads = control-dispatched (class-final _ c.requires.final_byte) ready.well_shaped;
     }
 
 pub returns-clause-handles : goal.returns-clause-handles
 returns-clause-handles g c =
     let d = c.dispatch_control_sequence.ensures.dispatches in
-    record { settled = settled-by _ _ d.text tt; count = omega arith; least = omega arith; memory = d.memory }
+    record { settled = settled-by d.text tt; count = omega arith; least = omega arith; memory = d.memory }

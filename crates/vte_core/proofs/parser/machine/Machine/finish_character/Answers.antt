@@ -9,7 +9,7 @@ use Rattle.vte_core.proofs.parser.machine.Machine.finish_character.Goals as goal
 pub returns-then-is_nothing-clause-stands_at : goal.returns-then-is_nothing-clause-stands_at
 returns-then-is_nothing-clause-stands_at g c = λ stream h.
     starts-at
-    (settled-by _ _ c.in-Text.is (settled-nothing c.in-Text.begun (c.is_nothing.ensures.0 c.if-is_nothing.true))) h
+    (settled-by c.in-Text.is (settled-nothing c.in-Text.begun (c.is_nothing.ensures.0 c.if-is_nothing.true))) h
 
 -- An open character: what completes it begins inside it.
 pub returns-else-is_nothing-clause-stands_at : goal.returns-else-is_nothing-clause-stands_at
@@ -24,7 +24,7 @@ returns-in_default-clause-stands_at g c = λ stream h. starts-at (settled-outsid
 pub returns-then-is_nothing-clause-outside_runs : goal.returns-then-is_nothing-clause-outside_runs
 returns-then-is_nothing-clause-outside_runs g c stream h =
     tells-nothing
-    (settled-by _ _ c.in-Text.is (settled-nothing c.in-Text.begun (c.is_nothing.ensures.0 c.if-is_nothing.true))) h
+    (settled-by c.in-Text.is (settled-nothing c.in-Text.begun (c.is_nothing.ensures.0 c.if-is_nothing.true))) h
 
 pub returns-in_default-clause-outside_runs : goal.returns-in_default-clause-outside_runs
 returns-in_default-clause-outside_runs g c stream h = tells-nothing (settled-outside _ c.in_default.not-Text) h

@@ -8,7 +8,7 @@ use Rattle.vte_core.proofs.parser.machine.Machine.hook.Goals as goal
 -- A malformed head.
 pub returns-in-IllShaped-clause-takes : goal.returns-in-IllShaped-clause-takes
 returns-in-IllShaped-clause-takes g c = λ head s.
-    let ill = ill_shaped-now head (rw c.in-IllShaped.is at s) in
+    let ill = ill_shaped-now (rw c.in-IllShaped.is at s) in
     record {
       told = [];
       next = InIgnoredString;
@@ -20,14 +20,14 @@ returns-in-IllShaped-clause-takes g c = λ head s.
 -- A whole one.
 pub returns-clause-takes : goal.returns-clause-takes
 returns-clause-takes g c = λ head s.
-    let f = c.end_head-ignore.ensures c.args.progress head (head-holds _ _ head c.in_default.not-IllShaped s) in
+    let f = c.end_head-ignore.ensures c.args.progress head (head-holds c.in_default.not-IllShaped s) in
     record {
       told = sequence_event Hook (head_of head) c.args.byte ∷ [];
       next = InDeviceData;
       performed =
           c.hook.ensures.value
           ∙ ap (g.P.CountedPerform.step (g.P.CountedPerform.value_of c.args.performer.now))
-          (dispatched-ready Hook _ _ head c.args.byte f);
+          (dispatched-ready Hook c.args.byte f);
       stands = record { by = tt };
       leads = device-well_shaped (class-final _ c.requires) f.well_shaped;
     }

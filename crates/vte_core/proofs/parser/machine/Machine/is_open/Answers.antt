@@ -13,8 +13,8 @@ returns-in-Text-clause-closed g c = λ closed stream h. elim (cases_Bool c.is_no
   | inl nothing ↦
       let parser = c.args.self.now in
       let begun = c.in-Text.begun in
-      let settled = settled-by _ _ c.in-Text.is (settled-nothing begun (c.is_nothing.ensures.0 nothing)) in
-      let is = settled-text begun c.in-Text.is settled in
+      let settled = settled-by c.in-Text.is (settled-nothing begun (c.is_nothing.ensures.0 nothing)) in
+      let is = settled-text c.in-Text.is settled in
       let here = place-settled_text parser h.place is h.stands in
       (reads-anew parser is h, is_finished-settled (subst (IsAfter g.B.Buffer.limit stream) here h.is_after))
   | inr some ↦ absurd (false≢true (sym closed ∙ ap not some))
@@ -22,7 +22,7 @@ returns-in-Text-clause-closed g c = λ closed stream h. elim (cases_Bool c.is_no
 
 -- A text with one.
 pub returns-in-Text-clause-opens : goal.returns-in-Text-clause-opens
-returns-in-Text-clause-opens g c = λ opens stream h. is_unfinished-open c.args.self.now h (λ here.
+returns-in-Text-clause-opens g c = λ opens stream h. is_unfinished-open h (λ here.
     let same : Text c.in-Text.begun ≡ Text here.unfinished = sym c.in-Text.is ∙ here.begun in
     let nothing : bytes_of c.in-Text.begun ≡ [] = cc in
     false≢true (sym (ap not (c.is_nothing.ensures.1 nothing)) ∙ opens))
@@ -30,4 +30,4 @@ returns-in-Text-clause-opens g c = λ opens stream h. is_unfinished-open c.args.
 -- Any other state.
 pub returns-in_default-clause-opens : goal.returns-in_default-clause-opens
 returns-in_default-clause-opens g c = λ opens stream h.
-    is_unfinished-open c.args.self.now h (λ here. c.in_default.not-Text here.unfinished here.begun)
+    is_unfinished-open h (λ here. c.in_default.not-Text here.unfinished here.begun)

@@ -23,7 +23,7 @@ pub returns-then-is_intermediate-clause-performs : goal.returns-then-is_intermed
 returns-then-is_intermediate-clause-performs g c =
     let is = class-intermediate _ (sym c.is_intermediate.ensures ∙ c.if-is_intermediate.true) in
     performs-in c.requires.begun (rw is refl)
-    (takes-at_escape c.args.self.now (λ holds. takes-byte [] (InEscape (c.args.byte ∷ [])) refl
+    (takes-at_escape c.args.self.now (λ holds. takes-byte refl
     (record { by = c.collect.ensures.holds [] holds }) (escape-intermediate is)))
 
 -- Digits, `:`, `;` and markers dispatch: keys begin at `@`, which is later.
@@ -35,9 +35,9 @@ returns-then-is_head_byte-clause-performs g c =
     let d = c.dispatch_escape.ensures in
     performs-in c.requires.begun (head_ends_nothing (class_of b) head)
     (takes-at_escape c.args.self.now
-    (λ holds. takes-byte (EscDispatch [] false b ∷ []) (InText [])
+    (λ holds. takes-byte
     (rw (holds.kept, holds.too_many_intermediates) at d.tells.value)
-    (stands-text_begun _ d.text)
+    (stands-text_begun d.text)
     (escape-end refl ends (below_finals b (below_final b head)))))
 
 -- A control is executed; the place stays after ESC.
@@ -47,7 +47,7 @@ returns-then-is_plain_control-clause-performs g c =
     let is = class-control _ (sym c.is_plain_control.ensures ∙ c.if-is_plain_control.true) in
     performs-in c.requires.begun (rw is refl)
     (takes-at_escape c.args.self.now
-    (λ holds. takes-byte (Execute b ∷ []) AtEscape c.execute_control.ensures.value (stands-by c.requires.begun holds)
+    (λ holds. takes-byte c.execute_control.ensures.value (stands-by c.requires.begun holds)
     (byte-executed refl is)))
 
 -- What is left is DEL and 80 to FF, which is dropped.
@@ -60,7 +60,7 @@ returns-else-is_plain_control-clause-performs g c =
 pub returns-then-is_plain_control-clause-handles : goal.returns-then-is_plain_control-clause-handles
 returns-then-is_plain_control-clause-handles g c =
     record {
-      settled = settled-by _ _ c.requires.begun tt;
+      settled = settled-by c.requires.begun tt;
       count = omega arith;
       least = omega arith;
       memory = search rules;
@@ -69,4 +69,4 @@ returns-then-is_plain_control-clause-handles g c =
 pub returns-then-is_head_byte-clause-handles : goal.returns-then-is_head_byte-clause-handles
 returns-then-is_head_byte-clause-handles g c =
     let d = c.dispatch_escape.ensures in
-    record { settled = settled-by _ _ d.text tt; count = omega arith; least = omega arith; memory = d.memory }
+    record { settled = settled-by d.text tt; count = omega arith; least = omega arith; memory = d.memory }

@@ -48,7 +48,7 @@ returns-in-Some-clause-advances g c =
           rw (w.self-is, w.performer-is)
           (advances-past_head ControlHead c.requires.begun read.reads.head next c.requires.may_go_on
           (performs-head ControlHead progress refl (rw is refl) (λ bytes stands.
-          takes-byte (Execute b ∷ []) (InControlSequence bytes) w.execute_control.ensures.value (stands-by refl stands)
+          takes-byte w.execute_control.ensures.value (stands-by refl stands)
           (byte-executed refl is))) tt)
       -- A byte that is dropped.
       | else-ends_body+else-is_plain_control w ↦
@@ -60,7 +60,7 @@ returns-in-Some-clause-advances g c =
           rw (w.self-is, w.performer-is)
           (advances-past_head ControlHead c.requires.begun read.reads.head next c.requires.may_go_on
           (performs-head ControlHead progress refl ordinary (λ bytes stands.
-          takes-byte [] (InControlSequence bytes) refl (stands-by refl stands)
+          takes-byte refl (stands-by refl stands)
           (byte-dropped refl refl dropped))) tt)
     ]
 

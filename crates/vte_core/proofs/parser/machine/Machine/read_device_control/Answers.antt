@@ -38,7 +38,7 @@ returns-in-Some g c =
             rw (w.self-is, w.performer-is)
             (advances-past_head DeviceHead c.requires.begun read.reads.head next c.requires.may_go_on
             (performs-head DeviceHead progress refl ordinary (λ bytes stands.
-            takes-byte [] (InDeviceControl bytes) refl (stands-by refl stands)
+            takes-byte refl (stands-by refl stands)
             (device-dropped refl dropped))) tt)
       ];
       moves = search rules;

@@ -14,7 +14,7 @@ use Rattle.vte_core.proofs.parser.machine.Machine.read_device_data.Goals as goal
 pub loop-position-init : goal.loop-position-init
 loop-position-init g c =
     record {
-      advances = advances-nothing (λ _. settled-by _ _ c.requires.begun tt);
+      advances = advances-nothing (λ _. settled-by c.requires.begun tt);
       may_go_on = c.requires.may_go_on;
       begun = c.requires.begun;
       spends = search rules;
@@ -29,11 +29,11 @@ loop-position-preserved g c =
       advances = advances-then v.advances
           (advances-part (advances-in v.begun (omega arith) c.at-byte.ensures.value v.may_go_on (data_ends_nothing _ is)
           (takes-in_data c.loop-position.self
-          (takes-byte (Put c.at-byte.result ∷ []) InDeviceData c.put_byte.ensures.value (stands-by v.begun tt)
-          (data-put is))) (settled-by _ _ v.begun tt)));
+          (takes-byte c.put_byte.ensures.value (stands-by v.begun tt)
+          (data-put is))) (settled-by v.begun tt)));
       may_go_on = (λ does. elim c.else-this-ne0.branch [
         | else-this-ne0-via-then-this-ne0+else-terminated w ↦ sym w.terminated.ensures ∙ w.if-terminated.false
-        | else-this-ne0-via-else-this-ne0 w ↦ absurd (may_stop-none g.row.MAY_STOP w.if-this-ne0.false does)
+        | else-this-ne0-via-else-this-ne0 w ↦ absurd (may_stop-none w.if-this-ne0.false does)
       ]);
       begun = v.begun;
       spends = search rules;
@@ -47,8 +47,8 @@ returns-then-terminated-clause-advances g c =
     advances-then v.advances
     (advances-part (advances-in v.begun (omega arith) c.at-byte.ensures.value v.may_go_on (data_ends_nothing _ is)
     (takes-in_data c.loop-position.self
-    (takes-byte (Put c.at-byte.result ∷ []) InDeviceData c.put_byte.ensures.value (stands-by v.begun tt)
-    (data-put is))) (settled-by _ _ v.begun tt)))
+    (takes-byte c.put_byte.ensures.value (stands-by v.begun tt)
+    (data-put is))) (settled-by v.begun tt)))
 
 -- A call that does not ask: all data up to the byte that is not put.
 pub returns-then-not-this-clause-advances : goal.returns-then-not-this-clause-advances

@@ -8,7 +8,7 @@ use Rattle.vte_core.proofs.parser.machine.Machine.read_escape.Goals as goal
 pub loop-position-init : goal.loop-position-init
 loop-position-init g c =
     record {
-      advances = advances-nothing (λ _. settled-by _ _ c.requires.begun tt);
+      advances = advances-nothing (λ _. settled-by c.requires.begun tt);
       may_go_on = c.requires.may_go_on;
       begun = c.requires.begun;
       spends = search rules;

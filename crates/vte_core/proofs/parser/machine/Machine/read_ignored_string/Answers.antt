@@ -13,14 +13,14 @@ advances-by : {outside V B : Type 0} {call : ChunkCall V} {value : V} {parser : 
     → parser.state ≡ IgnoredString → i + n ≤ length call.bytes → AreIgnored call.bytes i (i + n) → MayGoOn call value
     → Advances outside call value value i (i + n) parser parser
 advances-by zero i begun within are may_go_on =
-    advances-moved (omega arith) (advances-nothing (λ _. settled-by _ _ begun tt))
+    advances-moved (omega arith) (advances-nothing (λ _. settled-by begun tt))
 advances-by {call} {parser} (suc n) i begun within are may_go_on =
     let ordinary = are i (omega arith) (omega arith) in
     advances-moved (omega arith) (advances-then
     (advances-when tt (advances-in begun (omega (arith, within)) refl may_go_on ordinary
     (takes-in_ignored parser
-    (takes-byte [] InIgnoredString refl (stands-by begun tt)
-    (ignored-more (ends_not_cancel _ ordinary)))) (settled-by _ _ begun tt)))
+    (takes-byte refl (stands-by begun tt)
+    (ignored-more (ends_not_cancel _ ordinary)))) (settled-by begun tt)))
     (advances-by n (i + 1) begun (omega (arith, within))
     (λ k low high. are k (omega (arith, low)) (omega (arith, high))) may_go_on))
 

@@ -14,7 +14,7 @@ use Rattle.vte_core.proofs.parser.machine.Machine.read_intermediates.Goals as go
 pub loop-position-init : goal.loop-position-init
 loop-position-init g c =
     record {
-      advances = advances-nothing (λ _. settled-by _ _ c.requires.begun tt);
+      advances = advances-nothing (λ _. settled-by c.requires.begun tt);
       may_go_on = c.requires.may_go_on;
       begun = c.requires.begun;
       spends = search rules;
@@ -33,9 +33,9 @@ loop-position-preserved g c =
             let is = class-intermediate _ (sym c.is_intermediate.ensures ∙ w.if-is_intermediate.true) in
             rw w.self-is
             (advances-when tt (advances-in v.begun (omega arith) c.at-byte.ensures.value v.may_go_on (rw is refl)
-            (takes-in_escape parser (λ ints holds. takes-byte [] (InEscape (ints ++ b ∷ [])) refl
+            (takes-in_escape parser (λ ints holds. takes-byte refl
             (stands-by v.begun (w.collect.ensures.holds ints holds)) (intermediate-more is)))
-            (settled-by _ _ v.begun tt)))
+            (settled-by v.begun tt)))
         -- A byte that is dropped.
         | else-is_intermediate+else-dispatches_escape+else-ends_body+else-is_plain_control w ↦
             let ordinary = sym w.ends_body.ensures ∙ w.if-ends_body.false in
@@ -47,8 +47,8 @@ loop-position-preserved g c =
             (advances-when tt (advances-in v.begun (omega arith) c.at-byte.ensures.value v.may_go_on ordinary
             (takes-in_escape parser
             (λ ints holds.
-            takes-byte [] (InEscape ints) refl (stands-by v.begun holds)
-            (byte-dropped refl refl dropped))) (settled-by _ _ v.begun tt)))
+            takes-byte refl (stands-by v.begun holds)
+            (byte-dropped refl refl dropped))) (settled-by v.begun tt)))
       ]);
       may_go_on = v.may_go_on;
       begun = elim c.if-is_intermediate.branch [
@@ -69,9 +69,9 @@ returns-then-dispatches_escape-clause-advances g c =
     (advances-when tt
     (advances-in v.begun (omega arith) c.at-byte.ensures.value v.may_go_on (dispatch_ends_nothing (class_of b) ends)
     (takes-in_escape c.loop-position.self
-    (λ ints holds. takes-byte (EscDispatch (first_two ints) (are_too_many ints) b ∷ []) (InText [])
-    (rw (holds.kept, holds.too_many_intermediates) at d.tells.value) (stands-text_begun _ d.text)
-    (intermediate-end refl ends))) (settled-by _ _ d.text tt)))
+    (λ ints holds. takes-byte
+    (rw (holds.kept, holds.too_many_intermediates) at d.tells.value) (stands-text_begun d.text)
+    (intermediate-end refl ends))) (settled-by d.text tt)))
 
 -- CAN, SUB or ESC: the sequence is left without being told.
 pub returns-then-ends_body-clause-advances : goal.returns-then-ends_body-clause-advances
@@ -91,5 +91,5 @@ returns-then-is_plain_control-clause-advances g c =
     advances-then v.advances
     (advances-when tt (advances-in v.begun (omega arith) c.at-byte.ensures.value v.may_go_on (rw is refl)
     (takes-in_escape c.loop-position.self
-    (λ ints holds. takes-byte (Execute b ∷ []) (InEscape ints) c.execute_control.ensures.value (stands-by v.begun holds)
-    (byte-executed refl is))) (settled-by _ _ v.begun tt)))
+    (λ ints holds. takes-byte c.execute_control.ensures.value (stands-by v.begun holds)
+    (byte-executed refl is))) (settled-by v.begun tt)))

@@ -21,7 +21,7 @@ returns-clause-advances g c =
           rw (w.self-is, w.performer-is)
           (advances-when c.requires.other (advances-in r.begun r.within r.looked_at r.may_go_on ordinary
           (takes-in_data parser
-          (takes-byte (Unhook ∷ []) (InText []) w.unhook.ensures.value (record { by = (refl, refl) })
+          (takes-byte w.unhook.ensures.value (record { by = (refl, refl) })
           (data-terminator (terminator_is_high is) (rw is refl)))) tt))
       -- A byte that is dropped.
       | else-byte-eq-STRING_TERMINATOR w ↦
@@ -30,6 +30,6 @@ returns-clause-advances g c =
           (ends_no_data c.args.byte ordinary w.if-byte-eq-STRING_TERMINATOR.false) c.requires.other in
           rw (w.self-is, w.performer-is)
           (advances-when c.requires.other (advances-in r.begun r.within r.looked_at r.may_go_on ordinary
-          (takes-in_data parser (takes-byte [] InDeviceData refl (stands-by r.begun tt) dropped))
-          (settled-by _ _ r.begun tt)))
+          (takes-in_data parser (takes-byte refl (stands-by r.begun tt) dropped))
+          (settled-by r.begun tt)))
     ]

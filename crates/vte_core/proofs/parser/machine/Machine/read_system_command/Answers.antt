@@ -18,7 +18,7 @@ returns-in-None-clause-advances g c =
     let found = c.find_command_data_end-end.ensures in
     advances-items r.begun refl found.low found.high
     (λ k low high. (found.are k low high).0) r.may_go_on r.begun
-    (λ items k. c.push_data.ensures.holds items (keeps-same _ _ _ items c.take_memory.ensures.same k))
+    (λ items k. c.push_data.ensures.holds items (keeps-same c.take_memory.ensures.same k))
 
 -- CAN, SUB or ESC after the data ends the command.
 pub returns-then-ends_body-clause-advances : goal.returns-then-ends_body-clause-advances
@@ -28,7 +28,7 @@ returns-then-ends_body-clause-advances g c =
     advances-then
     (advances-items r.begun refl found.low found.high
     (λ k low high. (found.are k low high).0) r.may_go_on r.begun
-    (λ items k. c.push_data.ensures.holds items (keeps-same _ _ _ items c.take_memory.ensures.same k)))
+    (λ items k. c.push_data.ensures.holds items (keeps-same c.take_memory.ensures.same k)))
     c.read_end.ensures.advances
 
 -- Another byte after the data: `;` ends the piece, BEL the command, and a control is dropped.
@@ -48,24 +48,24 @@ returns-clause-advances g c =
     advances-then
     (advances-items {next = after_data} begun refl found.low found.high
     (λ k low high. (found.are k low high).0) r.may_go_on begun
-    (λ items k. c.push_data.ensures.holds items (keeps-same _ _ _ items c.take_memory.ensures.same k)))
+    (λ items k. c.push_data.ensures.holds items (keeps-same c.take_memory.ensures.same k)))
     (elim c.if-byte-eq59.branch [
       -- `;`: the next piece begins.
       | then-byte-eq59 w ↦
           let is : byte ≡ 0x3b = w.if-byte-eq59.true in
           rw (w.self-is, w.performer-is)
           (advances-when tt (advances-in begun within here.1 r.may_go_on ordinary
-          (takes-in_system_command after_data (λ items keeps. takes-byte [] (InSystemCommand (items ++ byte ∷ [])) refl
+          (takes-in_system_command after_data (λ items keeps. takes-byte refl
           (stands-by begun
           (subst (λ b. HoldsItems limit w.end_piece.new.self (items ++ b ∷ [])) (sym is)
           (w.end_piece.ensures.holds items keeps)))
-          (command-item (omega (arith, is))))) (settled-by _ _ begun tt)))
+          (command-item (omega (arith, is))))) (settled-by begun tt)))
       -- BEL: the command is told.
       | else-byte-eq59+then-byte-eq-BELL w ↦
           rw (w.self-is, w.performer-is)
           (advances-when tt (advances-in begun within here.1 r.may_go_on ordinary
           (takes-in_system_command after_data
-          (λ items keeps. takes-byte (OscDispatch (pieces_of limit items) true ∷ []) (InText [])
+          (λ items keeps. takes-byte
           (rw (pieces_held _ _ items keeps) w.dispatch.ensures.value) (record { by = (refl, refl) })
           (command-bell (left_is_control byte ordinary no_data w.if-byte-eq59.false)
           (rw w.if-byte-eq-BELL.true refl)))) tt))
@@ -74,7 +74,7 @@ returns-clause-advances g c =
           rw (w.self-is, w.performer-is)
           (advances-when tt (advances-in begun within here.1 r.may_go_on ordinary
           (takes-in_system_command after_data
-          (λ items keeps. takes-byte [] (InSystemCommand items) refl (stands-by begun keeps)
+          (λ items keeps. takes-byte refl (stands-by begun keeps)
           (command-control (left_is_control byte ordinary no_data w.if-byte-eq59.false)
-          (ne_eqb _ _ w.if-byte-eq-BELL.false)))) (settled-by _ _ begun tt)))
+          (ne_eqb _ _ w.if-byte-eq-BELL.false)))) (settled-by begun tt)))
     ])

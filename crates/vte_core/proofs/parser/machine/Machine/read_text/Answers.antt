@@ -112,7 +112,7 @@ read g c here = elim c.if-is_printed_ascii-2.branch [
       let printed = sym c.is_printed_ascii-in-loop-position-2.ensures ∙ w.if-is_printed_ascii-2.true in
       rw (w.self-is, w.performer-is, w.position-is)
       (advances-part (advances-byte here.within here.looked_at here.may_go_on
-      (performs-printed here.begun printed w.from.ensures w.print_char.ensures.value) (settled-by _ _ here.begun tt)))
+      (performs-printed here.begun printed w.from.ensures w.print_char.ensures.value) (settled-by here.begun tt)))
   -- Any other byte, but ESC: the same two.
   | else-is_printed_ascii-2+else-IN_RUNS-3+then-is_lead-2+else-this-ne0-2 w ↦
       let read = w.read_character-next.ensures in
@@ -124,7 +124,7 @@ read g c here = elim c.if-is_printed_ascii-2.branch [
       (advances-part (advances-byte here.within here.looked_at here.may_go_on
       (performs-single here.begun w.if-byte-eq-ESCAPE.false
       (sym w.is_lead-else-IN_RUNS-3.ensures ∙ w.if-is_lead-2.false) told.control told.malformed)
-      (settled-by _ _ here.begun tt)))
+      (settled-by here.begun tt)))
 ]
 
 -- ESC: the run, if any, and the escape sequence.
@@ -184,7 +184,7 @@ loop-position-2-preserved-then-byte-ge160 g c =
               (advances-byte here.within here.looked_at here.may_go_on
               (performs-single here.begun (grind (arith, c.if-byte-ge160.true))
               (sym c.is_lead.ensures ∙ w.if-is_lead.false) told.control told.malformed)
-              (settled-by _ _ here.begun tt)))
+              (settled-by here.begun tt)))
         ]);
         may_go_on = elim c.if-is_lead.branch [
           | then-is_lead+else-this-ne0 w ↦ search rules

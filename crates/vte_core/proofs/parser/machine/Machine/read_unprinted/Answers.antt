@@ -16,7 +16,7 @@ pub loop-byte-init : goal.loop-byte-init
 loop-byte-init g c =
     let may_read = c.requires.may_read in
     record {
-      advances = advances-nothing (λ _. settled-by _ _ may_read.begun tt);
+      advances = advances-nothing (λ _. settled-by may_read.begun tt);
       may_read =
           record {
             begun = may_read.begun;

@@ -4,7 +4,7 @@ use Rattle.vte_core.proofs.fields.Saved.{reads_saved}
 use Rattle.vte_core.proofs.parser.saved.Parser+MAX_OSC_RAW.save.Goals as goal
 
 pub returns : goal.returns
-returns c = λ stream h. reads_saved _ c.args.self.now.machine (record {
+returns c = λ stream h. reads_saved (record {
   state = c.saved_state-saved.ensures;
   intermediates = search rules;
   too_many_intermediates = search rules;

@@ -6,5 +6,5 @@ use Rattle.vte_core.proofs.parser.saved.Saved.new.Goals as goal
 
 pub returns-clause-reads : goal.returns-clause-reads
 returns-clause-reads c = record {
-  reads = λ parser r. has_read-nothing _ _ (stands-text_begun parser.machine (r.state (Text Nothing) refl));
+  reads = λ parser r. has_read-nothing (stands-text_begun (r.state (Text Nothing) refl));
 }

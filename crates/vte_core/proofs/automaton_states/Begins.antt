@@ -13,9 +13,9 @@ abbrev pub EndsCharacter : ℕ → List Range → Type 0
 EndsCharacter b ranges = (u : List ℕ) → fits ranges u ≡ true → IsUtf8Run true (b ∷ u)
 
 -- the row of Unicode's table that the byte has
-ends-row : (b : ℕ) (ranges : List Range) → 0xc3 ≤ b → rows_after_byte b utf8_rows ≡ ranges ∷ [] → EndsCharacter b ranges
-ends-row b ranges low same u fit =
-    printable b u (omega (arith, low)) (λ e. absurd (omega (arith, e, low)))
+ends-row : (b : ℕ) {ranges : List Range} → 0xc3 ≤ b → rows_after_byte b utf8_rows ≡ ranges ∷ [] → EndsCharacter b ranges
+ends-row b {ranges} low same u fit =
+    printable (omega (arith, low)) (λ e. absurd (omega (arith, e, low)))
     ((tests_row b ranges same u).is_whole ∙ fit)
 
 -- ---- the first bytes
@@ -30,7 +30,7 @@ pub data Begins (b : ℕ) : Type 0 where
 begins-opened : (b : ℕ) (t : AutomatonState) → next_between b ≡ t → t ≢ Between → t ≢ Failed → 0xc3 ≤ b
     → rows_after_byte b utf8_rows ≡ wanted_ranges t ∷ [] → Begins b
 begins-opened b t is not fine low same =
-    opens t is not fine (omega (arith, low)) (ends-row b (wanted_ranges t) low same)
+    opens t is not fine (omega (arith, low)) (ends-row b low same)
 
 -- after C2 the table also has controls
 ends-after_c2 : EndsCharacter 0xc2 (from_to 0xa0 0xbf ∷ [])
@@ -38,7 +38,7 @@ unfolding second_range
 ends-after_c2 [] fit = absurd (false≢true fit)
 ends-after_c2 (c ∷ u) fit =
     let parts = and_parts (is_in (from_to 0xa0 0xbf) c) (fits [] u) fit in
-    printable 0xc2 (c ∷ u) (omega arith) (λ _. (in_range-bounds (from_to 0xa0 0xbf) c parts.0).0)
+    printable (omega arith) (λ _. (in_range-bounds (from_to 0xa0 0xbf) c parts.0).0)
     ((tests_two 0xc2 (omega arith) (omega arith) (c ∷ u)).is_whole ∙ rw parts.1 (grind (arith, nat_tests)))
 
 pub begins : (b : ℕ) → Begins b

@@ -16,11 +16,12 @@ state_code-between _ e = absurd (omega (arith, e))
 
 -- ---- readings
 
-pub has_read-more : (text more : List ℕ) (at n state after : ℕ) → HasScanned text at state → at + n ≤ length text
+pub has_read-more : {text more : List ℕ} {at : ℕ} (n : ℕ) {state after : ℕ} → HasScanned text at state
+    → at + n ≤ length text
     → more ≡ take n (drop at text)
     → ((s : AutomatonState) → state ≡ state_code s → after ≡ state_code (state_after s more)) → after ≢ 54
     → HasScanned text (at + n) after
-has_read-more text more at n state after read within is steps fine =
+has_read-more {text} {more} {at} n {after} read within is steps fine =
     let here : AutomatonState = state_after Between (take at text) in
     let joined : state_after Between (take (at + n) text) ≡ state_after here more =
     ap (state_after Between) (take-add at n text ∙ ap (λ x. take at text ++ x) (sym is))
@@ -31,9 +32,9 @@ has_read-more text more at n state after read within is steps fine =
 
 -- ---- the last end
 
-pub last_end-here : (text : List ℕ) (at : ℕ) → at ≤ length text → state_after Between (take at text) ≡ Between
+pub last_end-here : {text : List ℕ} {at : ℕ} → at ≤ length text → state_after Between (take at text) ≡ Between
     → LastEnd text at at
-last_end-here text at within is =
+last_end-here {text} {at} within is =
     let s = so_far-all text at within (λ e. cc) in
     record {
       before = omega arith;
@@ -54,10 +55,10 @@ pub character-unended : (text : List ℕ) (at state : ℕ) → HasScanned text a
 character-unended text at state read inside s = s.begun (λ e. inside (read.state_is ∙ ap state_code e))
 
 -- the place of its first byte is the last end
-pub last_end-first : (text : List ℕ) (at state end : ℕ) → HasScanned text at state → state ≢ 0
+pub last_end-first : {text : List ℕ} {at state end : ℕ} → HasScanned text at state → state ≢ 0
     → (s : ReadSoFar text at (state_after Between (take at text)))
     → s.end ≤ end → end < at → 0xc0 ≤ slice_index text end → LastEnd text at end
-last_end-first text at state end read inside s from before high =
+last_end-first {text} {at} {state} {end} read inside s from before high =
     let u = character-unended text at state read inside s in
     let same : s.end ≡ end = elim (cases_lt s.end end) [
       | inl past ↦ absurd (omega (arith, high, u.later end (omega (arith, past)) before))

@@ -34,8 +34,8 @@ none-taken : (text : List ℕ) (at end : ℕ) → end ≡ at → take (at - end)
 none-taken text at end same = let none : at - end ≡ 0 = omega (arith, same) in rw none refl
 
 -- Between two characters all of the text is printed.
-so_far-printed : (text : List ℕ) (at : ℕ) → IsUtf8Run true (take at text) → ReadSoFar text at Between
-so_far-printed text at printed = record {
+so_far-printed : {text : List ℕ} {at : ℕ} → IsUtf8Run true (take at text) → ReadSoFar text at Between
+so_far-printed {text} {at} printed = record {
   end = at;
   before = omega arith;
   printable = printed;
@@ -73,9 +73,9 @@ module _ (text : List ℕ) (at : ℕ) (within : at < length text) (s : Automaton
       let joined : take (at + 1) text ≡ take old.end text ++ (taken ++ b ∷ []) =
       ap (λ n. take n text) place ∙ take-add old.end (at + 1 - old.end) text
       ∙ ap (λ x. take old.end text ++ x) taken-more in
-      so_far-printed text (at + 1)
+      so_far-printed
       (subst (IsUtf8Run true) (sym joined)
-      (printable-append true (take old.end text) (taken ++ b ∷ []) old.printable whole))
+      (printable-append old.printable whole))
 
   -- A character begins or goes on.
   so_far-goes_on : (t : AutomatonState) → t ≢ Between → IsBegun text old.end (at + 1)
@@ -171,7 +171,7 @@ so_far-further text at within old ok =
 
 pub so_far-all : (text : List ℕ) (at : ℕ) → at ≤ length text → state_after Between (take at text) ≢ Failed
     → ReadSoFar text at (state_after Between (take at text))
-so_far-all text zero within ok = so_far-printed text 0 (printable-nil true)
+so_far-all text zero within ok = so_far-printed (printable-nil true)
 so_far-all text (suc at) within ok =
     let fine : state_after Between (take (at + 1) text) ≢ Failed = rw add-one ok in
     let old =

@@ -26,9 +26,9 @@ pub record Spells (p : List ℕ) (number : ℕ) : Type 0 where
   pub is_whole : is_well_formed p ≡ true
   pub same : number ≡ scalar_of p
 
-pub spells_two : (a b : ℕ) → 0xc2 ≤ a → a < 0xe0 → is_in continuation b ≡ true
+pub spells_two : {a b : ℕ} → 0xc2 ≤ a → a < 0xe0 → is_in continuation b ≡ true
     → Spells (a ∷ b ∷ []) (a % 32 * 0x40 + b % 64)
-spells_two a b low high second =
+spells_two {a} {b} low high second =
     let bounds = continuation-bounds b second in
     let plain : second_range a ≡ continuation =
     second_plain a (omega arith) (omega arith) (omega arith) (omega arith) in
@@ -38,21 +38,21 @@ spells_two a b low high second =
       same = omega arith;
     }
 
-pub spells_three : (a b c : ℕ) → 0xe0 ≤ a → a < 0xf0 → is_in (second_range a) b ≡ true → is_in continuation c ≡ true
+pub spells_three : {a b c : ℕ} → 0xe0 ≤ a → a < 0xf0 → is_in (second_range a) b ≡ true → is_in continuation c ≡ true
     → Spells (a ∷ b ∷ c ∷ []) ((a % 16 * 0x40 + b % 64) * 0x40 + c % 64)
-spells_three a b c low high second third =
-    let bytes = second_byte a b second in
+spells_three {a} {b} {c} low high second third =
+    let bytes = second_byte second in
     let third_bounds = continuation-bounds c third in
     record {
       is_whole = (tests_three a low high (b ∷ c ∷ [])).is_whole ∙ and_from _ _ second (and_from _ _ third refl);
       same = omega arith;
     }
 
-pub spells_four : (a b c d : ℕ) → 0xf0 ≤ a → a < 0xf5 → is_in (second_range a) b ≡ true → is_in continuation c ≡ true
+pub spells_four : {a b c d : ℕ} → 0xf0 ≤ a → a < 0xf5 → is_in (second_range a) b ≡ true → is_in continuation c ≡ true
     → is_in continuation d ≡ true
     → Spells (a ∷ b ∷ c ∷ d ∷ []) (((a % 8 * 0x40 + b % 64) * 0x40 + c % 64) * 0x40 + d % 64)
-spells_four a b c d low high second third fourth =
-    let bytes = second_byte a b second in
+spells_four {a} {b} {c} {d} low high second third fourth =
+    let bytes = second_byte second in
     let third_bounds = continuation-bounds c third in
     let fourth_bounds = continuation-bounds d fourth in
     record {
@@ -70,9 +70,9 @@ pub spells-same : {p : List ℕ} {number other : ℕ} → Spells p number → ot
 spells-same spells same = record { is_whole = spells.is_whole; same = same ∙ spells.same }
 
 -- what is made of a well-formed sequence's number
-whole_by : (u : List ℕ) (b number : ℕ) (r : Carried) → Spells (u ++ b ∷ []) number
+whole_by : (u : List ℕ) (b : ℕ) {number : ℕ} (r : Carried) → Spells (u ++ b ∷ []) number
     → (InScalarRange number → r ≡ Whole number) → Carries u b r
-whole_by u b number r spells makes =
+whole_by u b r spells makes =
     subst (λ (r : Carried). Carries u b r)
     (sym (makes (subst InScalarRange (sym spells.same) (scalar_of-in_range (u ++ b ∷ []) spells.is_whole))))
     (spells.is_whole, spells.same)
@@ -96,8 +96,8 @@ second_whole a b number r more second below same makes =
     let low : 0xc2 ≤ a = (truncated_first a [] more).0 in
     let plain : second_range a ≡ continuation =
     second_plain a (omega arith) (omega arith) (omega arith) (omega arith) in
-    whole_by (a ∷ []) b number r
-    (spells-same (spells_two a b low below (ap (λ range. is_in range b) (sym plain) ∙ second)) same) makes
+    whole_by (a ∷ []) b r
+    (spells-same (spells_two low below (ap (λ range. is_in range b) (sym plain) ∙ second)) same) makes
 
 pub second_open : (a b : ℕ) → is_truncated (a ∷ []) ≡ true → is_in (second_range a) b ≡ true → 0xe0 ≤ a
     → Carries (a ∷ []) b (Unfinished (Two a b))
@@ -117,8 +117,8 @@ pub third_whole : (a b c number : ℕ) (r : Carried) → is_truncated (a ∷ b �
     → Carries (a ∷ b ∷ []) c r
 third_whole a b c number r more third below same makes =
     let open_two = truncated_two a b more in
-    whole_by (a ∷ b ∷ []) c number r
-    (spells-same (spells_three a b c open_two.low below open_two.second third) same) makes
+    whole_by (a ∷ b ∷ []) c r
+    (spells-same (spells_three open_two.low below open_two.second third) same) makes
 
 pub third_open : (a b c : ℕ) → is_truncated (a ∷ b ∷ []) ≡ true → is_in continuation c ≡ true → 0xf0 ≤ a
     → Carries (a ∷ b ∷ []) c (Unfinished (Three a b c))
@@ -138,6 +138,6 @@ pub fourth_whole : (a b c d number : ℕ) (r : Carried) → is_truncated (a ∷ 
     → Carries (a ∷ b ∷ c ∷ []) d r
 fourth_whole a b c d number r more fourth same makes =
     let open_three = truncated_three a b c more in
-    whole_by (a ∷ b ∷ c ∷ []) d number r
+    whole_by (a ∷ b ∷ c ∷ []) d r
     (spells-same
-    (spells_four a b c d open_three.low open_three.high open_three.second open_three.third fourth) same) makes
+    (spells_four open_three.low open_three.high open_three.second open_three.third fourth) same) makes

@@ -21,8 +21,8 @@ unfolding class_of
 class_of-spans b = grind (arith, nat_tests)
 
 -- the same, at a class by another name
-pub spans : (b : ℕ) (k : Class) → class_of b ≡ k → Spans k b
-spans b k e = rw e at (class_of-spans b)
+pub spans : (b : ℕ) {k : Class} → class_of b ≡ k → Spans k b
+spans b e = rw e at (class_of-spans b)
 
 -- a byte of a head is none that ends it
 pub below_final : (b : ℕ) → is_head_byte (class_of b) ≡ true → b < 0x40

@@ -10,9 +10,9 @@ use Rattle.std.proofs.lemmas.Str.Ascii.{IsAscii-cons, IsAscii-from_reads, IsAsci
 use Rattle.std.proofs.Math.Seq.{drop-drop}
 use Rattle.std.proofs.lemmas.Str.{IsUtf8-encode, IsUtf8-nil, IsUtf8-append, IsUtf8-from_ascii, chars-nil, chars-append, chars-IsAscii, chars_past_char}
 
-pub same-items : (xs ys : List ℕ) → map (λ x. x) xs ≡ ys → xs ≡ ys
-same-items [] ys e = e
-same-items (x ∷ xs) ys e = ap (λ t. x ∷ t) (same-items xs (map (λ x. x) xs) refl) ∙ e
+pub same-items : {xs ys : List ℕ} → map (λ x. x) xs ≡ ys → xs ≡ ys
+same-items {xs = []} e = e
+same-items {xs = x ∷ xs} e = ap (λ t. x ∷ t) (same-items refl) ∙ e
 
 -- ---- what ends a run
 
@@ -41,9 +41,9 @@ plain-stays layout b p =
 
 -- ---- ASCII
 
-utf8_run-ascii : (layout : Bool) (bytes : List ℕ) → IsAscii bytes → All (StaysInRun layout) bytes
+utf8_run-ascii : {layout : Bool} {bytes : List ℕ} → IsAscii bytes → All (StaysInRun layout) bytes
     → IsUtf8Run layout bytes
-utf8_run-ascii layout bytes a stay =
+utf8_run-ascii {layout} {bytes} a stay =
     record {
       utf8 = IsUtf8-from_ascii bytes a;
       plain = subst (All (StaysInRun layout)) (sym (chars-IsAscii bytes a)) stay;
@@ -55,7 +55,7 @@ printable-ascii layout bytes n are =
     let printed : (k : ℕ) → k < length (take n bytes) → IsPrintedAscii (get_or (take n bytes) k 0) = λ k l.
     let below : k < n = omega (arith, l, length-take n bytes) in
     subst IsPrintedAscii (sym (get_or-take n bytes k 0 below)) (are k (omega arith) below) in
-    utf8_run-ascii layout (take n bytes)
+    utf8_run-ascii
     (IsAscii-from_reads (take n bytes) (length (take n bytes)) (omega arith) (λ k l. (printed k l).1))
     (All-from_get_or (StaysInRun layout) (take n bytes) 0 (λ k l. plain-stays layout _ (printed k l)))
 
@@ -67,9 +67,9 @@ printable-nil layout =
           subst (All (StaysInRun layout)) (sym chars-nil) (All-nil (StaysInRun layout));
     }
 
-pub printable-append : (layout : Bool) (xs ys : List ℕ) → IsUtf8Run layout xs → IsUtf8Run layout ys
+pub printable-append : {layout : Bool} {xs ys : List ℕ} → IsUtf8Run layout xs → IsUtf8Run layout ys
     → IsUtf8Run layout (xs ++ ys)
-printable-append layout xs ys a b = record {
+printable-append {layout} {xs} {ys} a b = record {
   utf8 = IsUtf8-append xs ys a.utf8 b.utf8;
   plain =
       subst (All (StaysInRun layout)) (sym (chars-append xs ys a.utf8))
@@ -91,8 +91,8 @@ pub after-character : {V : Type 0} (layout : Bool) (step : V → Event → V) (o
     → after step old (map (run_event layout) (chars (encode c))) ≡ step old (run_event layout c)
 after-character layout step old c is = ap (λ cs. after step old (map (run_event layout) cs)) (chars-encode c is)
 
-pub run_event-no_control : (layout : Bool) (c : ℕ) → is_control_character c ≡ false → run_event layout c ≡ Print c
-run_event-no_control layout c e = grind (arith, nat_tests, layout-is_plain_control c)
+pub run_event-no_control : (layout : Bool) {c : ℕ} → is_control_character c ≡ false → run_event layout c ≡ Print c
+run_event-no_control layout {c} e = grind (arith, nat_tests, layout-is_plain_control c)
 
 -- ---- runs among the bytes
 
@@ -109,7 +109,7 @@ pub run-layout : (bytes : List ℕ) (from b : ℕ) → from < length bytes → b
     → IsRun true bytes from (from + 1)
 run-layout bytes from b within is layout =
     subst (IsUtf8Run true) (sym (one_byte bytes from b within is))
-    (utf8_run-ascii true (b ∷ []) (IsAscii-cons b [] (layout-is_ascii b layout) IsAscii-nil)
+    (utf8_run-ascii (IsAscii-cons b [] (layout-is_ascii b layout) IsAscii-nil)
     (All-cons (StaysInRun true) b [] (layout-stays b layout)
     (All-nil (StaysInRun true))))
 
@@ -132,4 +132,4 @@ run-append layout bytes i j k first second a b =
     ap (λ n. take n (drop i bytes)) (let e : k - i ≡ j - i + (k - j) = omega (arith, first, second) in e)
     ∙ take-add (j - i) (k - j) (drop i bytes) ∙ ap (λ x. take (j - i) (drop i bytes) ++ take (k - j) x) same in
     subst (IsUtf8Run layout) (sym whole)
-    (printable-append layout (take (j - i) (drop i bytes)) (take (k - j) (drop j bytes)) a b)
+    (printable-append a b)

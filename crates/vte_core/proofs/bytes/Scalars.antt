@@ -23,9 +23,9 @@ IsContinuation b = (0x80 ≤ b) × (b ≤ 0xbf)
 pub continuation-bounds : (b : ℕ) → is_in continuation b ≡ true → IsContinuation b
 continuation-bounds b fits = in_range-bounds continuation b fits
 
-pub second_byte : (a b : ℕ) → is_in (second_range a) b ≡ true → SecondByte a b
+pub second_byte : {a b : ℕ} → is_in (second_range a) b ≡ true → SecondByte a b
 unfolding second_range
-second_byte a b fits = record {
+second_byte fits = record {
   low = grind (arith, nat_tests);
   high = grind (arith, nat_tests);
   not_overlong_three = λ e. grind (arith, nat_tests);
@@ -78,14 +78,14 @@ pub data Sequence (p : List ℕ) : Type 0 where
       → IsContinuation d → Sequence p
 
 two_fit : (a : ℕ) (u : List ℕ) → 0xc2 ≤ a → a < 0xe0 → fits (second_range a ∷ []) u ≡ true → Sequence (a ∷ u)
-two_fit a (b ∷ []) low high fit = whole_two a b refl low high (second_byte a b (and_parts _ _ fit).0)
+two_fit a (b ∷ []) low high fit = whole_two a b refl low high (second_byte (and_parts _ _ fit).0)
 two_fit a u low high fit = let one : length u ≡ 1 = fits-length (second_range a ∷ []) u fit in absurd (omega arith)
 
 three_fit : (a : ℕ) (u : List ℕ) → 0xe0 ≤ a → a < 0xf0 → fits (second_range a ∷ continuation ∷ []) u ≡ true
     → Sequence (a ∷ u)
 three_fit a (b ∷ c ∷ []) low high fit =
     let parts : (is_in (second_range a) b ≡ true) × ((is_in continuation c && true) ≡ true) = and_parts _ _ fit in
-    whole_three a b c refl low high (second_byte a b parts.0) (continuation-bounds c (and_parts _ _ parts.1).0)
+    whole_three a b c refl low high (second_byte parts.0) (continuation-bounds c (and_parts _ _ parts.1).0)
 three_fit a u low high fit = let two : length u ≡ 2 = fits-length (second_range a ∷ continuation ∷ []) u fit in
     absurd (omega arith)
 
@@ -95,7 +95,7 @@ four_fit a (b ∷ c ∷ d ∷ []) low high fit =
     let parts : (is_in (second_range a) b ≡ true) × ((is_in continuation c && (is_in continuation d && true)) ≡ true) =
     and_parts _ _ fit in
     let rest : (is_in continuation c ≡ true) × ((is_in continuation d && true) ≡ true) = and_parts _ _ parts.1 in
-    whole_four a b c d refl low high (second_byte a b parts.0) (continuation-bounds c rest.0)
+    whole_four a b c d refl low high (second_byte parts.0) (continuation-bounds c rest.0)
     (continuation-bounds d (and_parts _ _ rest.1).0)
 four_fit a u low high fit =
     let three : length u ≡ 3 = fits-length (second_range a ∷ continuation ∷ continuation ∷ []) u fit in

@@ -50,7 +50,7 @@ module _ (limit : Option ℕ) (stream bytes : List ℕ) (i j : ℕ) (further : i
       let all : here ++ stretch ≡ stream ++ take j bytes =
       append_assoc stream (take i bytes) stretch ∙ ap (λ x. stream ++ x) (sym (stretch-ends bytes i j further)) in
       subst (λ s. IsAfter limit s next) all
-      (after_from limit here stretch next (breaks_at stream bytes i) stretch-breaks a)
+      (after_from here stretch (breaks_at stream bytes i) stretch-breaks a)
 
   pub stretch-added : added limit stream (take j bytes)
       ≡ told_before limit stream bytes i ++ added limit (resumed_stream stream bytes i) stretch
@@ -87,7 +87,7 @@ module _ {V : Type 0} {call : ChunkCall V} {old : V} {stream : List ℕ} where
       → ProgressAt call old new stream i (InText [])
   come-broken {i} {b} {place} is_place within is broken performed c =
       let here : breaks_at stream call.bytes i ≡ true =
-      breaks_at-byte stream call.bytes (open_at place) i b within is
+      breaks_at-byte stream call.bytes i within is
       (after-open_character c.is_after is_place) ∙ broken in
       record {
         performed =
@@ -164,9 +164,9 @@ module _ {V : Type 0} {call : ChunkCall V} {old : V} {stream : List ℕ} where
       let ends : open_character (stream ++ take i call.bytes) ≡ open_at place =
       after-open_character c.is_after is_here in
       come-one within is
-      (λ _ start. absurd (no_start stream call.bytes (open_at place) i b within is ends some whole start)) r
+      (λ _ start. absurd (no_start within is ends some whole start)) r
       performed is_place
-      (come-whole (breaks_at-byte stream call.bytes (open_at place) i b within is ends ∙ whole) c)
+      (come-whole (breaks_at-byte stream call.bytes i within is ends ∙ whole) c)
 
   -- n data bytes of a command, before which the performer was asked once
   pub come-items : {value : V} {i : ℕ} (n : ℕ) (items : List ℕ) → i + n ≤ length call.bytes
@@ -221,8 +221,8 @@ module _ {V : Type 0} {call : ChunkCall V} {old : V} {stream : List ℕ} where
   pub come-starts : {value : V} {i : ℕ} {place : Place} → IsPlace place → IsSettledPlace place → i < length call.bytes
       → ProgressAt call old value stream i place → IsStart stream call.bytes i
   come-starts {i} {place} is between within c = elim (cases_Bool (breaks_at stream call.bytes i)) [
-    | inl broken ↦ starts-broken stream call.bytes i within broken
-    | inr whole ↦ starts-settled stream call.bytes i within
+    | inl broken ↦ starts-broken within broken
+    | inr whole ↦ starts-settled within
         (ap open_character (sym (resumed_stream-settled stream call.bytes i whole))
         ∙ after-open_character c.is_after is
         ∙ open_at-settled place between)

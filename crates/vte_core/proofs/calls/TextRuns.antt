@@ -138,7 +138,7 @@ unfolding malformed_event
 may_go_on-malformed layout call {old} {b} never may_go_on high performed does =
     let printed : is_control_character b ≡ false = grind (arith, nat_tests) in
     let event : malformed_event (b ∷ []) ≡ run_event layout replacement =
-    rw printed (sym (run_event-no_control layout replacement refl)) in
+    rw printed (sym (run_event-no_control layout refl)) in
     rw (performed, event) (never does old replacement (may_go_on does))
 
 -- a run more

@@ -54,15 +54,15 @@ is_segment b bytes = by_rows (rows_after_byte b utf8_rows) refl
     segment : List (List Range) → List ℕ
     segment rows = take (allowed_length rows bytes) bytes
 
-    by_tests : (rows : List (List Range)) → rows_after_byte b utf8_rows ≡ rows → (whole more : Bool)
+    by_tests : {rows : List (List Range)} → rows_after_byte b utf8_rows ≡ rows → (whole more : Bool)
         → some_whole (rows_after_bytes (segment rows) rows) ≡ whole
         → some_open (rows_after_bytes (segment rows) rows) ≡ more
         → (rows_after_bytes (segment rows) rows ≡ [] → ⊥) → IsSegment (b ∷ segment (rows_after_byte b utf8_rows))
-    by_tests rows same true more is_whole is_open stands =
+    by_tests {rows} same true more is_whole is_open stands =
         inl (ap (λ (rows : List (List Range)). some_whole (rows_after_bytes (segment rows) rows)) same ∙ is_whole)
-    by_tests rows same false true is_whole is_open stands =
+    by_tests {rows} same false true is_whole is_open stands =
         inr (inl (ap (λ (rows : List (List Range)). some_open (rows_after_bytes (segment rows) rows)) same ∙ is_open))
-    by_tests rows same false false is_whole is_open stands =
+    by_tests same false false is_whole is_open stands =
         absurd (stands (neither_whole_nor_open _ is_whole is_open))
 
     by_rows : (rows : List (List Range)) → rows_after_byte b utf8_rows ≡ rows
@@ -71,7 +71,7 @@ is_segment b bytes = by_rows (rows_after_byte b utf8_rows) refl
         ap (λ (rows : List (List Range)). length (b ∷ segment rows)) same
         ∙ ap (λ (n : ℕ). length (b ∷ take n bytes)) (allowed_length_none bytes)))
     by_rows (row ∷ more) same =
-        by_tests (row ∷ more) same _ _ refl refl (allowed_length_stands (row ∷ more) bytes (λ e. cc))
+        by_tests same _ _ refl refl (allowed_length_stands (row ∷ more) bytes (λ e. cc))
 
 pub divided_right : (b : ℕ) (bytes : List ℕ) → IsDividedRight b bytes
 unfolding is_truncated trailing_count

@@ -74,16 +74,16 @@ nonempty [] (inr (inr one)) = absurd (omega arith)
 nonempty (b ∷ segment) is = omega arith
 
 -- of two right segments before one text neither is longer
-not_longer : (p x q y : List ℕ) → p ++ x ≡ q ++ y → IsRightSegment p x → IsRightSegment q y → length p ≤ length q
-not_longer p x q y same right other = by_kind right.is_segment
+not_longer : {p x q y : List ℕ} → p ++ x ≡ q ++ y → IsRightSegment p x → IsRightSegment q y → length p ≤ length q
+not_longer {p} {x} {q} same right other = by_kind right.is_segment
   where
     by_kind : IsSegment p → length p ≤ length q
     by_kind (inl well) = rw (other.whole p x same well) (omega arith)
     by_kind (inr (inl more)) = other.longest p x same more
     by_kind (inr (inr one)) = omega (arith, nonempty q other.is_segment)
 
-same_front : (p x q y : List ℕ) → p ++ x ≡ q ++ y → length p ≡ length q → (p ≡ q) × (x ≡ y)
-same_front p x q y same long =
+same_front : {p x q y : List ℕ} → p ++ x ≡ q ++ y → length p ≡ length q → (p ≡ q) × (x ≡ y)
+same_front {p} {x} {q} {y} same long =
     let front : take (length p) (p ++ x) ≡ p = take-append_seam p x in
     let later : drop (length p) (p ++ x) ≡ x = drop-append_seam p x in
     (sym front ∙ rw (same, long) (take-append_seam q y), sym later ∙ rw (same, long) (drop-append_seam q y))
@@ -97,10 +97,10 @@ one_division [] (q ∷ those) are others same =
 one_division (p ∷ these) [] are others same =
     absurd (omega (arith, nonempty p are.0.is_segment, length-append p (concat these), ap length same))
 one_division (p ∷ these) (q ∷ those) are others same =
-    let le = not_longer p (concat these) q (concat those) same are.0 others.0 in
-    let ge : length q ≤ length p = not_longer q (concat those) p (concat these) (sym same) others.0 are.0 in
+    let le = not_longer same are.0 others.0 in
+    let ge : length q ≤ length p = not_longer (sym same) others.0 are.0 in
     let long : length p ≡ length q = omega arith in
-    let parts = same_front p (concat these) q (concat those) same long in
+    let parts = same_front same long in
     let rest = one_division these those are.1 others.1 parts.1 in
     let first : p ≡ q = parts.0 in
     cc

@@ -26,25 +26,25 @@ past_controls : (b : ℕ) (u : List ℕ) → 0xc2 ≤ b → (b ≡ 0xc2 → 0xa0
     → 0xa0 ≤ scalar_of (b ∷ u)
 past_controls b u low plain whole = elim (sequence (b ∷ u) whole) [
   | whole_one a is high ↦ absurd (omega (arith, low, high, ap (λ x. get_or x 0 0) is))
-  | whole_two a c is from_c2 below second ↦ wide (a ∷ c ∷ []) is (elim (cases_eq b 0xc2) [
+  | whole_two a c is from_c2 below second ↦ wide is (elim (cases_eq b 0xc2) [
     | inl c2 ↦ omega (arith, c2, plain c2, ap (λ x. get_or x 0 0) is, ap (λ x. get_or x 1 0) is, second.low)
     | inr other ↦ omega (arith, low, other, ap (λ x. get_or x 0 0) is, second.low)
   ])
   | whole_three a c d is from_e0 below second third ↦
-      wide (a ∷ c ∷ d ∷ []) is (omega (arith, three_from a c d from_e0 second))
+      wide is (omega (arith, three_from a c d from_e0 second))
   | whole_four a c d e is from_f0 below second third fourth ↦
-      wide (a ∷ c ∷ d ∷ e ∷ []) is (omega (arith, four_from a c d e from_f0 second))
+      wide is (omega (arith, four_from a c d e from_f0 second))
 ]
   where
-    wide : (p : List ℕ) → b ∷ u ≡ p → 0xa0 ≤ scalar_of p → 0xa0 ≤ scalar_of (b ∷ u)
-    wide p is high = subst (λ p. 0xa0 ≤ scalar_of p) (sym is) high
+    wide : {p : List ℕ} → b ∷ u ≡ p → 0xa0 ≤ scalar_of p → 0xa0 ≤ scalar_of (b ∷ u)
+    wide {p} is high = subst (λ p. 0xa0 ≤ scalar_of p) (sym is) high
 
 no_control : (c : ℕ) → 0xa0 ≤ c → is_control_character c ≡ false
 no_control c low = grind (arith, nat_tests)
 
-pub printable : {layout : Bool} (b : ℕ) (u : List ℕ) → 0xc2 ≤ b → (b ≡ 0xc2 → 0xa0 ≤ get_or u 0 0)
+pub printable : {layout : Bool} {b : ℕ} {u : List ℕ} → 0xc2 ≤ b → (b ≡ 0xc2 → 0xa0 ≤ get_or u 0 0)
     → is_well_formed (b ∷ u) ≡ true → IsUtf8Run layout (b ∷ u)
-printable b u low plain whole =
+printable {b} {u} low plain whole =
     printable-whole (b ∷ u) whole (no_control (scalar_of (b ∷ u)) (past_controls b u low plain whole))
 
 -- ---- the same among other bytes
@@ -74,37 +74,37 @@ run-of {layout} bytes from b u within is at low plain whole =
     ∙ ap (λ c. c ∷ take (length u) (drop (from + 1) bytes)) (sym is) ∙ ap (λ x. b ∷ x) (stand-take bytes from 1 u at) in
     subst (λ n. IsUtf8Run layout (take n (drop from bytes)))
     (let e : suc (length u) ≡ from + suc (length u) - from = omega arith in e)
-    (subst (IsUtf8Run layout) (sym same) (printable b u low plain whole))
+    (subst (IsUtf8Run layout) (sym same) (printable low plain whole))
 
-pub run-two : {layout : Bool} (bytes : List ℕ) (from first second : ℕ) → from + 2 ≤ length bytes
+pub run-two : {layout : Bool} (bytes : List ℕ) (from : ℕ) {first second : ℕ} → from + 2 ≤ length bytes
     → first ≡ slice_index bytes from → second ≡ slice_index bytes (from + 1)
     → 0xc2 ≤ first → first < 0xe0 → is_in (from_to 0x80 0xbf) second ≡ true → (first ≡ 0xc2 → 0xa0 ≤ second)
     → IsRun layout bytes from (from + 2)
-run-two bytes from first second long is_first is_second low high continues plain =
+run-two bytes from {first} {second} long is_first is_second low high continues plain =
     let e : second_range first ≡ from_to 0x80 0xbf =
     second_plain first (λ e. omega (arith, e, high)) (λ e. omega (arith, e, high)) (λ e. omega (arith, e, high))
     (λ e. omega (arith, e, high)) in
     run-of bytes from first (second ∷ []) (omega (arith, long)) is_first (omega (arith, long), is_second, tt) low plain
     ((tests_two first low high (second ∷ [])).is_whole ∙ and_from _ _ (ap (λ r. is_in r second) e ∙ continues) refl)
 
-pub run-three : {layout : Bool} (bytes : List ℕ) (from first second third : ℕ) → from + 3 ≤ length bytes
+pub run-three : {layout : Bool} (bytes : List ℕ) (from : ℕ) {first second third : ℕ} → from + 3 ≤ length bytes
     → first ≡ slice_index bytes from → second ≡ slice_index bytes (from + 1)
     → third ≡ slice_index bytes (from + 2) → 0xe0 ≤ first → first < 0xf0 → is_in (second_range first) second ≡ true
     → is_in (from_to 0x80 0xbf) third ≡ true → IsRun layout bytes from (from + 3)
-run-three bytes from first second third long is_first is_second is_third low high begins continues =
+run-three bytes from {first} {second} {third} long is_first is_second is_third low high begins continues =
     run-of bytes from first (second ∷ third ∷ []) (omega (arith, long)) is_first
     (omega (arith, long), is_second, (omega (arith, long), is_third, tt))
     (omega (arith, low)) (λ e. absurd (omega (arith, e, low)))
     ((tests_three first low high (second ∷ third ∷ [])).is_whole ∙ and_from _ _ begins (and_from _ _ continues refl))
 
-pub run-four : {layout : Bool} (bytes : List ℕ) (from first second third fourth : ℕ) → from + 4 ≤ length bytes
+pub run-four : {layout : Bool} (bytes : List ℕ) (from : ℕ) {first second third fourth : ℕ} → from + 4 ≤ length bytes
     → first ≡ slice_index bytes from
     → second ≡ slice_index bytes (from + 1) → third ≡ slice_index bytes (from + 2)
     → fourth ≡ slice_index bytes (from + 3) → 0xf0 ≤ first → first < 0xf5
     → is_in (second_range first) second ≡ true → is_in (from_to 0x80 0xbf) third ≡ true
     → is_in (from_to 0x80 0xbf) fourth ≡ true
     → IsRun layout bytes from (from + 4)
-run-four bytes from first second third fourth long is_first is_second is_third is_fourth low high begins
+run-four bytes from {first} {second} {third} {fourth} long is_first is_second is_third is_fourth low high begins
     continues ends =
     run-of bytes from first (second ∷ third ∷ fourth ∷ []) (omega (arith, long)) is_first
     (omega (arith, long), is_second, (omega (arith, long), is_third, (omega (arith, long), is_fourth, tt)))

@@ -28,9 +28,9 @@ pub byte-cancels : {limit : Option ℕ} {place : Place} {b : ℕ} → IsPlace pl
     → Leads limit place b (closing_events_at limit place ++ Execute b ∷ []) (InText [])
 unfolding body_outcome executed_events escape_from control_sequence_from control_sequence_end device_control_from
     device_control_after_head device_data_outcome system_command_from ignored_string_outcome
-byte-cancels {place = InText []} {b} is e = record { leads = λ rest. text_outcome-cancel rest b (spans b Cancel e) }
+byte-cancels {place = InText []} {b} is e = record { leads = λ rest. text_outcome-cancel rest b (spans b e) }
 byte-cancels {place = InText (a ∷ u)} {b} is e =
-    let low : b < 0x20 = spans b Cancel e in
+    let low : b < 0x20 = spans b e in
     let tests : Tests (a ∷ u ++ b ∷ []) false false = ascii_breaks (a ∷ u) b is (omega arith) in
     record {
       leads = λ rest. text_broken (a ∷ u) b is tests.is_whole tests.is_open rest

@@ -55,7 +55,7 @@ pub escape-intermediate : {limit : Option ℕ} {b : ℕ} → class_of b ≡ Inte
     → Leads limit AtEscape b [] (InEscape (b ∷ []))
 unfolding body_outcome executed_events escape_outcome escape_from
 escape-intermediate {b} e =
-    let s = spans b Intermediate e in record { leads = λ rest. simp (e, below_finals b (omega arith)) }
+    let s = spans b e in record { leads = λ rest. simp (e, below_finals b (omega arith)) }
 
 -- the place after a key that begins a body
 abbrev pub begun_by : SequenceKind → Place
@@ -193,7 +193,7 @@ pub command-control : {limit : Option ℕ} {items : List ℕ} {b : ℕ} → clas
     → Leads limit (InSystemCommand items) b [] (InSystemCommand items)
 unfolding system_command_from
 command-control {b} e other =
-    let low = spans b Control e in
+    let low = spans b e in
     let none : nat_le 0x20 b ≡ false = grind (arith, nat_tests) in
     record { leads = λ rest. simp (e, other, none) }
 

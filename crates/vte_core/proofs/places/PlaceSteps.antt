@@ -81,14 +81,14 @@ module _ {limit : Option ℕ} {place next : Place} {b : ℕ} where
   step-executed : class_of b ≡ Control → Sequenced place next → Leads limit place b (Execute b ∷ []) next
       → Steps limit place b
   step-executed is known leads =
-      step-sequenced is refl known leads (λ _ _. executed_low b (spans b Control is)) (λ _. tt)
+      step-sequenced is refl known leads (λ _ _. executed_low b (spans b is)) (λ _. tt)
 
 -- ---- after ESC
 
 step-final : {limit : Option ℕ} {b : ℕ} {k : SequenceKind} → class_of b ≡ Final → sequence_kind b ≡ k
     → Steps limit AtEscape b
 step-final {b} {k = EscapeSequence} is k =
-    let s = spans b Final is in
+    let s = spans b is in
     step-sequenced is refl (tt, tt) (escape-end is refl k) (λ _ _. (omega arith, s.1, omega arith))
     (λ _. tt)
 step-final {k = key} is k = step-silent is refl (tt, tt) (escape-key key is k refl)
@@ -103,7 +103,7 @@ step-escape {k = High} is no_end = step-silent is no_end (tt, tt) (byte-dropped 
 step-escape {k = Cancel} is no_end = cc
 step-escape {k = Escape} is no_end = cc
 step-escape {b} {k} is no_end =
-    let s = spans b k is in
+    let s = spans b is in
     step-sequenced is no_end (tt, tt) (escape-end is refl (below_finals b (omega arith)))
     (λ _ _. (omega arith, omega arith, omega arith)) (λ _. tt)
 
@@ -122,7 +122,7 @@ step-intermediate {k = High} is no_end =
 step-intermediate {k = Cancel} is no_end = cc
 step-intermediate {k = Escape} is no_end = cc
 step-intermediate {ints} {b} {k} is no_end =
-    let s = spans b k is in
+    let s = spans b is in
     step-sequenced is no_end (tt, tt) (intermediate-end is refl)
     (λ _ _. (two_at_most ints, omega arith, omega arith)) (λ _. tt)
 
@@ -136,7 +136,7 @@ step-control {k = Control} is no_end =
 step-control {head} {b} {k = Final} is no_end = elim (cases_Bool (is_well_shaped (head_of head))) [
   | inl well ↦
       step-sequenced is no_end (tt, tt) (control-dispatched is well)
-      (λ size _. (bounded-head size (head_of head) b (spans b Final is)).0) (λ _. tt)
+      (λ size _. (bounded-head size (head_of head) b (spans b is)).0) (λ _. tt)
   | inr ill ↦ step-silent is no_end (tt, tt) (control-silent is ill)
 ]
 step-control {k = Delete} is no_end =
@@ -157,7 +157,7 @@ step-device {k = Control} is no_end =
 step-device {head} {b} {k = Final} is no_end = elim (cases_Bool (is_well_shaped (head_of head))) [
   | inl well ↦
       step-sequenced is no_end (tt, tt) (device-well_shaped is well)
-      (λ size _. (bounded-head size (head_of head) b (spans b Final is)).1) (λ _. tt)
+      (λ size _. (bounded-head size (head_of head) b (spans b is)).1) (λ _. tt)
   | inr ill ↦ step-silent is no_end (tt, tt) (device-ill_shaped is ill)
 ]
 step-device {k = Delete} is no_end = step-silent is no_end (tt, tt) (device-dropped is refl)
@@ -174,7 +174,7 @@ delete_is_no_terminator b s = grind (arith, nat_tests)
 step-data : {limit : Option ℕ} {b : ℕ} {k : Class} → class_of b ≡ k → ends_body k ≡ false → Steps limit InDeviceData b
 step-data {b} {k = Delete} is no_end =
     step-sequenced is no_end (tt, tt)
-    (data-dropped (rw is (delete_is_no_terminator b (spans b Delete is))) (rw is refl)) (λ _ _. tt) (λ _. tt)
+    (data-dropped (rw is (delete_is_no_terminator b (spans b is))) (rw is refl)) (λ _ _. tt) (λ _. tt)
 step-data {b} {k = High} is no_end = elim (cases_Bool (eqb b 0x9c)) [
   | inl ends ↦
       step-sequenced is no_end (tt, tt) (data-terminator is ends) (λ _ _. tt) (λ _. tt)
@@ -217,7 +217,7 @@ step-command {limit} {items} {b} {k = Control} is no_end = elim (cases_Bool (eqb
 step-command {k = Cancel} is no_end = cc
 step-command {k = Escape} is no_end = cc
 step-command {items} {b} {k} is no_end =
-    let s = spans b k is in
+    let s = spans b is in
     step-in_command (no_escape-class b is no_end) (command-item (omega arith))
     (λ none. rw none (pieces_push items b))
 
@@ -262,7 +262,7 @@ quiet-cancel limit _ b outside = tt
 step-by_class : (limit : Option ℕ) (place : Place) (b : ℕ) (k : Class) → IsPlace place → class_of b ≡ k
     → Steps limit place b
 step-by_class limit place b Escape placed is =
-    let same : Spans Escape b = spans b Escape is in
+    let same : Spans Escape b = spans b is in
     rw same (record {
       told = closing_events_at limit place;
       next = AtEscape;
@@ -277,7 +277,7 @@ step-by_class limit place b Escape placed is =
 step-by_class limit (InText u) b Cancel placed is = step-text limit u b (cancel_is_no_escape b is) placed
 step-by_class limit place b Cancel placed is =
     step-sequenced_by (cancel_is_no_escape b is) (tt, tt) (byte-cancels placed is)
-    (λ size fits. closing_brief limit size place b fits (spans b Cancel is)) (quiet-cancel limit place b)
+    (λ size fits. closing_brief limit size place b fits (spans b is)) (quiet-cancel limit place b)
 step-by_class limit place b k placed is = step-ordinary limit place b k placed is refl
 
 -- Each byte reports at most two events after each place, and leads to a next place.

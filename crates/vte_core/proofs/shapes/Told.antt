@@ -30,11 +30,11 @@ breaks-next : (u : List ℕ) (b : ℕ) (rest : List ℕ) → breaks u (b ∷ res
 breaks-next [] b rest = refl
 breaks-next (a ∷ u) b rest = refl
 
-pub breaks_at-byte : (stream bytes u : List ℕ) (i b : ℕ) → i < length bytes → b ≡ slice_index bytes i
+pub breaks_at-byte : (stream bytes : List ℕ) {u : List ℕ} (i : ℕ) {b : ℕ} → i < length bytes → b ≡ slice_index bytes i
     → open_character (stream ++ take i bytes) ≡ u
     → breaks_at stream bytes i ≡ breaks u (b ∷ [])
 unfolding breaks_at
-breaks_at-byte stream bytes u i b within is ends =
+breaks_at-byte stream bytes {u} i within is ends =
     rw (ends, drop_more bytes i 0 within, is) (breaks-next u (get_or bytes i 0) (drop (i + 1) bytes))
 
 pub breaks_at-settled : (stream bytes : List ℕ) (i : ℕ) → open_character (stream ++ take i bytes) ≡ []
@@ -50,22 +50,22 @@ breaks_at-all stream bytes n all =
 
 -- ---- starts
 
-pub starts-settled : (stream bytes : List ℕ) (i : ℕ) → i < length bytes → open_character (stream ++ take i bytes) ≡ []
+pub starts-settled : {stream bytes : List ℕ} {i : ℕ} → i < length bytes → open_character (stream ++ take i bytes) ≡ []
     → IsStart stream bytes i
-starts-settled stream bytes i within ends = record { within = within; starts = inl ends }
+starts-settled within ends = record { within = within; starts = inl ends }
 
-pub starts-broken : (stream bytes : List ℕ) (i : ℕ) → i < length bytes → breaks_at stream bytes i ≡ true
+pub starts-broken : {stream bytes : List ℕ} {i : ℕ} → i < length bytes → breaks_at stream bytes i ≡ true
     → IsStart stream bytes i
-starts-broken stream bytes i within broken = record { within = within; starts = inr broken }
+starts-broken within broken = record { within = within; starts = inr broken }
 
 -- a byte of a character that was begun before it is none
-pub no_start : (stream bytes u : List ℕ) (i b : ℕ) → i < length bytes → b ≡ slice_index bytes i
+pub no_start : {stream bytes u : List ℕ} {i b : ℕ} → i < length bytes → b ≡ slice_index bytes i
     → open_character (stream ++ take i bytes) ≡ u
     → (u ≡ [] → ⊥) → breaks u (b ∷ []) ≡ false
     → IsStart stream bytes i → ⊥
-no_start stream bytes u i b within is ends some whole start = elim start.starts [
+no_start {stream} {bytes} {i} within is ends some whole start = elim start.starts [
   | inl none ↦ some (sym ends ∙ none)
-  | inr broken ↦ false≢true (sym whole ∙ sym (breaks_at-byte stream bytes u i b within is ends) ∙ broken)
+  | inr broken ↦ false≢true (sym whole ∙ sym (breaks_at-byte stream bytes i within is ends) ∙ broken)
 ]
 
 -- ---- what is told

@@ -54,13 +54,13 @@ digits_after joined digits (b ∷ more) text none =
     let rest = digits_after joined (digits ++ b ∷ []) more text (All-tail IsNoSeparator b more none) in
     rw (All-head IsNoSeparator b more none) (rw (append_assoc digits (b ∷ []) more) at rest)
 
-spelled_after : (joined : Bool) (digits : List ℕ) (ns : List Number) → All IsSmall ns
+spelled_after : (joined : Bool) (digits : List ℕ) {ns : List Number} → All IsSmall ns
     → numbers_from joined digits (flat_map spelled ns) ≡ numbered joined (number_of digits) ∷ ns
-spelled_after joined digits [] all = refl
-spelled_after joined digits (n ∷ ns) all =
+spelled_after joined digits {ns = []} all = refl
+spelled_after joined digits {ns = n ∷ ns} all =
     let small = All-head IsSmall n ns all in
     let rest = digits_after n.joined [] (decimal n.value) (flat_map spelled ns) (no_separators n.value small)
-    ∙ spelled_after n.joined (decimal n.value) ns (All-tail IsSmall n ns all)
+    ∙ spelled_after n.joined (decimal n.value) (All-tail IsSmall n ns all)
     ∙ ap (λ value. numbered n.joined value ∷ ns) (number_of-decimal n.value small) in
     rw (separates n, is_colon-separator n) (ap (λ (l : List Number). numbered joined (number_of digits) ∷ l) rest)
 
@@ -138,7 +138,7 @@ numbers-shown : (groups : List (List ℕ)) → AreParameters groups → numbers 
 numbers-shown groups ok =
     let all = IsSmall-groups groups ok.groups_are.small in
     let later =
-    ap (numbers_from false []) (shown-spelled groups ok) ∙ spelled_after false [] (flat_map in_group groups) all in
+    ap (numbers_from false []) (shown-spelled groups ok) ∙ spelled_after false [] all in
     numbers_are (shown groups) ∙ ap (drop 1) later
 
 few-groups : (groups : List (List ℕ)) → AreParameters groups → length (flat_map in_group groups) ≤ most_numbers

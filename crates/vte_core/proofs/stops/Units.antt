@@ -62,18 +62,18 @@ added_from limit stream front rest true is =
     ∙ sym (append_assoc (added limit stream front) (Print replacement ∷ []) (added limit [] rest))
 added_from limit stream front rest false is = rw append-nil (added-append limit stream front rest)
 
-pub after_from : (limit : Option ℕ) (stream rest : List ℕ) (place : Place) (broken : Bool)
+pub after_from : {limit : Option ℕ} (stream rest : List ℕ) {place : Place} (broken : Bool)
     → (broken ≡ true → breaks (open_character stream) rest ≡ true)
     → IsAfter limit ((if broken then [] else stream) ++ rest) place → IsAfter limit (stream ++ rest) place
-after_from limit stream rest place true is a = resumes-after limit stream rest place (is refl) a
-after_from limit stream rest place false is a = a
+after_from {limit} stream rest {place} true is a = resumes-after limit stream rest place (is refl) a
+after_from stream rest false is a = a
 
 ends_from : (stream rest : List ℕ) (broken : Bool) → (broken ≡ true → breaks (open_character stream) rest ≡ true)
     → open_character (stream ++ rest) ≡ open_character ((if broken then [] else stream) ++ rest)
 ends_from stream rest broken is =
     let a : LeadsTo None ((if broken then [] else stream) ++ rest) = leads_to in
     after-open_character
-    (after_from None stream rest a.place broken is a.is_after) a.is_place
+    (after_from stream rest broken is a.is_after) a.is_place
     ∙ sym (after-open_character a.is_after a.is_place)
 
 -- what the bytes before a position add, by the last start before it
@@ -116,7 +116,7 @@ module _ (limit : Option ℕ) (stream bytes : List ℕ) (i : ℕ) (within : i < 
       ∙ ap open_character (sym (append_assoc stream (take i bytes) (b ∷ [])))
 
   breaks_here : breaks_at stream bytes i ≡ breaks (open_character here) (b ∷ [])
-  breaks_here = breaks_at-byte stream bytes (open_character here) i b within refl refl
+  breaks_here = breaks_at-byte stream bytes i within refl refl
 
   -- the position is a start
   from_start : IsStart stream bytes i → Added limit stream bytes (i + 1)
@@ -170,9 +170,9 @@ module _ (limit : Option ℕ) (stream bytes : List ℕ) (i : ℕ) (within : i < 
 
   added_further : Added limit stream bytes i → Added limit stream bytes (i + 1)
   added_further a = elim (none_or_some (open_character here)) [
-    | inl none ↦ from_start (starts-settled stream bytes i within none)
+    | inl none ↦ from_start (starts-settled within none)
     | inr some ↦ elim (cases_Bool (breaks (open_character here) (b ∷ []))) [
-      | inl broken ↦ from_start (starts-broken stream bytes i within (breaks_here ∙ broken))
+      | inl broken ↦ from_start (starts-broken within (breaks_here ∙ broken))
       | inr unbroken ↦ from_carried a some unbroken
     ]
   ]

@@ -6,13 +6,13 @@ use Rattle.vte_core.proofs.utf8.character_of_three.Goals as goal
 pub from_u32_unchecked-requires : goal.from_u32_unchecked-requires
 from_u32_unchecked-requires c =
     let spells =
-    spells_three c.args.first c.args.second c.args.third c.requires.lead.low c.requires.lead.high c.requires.second
+    spells_three c.requires.lead.low c.requires.lead.high c.requires.second
     c.requires.third in
     spells-scalar _ _ (spells-same spells c.number_of_three.ensures)
 
 pub returns : goal.returns
 returns c =
     let spells =
-    spells_three c.args.first c.args.second c.args.third c.requires.lead.low c.requires.lead.high c.requires.second
+    spells_three c.requires.lead.low c.requires.lead.high c.requires.second
     c.requires.third in
     c.from_u32_unchecked.ensures ∙ c.number_of_three.ensures ∙ spells.same

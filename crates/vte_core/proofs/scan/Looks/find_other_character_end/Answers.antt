@@ -23,7 +23,7 @@ returns-then-is_printed_pair-clause-run g c =
     let second = c.in_ok-second.ensures in
     let pair = c.if-is_printed_pair.ensures in
     let lead = in_range-bounds (from_to 0xc2 0xf4) c.args.first (sym c.is_lead.ensures ∙ c.if-not-is_lead.false) in
-    run-two c.args.input.bytes.now c.args.from c.args.first c.in_ok-second.second
+    run-two c.args.input.bytes.now c.args.from
     (omega (arith, second.0)) c.requires.looked_at second.1 lead.0 c.if-first-lt224.true
     (pair.0 refl).0 (pair.0 refl).1
 
@@ -31,7 +31,7 @@ returns-then-is_printed_pair-clause-run g c =
 pub returns-then-is_continuation-clause-run : goal.returns-then-is_continuation-clause-run
 returns-then-is_continuation-clause-run g c =
     let third = c.in_ok-get.ensures in
-    run-three c.args.input.bytes.now c.args.from c.args.first c.in_ok-second.second c.in_ok-get.field-0
+    run-three c.args.input.bytes.now c.args.from
     (omega (arith, third.0)) c.requires.looked_at c.in_ok-second.ensures.1
     third.1 c.if-first-lt224.false c.if-first-lt240.true
     (sym c.may_begin_three.ensures ∙ c.if-may_begin_three.true) (sym c.if-is_continuation.ensures)
@@ -42,7 +42,7 @@ returns-then-is_continuation-3-clause-run g c =
     let third = c.in_ok-get-2.ensures in
     let fourth = c.in_ok-get-3.ensures in
     let lead = in_range-bounds (from_to 0xc2 0xf4) c.args.first (sym c.is_lead.ensures ∙ c.if-not-is_lead.false) in
-    run-four c.args.input.bytes.now c.args.from c.args.first _ _ _
+    run-four c.args.input.bytes.now c.args.from
     (omega (arith, fourth.0)) c.requires.looked_at c.in_ok-second.ensures.1 third.1 fourth.1
     c.if-first-lt240.false (omega (arith, lead.1))
     (sym c.may_begin_four.ensures ∙ c.if-may_begin_four.true) (sym c.if-is_continuation-2.ensures)

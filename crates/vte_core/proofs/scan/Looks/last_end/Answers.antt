@@ -10,7 +10,7 @@ use Rattle.vte_core.proofs.scan.Looks.last_end.Goals as goal
 pub returns-then-state-eq-BETWEEN : goal.returns-then-state-eq-BETWEEN
 returns-then-state-eq-BETWEEN g c = record {
   last =
-      last_end-here (drop c.args.from c.args.input.bytes.now) c.args.at c.requires.read.within
+      last_end-here c.requires.read.within
       (state_code-between _ (sym c.requires.read.state_is ∙ c.if-state-eq-BETWEEN.true));
   count = omega arith;
 }
@@ -70,7 +70,7 @@ returns g c =
     let s = so_far-all text c.args.at c.requires.read.within c.requires.read.going in
     record {
       last =
-          last_end-first text c.args.at c.args.state c.loop-end.end c.requires.read c.if-state-eq-BETWEEN.false s
+          last_end-first c.requires.read c.if-state-eq-BETWEEN.false s
           (c.loop-end.invariant.from s) c.loop-end.invariant.before
           (omega
           (arith, c.loop-end-test.false, byte-from bytes c.args.from c.loop-end.end c.at.result c.at.ensures.value));

@@ -20,8 +20,7 @@ loop-block-preserved g c =
     ] in
     record {
       read =
-          has_read-more text c.in-Some.block c.loop-block.at 16 c.loop-block.state
-          c.state_after_block-next.result v.read
+          has_read-more 16 v.read
           (omega (arith, block.0, length-drop c.args.from bytes)) here c.state_after_block-next.ensures
           c.if-next-eq-FAILED.false;
       kept =

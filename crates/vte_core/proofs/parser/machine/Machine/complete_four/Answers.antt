@@ -83,7 +83,7 @@ tell_text-requires-clause-run g c =
     let to_fourth : from + 1 + 2 ≡ from + 3 = omega arith in
     run-append g.P.CountedPerform.layout bytes from (from + 4) c.find_run_end_for-end.result (omega arith)
     (omega (arith, rest.scans.low))
-    (run-four bytes from c.args.first c.args.second c.at-third.result c.at-fourth.result
+    (run-four bytes from
     (omega (arith, r.within, c.if-next-len.false)) r.may_read.looked_at r.looked_at
     (c.at-third.ensures.value ∙ ap (slice_index bytes) to_third)
     (c.at-fourth.ensures.value ∙ ap (slice_index bytes) to_fourth) r.lead.low r.lead.high
@@ -111,7 +111,7 @@ returns-clause-advances g c =
     let third = sym c.is_continuation.ensures ∙ c.if-not-is_continuation.false in
     let fourth = sym c.is_continuation-2.ensures ∙ c.if-not-is_continuation-2.false in
     let spells =
-    spells_four c.args.first c.args.second c.at-third.result c.at-fourth.result r.lead.low r.lead.high
+    spells_four r.lead.low r.lead.high
     second third fourth in
     let within : c.args.from + 1 + 2 < length c.args.input.bytes.now = omega (arith, r.within, c.if-next-len.false) in
     advances-first r.may_read (lead_of_two _ r.lead.low) r.lead.high

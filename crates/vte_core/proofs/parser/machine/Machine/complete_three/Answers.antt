@@ -43,7 +43,7 @@ returns-clause-completes g c =
     let second = sym c.may_begin_three.ensures ∙ c.if-not-may_begin_three.false in
     let third = sym c.is_continuation.ensures ∙ c.if-not-is_continuation.false in
     let spells =
-    spells_three c.args.first c.args.second c.at-third.result c.requires.lead.low c.requires.lead.high second third in
+    spells_three c.requires.lead.low c.requires.lead.high second third in
     completes-whole (goes-second c.args.self.now c.requires.lead.low second r.within r.looked_at)
     (λ more. (spells.is_whole, c.character_of_three.ensures)) r.begun c.tell_character.ensures.value
     (omega (arith, r.within, c.if-from-len.false)) c.at-third.ensures.value (counted _)

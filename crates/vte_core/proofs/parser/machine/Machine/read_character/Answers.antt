@@ -29,7 +29,7 @@ pub returns-then-first-lt224-clause-advances : goal.returns-then-first-lt224-cla
 returns-then-first-lt224-clause-advances g c =
     let r = c.requires in
     let spells =
-    spells_two c.args.first c.at-second.result r.lead c.if-first-lt224.true
+    spells_two r.lead c.if-first-lt224.true
     (sym c.is_continuation.ensures ∙ c.if-not-is_continuation.false) in
     advances-first r.may_read r.lead r.fits
     (completes-whole (goes-nowhere c.args.self.now (unfinished-some _ _))

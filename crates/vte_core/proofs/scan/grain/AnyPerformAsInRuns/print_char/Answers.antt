@@ -13,4 +13,4 @@ returns g c =
     let keeps = g.P.PerformText.layout in
     rw c.encode_utf8.ensures.value at c.print_text.ensures
     ∙ after-character keeps g.P.Perform.step (g.P.Perform.value_of c.args.self.now) c.args.c c.ranges.c.0
-    ∙ ap (g.P.Perform.step (g.P.Perform.value_of c.args.self.now)) (run_event-no_control keeps c.args.c c.requires)
+    ∙ ap (g.P.Perform.step (g.P.Perform.value_of c.args.self.now)) (run_event-no_control keeps c.requires)

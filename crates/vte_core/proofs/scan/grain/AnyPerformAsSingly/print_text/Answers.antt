@@ -12,4 +12,4 @@ returns g c =
     (YieldsList-from_chars c.args.text.now c.utf8.text cc) c.loop-c.yielded _ c.loop-c.yielded_by _ _ c.in-None.is
     c.next.ensures.steps in
     c.loop-c.invariant
-    ∙ ap (λ cs. after g.P.Perform.step (g.P.Perform.value_of c.args.self.now) (map Print cs)) (same-items _ _ t.0)
+    ∙ ap (λ cs. after g.P.Perform.step (g.P.Perform.value_of c.args.self.now) (map Print cs)) (same-items t.0)

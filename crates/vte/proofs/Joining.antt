@@ -63,13 +63,14 @@ module _ (keeps_all : Bool) (pieces : List (Bor (List ℕ))) (i : ℕ) (d : Bor 
   opened = rw (drop_more pieces i d inside) at before
 
   -- there is room for the next text
-  pub joins-room : (part : List ℕ) → Some part ≡ text_in keeps_all piece → length text + length part + 1 ≤ room
-  joins-room part is = omega (arith, text-short keeps_all piece part is, opened.fits, length-append piece (concat left))
+  pub joins-room : {part : List ℕ} → Some part ≡ text_in keeps_all piece → length text + length part + 1 ≤ room
+  joins-room {part} is = omega
+      (arith, text-short keeps_all piece part is, opened.fits, length-append piece (concat left))
 
   -- a piece has a text
-  pub joins-more : (part : List ℕ) → Some part ≡ text_in keeps_all piece
+  pub joins-more : {part : List ℕ} → Some part ≡ text_in keeps_all piece
       → Joins keeps_all room (text ++ text_to_join is_first part) false left all
-  joins-more part is = record {
+  joins-more {part} is = record {
     joins =
         append_assoc text (text_to_join is_first part) _
         ∙ (rw (texts-more keeps_all piece left is) at opened.joins);

@@ -7,9 +7,9 @@ use Rattle.vte.proofs.Common.{fails_before_first}
 pub whole_part : (p : ℕ → Bool) (text : List ℕ) → position_or_len p text ≡ length text → slice_split p text ≡ text ∷ []
 whole_part p text none = slice_split_none p text (λ k d inside. fails_before_first p text k d (omega (arith, none)))
 
-pub first_part : (p : ℕ → Bool) (text : List ℕ) (i : ℕ) → position_or_len p text ≡ i → i < length text
+pub first_part : (p : ℕ → Bool) (text : List ℕ) {i : ℕ} → position_or_len p text ≡ i → i < length text
     → slice_split p text ≡ take i text ∷ slice_split p (drop (i + 1) text)
-first_part p text i is inside = rw (sym is) (slice_split_first p text 0 (omega (arith, is)))
+first_part p text is inside = rw (sym is) (slice_split_first p text 0 (omega (arith, is)))
 
 abbrev pub left_size : Option (Bor (List ℕ)) → ℕ
 left_size None = 0

@@ -121,7 +121,7 @@ module _ {V W : Type 0} (m : Meaning V W) {old new : PerformerValue V W} (goes_o
       let within : k < length r = omega (arith, stop.comes.within) in
       let goes_on =
       rw (terminated_at k) at (stop.comes.earlier k less
-      (starts-settled within (open_character-front m.limit p r k f within))) in
+      (starts-settled within (open_character-front f within))) in
       grind (arith, nat_tests, f.begins within)
 
   pub stops_at_front : n ≡ length (front_to_begin m.limit p r)

@@ -64,7 +64,7 @@ module _ {T A V W : Type 0} {timeout_of : T → W} {m : Meaning V W} {new : Long
       → HasMemory new s.parsed (length s.held + length bytes) → ⊥
   had_memory read less taken lacks room =
       let t = taken.next in
-      let g = until_refused-grows m s t bytes _ taken.takes in
+      let g = until_refused-grows m taken.takes in
       let counts = counts_data s.parsed g.more in
       let left = rw (← g.parsed_is) at counts.left in
       let sum : length g.more + length t.held ≡ length s.held + read =

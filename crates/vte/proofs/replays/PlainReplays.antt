@@ -83,15 +83,15 @@ module _ {V W : Type 0} (m : Meaning V W) {Before After : StandingPredicate W} {
     parses_all = λ stream all. plain_parses old all m never steps only (told _ (is_here old all));
   }
 
-  pub replays_all : (steps : List Step)
+  pub replays_all : {steps : List Step}
       → ((s : State V W) → IsAt Before old s → HasReplayed m s steps (IsAt After new))
       → Replays m Before After old new steps
-  replays_all steps told = record { told = told; plain = plain_calls steps told }
+  replays_all {steps} told = record { told = told; plain = plain_calls steps told }
 
   -- a call is a list of one
   pub plain_call : (bytes : Bor (List ℕ))
       → ((s : State V W) → IsAt Before old s → HasAdvanced m s bytes.now (IsAt After new))
       → IsNeverPending m.timeout.allows → ParsesAll m Before After old new bytes.now
   plain_call bytes advances never =
-      let r = replays_all (Advance bytes ∷ []) (λ s at. advance_runs m s bytes (advances s at)) in
+      let r = replays_all {steps = Advance bytes ∷ []} (λ s at. advance_runs m (advances s at)) in
       rw append-nil at (r.plain never tt)

@@ -35,7 +35,7 @@ module _ {V W : Type 0} (m : Meaning V W) (steady : IsSteady m.timeout) where
       → TakesSteps m s steps u → u ≡ t
   replay-only_one s t u [] h first other = sym other ∙ first
   replay-only_one s t u (Advance bytes ∷ steps) h (next, (a, r)) (other, (b, q)) =
-      replay-only_one next t u steps (taken_well m s next bytes.now [] a h) r
+      replay-only_one next t u steps (taken_well m a h) r
       (rw (advances-only_one s next other bytes.now h a b) at q)
   replay-only_one s t u (StopSync ∷ steps) h r q = replay-only_one (stop m s) t u steps (stop_well m s) r q
 
@@ -44,8 +44,7 @@ module _ {V W : Type 0} (m : Meaning V W) (steady : IsSteady m.timeout) where
 module _ {V W : Type 0} (m : Meaning V W) where
   replay-well : (s t : State V W) (steps : List Step) → TakesSteps m s steps t → HoldsWellAt m s → HoldsWellAt m t
   replay-well s t [] same h = rw (← same) h
-  replay-well s t (Advance bytes ∷ steps) (next, (a, r)) h = replay-well next t steps r (taken_well m s next bytes.now
-      [] a h)
+  replay-well s t (Advance bytes ∷ steps) (next, (a, r)) h = replay-well next t steps r (taken_well m a h)
   replay-well s t (StopSync ∷ steps) r h = replay-well (stop m s) t steps r (stop_well m s)
 
   -- a list of calls goes on with further ones
@@ -55,9 +54,10 @@ module _ {V W : Type 0} (m : Meaning V W) where
   replay-append s t u (Advance bytes ∷ steps) more (next, (a, q)) r = (next, (a, replay-append next t u steps more q r))
   replay-append s t u (StopSync ∷ steps) more q r = replay-append (stop m s) t u steps more q r
 
-  pub replayed : (s t : State V W) (steps : List Step) {IsNowAt : State V W → Type 0} → TakesSteps m s steps t
+  pub replayed : {s : State V W} (t : State V W) {steps : List Step} {IsNowAt : State V W → Type 0}
+      → TakesSteps m s steps t
       → IsNowAt t → HasReplayed m s steps IsNowAt
-  replayed s t steps run at =
+  replayed {s} t {steps} run at =
       let g = replay_grows m s t steps run in
       let e = tells-replay m t s steps run in
       record {
@@ -76,28 +76,28 @@ module _ {V W : Type 0} (m : Meaning V W) where
       }
 
   -- a call of `advance` is such a list
-  pub advance_runs : (s : State V W) (bytes : Bor (List ℕ)) {IsNowAt : State V W → Type 0}
+  pub advance_runs : {s : State V W} {bytes : Bor (List ℕ)} {IsNowAt : State V W → Type 0}
       → HasAdvanced m s bytes.now IsNowAt → HasReplayed m s (Advance bytes ∷ []) IsNowAt
-  advance_runs s bytes a = replayed s a.next (Advance bytes ∷ []) (a.next, (a.advances, refl)) a.is_at
+  advance_runs a = replayed a.next (a.next, (a.advances, refl)) a.is_at
 
   module _ (s : State V W) (steps : List Step) {i : ℕ} (d : Step) {old : State V W → Type 0} (new : State V W → Type 0)
       (inside : i < length steps) (r : HasReplayed m s (take i steps) old) where
     step_taken : HasReplayed m r.next (get_or steps i d ∷ []) new → HasReplayed m s (take (i + 1) steps) new
     step_taken q =
-        replayed s q.next (take (i + 1) steps)
+        replayed q.next
         (rw (take_more steps i d inside)
         (replay-append s r.next q.next (take i steps) (get_or steps i d ∷ []) r.takes q.takes)) q.is_at
 
     -- the next step is taken, or refused
     pub advance_taken : {bytes : Bor (List ℕ)} → get_or steps i d ≡ Advance bytes → HasAdvanced m r.next bytes.now new
         → HasReplayed m s (take (i + 1) steps) new
-    advance_taken {bytes} is a = step_taken (rw is (advance_runs r.next bytes a))
+    advance_taken {bytes} is a = step_taken (rw is (advance_runs a))
 
     pub stop_taken : get_or steps i d ≡ StopSync → new (stop m r.next) → HasReplayed m s (take (i + 1) steps) new
-    stop_taken is at = step_taken (rw is (replayed r.next (stop m r.next) (StopSync ∷ []) refl at))
+    stop_taken is at = step_taken (rw is (replayed (stop m r.next) refl at))
 
     pub advance_refused : {bytes : Bor (List ℕ)} {read : ℕ} → get_or steps i d ≡ Advance bytes → read < length bytes.now
         → HasTaken m r.next bytes.now read new
         → HasReplayed m s (take i steps) (λ next. IsFirstRefused m next (drop i steps) read new)
     advance_refused is less taken =
-        replayed s r.next (take i steps) r.takes (rw (drop_more steps i d inside, is) (less, taken))
+        replayed r.next r.takes (rw (drop_more steps i d inside, is) (less, taken))

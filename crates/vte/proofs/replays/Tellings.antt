@@ -77,10 +77,10 @@ module _ {V W : Type 0} (m : Meaning V W) (end : State V W) where
     told = rw calls_between-none refl;
   }
 
-  tells-parse : (parsed front stops : List ℕ) (value : V)
+  tells-parse : {parsed : List ℕ} (front : List ℕ) {stops : List ℕ} {value : V}
       → HasStillToTell (parsed ++ front) stops (after m.step value (added_calls m.limit parsed front))
       → HasStillToTell parsed stops value
-  tells-parse parsed front stops value rest = record {
+  tells-parse {parsed} front rest = record {
     more = front ++ rest.more;
     parsed_is = rest.parsed_is ∙ append_assoc parsed front rest.more;
     positions = rest.positions;
@@ -96,7 +96,7 @@ module _ {V W : Type 0} (m : Meaning V W) (end : State V W) where
   tells-stop : (state : State V W) → TellsAt (stop m state) → TellsAt state
   tells-stop state rest =
       let position = length (state.parsed ++ state.held) in
-      tells-parse state.parsed state.held state.stops state.handler (record {
+      tells-parse state.held (record {
         more = rest.more;
         parsed_is = rest.parsed_is;
         positions = position ∷ rest.positions;
@@ -107,11 +107,11 @@ module _ {V W : Type 0} (m : Meaning V W) (end : State V W) where
 
   tells-open : (state : State V W) (bytes : List ℕ) → TellsAt (open_turn m state bytes).state → TellsAt state
   tells-open state bytes =
-      tells-parse state.parsed (front_to_begin m.limit state.parsed bytes) state.stops state.handler
+      tells-parse (front_to_begin m.limit state.parsed bytes)
 
   tells-release : (state : State V W) (kept : List ℕ) → TellsAt (release m state kept) → TellsAt state
   tells-release state [] = tells-stop state
-  tells-release state (byte ∷ kept) = tells-parse state.parsed _ state.stops state.handler
+  tells-release state (byte ∷ kept) = tells-parse _
 
   tells-hold : (state : State V W) (bytes : List ℕ) → TellsAt (hold_turn m state bytes) → TellsAt state
   tells-hold state bytes = elim (cases_Option (after_last_end (state.held ++ bytes))) [

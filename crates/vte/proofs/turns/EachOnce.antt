@@ -51,11 +51,11 @@ grows_before {s} {t} {bytes} g left = record {
 }
 
 module _ {V W : Type 0} (m : Meaning V W) where
-  progresses-nothing : (s : State V W) (bytes : List ℕ) → Progresses s s bytes bytes
-  progresses-nothing s bytes = record { more = []; parsed_is = sym (append-nil s.parsed); each_once = refl }
+  progresses-nothing : {s : State V W} {bytes : List ℕ} → Progresses s s bytes bytes
+  progresses-nothing {s} = record { more = []; parsed_is = sym (append-nil s.parsed); each_once = refl }
 
-  pub stop_grows : (s : State V W) (bytes : List ℕ) → Progresses s (stop m s) bytes bytes
-  stop_grows s bytes = record { more = s.held; parsed_is = refl; each_once = refl }
+  pub stop_grows : {s : State V W} {bytes : List ℕ} → Progresses s (stop m s) bytes bytes
+  stop_grows {s} = record { more = s.held; parsed_is = refl; each_once = refl }
 
   -- before bytes are parsed
   pub stop_if_due_none : (pending : Bool) (s : State V W) → (stop_if_due m pending s).held ≡ []
@@ -64,22 +64,22 @@ module _ {V W : Type 0} (m : Meaning V W) where
     | inr none ↦ rw none (nil_from_length s.held (grind (arith, nat_tests)))
   ]
 
-  pub stop_if_due_grows : (pending : Bool) (s : State V W) (bytes : List ℕ)
+  pub stop_if_due_grows : (pending : Bool) {s : State V W} {bytes : List ℕ}
       → Progresses s (stop_if_due m pending s) bytes bytes
-  stop_if_due_grows pending s bytes =
+  stop_if_due_grows pending {s} =
       elim (cases_Bool (is_stopped pending s)) [
-        | inl stopped ↦ rw stopped (stop_grows s bytes)
-        | inr none ↦ rw none (progresses-nothing s bytes)
+        | inl stopped ↦ rw stopped (stop_grows)
+        | inr none ↦ rw none (progresses-nothing)
       ]
 
-  pub parse_grows : (s : State V W) (front left bytes : List ℕ) → s.held ≡ [] → front ++ left ≡ bytes
+  pub parse_grows : {s : State V W} (front : List ℕ) {left bytes : List ℕ} → s.held ≡ [] → front ++ left ≡ bytes
       → Progresses s (parse m s front) bytes left
-  parse_grows s front left bytes none is = record { more = front; parsed_is = refl; each_once = rw none (sym is) }
+  parse_grows front none is = record { more = front; parsed_is = refl; each_once = rw none (sym is) }
 
-  release_grows : (s : State V W) (kept : List ℕ) → drop (length s.held - length kept) s.held ≡ kept
+  release_grows : {s : State V W} {kept : List ℕ} → drop (length s.held - length kept) s.held ≡ kept
       → Progresses s (release m s kept) [] []
-  release_grows s [] is = stop_grows s []
-  release_grows s (b ∷ kept) is =
+  release_grows {kept = []} is = stop_grows
+  release_grows {s} {kept = b ∷ kept} is =
       let before = length s.held - suc (length kept) in
       record {
         more = take before s.held;
@@ -95,7 +95,7 @@ module _ {V W : Type 0} (m : Meaning V W) where
         | inl none ↦ rw (hold_turn-all m s r none) held
         | inr some ↦
             rw (hold_turn-rest m s r some.0 some.1)
-            (grows_on held (release_grows (extend m s r) (from_begin_update some.0)
+            (grows_on held (release_grows
             (rw some.1 at (stays-is (s.held ++ r)))))
       ]
 
@@ -105,20 +105,20 @@ module _ {V W : Type 0} (m : Meaning V W) where
     | inl held ↦ rw (turn-holds m pending s r held) (hold_grows s r)
     | inr parses ↦
         rw (turn-parses m pending s r parses)
-        (grows_on (stop_if_due_grows pending s r)
-        (parse_grows (stop_if_due m pending s) _ _ r (stop_if_due_none pending s)
+        (grows_on (stop_if_due_grows pending)
+        (parse_grows _ (stop_if_due_none pending s)
         (front-rest m.limit (stop_if_due m pending s).parsed r)))
   ]
 
-  pub turns_grow : (s t : State V W) (bytes left : List ℕ) → TakesTurns m s bytes t left → Progresses s t bytes left
-  turns_grow s t bytes left done = progresses-nothing s bytes
-  turns_grow s t (b ∷ bytes) left (turns pending allowed more) =
-      grows_on (turn_grows pending s (b ∷ bytes)) (turns_grow _ t _ left more)
+  pub turns_grow : {s t : State V W} {bytes left : List ℕ} → TakesTurns m s bytes t left → Progresses s t bytes left
+  turns_grow done = progresses-nothing
+  turns_grow {s} {t} {bytes = b ∷ bytes} {left} (turns pending allowed more) =
+      grows_on (turn_grows pending s (b ∷ bytes)) (turns_grow more)
 
   pub replay_grows : (s t : State V W) (steps : List Step) → TakesSteps m s steps t
       → Progresses s t (given_bytes steps) []
-  replay_grows s t [] e = rw e (progresses-nothing t [])
+  replay_grows s t [] e = rw e (progresses-nothing)
   replay_grows s t (Advance bytes ∷ steps) (next, (a, r)) =
-      grows_on (grows_before (turns_grow s next bytes.now [] a) (given_bytes steps)) (replay_grows next t steps r)
+      grows_on (grows_before (turns_grow a) (given_bytes steps)) (replay_grows next t steps r)
   replay_grows s t (StopSync ∷ steps) r =
-      grows_on (stop_grows s (given_bytes steps)) (replay_grows (stop m s) t steps r)
+      grows_on (stop_grows) (replay_grows (stop m s) t steps r)

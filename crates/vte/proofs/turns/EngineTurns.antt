@@ -197,10 +197,10 @@ module _ {V W : Type 0} (m : Meaning V W) (s : State V W) (bytes : List ℕ) whe
     next = t;
     takes = takes;
     each_once = append_cancel_right _ _ (drop read bytes)
-        (grown_bytes (until_refused-grows m s t bytes (drop read bytes) takes)
+        (grown_bytes (until_refused-grows m takes)
         ∙ ap (λ x. all_bytes s ++ x) (sym (take-append-drop read bytes))
         ∙ sym (append_assoc (all_bytes s) (take read bytes) (drop read bytes)));
-    holds_well = until_refused-well m s t bytes (drop read bytes) takes;
+    holds_well = until_refused-well m takes;
     is_at = at;
   }
 
@@ -228,7 +228,7 @@ module _ {V W : Type 0} (m : Meaning V W) (s : State V W) (bytes : List ℕ) whe
       → HasAdvanced m s bytes IsNowAt
   has_advanced {read} h all = record {
     next = h.next;
-    advances = until_refused-all m s h.next bytes (rw (drop_all read bytes all) at h.takes);
+    advances = until_refused-all m (rw (drop_all read bytes all) at h.takes);
     each_once = rw (take_all read bytes all) at h.each_once;
     holds_well = h.holds_well;
     is_at = h.is_at;

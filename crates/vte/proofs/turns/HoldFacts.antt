@@ -130,8 +130,8 @@ module _ {V W : Type 0} (m : Meaning V W) where
         (stop_if_due_outside pending s allowed h))
   ]
 
-  pub taken_well : (s t : State V W) (bytes left : List ℕ) → TakesTurns m s bytes t left → HoldsWellAt m s
+  pub taken_well : {s t : State V W} {bytes left : List ℕ} → TakesTurns m s bytes t left → HoldsWellAt m s
       → HoldsWellAt m t
-  taken_well s t bytes left done h = h
-  taken_well s t (b ∷ bytes) left (turns pending allowed more) h =
-      taken_well _ t _ left more (turn_well pending s (b ∷ bytes) allowed h)
+  taken_well done h = h
+  taken_well {s} {t} {bytes = b ∷ bytes} {left} (turns pending allowed more) h =
+      taken_well more (turn_well pending s (b ∷ bytes) allowed h)

@@ -13,9 +13,9 @@ use Rattle.vte.proofs.turns.HoldFacts.{stop_if_due_outside, taken_well}
 
 -- ---- the slices of an open turn
 
-pub slice_size : (bytes : List ℕ) (read count : ℕ) → read ≤ length bytes → count ≤ length bytes - read
+pub slice_size : (bytes : List ℕ) (read : ℕ) {count : ℕ} → read ≤ length bytes → count ≤ length bytes - read
     → length (take (read + count - read) (drop read bytes)) ≡ count
-slice_size bytes read count inside few =
+slice_size bytes read {count} inside few =
     length-take-le (read + count - read) (drop read bytes) (rw length-drop (omega arith)) ∙ omega arith
 
 module _ {V W : Type 0} (m : Meaning V W) where
@@ -168,27 +168,27 @@ module _ {V W : Type 0} (m : Meaning V W) where
       inside_turn (taken_on s t _ bytes left _ first more) pending allowed halts
 
   -- where nothing is left, no turn was refused memory
-  pub until_refused-all : (s t : State V W) (bytes : List ℕ) → TakesTurnsUntilRefused m s bytes t []
+  pub until_refused-all : {s t : State V W} {bytes : List ℕ} → TakesTurnsUntilRefused m s bytes t []
       → TakesTurns m s bytes t []
-  until_refused-all s t bytes (between_turns taken) = taken
-  until_refused-all s t bytes (inside_turn {reached = u} {rest} taken pending allowed halts) =
+  until_refused-all (between_turns taken) = taken
+  until_refused-all {t} (inside_turn {reached = u} {rest} taken pending allowed halts) =
       absurd (omega (arith, (refused-opens m pending u t rest [] halts).1.some_left))
 
   -- ---- what is parsed and held then
 
-  halts-grows : (pending : Bool) (s t : State V W) (bytes left : List ℕ) → OpensAndHalts m pending s bytes t left
+  halts-grows : (pending : Bool) {s t : State V W} {bytes left : List ℕ} → OpensAndHalts m pending s bytes t left
       → Progresses s t bytes left
-  halts-grows pending s t bytes left (parses, h) =
+  halts-grows pending {s} (parses, h) =
       rw h.state_is
-      (grows_on (stop_if_due_grows m pending s bytes)
-      (parse_grows m (stop_if_due m pending s) h.front left bytes (stop_if_due_none m pending s) h.bytes_are))
+      (grows_on (stop_if_due_grows m pending)
+      (parse_grows m h.front (stop_if_due_none m pending s) h.bytes_are))
 
-  pub until_refused-grows : (s t : State V W) (bytes left : List ℕ) → TakesTurnsUntilRefused m s bytes t left
+  pub until_refused-grows : {s t : State V W} {bytes left : List ℕ} → TakesTurnsUntilRefused m s bytes t left
       → Progresses s t bytes left
-  until_refused-grows s t bytes left (between_turns taken) = turns_grow m s t bytes left taken
-  until_refused-grows s t bytes left (inside_turn {reached = u} {rest} taken pending allowed halts) =
-      grows_on (turns_grow m s u bytes rest taken)
-      (halts-grows pending u t rest left (refused-opens m pending u t rest left halts))
+  until_refused-grows (between_turns taken) = turns_grow m taken
+  until_refused-grows {t} {left} (inside_turn {reached = u} {rest} taken pending allowed halts) =
+      grows_on (turns_grow m taken)
+      (halts-grows pending (refused-opens m pending u t rest left halts))
 
   -- outside an update, and with nothing held
   halts-outside : (pending : Bool) (s t : State V W) (bytes left : List ℕ) → IsSteady m.timeout → HoldsWellAt m s
@@ -201,11 +201,11 @@ module _ {V W : Type 0} (m : Meaning V W) where
       → OpensAndHalts m pending s bytes t left → t.held ≡ []
   halts-held pending s t bytes left (parses, h) = ap (λ t. t.held) h.state_is ∙ stop_if_due_none m pending s
 
-  pub until_refused-well : (s t : State V W) (bytes left : List ℕ) → TakesTurnsUntilRefused m s bytes t left
+  pub until_refused-well : {s t : State V W} {bytes left : List ℕ} → TakesTurnsUntilRefused m s bytes t left
       → HoldsWellAt m s
       → HoldsWellAt m t
-  until_refused-well s t bytes left (between_turns taken) well = taken_well m s t bytes left taken well
-  until_refused-well s t bytes left (inside_turn {reached = u} {rest} taken pending allowed halts) well =
+  until_refused-well (between_turns taken) well = taken_well m taken well
+  until_refused-well {t} {left} (inside_turn {reached = u} {rest} taken pending allowed halts) well =
       let opens = refused-opens m pending u t rest left halts in
       let nothing = halts-held pending u t rest left opens in
       record {
@@ -213,7 +213,7 @@ module _ {V W : Type 0} (m : Meaning V W) where
         fits = rw nothing (omega arith);
         steady =
             λ steady.
-            inl (halts-outside pending u t rest left steady (taken_well m s u bytes rest taken well) allowed
+            inl (halts-outside pending u t rest left steady (taken_well m taken well) allowed
             opens);
       }
 
@@ -226,12 +226,12 @@ module _ {V W : Type 0} (m : Meaning V W) where
       rw (halts-held pending s t bytes left (parses, h)) refl in
       rw (none, turn-parses m pending s bytes parses) (open_turn-goes_on m (stop_if_due m pending s) t bytes left h)
 
-  halted-turn_goes_on : (pending : Bool) (s t end : State V W) (bytes left : List ℕ)
+  halted-turn_goes_on : (pending : Bool) {s t end : State V W} {bytes left : List ℕ}
       → m.timeout.allows s.timeout pending
       → OpensAndHalts m pending s bytes t left
       → IsOutsideUpdate m.timeout t.held t.timeout → TakesTurns m t left end [] → TakesTurns m s bytes end []
-  halted-turn_goes_on pending s t end bytes left allowed h out done = absurd (omega (arith, h.1.some_left))
-  halted-turn_goes_on pending s t end bytes (b ∷ left) allowed h out (turns other allows more) =
+  halted-turn_goes_on pending allowed h out done = absurd (omega (arith, h.1.some_left))
+  halted-turn_goes_on pending {s} {t} {end} {bytes} {left = b ∷ left} allowed h out (turns other allows more) =
       let same : turn m other t (b ∷ left) ≡ turn m pending s bytes =
       rw (out.not_pending.1 other allows) (halts-goes_on pending s t bytes (b ∷ left) h) in
       let some : 0 < length bytes =
@@ -244,6 +244,6 @@ module _ {V W : Type 0} (m : Meaning V W) where
   halted-goes_on s t end bytes left steady well (between_turns taken) more = taken_on s t end bytes left [] taken more
   halted-goes_on s t end bytes left steady well (inside_turn {reached = u} {rest} taken pending allowed halts) more =
       let opens = refused-opens m pending u t rest left halts in
-      let out = halts-outside pending u t rest left steady (taken_well m s u bytes rest taken well) allowed opens
+      let out = halts-outside pending u t rest left steady (taken_well m taken well) allowed opens
       in
-      taken_on s u end bytes rest [] taken (halted-turn_goes_on pending u t end rest left allowed opens out more)
+      taken_on s u end bytes rest [] taken (halted-turn_goes_on pending allowed opens out more)

@@ -83,8 +83,8 @@ front-is limit p (b ∷ rest) = elim (cases_Bool (nat_lt 0 (begin_count (added l
 ]
 
 -- no character is open after a byte that begins an update
-open_character-begin : (limit : Option ℕ) (p : List ℕ) → EndsInBegin limit p → open_character p ≡ []
-open_character-begin limit p e = elim (opens_silently limit e.before e.byte) [
+open_character-begin : {limit : Option ℕ} {p : List ℕ} → EndsInBegin limit p → open_character p ≡ []
+open_character-begin {limit} e = elim (opens_silently limit e.before e.byte) [
   | inl none ↦ rw e.parsed_is none
   | inr silent ↦ absurd (elim silent [
     | inl nothing ↦ omega (arith, e.begins, ap begin_count nothing)
@@ -92,14 +92,14 @@ open_character-begin limit p e = elim (opens_silently limit e.before e.byte) [
   ])
 ]
 
-pub open_character-front : (limit : Option ℕ) (p r : List ℕ) (k : ℕ) → IsFront limit p r k → k < length r
+pub open_character-front : {limit : Option ℕ} {p r : List ℕ} {k : ℕ} → IsFront limit p r k → k < length r
     → open_character (p ++ take k r) ≡ []
-open_character-front limit p r k f more = open_character-begin limit (p ++ take k r) (f.ends (f.begins more))
+open_character-front f more = open_character-begin (f.ends (f.begins more))
 
 -- no character is broken after the front
 pub breaks_at-front : (limit : Option ℕ) (p r : List ℕ) (k : ℕ) → IsFront limit p r k → breaks_at p r k ≡ false
 breaks_at-front limit p r k f = elim (cases_lt k (length r)) [
-  | inl more ↦ breaks_at-settled p r k (open_character-front limit p r k f more)
+  | inl more ↦ breaks_at-settled p r k (open_character-front f more)
   | inr all ↦ breaks_at-all p r k all
 ]
 

@@ -120,13 +120,13 @@ module _ (text : List ℕ) (new position begin begins : ℕ) (l : position < len
 
 -- ---- many positions more
 
-seen-further : (text : List ℕ) (new n position begin begins : ℕ) → position + n ≤ length text
+seen-further : {text : List ℕ} {new : ℕ} (n : ℕ) {position begin begins : ℕ} → position + n ≤ length text
     → ((k : ℕ) → position ≤ k → k < position + n → IsNeither text k)
     → HasSeen text new (position + n) begin begins → HasSeen text new position begin begins
-seen-further text new zero position begin begins within neither seen = rw add-zero at seen
-seen-further text new (suc n) position begin begins within neither seen =
+seen-further zero within neither seen = rw add-zero at seen
+seen-further {text} {new} (suc n) {position} {begin} {begins} within neither seen =
     let e : position + suc n ≡ position + n + 1 = omega arith in
-    seen-further text new n position begin begins (omega arith) (λ k low high. neither k low (omega arith))
+    seen-further n (omega arith) (λ k low high. neither k low (omega arith))
     (seen_other text new (position + n) begin begins (omega arith) (rw e at seen)
     (neither (position + n) (omega arith) (omega arith)))
 
@@ -136,7 +136,7 @@ seen-down : (text : List ℕ) (new position unread begin begins : ℕ) → posit
     → HasSeen text new unread begin begins → HasSeen text new position begin begins
 seen-down text new position unread begin begins l within neither seen =
     let e : unread ≡ position + (unread - position) = omega arith in
-    seen-further text new (unread - position) position begin begins (omega arith) (λ k low high. neither k low (omega
+    seen-further (unread - position) (omega arith) (λ k low high. neither k low (omega
     arith))
     (rw e at seen)
 
@@ -151,21 +151,21 @@ pub record IsLastEscape (all : List ℕ) (new position unread begin begins : ℕ
 
 module _ {all : List ℕ} {new position unread begin begins : ℕ} (e : IsLastEscape all new position unread begin begins)
     (at : ℕ) (low : at ≤ position) (near : position ≤ at + 7) where
-  further : (first count : ℕ) → HasSeen all new position first count → HasSeen all new at first count
-  further first count seen =
+  further : {first count : ℕ} → HasSeen all new position first count → HasSeen all new at first count
+  further {first} {count} seen =
       let inside = e.inside in
       seen-down all new at position first count low (omega arith)
       (λ k low high. neither-before all k position high (omega arith) inside e.here) seen
 
   pub seen_begin_before : length all ≤ position + 7 + new → begins_with begin_update (drop position all) ≡ true
       → HasSeen all new at position (begins + 1)
-  seen_begin_before few b = further position (begins + 1) (seen_begin all new position begin begins e.inside e.seen few
+  seen_begin_before few b = further (seen_begin all new position begin begins e.inside e.seen few
       b)
 
   pub seen_other_before : begins_with begin_update (drop position all) ≡ false
       → begins_with end_update (drop position all) ≡ false → HasSeen all new at begin begins
   seen_other_before b other =
-      further begin begins
+      further
       (seen_other all new position begin begins e.inside e.seen (record { no_begin = b; no_end = other }))
 
 module _ {held more text : List ℕ} {start : ℕ} (e : IsHeldTail held more text start) where

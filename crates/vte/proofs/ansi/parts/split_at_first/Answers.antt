@@ -9,7 +9,7 @@ returns-in-Some-clause-parts c =
     let found =
     position_or_len_is (λ (b : ℕ). b == c.args.separator) text c.in-Some.position 0 (search rules) (search rules)
     (search rules) in
-    rw (take_rest text (c.in-Some.position + 1)) (first_part _ text c.in-Some.position found (search rules))
+    rw (take_rest text (c.in-Some.position + 1)) (first_part _ text found (search rules))
 
 pub returns-in-None-clause-parts : goal.returns-in-None-clause-parts
 returns-in-None-clause-parts c =

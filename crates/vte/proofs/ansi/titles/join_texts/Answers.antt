@@ -11,7 +11,7 @@ pub push_part-requires : goal.push_part-requires
 push_part-requires g c =
     let fits =
     joins-room c.args.keeps_all c.args.pieces.now c.loop-piece.piece-index _ c.loop-piece-test.true
-    c.loop-piece.invariant.joins c.in-Some.part.now c.in-Some.ensures in
+    c.loop-piece.invariant.joins c.in-Some.ensures in
     omega (arith, fits, c.loop-piece.invariant.same)
 
 pub loop-piece-preserved : goal.loop-piece-preserved
@@ -19,7 +19,7 @@ loop-piece-preserved g c = elim c.match-text_in.branch [
   | in-Some w ↦
       let more =
       joins-more c.args.keeps_all c.args.pieces.now c.loop-piece.piece-index _ c.loop-piece-test.true
-      c.loop-piece.invariant.joins w.in-Some.part.now w.in-Some.ensures in
+      c.loop-piece.invariant.joins w.in-Some.ensures in
       record {
         joins = rw (w.text-is, w.push_part.ensures.pushed, w.is_first-is) more;
         same = ap g.B.TextBuffer.room w.text-is ∙ w.push_part.ensures.same ∙ c.loop-piece.invariant.same;

@@ -29,7 +29,7 @@ pub returns-then-begins-clause-opened : goal.returns-then-begins-clause-opened
 returns-then-begins-clause-opened g c = λ s at.
     let o = (c.loop-slice.invariant.reaches s at).1 in
     let slice =
-    slice_size c.args.bytes.now c.loop-slice.read c.min-count.result c.loop-slice.invariant.within
+    slice_size c.args.bytes.now c.loop-slice.read c.loop-slice.invariant.within
     (omega (arith, c.min-count.ensures)) in
     let e = slice_parsed o c.if-not-reserve.ensures.reserved slice (sym at.stands.holds ∙ c.requires.none)
     c.parse_until_begin-parsed.ensures.stops in
@@ -55,7 +55,7 @@ pub loop-slice-preserved : goal.loop-slice-preserved
 loop-slice-preserved g c =
     let before = c.loop-slice.invariant in
     let slice =
-    slice_size c.args.bytes.now c.loop-slice.read c.min-count.result before.within
+    slice_size c.args.bytes.now c.loop-slice.read before.within
     (omega (arith, c.min-count.ensures)) in
     record {
       within = omega (arith, c.parse_until_begin-parsed.ensures.within, slice, c.min-count.ensures, before.within);

@@ -6,7 +6,7 @@ use Rattle.vte.proofs.ansi.laws.replays.replay.Goals as goal
 use Rattle.vte.proofs.ansi.laws.replays.replay.Goals.{in-Advance, in-StopSync}
 
 pub loop-step-init : goal.loop-step-init
-loop-step-init g c = λ s at. replayed _ s s [] refl at
+loop-step-init g c = λ s at. replayed _ s refl at
 
 pub loop-step-preserved : goal.loop-step-preserved
 loop-step-preserved g c = λ s at.
@@ -22,6 +22,6 @@ loop-step-preserved g c = λ s at.
 
 pub returns : goal.returns
 returns g c =
-    replays_all _ c.args.steps.now
+    replays_all _
     (λ s at.
     rw (take_all c.loop-step.step-index c.args.steps.now c.loop-step-test.false) at (c.loop-step.invariant s at))

@@ -6,7 +6,7 @@ use Rattle.vte.proofs.ansi.laws.replays.replay_long.Goals as goal
 use Rattle.vte.proofs.ansi.laws.replays.replay_long.Goals.{in-Advance+in_default, in-StopSync}
 
 pub loop-index-init : goal.loop-index-init
-loop-index-init g c = λ s at. replayed _ s s [] refl at
+loop-index-init g c = λ s at. replayed _ s refl at
 
 pub loop-index-preserved : goal.loop-index-preserved
 loop-index-preserved g c = λ s at.
@@ -33,5 +33,5 @@ returns-in-Err-clause-lacks g c =
 
 pub returns-clause-replays : goal.returns-clause-replays
 returns-clause-replays g c =
-    replays_all _ c.args.steps.now
+    replays_all _
     (λ s at. rw (take_all c.loop-index.index c.args.steps.now c.loop-index-test.false) at (c.loop-index.invariant s at))

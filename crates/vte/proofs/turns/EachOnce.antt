@@ -1,7 +1,7 @@
 -- Each given byte is parsed or held, once and in order. Each turn and stop keeps `Progresses`: parsed, held and left
 -- bytes together are those of before, and `Progresses` composes over the turns of a call and over calls.
 use Rattle.vte.proofs.Common.{◌≡◌, ℕ, ◌-◌, suc, inl, inr, Bool, Option, List, [], ◌∷◌, ◌++◌, length, take, drop, refl, ap, sym, ◌∙◌, append_assoc, arith}
-use Rattle.vte.proofs.Common.{take-append-drop, Step, Advance, StopSync, Meaning, TakesSteps, given_bytes, after_last_end, from_begin_update, State, TakesTurns, all_bytes, front_to_begin, extend, hold_turn, release}
+use Rattle.vte.proofs.Common.{take-append-drop, Step, Advance, StopSync, Meaning, TakesSteps, given_bytes, after_last_end, State, TakesTurns, all_bytes, front_to_begin, extend, hold_turn, release}
 use Rattle.vte.proofs.Common.{cases_Bool, nat_tests, append-nil, parse, stop, turn, done, turns}
 use Rattle.std.proofs.lemmas.List.{nil_from_length}
 use Rattle.vte.proofs.updates.Fronts.{front-is}

@@ -1,5 +1,5 @@
 -- A call that asks nothing goes on by data that are put, a stretch at a time: bytes that lead back to the same place.
-use Rattle.vte_core.proofs.Common.{◌≡◌, ℕ, zero, suc, ◌+◌, ◌-◌, ◌<◌, ◌≤◌, false, List, [], ◌∷◌, map, length, take, drop, refl, sym, subst, ◌∙◌, arith, false≢true, drop_more, slice_index, Machine, DeviceData, Put, InDeviceData, Advances, after, ArePut, IsDeviceData, ChunkCall}
+use Rattle.vte_core.proofs.Common.{◌≡◌, ℕ, zero, suc, ◌+◌, ◌-◌, ◌<◌, ◌≤◌, false, List, map, length, take, drop, refl, sym, subst, ◌∙◌, arith, false≢true, drop_more, slice_index, Machine, DeviceData, Put, Advances, after, ArePut, IsDeviceData, ChunkCall}
 use Rattle.vte_core.proofs.bytes.EachLemmas.{each-both, each-one}
 use Rattle.vte_core.proofs.bytes.ClassCases.{data_ends_nothing}
 use Rattle.vte_core.proofs.calls.Arms.{advances-in, takes-in_data, takes-byte}

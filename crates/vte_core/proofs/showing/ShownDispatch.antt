@@ -1,6 +1,6 @@
 -- Groups sent in a control sequence come back: its head leads byte by byte to its final byte, and the head is read as
 -- the groups that it shows (`ShownGroups`).
-use Rattle.vte_core.proofs.Common.{◌≡◌, ℕ, true, Option, List, [], ◌∷◌, ◌++◌, refl, ◌∙◌, append_assoc, append-nil, class_of, is_parameter_text, AreInClass, CsiDispatch, sequence_event, head_of, is_well_shaped, sequence_kind, AreParameters, DispatchesShown, shown, BytesLead, AtEscape, InControlSequence, InText, escape}
+use Rattle.vte_core.proofs.Common.{◌≡◌, ℕ, true, Option, List, [], ◌∷◌, ◌++◌, refl, ◌∙◌, append_assoc, append-nil, class_of, is_parameter_text, AreInClass, CsiDispatch, sequence_event, head_of, is_well_shaped, sequence_kind, AreParameters, DispatchesShown, shown, BytesLead, InControlSequence, InText}
 use Rattle.vte_core.proofs.bytes.ClassCases.{head_ends_nothing, parameter_is_head}
 use Rattle.vte_core.proofs.places.PlaceLeads.{control-dispatched, control-head, escape-key}
 use Rattle.vte_core.proofs.shapes.HeadLemmas.{held-parts, held-well_shaped}

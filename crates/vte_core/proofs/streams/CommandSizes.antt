@@ -1,5 +1,5 @@
 -- How much data a command has that bytes dispatch or leave open, without a limit.
-use Rattle.vte_core.proofs.Common.{ℕ, ◌+◌, ◌≤◌, Some, None, List, ◌++◌, length, refl, ap, arith, CountsData, open_data_count, ToClose, CommandToClose, left_at}
+use Rattle.vte_core.proofs.Common.{ℕ, ◌+◌, ◌≤◌, Some, None, List, length, refl, ap, arith, CountsData, open_data_count, ToClose, CommandToClose, left_at}
 use Rattle.vte_core.proofs.places.TextSteps.{FitsLeft}
 use Rattle.vte_core.proofs.streams.After.{added-reads, after-left, after-reads}
 use Rattle.vte_core.proofs.streams.StreamSteps.{arrives, leads_to, size_at}

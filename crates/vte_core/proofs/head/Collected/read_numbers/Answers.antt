@@ -1,7 +1,6 @@
 -- A digit makes the open number longer, a separator settles it and opens another: so the head is read byte by byte. At
 -- the end either no byte was read, and the part of the head is the old one, or it is that of parameters.
 use Rattle.vte_core.proofs.Common.{refl, sym, ◌∙◌, arith, rules}
-use Rattle.vte_core.specs.machine.Reading.{with_open_number}
 use Rattle.vte_core.proofs.calls.Heads.{part_after-more, part_after-none, reads_head-nothing, reads_head-parameter}
 use Rattle.vte_core.proofs.fields.NumberSteps.{counts-digit, counts-separator}
 use Rattle.vte_core.proofs.head.Collected.read_numbers.Goals.{else-loop-position-test, then-loop-position-test+in_default+else-several, in-Some, in_default+then-several+then-is_separator}

@@ -1,5 +1,5 @@
 -- A call is one more step of the list, by what it ensures; and so is a stop.
-use Rattle.vte.proofs.Common.{[], refl, take_all}
+use Rattle.vte.proofs.Common.{refl, take_all}
 use Rattle.vte.proofs.replays.PlainReplays.{replays_all}
 use Rattle.vte.proofs.replays.Replays.{advance_taken, replayed, stop_taken}
 use Rattle.vte.proofs.ansi.laws.replays.replay.Goals as goal

@@ -1,6 +1,6 @@
 -- By the key after ESC: `P`, `]`, that of an ignored string, or any other, which dispatches. The place after it is that
 -- shape with nothing read.
-use Rattle.vte_core.proofs.Common.{false, [], ◌∷◌, refl, ◌∙◌, arith, sequence_kind, EscDispatch, InText, InDeviceControl, InSystemCommand, InIgnoredString}
+use Rattle.vte_core.proofs.Common.{refl, ◌∙◌, arith, sequence_kind}
 use Rattle.vte_core.specs.SequenceKind.{DeviceControl, IgnoredString, SystemCommand}
 use Rattle.vte_core.proofs.bytes.ClassCases.{class-final}
 use Rattle.vte_core.proofs.calls.Arms.{takes-byte}

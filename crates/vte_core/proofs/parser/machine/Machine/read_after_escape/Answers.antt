@@ -1,6 +1,6 @@
 -- The byte after ESC by its class: a key, an intermediate, another byte that dispatches, a control, or one that is
 -- dropped. In each case the state is that of the place to which the byte leads.
-use Rattle.vte_core.proofs.Common.{false, [], ◌∷◌, refl, sym, ◌∙◌, arith, rules, class_of, EscDispatch, Execute, InText, AtEscape, InEscape}
+use Rattle.vte_core.proofs.Common.{[], refl, sym, ◌∙◌, arith, rules, class_of}
 use Rattle.vte_core.proofs.bytes.ClassCases.{class-control, final_ends_nothing, class-intermediate, left_dispatches, head_ends_nothing}
 use Rattle.vte_core.proofs.bytes.ClassLemmas.{below_final}
 use Rattle.vte_core.proofs.calls.Arms.{performs-in, takes-at_escape, takes-byte}

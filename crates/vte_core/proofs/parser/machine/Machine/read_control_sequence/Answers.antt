@@ -1,6 +1,6 @@
 -- The head first. Then nothing is left, or the next byte ends it: final, CAN, SUB or ESC, a control, or one that is
 -- dropped, by its class.
-use Rattle.vte_core.proofs.Common.{[], ◌∷◌, refl, sym, ◌∙◌, rules, class_of, Execute, InControlSequence}
+use Rattle.vte_core.proofs.Common.{refl, sym, ◌∙◌, rules, class_of}
 use Rattle.vte_core.proofs.bytes.ClassCases.{class-control, final_ends_nothing, left_is_dropped}
 use Rattle.vte_core.proofs.calls.Arms.{takes-byte}
 use Rattle.vte_core.proofs.calls.Heads.{ControlHead, advances-head, advances-past_head, performs-head}

@@ -1,5 +1,5 @@
 -- The head first. Then nothing is left, or the next byte hooks, ends the string, or is dropped, by its class.
-use Rattle.vte_core.proofs.Common.{[], refl, sym, ◌∙◌, rules, class_of, InDeviceControl}
+use Rattle.vte_core.proofs.Common.{refl, sym, ◌∙◌, rules, class_of}
 use Rattle.vte_core.proofs.bytes.ClassCases.{final_ends_nothing, left_in_head}
 use Rattle.vte_core.proofs.calls.Arms.{takes-byte}
 use Rattle.vte_core.proofs.calls.Heads.{DeviceHead, advances-head, advances-past_head, match-none, performs-head}

@@ -1,5 +1,5 @@
 -- A call that asks goes on by one data byte; one that does not takes all up to the next byte that is not put.
-use Rattle.vte_core.proofs.Common.{[], ◌∷◌, refl, sym, ◌∙◌, arith, rules, Put, InDeviceData}
+use Rattle.vte_core.proofs.Common.{refl, sym, ◌∙◌, arith, rules}
 use Rattle.vte_core.proofs.bytes.ClassCases.{data_ends_nothing}
 use Rattle.vte_core.proofs.calls.Arms.{advances-in, takes-in_data, takes-byte}
 use Rattle.vte_core.proofs.calls.Data.{advances-data, first-put}

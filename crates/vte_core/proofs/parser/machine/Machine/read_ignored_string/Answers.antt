@@ -1,5 +1,5 @@
 -- Bytes of an ignored string lead back to it, one by one (`advances-by`); then it ends, or the bytes do.
-use Rattle.vte_core.proofs.Common.{◌≡◌, ℕ, zero, suc, ◌+◌, ◌-◌, ◌≤◌, [], length, refl, arith, slice_index, Machine, IgnoredString, Advances, MayGoOn, AreIgnored, InIgnoredString, ChunkCall}
+use Rattle.vte_core.proofs.Common.{◌≡◌, ℕ, zero, suc, ◌+◌, ◌-◌, ◌≤◌, length, refl, arith, Machine, IgnoredString, Advances, MayGoOn, AreIgnored, ChunkCall}
 use Rattle.vte_core.proofs.bytes.ClassCases.{ends_not_cancel}
 use Rattle.vte_core.proofs.calls.Arms.{advances-in, takes-in_ignored, takes-byte}
 use Rattle.vte_core.proofs.calls.CallEnds.{settled-by}

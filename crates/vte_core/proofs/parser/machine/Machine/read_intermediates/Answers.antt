@@ -1,6 +1,6 @@
 -- The byte after intermediates by its class: another intermediate, a byte that dispatches, one that ends the sequence,
 -- a control, or one that is dropped. In each case the machine is at the place to which the byte leads.
-use Rattle.vte_core.proofs.Common.{[], ◌∷◌, ◌++◌, refl, sym, ◌∙◌, arith, rules, class_of, EscDispatch, Execute, first_two, are_too_many, InText, InEscape}
+use Rattle.vte_core.proofs.Common.{refl, sym, ◌∙◌, arith, rules, class_of}
 use Rattle.vte_core.proofs.bytes.ClassCases.{class-control, dispatch_ends_nothing, class-intermediate, left_of_intermediates}
 use Rattle.vte_core.proofs.calls.Arms.{advances-in, takes-in_escape, takes-byte}
 use Rattle.vte_core.proofs.calls.CallEnds.{settled-by}

@@ -1,5 +1,5 @@
 -- ST unhooks and leads to a text; any other byte that is no data and ends nothing is dropped.
-use Rattle.vte_core.proofs.Common.{[], ◌∷◌, refl, sym, ◌∙◌, Unhook, InText, InDeviceData}
+use Rattle.vte_core.proofs.Common.{refl, sym, ◌∙◌}
 use Rattle.vte_core.proofs.bytes.ClassCases.{ends_no_data, terminator_is_high}
 use Rattle.vte_core.proofs.calls.Arms.{advances-in, takes-in_data, takes-byte}
 use Rattle.vte_core.proofs.fields.PlaceOfState.{stands-by}

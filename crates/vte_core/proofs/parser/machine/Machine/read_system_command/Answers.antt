@@ -1,6 +1,6 @@
 -- Data join the open piece. The byte after them ends the command, or is `;`, BEL or a control: by its class, since data
 -- would have been read.
-use Rattle.vte_core.proofs.Common.{◌≡◌, ◌<◌, length, true, [], ◌∷◌, ◌++◌, refl, sym, subst, ◌∙◌, arith, ne_eqb, Machine, OscDispatch, InText, InSystemCommand, HoldsItems, IsCommandData, pieces_of}
+use Rattle.vte_core.proofs.Common.{◌≡◌, ◌<◌, length, [], ◌∷◌, ◌++◌, refl, sym, subst, ◌∙◌, arith, ne_eqb, Machine, HoldsItems, IsCommandData}
 use Rattle.vte_core.proofs.bytes.ClassCases.{left_is_control}
 use Rattle.vte_core.proofs.calls.Arms.{advances-in, takes-in_system_command, takes-byte}
 use Rattle.vte_core.proofs.fields.PlaceOfState.{keeps-same, stands-by}

@@ -33,7 +33,7 @@ pub use Rattle.vte_core.specs.declared.parser.refused.Refused.{Refused}
 pub use Rattle.vte_handler.specs.Call.{Call, Input, ResetColor}
 pub use Rattle.vte_handler.specs.Handler.{after}
 pub use Rattle.vte_handler.specs.Timeout.{AllowsOnly, IsSteady, TimeoutMeaning, timeout_meaning}
-pub use Rattle.vte.specs.Processor.{EndsInBegin, HoldsWellAt, IsInsideUpdate, IsOutsideUpdate, Meaning, TakesSteps, State, TakesAllTurns, TakesTurns, all_bytes, front_to_begin, given_bytes, AreInOrder, added_calls, calls_between, calls_with_stops, done, extend, hold_turn, kind_of, turn_of, OpenTurn, ExpiredTurn, HoldTurn, release, meaning_of, most_held, open_turn, parse, set_times, stop, turn, turns, update_nanos, with_held}
+pub use Rattle.vte.specs.Processor.{EndsInBegin, HoldsWellAt, IsInsideUpdate, IsOutsideUpdate, Meaning, TakesSteps, State, TakesAllTurns, TakesTurns, all_bytes, front_to_begin, given_bytes, AreInOrder, added_calls, calls_between, calls_with_stops, done, extend, hold_turn, kind_of, OpenTurn, ExpiredTurn, release, meaning_of, most_held, open_turn, parse, set_times, stop, turn, turns, update_nanos, with_held}
 pub use Rattle.vte.specs.Refusal.{OpenTurnIsRefused, HasTaken, TakesTurnsUntilRefused, TurnIsRefused, between_turns, inside_turn}
 pub use Rattle.vte.specs.BeginUpdate.{begin_count, begins_in_event, is_update_group, update_group_count}
 pub use Rattle.vte.specs.Calls.{calls_after, calls, calls_from, calls_of, last_printed_after, last_printed, last_printed_from}

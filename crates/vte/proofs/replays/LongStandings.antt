@@ -2,7 +2,7 @@
 -- that was there for all its bytes: room for the held and the given bytes at the start leaves room for what is left,
 -- turn by turn.
 use Rattle.vte.proofs.Common.{◌≡◌, ℕ, ◌+◌, ◌-◌, ◌<◌, List, ◌++◌, length, Result, Ok, Err, refl, ap, arith, length-append, Refused, counts_data}
-use Rattle.vte.proofs.Common.{AdvancesLong, Bor, Meaning, IsAt, HasMemory, HasParsedAndHoldsLong, HasTaken, Reserves, StopsSyncLong, EngineLacksMemory, EngineReads, EngineReserves, EngineStandsAt, EngineStops, State, Bool, stop, drop, length-drop, unlimited}
+use Rattle.vte.proofs.Common.{AdvancesLong, Bor, Meaning, IsAt, HasMemory, HasParsedAndHoldsLong, HasTaken, Reserves, StopsSyncLong, EngineLacksMemory, EngineReads, EngineReserves, EngineStandsAt, EngineStops, State, Bool, stop, drop, length-drop, unlimited, rules}
 use Rattle.vte.proofs.turns.EngineTurns.{taken-to}
 use Rattle.vte.proofs.replays.Standings.{reads_in_turns}
 use Rattle.vte.specs.declared.ansi.long_processor.LongProcessor.{LongProcessor}
@@ -12,23 +12,11 @@ module _ {T A W : Type 0} {timeout_of : T → W} {processor : LongProcessor T A}
     {timeout : W} where
   stands-engine : HasParsedAndHoldsLong timeout_of processor parsed held timeout
       → EngineStandsAt (unlimited timeout_of) processor.engine parsed held timeout
-  stands-engine s = record {
-    has_read = s.has_read;
-    last = s.last;
-    timeout_is = s.timeout_is;
-    holds = s.holds;
-    has_memory = s.has_memory;
-  }
+  stands-engine s = search rules
 
   stands-processor : EngineStandsAt (unlimited timeout_of) processor.engine parsed held timeout
       → HasParsedAndHoldsLong timeout_of processor parsed held timeout
-  stands-processor s = record {
-    has_read = s.has_read;
-    last = s.last;
-    timeout_is = s.timeout_is;
-    holds = s.holds;
-    has_memory = s.has_memory;
-  }
+  stands-processor s = search rules
 
 module _ {T A V W : Type 0} {timeout_of : T → W} {processor : LongProcessor T A} {value : V} (s : State V W) where
   is_at-engine : IsAt (HasParsedAndHoldsLong timeout_of processor) value s
@@ -100,7 +88,7 @@ advances_long bytes (Ok all) r = record {
 advances_long bytes (Err refused) r = record {
   takes = λ s at. taken-to is_at-processor (r.takes s (is_at-engine s at));
   within = r.within;
-  lacks = record { more = r.lacks.more; within = r.lacks.within; few = r.lacks.few; lacks = r.lacks.lacks };
+  lacks = search rules;
   memory = λ s at. r.memory s (is_at-engine s at);
   all = tt;
   enough = λ s at room.

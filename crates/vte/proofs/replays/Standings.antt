@@ -1,7 +1,7 @@
 -- A processor with a limit stands where its engine does: there is always memory. So it does what the engine ensures.
 use Rattle.vte.proofs.Common.{◌≤◌, ℕ, List, length, Result, Ok, Err, arith, Bor, Refused, EngineMeaning, Meaning, State, usual_limit}
 use Rattle.vte.proofs.Common.{HasAdvanced, HasParsedAndHolds, HasTaken, IsAt, ReadsInTurns, EngineReads, StandingPredicate, EngineStandsAt}
-use Rattle.vte.proofs.Common.{◌≡◌, refl, limited_meaning, engine_meaning}
+use Rattle.vte.proofs.Common.{◌≡◌, refl, rules, limited_meaning, engine_meaning}
 use Rattle.vte_core.specs.declared.parser.Parser.{Parser}
 use Rattle.vte.proofs.replays.PlainReplays.{plain_call}
 use Rattle.vte.proofs.turns.EngineTurns.{has_advanced, taken-to}
@@ -28,12 +28,7 @@ module _ {T A V W : Type 0} {timeout_of : T → W} {processor : Processor T A} {
   is_at-processor : IsAt (EngineStandsAt (limited timeout_of) processor.engine) value s
       → IsAt (HasParsedAndHolds timeout_of processor) value s
   is_at-processor at = record {
-    stands = record {
-      has_read = at.stands.has_read;
-      last = at.stands.last;
-      timeout_is = at.stands.timeout_is;
-      holds = at.stands.holds;
-    };
+    stands = search rules;
     handler_is = at.handler_is;
   }
 

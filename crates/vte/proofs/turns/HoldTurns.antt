@@ -52,6 +52,10 @@ module _ {P B T A V W : Type 0} {parts : EngineMeaning P B T W} (m : Meaning V W
   abbrev set : Engine P B T A
   set = record old { hold = hold; state = record old.state { timeout = timeout } }
 
+  -- there is memory to parse so many more bytes
+  abbrev HasRoom : List ℕ → ℕ → Type 0
+  HasRoom = parts.reading.has_memory old.parser (parts.room_of old.state.text)
+
   extended : ArePartsAt parts set.parser set.state value (extend m s more)
   extended = record {
     has_read = at.stands.has_read;
@@ -64,7 +68,7 @@ module _ {P B T A V W : Type 0} {parts : EngineMeaning P B T W} (m : Meaning V W
   pub turned_cut : {last : Engine P B T A} {next : V} → 0 < length (held_of hold)
       → ((t : State V W) (n : ℕ) → ArePartsAt parts set.parser set.state value t
       → (0 < length (released_of hold)
-      → parts.reading.has_memory set.parser (parts.room_of set.state.text) t.parsed (length (released_of hold) + n))
+      → HasRoom t.parsed (length (released_of hold) + n))
       → ArePartsAtKeeping parts set.parser set.state last.parser last.state next (parse m t (released_of hold)))
       → ((t : State V W) (n : ℕ) → ArePartsAtWithMemory parts set.parser set.state value t
       (length (released_of hold) + n)
@@ -82,7 +86,7 @@ module _ {P B T A V W : Type 0} {parts : EngineMeaning P B T W} (m : Meaning V W
             (stays_held all).suffix,
         length-append s.held more,
       )) in
-      let ready : parts.reading.has_memory set.parser (parts.room_of set.state.text) s.parsed
+      let ready : HasRoom s.parsed
       (length (released_of hold) + rest)
       =
       rw sum room in
@@ -111,7 +115,7 @@ module _ {P B T A V W : Type 0} {parts : EngineMeaning P B T W} (m : Meaning V W
   pub turned_stop : {last : Engine P B T A} {next : V} → 0 < length more → length (held_of hold) ≡ 0
       → ((t : State V W) (n : ℕ) → ArePartsAt parts set.parser set.state value t → released_of hold ≡ t.held
       → held_of hold ≡ []
-      → (0 < length t.held → parts.reading.has_memory set.parser (parts.room_of set.state.text) t.parsed
+      → (0 < length t.held → HasRoom t.parsed
       (length t.held + n))
       → EngineIsAtKeeping parts set last next (stop m t))
       → EngineIsAtKeeping parts old last next (hold_turn m s more)

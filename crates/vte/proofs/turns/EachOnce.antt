@@ -68,8 +68,8 @@ module _ {V W : Type 0} (m : Meaning V W) where
       → Progresses s (stop_if_due m pending s) bytes bytes
   stop_if_due_grows pending {s} =
       elim (cases_Bool (is_stopped pending s)) [
-        | inl stopped ↦ rw stopped (stop_grows)
-        | inr none ↦ rw none (progresses-nothing)
+        | inl stopped ↦ rw stopped stop_grows
+        | inr none ↦ rw none progresses-nothing
       ]
 
   pub parse_grows : {s : State V W} (front : List ℕ) {left bytes : List ℕ} → s.held ≡ [] → front ++ left ≡ bytes
@@ -117,8 +117,8 @@ module _ {V W : Type 0} (m : Meaning V W) where
 
   pub replay_grows : (s t : State V W) (steps : List Step) → TakesSteps m s steps t
       → Progresses s t (given_bytes steps) []
-  replay_grows s t [] e = rw e (progresses-nothing)
+  replay_grows s t [] e = rw e progresses-nothing
   replay_grows s t (Advance bytes ∷ steps) (next, (a, r)) =
       grows_on (grows_before (turns_grow a) (given_bytes steps)) (replay_grows next t steps r)
   replay_grows s t (StopSync ∷ steps) r =
-      grows_on (stop_grows) (replay_grows (stop m s) t steps r)
+      grows_on stop_grows (replay_grows (stop m s) t steps r)

@@ -2,7 +2,7 @@
 -- and `HasHalted`, and the loop over turns into `TakesTurns` and `TakesTurnsUntilRefused`.
 use Rattle.vte.proofs.Common.{◌≡◌, ℕ, ◌+◌, ◌-◌, ◌<◌, ◌≤◌, Bool, true, List, [], ◌++◌, length, take, drop, refl, ap, sym, ◌∙◌, arith, length-drop}
 use Rattle.vte.proofs.Common.{append_assoc, Result, Ok, Err, append_cancel_right, drop_all, drop-drop, take_all, take-append-drop, Refused, PerformerState, Engine, Meaning}
-use Rattle.vte.proofs.Common.{held_of, false, MatchResult, EndsTurn, inside_turn}
+use Rattle.vte.proofs.Common.{held_of, rules, false, MatchResult, EndsTurn, inside_turn}
 use Rattle.vte.proofs.Common.{HasAdvanced, EngineIsAt, HasTaken, EngineMeaning, KeepsMemory, EngineHasMemory, EngineReads, EngineStops, EngineIsAtKeeping, EndsOpen, HasHalted, HasParsedFront, HasParsedWithoutBegin, ArePartsAt, ArePartsAtKeeping}
 use Rattle.vte.proofs.Common.{ArePartsAtWithMemory, HasTurned, State, TakesTurnsUntilRefused, TakesTurns, all_bytes, turn, hold_turn, parse, stop, between_turns, done, EngineLacksMemory, EngineReserves}
 use Rattle.vte.proofs.turns.EachOnce.{grown_bytes}
@@ -13,12 +13,7 @@ use Rattle.vte.proofs.turns.Slices.{until_refused-all, open-halts, takes-one, un
 module _ {P B T A V W : Type 0} {parts : EngineMeaning P B T W} {engine : Engine P B T A} {value : V} {s : State V W}
   where
     pub parts-at : EngineIsAt parts engine value s → ArePartsAt parts engine.parser engine.state value s
-    parts-at at = record {
-      has_read = at.stands.has_read;
-      last = at.stands.last;
-      timeout_is = at.stands.timeout_is;
-      handler_is = at.handler_is;
-    }
+    parts-at at = search rules
 
     -- if they hold nothing
     pub at-parts : ArePartsAt parts engine.parser engine.state value s → held_of engine.hold ≡ s.held → s.held ≡ []

@@ -78,7 +78,7 @@ module _ {V B : Type 0} {call : ChunkCall V} {old mid : V} {stream : List ℕ} w
             (breaks-unfinished (bytes_of u) b more)
             (reads-byte
             (carried_is_no_escape (bytes_of u) b opened (inr more))
-            (text-unfinished)) refl (may_continue-truncated (bytes_of u ++ b ∷ []) more)
+            text-unfinished) refl (may_continue-truncated (bytes_of u ++ b ∷ []) more)
             (subst (ProgressInside call old mid stream i) t.same s.has_come);
       }
 

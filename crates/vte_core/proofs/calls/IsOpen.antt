@@ -84,5 +84,5 @@ pub is_finished-settled : {limit : Option ℕ} {stream : List ℕ} → IsAfter l
     → IsFinished limit stream
 is_finished-settled {limit} {stream} a more =
     added-after more a
-    ∙ sym (after-events more (after-nothing)
+    ∙ sym (after-events more after-nothing
     ∙ ap (λ es. es ++ events_from limit (InText []) more) (events-empty limit))

@@ -97,7 +97,7 @@ module _ {V : Type 0} {call : ChunkCall V} {old : V} {stream : List ℕ} where
             ∙ ap (after call.step old) (sym (told-broken call.limit stream call.bytes i here));
         is_after =
             subst (λ s. IsAfter call.limit s (InText [])) (sym (resumed_stream-broken stream call.bytes i here))
-            (after-nothing);
+            after-nothing;
         earlier = c.earlier;
       }
 
@@ -210,7 +210,7 @@ module _ {V : Type 0} {call : ChunkCall V} {old : V} {stream : List ℕ} where
         subst (λ s. IsAfter call.limit s (InSystemCommand items)) (resumed_stream-broken stream call.bytes i broken)
         c.is_after in
         let none =
-        sym (after-left (after-nothing) refl)
+        sym (after-left after-nothing refl)
         ∙ after-left a tt in
         let f : ⊥ = cc in absurd f
     | inr whole ↦ come-back whole c

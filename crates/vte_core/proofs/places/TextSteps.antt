@@ -16,11 +16,11 @@ abbrev pub IsLittle : Place → List Event → Type 0
 IsLittle next told = (told ≡ []) ⊎ ((open_at next ≡ []) × IsAtMostOneShort told)
 
 abbrev pub IsText : Place → Type 0
-IsText (InText u) = Unit {0}
+IsText (InText begun) = Unit {0}
 IsText _ = ⊥
 
 pub text_at : (place : Place) → (open_at place ≡ [] → ⊥) → IsText place
-text_at (InText u) some = tt
+text_at (InText begun) some = tt
 text_at _ some = absurd (some refl)
 
 -- the pieces of the open command, if any, fit into a buffer of this size
@@ -28,15 +28,15 @@ abbrev pub FitsLeft : Option ℕ → ToClose → Type 0
 FitsLeft size (CommandToClose pieces dropped) = FitsStore size pieces
 FitsLeft size _ = Unit {0}
 
-pub text_left : (limit : Option ℕ) (u : List ℕ) → open_data_count (left_at limit (InText u)) ≡ 0
+pub text_left : (limit : Option ℕ) (begun : List ℕ) → open_data_count (left_at limit (InText begun)) ≡ 0
 text_left limit [] = refl
-text_left limit (a ∷ u) = refl
+text_left limit (a ∷ begun) = refl
 
 -- outside of a text, and of data that are put
 abbrev pub IsQuietAt : Place → ℕ → Type 0
-IsQuietAt (InText u) b = ⊥
-IsQuietAt InDeviceData b = is_device_data (class_of b) ≡ false
-IsQuietAt _ b = Unit {0}
+IsQuietAt (InText begun) byte = ⊥
+IsQuietAt InDeviceData byte = is_device_data (class_of byte) ≡ false
+IsQuietAt _ byte = Unit {0}
 
 abbrev pub AreQuietEvents : List Event → Type 0
 AreQuietEvents [] = Unit {0}
@@ -44,87 +44,91 @@ AreQuietEvents (event ∷ []) = IsOutsideRuns event
 AreQuietEvents (event ∷ events) = IsOutsideRuns event × AreQuietEvents events
 
 -- what the byte tells after the place, and where it leads
-pub record Steps (limit : Option ℕ) (place : Place) (b : ℕ) : Type 0 where
+pub record Steps (limit : Option ℕ) (place : Place) (byte : ℕ) : Type 0 where
   pub told : List Event
   pub next : Place
   pub is_place : IsPlace next
   -- for `after-reads`
-  pub reads : BytesLead limit place (b ∷ []) told next
+  pub reads : BytesLead limit place (byte ∷ []) told next
   -- for `laws::bytes_are_brief`
   pub brief : (size : Option ℕ) → FitsLeft size (left_at limit place) → AreFromOneByte size told
   -- for the size of a command without a limit
   pub grows : limit ≡ None → open_data_count (left_at limit next) ≤ open_data_count (left_at limit place) + 1
   -- for early stops: nothing is told where a character is left open
   pub leaves : LeavesOpen next told
-  pub little : IsText place → breaks (open_at place) (b ∷ []) ≡ false → IsLittle next told
+  pub little : IsText place → breaks (open_at place) (byte ∷ []) ≡ false → IsLittle next told
   -- for `advance_to_run`
-  pub outside_runs : IsQuietAt place b → AreQuietEvents told
+  pub outside_runs : IsQuietAt place byte → AreQuietEvents told
 
 little-is_short : (next : Place) (told : List Event) → IsLittle next told → IsAtMostOneShort told
 little-is_short next told little =
     elim little [ inl nothing ↦ subst IsAtMostOneShort (sym nothing) tt | inr closed ↦ closed.1 ]
 
-step-little : {limit : Option ℕ} {u v : List ℕ} {b : ℕ} {told : List Event} → IsLittle (InText v) told
-    → eqb b escape ≡ false → Leads limit (InText u) b told (InText v)
-    → IsPlace (InText v) → Steps limit (InText u) b
-step-little {limit} {u} {v} {b} {told} little e leads is = record {
+step-little : {limit : Option ℕ} {begun later : List ℕ} {byte : ℕ} {told : List Event} → IsLittle (InText later) told
+    → eqb byte escape ≡ false → Leads limit (InText begun) byte told (InText later)
+    → IsPlace (InText later) → Steps limit (InText begun) byte
+step-little {limit} {begun} {later} {byte} {told} little other leads is = record {
   told = told;
-  next = InText v;
+  next = InText later;
   is_place = is;
-  reads = reads-byte e leads;
-  brief = λ size _. tiny_brief size told (little-is_short (InText v) told little);
-  grows = λ _. omega (arith, text_left limit v);
+  reads = reads-byte other leads;
+  brief = λ size _. tiny_brief size told (little-is_short (InText later) told little);
+  grows = λ _. omega (arith, text_left limit later);
   leaves = elim little [ inl nothing ↦ inr (inl nothing) | inr closed ↦ inl closed.0 ];
   little = λ _ _. little;
   outside_runs = λ outside. absurd outside;
 }
 
 -- the byte ends the character, or belongs to it, or neither
-step-by_tests : {limit : Option ℕ} {u : List ℕ} {b : ℕ} → eqb b escape ≡ false
-    → (is_well_formed (u ++ b ∷ []) ≡ false → is_truncated (u ++ b ∷ []) ≡ false → Steps limit (InText u) b)
-    → Steps limit (InText u) b
-step-by_tests {u} {b} e neither = elim (cases_Bool (is_well_formed (u ++ b ∷ []))) [
-  | inl whole ↦ step-little (inr (refl, short-character (u ++ b ∷ []) whole)) e (text-whole whole) refl
-  | inr part ↦ elim (cases_Bool (is_truncated (u ++ b ∷ []))) [
-    | inl still ↦ step-little (inl refl) e (text-unfinished) (may_continue-truncated (u ++ b ∷ []) still)
+step-by_tests : {limit : Option ℕ} {begun : List ℕ} {byte : ℕ} → eqb byte escape ≡ false
+    → (is_well_formed (begun ++ byte ∷ []) ≡ false → is_truncated (begun ++ byte ∷ []) ≡ false
+    → Steps limit (InText begun) byte)
+    → Steps limit (InText begun) byte
+step-by_tests {begun} {byte} other neither = elim (cases_Bool (is_well_formed (begun ++ byte ∷ []))) [
+  | inl whole ↦ step-little (inr (refl, short-character (begun ++ byte ∷ []) whole)) other (text-whole whole) refl
+  | inr part ↦ elim (cases_Bool (is_truncated (begun ++ byte ∷ []))) [
+    | inl still ↦ step-little (inl refl) other text-unfinished (may_continue-truncated (begun ++ byte ∷ []) still)
     | inr none ↦ neither part none
   ]
 ]
 
-step-settled : {limit : Option ℕ} {b : ℕ} → eqb b escape ≡ false → Steps limit (InText []) b
-step-settled {b} e =
-    step-by_tests e
-    (λ part none. step-little (inr (refl, short-malformed b)) e (text-lone part none) refl)
+step-settled : {limit : Option ℕ} {byte : ℕ} → eqb byte escape ≡ false → Steps limit (InText []) byte
+step-settled {byte} other =
+    step-by_tests other
+    (λ part none. step-little (inr (refl, short-malformed byte)) other (text-lone part none) refl)
 
 -- the byte belongs to no character with those before it
-step-broken : (limit : Option ℕ) (u : List ℕ) (b : ℕ) → eqb b escape ≡ false → is_truncated u ≡ true
-    → is_well_formed (u ++ b ∷ []) ≡ false → is_truncated (u ++ b ∷ []) ≡ false → Steps limit (InText u) b
-step-broken limit u b e more part none =
-    let s : Steps limit (InText []) b = step-settled e in
-    let little : IsLittle s.next s.told = s.little tt refl in
+step-broken : (limit : Option ℕ) (begun : List ℕ) (byte : ℕ) → eqb byte escape ≡ false → is_truncated begun ≡ true
+    → is_well_formed (begun ++ byte ∷ []) ≡ false → is_truncated (begun ++ byte ∷ []) ≡ false
+    → Steps limit (InText begun) byte
+step-broken limit begun byte other more part none =
+    let alone : Steps limit (InText []) byte = step-settled other in
+    let little : IsLittle alone.next alone.told = alone.little tt refl in
     record {
-      told = Print replacement ∷ s.told;
-      next = s.next;
-      is_place = s.is_place;
+      told = Print replacement ∷ alone.told;
+      next = alone.next;
+      is_place = alone.is_place;
       reads = record {
         reads = λ rest.
-            waits-byte limit (InText u) (InText []) b (Print replacement ∷ []) rest e (text_broken u b more part none)
-            ∙ ap (tell (Print replacement ∷ [])) (s.reads.reads rest);
+            waits-byte limit (InText begun) (InText []) byte (Print replacement ∷ []) rest other
+            (text_broken begun byte more part none)
+            ∙ ap (tell (Print replacement ∷ [])) (alone.reads.reads rest);
       };
       brief =
-          λ size _. tiny-both size (Print replacement ∷ []) s.told (refl, refl) (little-is_short s.next s.told little);
-      grows = λ none. omega (arith, s.grows none);
+          λ size _. tiny-both size (Print replacement ∷ []) alone.told (refl, refl)
+          (little-is_short alone.next alone.told little);
+      grows = λ none. omega (arith, alone.grows none);
       leaves =
           elim little [
-            | inl nothing ↦ inr (inr (ap (λ es. Print replacement ∷ es) nothing))
+            | inl nothing ↦ inr (inr (ap (λ events. Print replacement ∷ events) nothing))
             | inr closed ↦ inl closed.0
           ];
-      little = λ _ unbroken. absurd (false≢true (sym unbroken ∙ breaks-broken u b more part none));
+      little = λ _ unbroken. absurd (false≢true (sym unbroken ∙ breaks-broken begun byte more part none));
       outside_runs = λ outside. absurd outside;
     }
 
-pub step-text : (limit : Option ℕ) (u : List ℕ) (b : ℕ) → eqb b escape ≡ false → may_continue u ≡ true
-    → Steps limit (InText u) b
-step-text limit [] b e begun = step-settled e
-step-text limit (a ∷ u) b e more =
-    step-by_tests e (λ part none. step-broken limit (a ∷ u) b e more part none)
+pub step-text : (limit : Option ℕ) (begun : List ℕ) (byte : ℕ) → eqb byte escape ≡ false → may_continue begun ≡ true
+    → Steps limit (InText begun) byte
+step-text limit [] byte other begun = step-settled other
+step-text limit (a ∷ begun) byte other more =
+    step-by_tests other (λ part none. step-broken limit (a ∷ begun) byte other more part none)

@@ -10,7 +10,7 @@ use Rattle.vte_core.proofs.streams.StreamSteps.{told_by_stream}
 
 reads-head : (limit : Option ℕ) (head bytes : List ℕ) → AreInClass is_parameter_text bytes
     → BytesLead limit (InControlSequence head) bytes [] (InControlSequence (head ++ bytes))
-reads-head limit head [] are = rw append-nil (reads-nothing)
+reads-head limit head [] are = rw append-nil reads-nothing
 reads-head limit head (b ∷ bytes) are =
     let is = parameter_is_head (class_of b) are.0 in
     let one =

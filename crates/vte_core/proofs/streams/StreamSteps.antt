@@ -72,7 +72,7 @@ pub told_by_stream : (limit : Option ℕ) (next : Place) (stream : List ℕ) (to
     → BytesLead limit (InText []) stream told next → events limit stream ≡ told
 told_by_stream limit next stream told is r =
     ap (λ es. drop (length es) (events limit stream)) (sym (events-empty limit))
-    ∙ added-reads limit [] stream (InText []) next told (after-nothing) r is
+    ∙ added-reads limit [] stream (InText []) next told after-nothing r is
 
 -- each stream leads to a place
 pub record LeadsTo (limit : Option ℕ) (stream : List ℕ) : Type 0 where
@@ -88,7 +88,7 @@ leads_to {limit} {stream} =
     record {
       place = a.next;
       is_place = a.is_place;
-      is_after = after-reads (after-nothing) a.reads a.is_place;
+      is_after = after-reads after-nothing a.reads a.is_place;
       bounded = rw (told_by_stream limit a.next stream a.told a.is_place a.reads) a.bounded;
     }
 
@@ -173,4 +173,4 @@ opens_silently limit stream b =
 -- ---- what all bytes tell
 
 pub events_are_bounded : (limit : Option ℕ) (stream : List ℕ) → All (IsBounded limit) (events limit stream)
-events_are_bounded limit stream = (leads_to).bounded
+events_are_bounded limit stream = leads_to.bounded

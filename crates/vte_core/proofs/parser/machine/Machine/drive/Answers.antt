@@ -1,6 +1,5 @@
 -- Stretches add up: what leads from a position to the next leads from the start. The call ends at a stop, with all
--- bytes,
--- or where memory is refused.
+-- bytes, or where memory is refused.
 use Rattle.vte_core.proofs.Common.{Err, ap, sym, ◌∙◌, arith, rules, err_from_is_err_and}
 use Rattle.vte_core.proofs.calls.States.{may_stop-some}
 use Rattle.vte_core.proofs.calls.CallEnds.{ends-at_stop, ends-with_all}

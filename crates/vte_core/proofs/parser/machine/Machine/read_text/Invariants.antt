@@ -16,7 +16,8 @@ pub record StandsInText {B : Type 0} (g : goal.Over) (bytes : List ℕ) (old val
   pub may_go_on : MayGoOn (call_at g bytes) value
   pub settled : position < length bytes → parser.state ≡ Text Nothing
 
--- what it has cost: `front` is what was searched of the bytes, and `start` is how often bytes were looked at before
+-- what it has cost: `front` is what was searched of the bytes, and `start` is how often bytes were looked at before.
+-- Here as in all answers, `search rules` adds the looks of the callees, which the contract of each bounds.
 pub record SpendsInText {B : Type 0} (g : goal.Over) (bytes front : List ℕ) (from position : ℕ)
     (before parser : Machine B) (start looks : ℕ) : Type 0 where
   pub low : from ≤ position

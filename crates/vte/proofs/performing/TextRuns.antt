@@ -5,6 +5,7 @@ use Rattle.vte.proofs.Common.{drop-append_seam, take-append_seam, nat_tests, app
 use Rattle.vte.proofs.Common.{Call, TimeoutMeaning, PerformerValue, with_event, option_or}
 use Rattle.std.proofs.Math.Utf8.{encode}
 use Rattle.std.proofs.lemmas.Str.{IsUtf8-drop, IsUtf8-take, chars-append, chars-nil, chars_past_char}
+use Rattle.std.proofs.lemmas.List.{nil_from_length}
 use Rattle.std.specs.Str.Iter.{chars_rest, chars_steps_back}
 use Rattle.vte_core.specs.Perform.{after as performed}
 
@@ -47,15 +48,11 @@ chars_before_last front c is =
     chars-append front (encode c) before
     ∙ rw (chars_past_char (encode c) [] c last (sym (append-nil (encode c))), chars-nil)
 
-chars-none : (text : List ℕ) → length text ≡ 0 → chars text ≡ []
-chars-none [] none = chars-nil
-chars-none (b ∷ text) none = absurd (omega arith)
-
 -- What comes off the end of a text is its last character, and nothing comes off an empty one.
 pub last_of_text : (text : List ℕ) (s t : _) (taken last : Option ℕ) → IsUtf8 text → chars_rest s ≡ text
     → chars_steps_back s taken t
     → option_or taken last ≡ last_printed_from last (map Print (chars text))
-last_of_text text s t None last is same none = rw (chars-none text (ap length (sym same) ∙ none.0))
+last_of_text text s t None last is same none = rw (nil_from_length text (ap length (sym same) ∙ none.0), chars-nil)
 last_of_text text s t (Some c) last is same some =
     let cut : text ≡ chars_rest t ++ encode c = sym same ∙ some in
     rw (cut, chars_before_last (chars_rest t) c (rw cut at is)) (sym (last_printed-added last (chars (chars_rest t)) c))

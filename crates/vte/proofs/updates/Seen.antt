@@ -131,10 +131,10 @@ seen-further {text} {new} (suc n) {position} {begin} {begins} within neither see
     (neither (position + n) (omega arith) (omega arith)))
 
 -- if no sequence begins in between
-seen-down : (text : List ℕ) (new position unread begin begins : ℕ) → position ≤ unread → unread ≤ length text
+seen-down : {text : List ℕ} {new position unread begin begins : ℕ} → position ≤ unread → unread ≤ length text
     → ((k : ℕ) → position ≤ k → k < unread → IsNeither text k)
     → HasSeen text new unread begin begins → HasSeen text new position begin begins
-seen-down text new position unread begin begins l within neither seen =
+seen-down {position} {unread} l within neither seen =
     let e : unread ≡ position + (unread - position) = omega arith in
     seen-further (unread - position) (omega arith) (λ k low high. neither k low (omega
     arith))
@@ -154,7 +154,7 @@ module _ {all : List ℕ} {new position unread begin begins : ℕ} (e : IsLastEs
   further : {first count : ℕ} → HasSeen all new position first count → HasSeen all new at first count
   further {first} {count} seen =
       let inside = e.inside in
-      seen-down all new at position first count low (omega arith)
+      seen-down low (omega arith)
       (λ k low high. neither-before all k position high (omega arith) inside e.here) seen
 
   pub seen_begin_before : length all ≤ position + 7 + new → begins_with begin_update (drop position all) ≡ true
@@ -198,23 +198,22 @@ module _ {held more text : List ℕ} {start : ℕ} (e : IsHeldTail held more tex
       → HasSeen all (length more) (start + unread) (start + length text) 0
   seen_nothing unread is =
       let none = drop_all (length all) all (omega arith) in
-      seen-down all (length more) (start + unread) (length all) (start + length text) 0
-      (omega (arith, whole_size)) (omega arith)
+      seen-down {unread = length all} (omega (arith, whole_size)) (omega arith)
       (λ k low high. neither-short all k (omega (arith, whole_size)))
       (record { no_end = rw none; begin_is = rw none (omega (arith, whole_size)); begins_are = rw none })
 
-  pub last_escape : (position unread begin begins : ℕ) → unread ≤ length text
+  pub last_escape : (position unread : ℕ) {begin begins : ℕ} → unread ≤ length text
       → NoneAfter (Passes (is_byte 0x1b) (take unread text)) 0 (length (take unread text)) position
       → Passes (is_byte 0x1b) (take unread text) position → HasSeen all (length more) (start + unread) begin begins
       → IsLastEscape all (length more) (start + position) (start + unread) begin begins
-  last_escape position unread begin begins within last escape seen =
+  last_escape position unread within last escape seen =
       let earlier : position < unread = omega (arith, length-take-le unread text within, last.high) in
       record {
         earlier = omega arith;
         inside = omega (arith, whole_size);
         here = rw (byte_at unread position earlier) at escape;
         seen =
-            seen-down all (length more) (start + position + 1) (start + unread) begin begins (omega arith)
+            seen-down (omega arith)
             (omega (arith, whole_size))
             (neither_between (position + 1) _ unread (omega arith) within last.after) seen;
       }
@@ -226,7 +225,7 @@ module _ {held more text : List ℕ} {start : ℕ} (e : IsHeldTail held more tex
       → Adds all (length more) (record { begins = begins; released = 0 })
   seen_all unread begin begins none within nowhere seen =
       let rest =
-      seen-down all (length more) start (start + unread) begin begins (omega arith) (omega (arith, whole_size))
+      seen-down (omega arith) (omega (arith, whole_size))
       (neither_between 0 start unread (omega arith) within nowhere) seen in
       let tail : drop start all ≡ drop (length held - 7) all = rw e.start_is in
       let no_end : after_last_end all ≡ None = cc (tail, after_last_end-tail held more none, rest.no_end) in

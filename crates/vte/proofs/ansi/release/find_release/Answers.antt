@@ -24,7 +24,7 @@ loop-position-preserved-then-begins_update c =
       few = omega (arith, before.few);
       seen = λ held more e.
           let at =
-          last_escape e c.in-Some.position _ _ _ within c.in-Some.ensures.0 c.in-Some.ensures.1
+          last_escape e c.in-Some.position _ within c.in-Some.ensures.0 c.in-Some.ensures.1
           (before.seen held more e) in
           let from = e.start_is in
           seen_begin_before at _ (omega arith) (omega arith) (omega (arith, length-append held more))
@@ -43,7 +43,7 @@ loop-position-preserved c =
       few = omega (arith, before.few);
       seen = λ held more e.
           let at =
-          last_escape e c.in-Some.position _ _ _ within c.in-Some.ensures.0 c.in-Some.ensures.1
+          last_escape e c.in-Some.position _ within c.in-Some.ensures.0 c.in-Some.ensures.1
           (before.seen held more e) in
           seen_other_before at _ (omega arith) (omega arith)
           (rw (sequence_at e) at (sym c.begins_update.ensures.value ∙ c.if-begins_update.false))
@@ -55,7 +55,7 @@ pub returns-then-ends_update : goal.returns-then-ends_update
 returns-then-ends_update c = λ held more e none.
     let before = c.loop-position.invariant in
     let at =
-    last_escape e c.in-Some.position _ _ _ (omega (arith, before.few)) c.in-Some.ensures.0 c.in-Some.ensures.1
+    last_escape e c.in-Some.position _ (omega (arith, before.few)) c.in-Some.ensures.0 c.in-Some.ensures.1
     (before.seen held more e) in
     seen_end _ _ _ _ _ at.inside at.seen
     (rw (sequence_at e) at (sym c.ends_update.ensures.value ∙ c.if-ends_update.true))

@@ -76,7 +76,7 @@ pub record HasSeen (text : List ℕ) (new unread begin begins : ℕ) : Type 0 wh
 
 -- ---- one position more
 
-module _ (text : List ℕ) (new position begin begins : ℕ) (l : position < length text)
+module _ {text : List ℕ} {new position begin begins : ℕ} (l : position < length text)
     (seen : HasSeen text new (position + 1) begin begins) where
   seen_other : IsNeither text position → HasSeen text new position begin begins
   seen_other n = let d = drop_more text position 0 l in
@@ -127,8 +127,7 @@ seen-further zero within neither seen = rw add-zero at seen
 seen-further {text} {new} (suc n) {position} {begin} {begins} within neither seen =
     let e : position + suc n ≡ position + n + 1 = omega arith in
     seen-further n (omega arith) (λ k low high. neither k low (omega arith))
-    (seen_other text new (position + n) begin begins (omega arith) (rw e at seen)
-    (neither (position + n) (omega arith) (omega arith)))
+    (seen_other (omega arith) (rw e at seen) (neither (position + n) (omega arith) (omega arith)))
 
 -- if no sequence begins in between
 seen-down : {text : List ℕ} {new position unread begin begins : ℕ} → position ≤ unread → unread ≤ length text
@@ -136,9 +135,7 @@ seen-down : {text : List ℕ} {new position unread begin begins : ℕ} → posit
     → HasSeen text new unread begin begins → HasSeen text new position begin begins
 seen-down {position} {unread} l within neither seen =
     let e : unread ≡ position + (unread - position) = omega arith in
-    seen-further (unread - position) (omega arith) (λ k low high. neither k low (omega
-    arith))
-    (rw e at seen)
+    seen-further (unread - position) (omega arith) (λ k low high. neither k low (omega arith)) (rw e at seen)
 
 -- ---- the end of a hold
 
@@ -159,14 +156,11 @@ module _ {all : List ℕ} {new position unread begin begins : ℕ} (e : IsLastEs
 
   pub seen_begin_before : length all ≤ position + 7 + new → begins_with begin_update (drop position all) ≡ true
       → HasSeen all new at position (begins + 1)
-  seen_begin_before few b = further (seen_begin all new position begin begins e.inside e.seen few
-      b)
+  seen_begin_before few b = further (seen_begin e.inside e.seen few b)
 
   pub seen_other_before : begins_with begin_update (drop position all) ≡ false
       → begins_with end_update (drop position all) ≡ false → HasSeen all new at begin begins
-  seen_other_before b other =
-      further
-      (seen_other all new position begin begins e.inside e.seen (record { no_begin = b; no_end = other }))
+  seen_other_before b other = further (seen_other e.inside e.seen (record { no_begin = b; no_end = other }))
 
 module _ {held more text : List ℕ} {start : ℕ} (e : IsHeldTail held more text start) where
   abbrev all : List ℕ

@@ -57,7 +57,7 @@ returns-then-ends_update c = λ held more e none.
     let at =
     last_escape e c.in-Some.position _ (omega (arith, before.few)) c.in-Some.ensures.0 c.in-Some.ensures.1
     (before.seen held more e) in
-    seen_end _ _ _ _ _ at.inside at.seen
+    seen_end at.inside at.seen
     (rw (sequence_at e) at (sym c.ends_update.ensures.value ∙ c.if-ends_update.true))
 
 -- No ESC is left, so no end either.

@@ -78,16 +78,16 @@ pub record HasSeen (text : List ℕ) (new unread begin begins : ℕ) : Type 0 wh
 
 module _ {text : List ℕ} {new position begin begins : ℕ} (l : position < length text)
     (seen : HasSeen text new (position + 1) begin begins) where
-  seen_other : IsNeither text position → HasSeen text new position begin begins
-  seen_other n = let d = drop_more text position 0 l in
+  seen-other : IsNeither text position → HasSeen text new position begin begins
+  seen-other n = let d = drop_more text position 0 l in
       let no_begin = not_some _ (rw d at n.no_begin) in
       let no_end = not_some _ (rw d at n.no_end) in
       grind (arith, d)
 
   -- with at most seven older bytes from there on, it ends among the new ones
-  seen_begin : length text ≤ position + 7 + new → begins_with begin_update (drop position text) ≡ true
+  seen-begin : length text ≤ position + 7 + new → begins_with begin_update (drop position text) ≡ true
       → HasSeen text new position position (begins + 1)
-  seen_begin few e =
+  seen-begin few e =
       let d = drop_more text position 0 l in
       let long = begins_with-length begin_update (drop position text) e in
       let near : nat_lt (length (drop 7 (drop (position + 1) text))) new ≡ true =
@@ -100,9 +100,9 @@ module _ {text : List ℕ} {new position begin begins : ℕ} (l : position < len
         begins_are = rw (d, after_word-whole begin_update _ here, near) (omega (arith, seen.begins_are));
       }
 
-  pub seen_end : begins_with end_update (drop position text) ≡ true
+  pub seen-end : begins_with end_update (drop position text) ≡ true
       → Adds text new (record { begins = begins; released = begin })
-  seen_end e =
+  seen-end e =
       let d = drop_more text position 0 l in
       let here = rw d at e in
       let skipped = from_begin-end_skipped new (get_or text position 0) (drop (position + 1) text) here in
@@ -127,7 +127,7 @@ seen-further zero within neither seen = rw add-zero at seen
 seen-further {text} {new} (suc n) {position} {begin} {begins} within neither seen =
     let e : position + suc n ≡ position + n + 1 = omega arith in
     seen-further n (omega arith) (λ k low high. neither k low (omega arith))
-    (seen_other (omega arith) (rw e at seen) (neither (position + n) (omega arith) (omega arith)))
+    (seen-other (omega arith) (rw e at seen) (neither (position + n) (omega arith) (omega arith)))
 
 -- if no sequence begins in between
 seen-down : {text : List ℕ} {new position unread begin begins : ℕ} → position ≤ unread → unread ≤ length text
@@ -154,13 +154,13 @@ module _ {all : List ℕ} {new position unread begin begins : ℕ} (e : IsLastEs
       seen-down low (omega arith)
       (λ k low high. neither-before all k position high (omega arith) inside e.here) seen
 
-  pub seen_begin_before : length all ≤ position + 7 + new → begins_with begin_update (drop position all) ≡ true
+  pub seen-begin_before : length all ≤ position + 7 + new → begins_with begin_update (drop position all) ≡ true
       → HasSeen all new at position (begins + 1)
-  seen_begin_before few b = further (seen_begin e.inside e.seen few b)
+  seen-begin_before few b = further (seen-begin e.inside e.seen few b)
 
-  pub seen_other_before : begins_with begin_update (drop position all) ≡ false
+  pub seen-other_before : begins_with begin_update (drop position all) ≡ false
       → begins_with end_update (drop position all) ≡ false → HasSeen all new at begin begins
-  seen_other_before b other = further (seen_other e.inside e.seen (record { no_begin = b; no_end = other }))
+  seen-other_before b other = further (seen-other e.inside e.seen (record { no_begin = b; no_end = other }))
 
 module _ {held more text : List ℕ} {start : ℕ} (e : IsHeldTail held more text start) where
   abbrev all : List ℕ
@@ -188,9 +188,9 @@ module _ {held more text : List ℕ} {start : ℕ} (e : IsHeldTail held more tex
       (grind (arith, nowhere i (omega arith) (rw length-take-le (omega arith))))
 
   -- there is no room for a sequence in the last seven bytes
-  pub seen_nothing : (unread : ℕ) → unread ≡ length text - 7
+  pub seen-nothing : (unread : ℕ) → unread ≡ length text - 7
       → HasSeen all (length more) (start + unread) (start + length text) 0
-  seen_nothing unread is =
+  seen-nothing unread is =
       let none = drop_all (length all) all (omega arith) in
       seen-down {unread = length all} (omega (arith, whole_size)) (omega arith)
       (λ k low high. neither-short all k (omega (arith, whole_size)))
@@ -213,11 +213,11 @@ module _ {held more text : List ℕ} {start : ℕ} (e : IsHeldTail held more tex
       }
 
   -- if no ESC is left, there is no end-update, as there is none in the older bytes
-  pub seen_all : (unread begin begins : ℕ) → after_last_end held ≡ None → unread ≤ length text
+  pub seen-all : (unread begin begins : ℕ) → after_last_end held ≡ None → unread ≤ length text
       → Nowhere (Passes (is_byte 0x1b) (take unread text)) 0 (length (take unread text))
       → HasSeen all (length more) (start + unread) begin begins
       → Adds all (length more) (record { begins = begins; released = 0 })
-  seen_all unread begin begins none within nowhere seen =
+  seen-all unread begin begins none within nowhere seen =
       let rest =
       seen-down (omega arith) (omega (arith, whole_size))
       (neither_between 0 start unread (omega arith) within nowhere) seen in

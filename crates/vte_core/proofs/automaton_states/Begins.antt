@@ -1,7 +1,7 @@
 -- What a first byte begins: nothing, or a character with these ranges to come, as the rows of UTF-8 say.
 use Rattle.vte_core.proofs.Common.{List, [], arith, inl, inr, refl, subst, sym, true, ℕ, ◌∙◌, ◌∷◌, ◌≡◌, ◌≢◌, ◌≤◌, and_parts, cases_Bool, cases_eq, cases_lt, false≢true, nat_tests, Range, is_in, from_to, rows_after_byte, utf8_rows, second_range, IsPrintedAscii, IsUtf8Run, is_layout}
 use Rattle.vte_core.proofs.bytes.EachLemmas.{each-one}
-use Rattle.vte_core.proofs.bytes.FirstBytes.{fits, tests_row, tests_two}
+use Rattle.vte_core.proofs.bytes.FirstBytes.{fits, tests-row, tests-two}
 use Rattle.vte_core.proofs.bytes.Scalars.{in_range-bounds}
 use Rattle.vte_core.proofs.bytes.Printable.{run-ascii, run-layout}
 use Rattle.vte_core.proofs.dividing.PrintableCharacters.{printable}
@@ -16,7 +16,7 @@ EndsCharacter b ranges = (u : List ℕ) → fits ranges u ≡ true → IsUtf8Run
 ends-row : (b : ℕ) {ranges : List Range} → 0xc3 ≤ b → rows_after_byte b utf8_rows ≡ ranges ∷ [] → EndsCharacter b ranges
 ends-row b {ranges} low same u fit =
     printable (omega (arith, low)) (λ e. absurd (omega (arith, e, low)))
-    ((tests_row b ranges same u).is_whole ∙ fit)
+    ((tests-row b ranges same u).is_whole ∙ fit)
 
 -- ---- the first bytes
 
@@ -39,7 +39,7 @@ ends-after_c2 [] fit = absurd (false≢true fit)
 ends-after_c2 (c ∷ u) fit =
     let parts = and_parts (is_in (from_to 0xa0 0xbf) c) (fits [] u) fit in
     printable (omega arith) (λ _. (in_range-bounds (from_to 0xa0 0xbf) c parts.0).0)
-    ((tests_two 0xc2 (omega arith) (omega arith) (c ∷ u)).is_whole ∙ rw parts.1 (grind (arith, nat_tests)))
+    ((tests-two 0xc2 (omega arith) (omega arith) (c ∷ u)).is_whole ∙ rw parts.1 (grind (arith, nat_tests)))
 
 pub begins : (b : ℕ) → Begins b
 unfolding utf8_rows

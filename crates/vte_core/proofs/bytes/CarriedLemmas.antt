@@ -3,7 +3,7 @@
 use Rattle.vte_core.proofs.Common.{◌≡◌, ℕ, ◌+◌, ◌*◌, ◌%◌, ◌<◌, ◌≤◌, true, false, List, [], ◌∷◌, ◌++◌, refl, sym, ap, subst, ◌∙◌, arith, inl, inr, IsScalar, InScalarRange, and_from, cases_lt, nat_tests, Two, Three, from_to, is_in, is_well_formed, is_truncated, scalar_of, utf8_rows, second_range, Carries}
 use Rattle.vte_core.specs.declared.utf8.Carried.{Carried}
 use Rattle.vte_core.specs.declared.utf8.Carried.TheVariants.{Unfinished, Whole, Broken}
-use Rattle.vte_core.proofs.bytes.FirstBytes.{second_plain, continuation, rows_lone, rows_none, Tests, tests_none, tests_two, tests_three, tests_four, truncated_first, truncated_two, truncated_three}
+use Rattle.vte_core.proofs.bytes.FirstBytes.{second_plain, continuation, rows-lone, rows-none, Tests, tests-none, tests-two, tests-three, tests-four, truncated-first, truncated-two, truncated-three}
 use Rattle.vte_core.proofs.bytes.Scalars.{second_byte, continuation-bounds, scalar_of-in_range, well_formed_is_scalar}
 
 -- ---- nothing
@@ -15,8 +15,8 @@ first_truncated b low high = grind (arith, nat_tests)
 -- a byte that begins no sequence and is none
 pub begins_none : (b : ℕ) → 0x80 ≤ b → is_in (from_to 0xc2 0xf4) b ≡ false → Tests (b ∷ []) false false
 begins_none b high no_lead = elim (cases_lt b 0xc2) [
-  | inl below ↦ tests_none b (rows_lone b high below) []
-  | inr from_c2 ↦ tests_none b (rows_none b (grind (arith, nat_tests))) []
+  | inl below ↦ tests-none b (rows-lone b high below) []
+  | inr from_c2 ↦ tests-none b (rows-none b (grind (arith, nat_tests))) []
 ]
 
 -- ---- a character made of its bytes
@@ -26,38 +26,38 @@ pub record Spells (p : List ℕ) (number : ℕ) : Type 0 where
   pub is_whole : is_well_formed p ≡ true
   pub same : number ≡ scalar_of p
 
-pub spells_two : {a b : ℕ} → 0xc2 ≤ a → a < 0xe0 → is_in continuation b ≡ true
+pub spells-two : {a b : ℕ} → 0xc2 ≤ a → a < 0xe0 → is_in continuation b ≡ true
     → Spells (a ∷ b ∷ []) (a % 32 * 0x40 + b % 64)
-spells_two {a} {b} low high second =
+spells-two {a} {b} low high second =
     let bounds = continuation-bounds b second in
     let plain : second_range a ≡ continuation =
     second_plain a (omega arith) (omega arith) (omega arith) (omega arith) in
     record {
       is_whole =
-          (tests_two a low high (b ∷ [])).is_whole ∙ and_from _ _ (ap (λ range. is_in range b) plain ∙ second) refl;
+          (tests-two a low high (b ∷ [])).is_whole ∙ and_from _ _ (ap (λ range. is_in range b) plain ∙ second) refl;
       same = omega arith;
     }
 
-pub spells_three : {a b c : ℕ} → 0xe0 ≤ a → a < 0xf0 → is_in (second_range a) b ≡ true → is_in continuation c ≡ true
+pub spells-three : {a b c : ℕ} → 0xe0 ≤ a → a < 0xf0 → is_in (second_range a) b ≡ true → is_in continuation c ≡ true
     → Spells (a ∷ b ∷ c ∷ []) ((a % 16 * 0x40 + b % 64) * 0x40 + c % 64)
-spells_three {a} {b} {c} low high second third =
+spells-three {a} {b} {c} low high second third =
     let bytes = second_byte second in
     let third_bounds = continuation-bounds c third in
     record {
-      is_whole = (tests_three a low high (b ∷ c ∷ [])).is_whole ∙ and_from _ _ second (and_from _ _ third refl);
+      is_whole = (tests-three a low high (b ∷ c ∷ [])).is_whole ∙ and_from _ _ second (and_from _ _ third refl);
       same = omega arith;
     }
 
-pub spells_four : {a b c d : ℕ} → 0xf0 ≤ a → a < 0xf5 → is_in (second_range a) b ≡ true → is_in continuation c ≡ true
+pub spells-four : {a b c d : ℕ} → 0xf0 ≤ a → a < 0xf5 → is_in (second_range a) b ≡ true → is_in continuation c ≡ true
     → is_in continuation d ≡ true
     → Spells (a ∷ b ∷ c ∷ d ∷ []) (((a % 8 * 0x40 + b % 64) * 0x40 + c % 64) * 0x40 + d % 64)
-spells_four {a} {b} {c} {d} low high second third fourth =
+spells-four {a} {b} {c} {d} low high second third fourth =
     let bytes = second_byte second in
     let third_bounds = continuation-bounds c third in
     let fourth_bounds = continuation-bounds d fourth in
     record {
       is_whole =
-          (tests_four a low high (b ∷ c ∷ d ∷ [])).is_whole
+          (tests-four a low high (b ∷ c ∷ d ∷ [])).is_whole
           ∙ and_from _ _ second (and_from _ _ third (and_from _ _ fourth refl));
       same = omega arith;
     }
@@ -79,65 +79,65 @@ whole_by u b r spells makes =
 
 -- ---- one byte
 
-pub second_broken : (a b : ℕ) → is_truncated (a ∷ []) ≡ true → is_in (second_range a) b ≡ false
+pub second-broken : (a b : ℕ) → is_truncated (a ∷ []) ≡ true → is_in (second_range a) b ≡ false
     → Carries (a ∷ []) b Broken
 unfolding is_well_formed is_truncated utf8_rows second_range
-second_broken a b more misfits = (grind (arith, nat_tests), grind (arith, nat_tests))
+second-broken a b more misfits = (grind (arith, nat_tests), grind (arith, nat_tests))
 
 -- a byte that may stand after no first byte
-pub second_lone : (a b : ℕ) → is_in continuation b ≡ false → is_in (second_range a) b ≡ false
+pub second-lone : (a b : ℕ) → is_in continuation b ≡ false → is_in (second_range a) b ≡ false
 unfolding second_range
-second_lone a b misfits = grind (arith, nat_tests)
+second-lone a b misfits = grind (arith, nat_tests)
 
-pub second_whole : (a b number : ℕ) (r : Carried) → is_truncated (a ∷ []) ≡ true
+pub second-whole : (a b number : ℕ) (r : Carried) → is_truncated (a ∷ []) ≡ true
     → is_in (second_range a) b ≡ true → a < 0xe0
     → number ≡ a % 32 * 0x40 + b % 64 → (InScalarRange number → r ≡ Whole number) → Carries (a ∷ []) b r
-second_whole a b number r more second below same makes =
-    let low : 0xc2 ≤ a = (truncated_first a [] more).0 in
+second-whole a b number r more second below same makes =
+    let low : 0xc2 ≤ a = (truncated-first a [] more).0 in
     let plain : second_range a ≡ continuation =
     second_plain a (omega arith) (omega arith) (omega arith) (omega arith) in
     whole_by (a ∷ []) b r
-    (spells-same (spells_two low below (ap (λ range. is_in range b) (sym plain) ∙ second)) same) makes
+    (spells-same (spells-two low below (ap (λ range. is_in range b) (sym plain) ∙ second)) same) makes
 
-pub second_open : (a b : ℕ) → is_truncated (a ∷ []) ≡ true → is_in (second_range a) b ≡ true → 0xe0 ≤ a
+pub second-open : (a b : ℕ) → is_truncated (a ∷ []) ≡ true → is_in (second_range a) b ≡ true → 0xe0 ≤ a
     → Carries (a ∷ []) b (Unfinished (Two a b))
 unfolding is_truncated utf8_rows second_range
-second_open a b more second low = (refl, grind (arith, nat_tests))
+second-open a b more second low = (refl, grind (arith, nat_tests))
 
 -- ---- two bytes
 
-pub third_broken : (a b c : ℕ) → is_truncated (a ∷ b ∷ []) ≡ true → is_in continuation c ≡ false
+pub third-broken : (a b c : ℕ) → is_truncated (a ∷ b ∷ []) ≡ true → is_in continuation c ≡ false
     → Carries (a ∷ b ∷ []) c Broken
 unfolding is_well_formed is_truncated utf8_rows
-third_broken a b c more misfits = (grind (arith, nat_tests), grind (arith, nat_tests))
+third-broken a b c more misfits = (grind (arith, nat_tests), grind (arith, nat_tests))
 
-pub third_whole : (a b c number : ℕ) (r : Carried) → is_truncated (a ∷ b ∷ []) ≡ true
+pub third-whole : (a b c number : ℕ) (r : Carried) → is_truncated (a ∷ b ∷ []) ≡ true
     → is_in continuation c ≡ true → a < 0xf0
     → number ≡ (a % 16 * 0x40 + b % 64) * 0x40 + c % 64 → (InScalarRange number → r ≡ Whole number)
     → Carries (a ∷ b ∷ []) c r
-third_whole a b c number r more third below same makes =
-    let open_two = truncated_two a b more in
+third-whole a b c number r more third below same makes =
+    let open_two = truncated-two a b more in
     whole_by (a ∷ b ∷ []) c r
-    (spells-same (spells_three open_two.low below open_two.second third) same) makes
+    (spells-same (spells-three open_two.low below open_two.second third) same) makes
 
-pub third_open : (a b c : ℕ) → is_truncated (a ∷ b ∷ []) ≡ true → is_in continuation c ≡ true → 0xf0 ≤ a
+pub third-open : (a b c : ℕ) → is_truncated (a ∷ b ∷ []) ≡ true → is_in continuation c ≡ true → 0xf0 ≤ a
     → Carries (a ∷ b ∷ []) c (Unfinished (Three a b c))
 unfolding is_truncated utf8_rows
-third_open a b c more third low = (refl, grind (arith, nat_tests))
+third-open a b c more third low = (refl, grind (arith, nat_tests))
 
 -- ---- three bytes
 
-pub fourth_broken : (a b c d : ℕ) → is_truncated (a ∷ b ∷ c ∷ []) ≡ true → is_in continuation d ≡ false
+pub fourth-broken : (a b c d : ℕ) → is_truncated (a ∷ b ∷ c ∷ []) ≡ true → is_in continuation d ≡ false
     → Carries (a ∷ b ∷ c ∷ []) d Broken
 unfolding is_well_formed is_truncated utf8_rows
-fourth_broken a b c d more misfits = (grind (arith, nat_tests), grind (arith, nat_tests))
+fourth-broken a b c d more misfits = (grind (arith, nat_tests), grind (arith, nat_tests))
 
-pub fourth_whole : (a b c d number : ℕ) (r : Carried) → is_truncated (a ∷ b ∷ c ∷ []) ≡ true
+pub fourth-whole : (a b c d number : ℕ) (r : Carried) → is_truncated (a ∷ b ∷ c ∷ []) ≡ true
     → is_in continuation d ≡ true
     → number ≡ ((a % 8 * 0x40 + b % 64) * 0x40 + c % 64) * 0x40 + d % 64 → (InScalarRange number → r ≡ Whole number)
     → Carries (a ∷ b ∷ c ∷ []) d r
-fourth_whole a b c d number r more fourth same makes =
-    let open_three = truncated_three a b c more in
+fourth-whole a b c d number r more fourth same makes =
+    let open_three = truncated-three a b c more in
     whole_by (a ∷ b ∷ c ∷ []) d r
     (spells-same
-    (spells_four open_three.low open_three.high open_three.second open_three.third fourth) same) makes
+    (spells-four open_three.low open_three.high open_three.second open_three.third fourth) same) makes

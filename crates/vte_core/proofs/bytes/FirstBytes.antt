@@ -1,6 +1,6 @@
 -- What the rows of UTF-8 say of a first byte, and of short sequences, in numbers: by the nine rows, which ascend.
 use Rattle.vte_core.proofs.Common.{◌≡◌, ℕ, ◌<◌, ◌≤◌, Bool, true, false, ◌&&◌, List, [], ◌∷◌, ◌++◌, refl, sym, ap, ◌∙◌, arith, ◌≢◌, inl, inr, false≢true, length, and_right, cases_lt, cases_Bool, nat_tests, Range, from_to, is_in, utf8_rows, rows_after_byte, rows_after_bytes, is_well_formed, is_truncated, second_range}
-use Rattle.vte_core.proofs.bytes.Utf8Lemmas.{rows_after_bytes_none, some_whole, some_open}
+use Rattle.vte_core.proofs.bytes.Utf8Lemmas.{rows_after_bytes-none, some_whole, some_open}
 
 -- ---- what the rows want after a first byte
 
@@ -12,13 +12,13 @@ second_plain a e0 ed f0 f4 = grind (arith, nat_tests)
 abbrev pub continuation : Range
 continuation = from_to 0x80 0xbf
 
-pub rows_lone : (a : ℕ) → 0x80 ≤ a → a < 0xc2 → rows_after_byte a utf8_rows ≡ []
+pub rows-lone : (a : ℕ) → 0x80 ≤ a → a < 0xc2 → rows_after_byte a utf8_rows ≡ []
 unfolding utf8_rows
-rows_lone a low high = grind (arith, nat_tests)
+rows-lone a low high = grind (arith, nat_tests)
 
-pub rows_none : (a : ℕ) → 0xf5 ≤ a → rows_after_byte a utf8_rows ≡ []
+pub rows-none : (a : ℕ) → 0xf5 ≤ a → rows_after_byte a utf8_rows ≡ []
 unfolding utf8_rows
-rows_none a low = grind (arith, nat_tests)
+rows-none a low = grind (arith, nat_tests)
 
 -- ---- the kinds of first bytes
 
@@ -34,14 +34,14 @@ first_byte a =
     elim (cases_lt a 0x80) [
       | inl below ↦ ascii below
       | inr from_80 ↦ elim (cases_lt a 0xc2) [
-        | inl below ↦ lone (rows_lone a from_80 below)
+        | inl below ↦ lone (rows-lone a from_80 below)
         | inr from_c2 ↦ elim (cases_lt a 0xe0) [
           | inl below ↦ of_two from_c2 below
           | inr from_e0 ↦ elim (cases_lt a 0xf0) [
             | inl below ↦ of_three from_e0 below
             | inr from_f0 ↦ elim (cases_lt a 0xf5) [
               | inl below ↦ of_four from_f0 below
-              | inr from_f5 ↦ lone (rows_none a from_f5)
+              | inr from_f5 ↦ lone (rows-none a from_f5)
             ]
           ]
         ]
@@ -65,22 +65,22 @@ fits_front (range ∷ ranges) (b ∷ bytes) = is_in range b && fits_front ranges
 
 some_whole-row : (ranges : List Range) (u : List ℕ) → some_whole (rows_after_bytes u (ranges ∷ [])) ≡ fits ranges u
 some_whole-row [] [] = refl
-some_whole-row [] (b ∷ u) = ap some_whole (rows_after_bytes_none u)
+some_whole-row [] (b ∷ u) = ap some_whole (rows_after_bytes-none u)
 some_whole-row (range ∷ ranges) [] = refl
 some_whole-row (range ∷ ranges) (b ∷ u) =
     elim (cases_Bool (is_in range b)) [
       | inl e ↦ rw e (some_whole-row ranges u)
-      | inr e ↦ rw e (ap some_whole (rows_after_bytes_none u))
+      | inr e ↦ rw e (ap some_whole (rows_after_bytes-none u))
     ]
 
 some_open-row : (ranges : List Range) (u : List ℕ) → some_open (rows_after_bytes u (ranges ∷ [])) ≡ fits_front ranges u
 some_open-row [] [] = refl
-some_open-row [] (b ∷ u) = ap some_open (rows_after_bytes_none u)
+some_open-row [] (b ∷ u) = ap some_open (rows_after_bytes-none u)
 some_open-row (range ∷ ranges) [] = refl
 some_open-row (range ∷ ranges) (b ∷ u) =
     elim (cases_Bool (is_in range b)) [
       | inl e ↦ rw e (some_open-row ranges u)
-      | inr e ↦ rw e (ap some_open (rows_after_bytes_none u))
+      | inr e ↦ rw e (ap some_open (rows_after_bytes-none u))
     ]
 
 -- what the two tests say of bytes
@@ -88,51 +88,51 @@ pub record Tests (bytes : List ℕ) (whole more : Bool) : Type 0 where
   pub is_whole : is_well_formed bytes ≡ whole
   pub is_open : is_truncated bytes ≡ more
 
-pub tests_row : (a : ℕ) (ranges : List Range) → rows_after_byte a utf8_rows ≡ ranges ∷ [] → (u : List ℕ)
+pub tests-row : (a : ℕ) (ranges : List Range) → rows_after_byte a utf8_rows ≡ ranges ∷ [] → (u : List ℕ)
     → Tests (a ∷ u) (fits ranges u) (fits_front ranges u)
 unfolding is_well_formed is_truncated
-tests_row a ranges same u = record {
+tests-row a ranges same u = record {
   is_whole = ap (λ (rows : List (List Range)). some_whole (rows_after_bytes u rows)) same ∙ some_whole-row ranges u;
   is_open = ap (λ (rows : List (List Range)). some_open (rows_after_bytes u rows)) same ∙ some_open-row ranges u;
 }
 
-pub tests_none : (a : ℕ) → rows_after_byte a utf8_rows ≡ [] → (u : List ℕ) → Tests (a ∷ u) false false
+pub tests-none : (a : ℕ) → rows_after_byte a utf8_rows ≡ [] → (u : List ℕ) → Tests (a ∷ u) false false
 unfolding is_well_formed is_truncated
-tests_none a none u = record {
+tests-none a none u = record {
   is_whole =
       ap (λ (rows : List (List Range)). some_whole (rows_after_bytes u rows)) none
-      ∙ ap some_whole (rows_after_bytes_none u);
+      ∙ ap some_whole (rows_after_bytes-none u);
   is_open =
       ap (λ (rows : List (List Range)). some_open (rows_after_bytes u rows)) none
-      ∙ ap some_open (rows_after_bytes_none u);
+      ∙ ap some_open (rows_after_bytes-none u);
 }
 
-pub tests_ascii : (a : ℕ) → a < 0x80 → (u : List ℕ) → Tests (a ∷ u) (fits [] u) false
+pub tests-ascii : (a : ℕ) → a < 0x80 → (u : List ℕ) → Tests (a ∷ u) (fits [] u) false
 unfolding utf8_rows
-tests_ascii a high u = tests_row a [] (grind (arith, nat_tests)) u
+tests-ascii a high u = tests-row a [] (grind (arith, nat_tests)) u
 
-pub tests_two : (a : ℕ) → 0xc2 ≤ a → a < 0xe0 → (u : List ℕ)
+pub tests-two : (a : ℕ) → 0xc2 ≤ a → a < 0xe0 → (u : List ℕ)
     → Tests (a ∷ u) (fits (second_range a ∷ []) u) (fits_front (second_range a ∷ []) u)
 unfolding utf8_rows second_range
-tests_two a low high u = tests_row a (second_range a ∷ []) (grind (arith, nat_tests)) u
+tests-two a low high u = tests-row a (second_range a ∷ []) (grind (arith, nat_tests)) u
 
-pub tests_three : (a : ℕ) → 0xe0 ≤ a → a < 0xf0 → (u : List ℕ)
+pub tests-three : (a : ℕ) → 0xe0 ≤ a → a < 0xf0 → (u : List ℕ)
     → Tests (a ∷ u) (fits (second_range a ∷ continuation ∷ []) u) (fits_front (second_range a ∷ continuation ∷ []) u)
 unfolding utf8_rows second_range
-tests_three a low high u = tests_row a (second_range a ∷ continuation ∷ []) (grind (arith, nat_tests)) u
+tests-three a low high u = tests-row a (second_range a ∷ continuation ∷ []) (grind (arith, nat_tests)) u
 
-pub tests_four : (a : ℕ) → 0xf0 ≤ a → a < 0xf5 → (u : List ℕ)
+pub tests-four : (a : ℕ) → 0xf0 ≤ a → a < 0xf5 → (u : List ℕ)
     → Tests (a ∷ u) (fits (second_range a ∷ continuation ∷ continuation ∷ []) u)
     (fits_front (second_range a ∷ continuation ∷ continuation ∷ []) u)
 unfolding utf8_rows second_range
-tests_four a low high u = tests_row a (second_range a ∷ continuation ∷ continuation ∷ []) (grind (arith, nat_tests)) u
+tests-four a low high u = tests-row a (second_range a ∷ continuation ∷ continuation ∷ []) (grind (arith, nat_tests)) u
 
 -- ---- what a truncated sequence is
 
-pub truncated_first : (a : ℕ) (u : List ℕ) → is_truncated (a ∷ u) ≡ true → (0xc2 ≤ a) × (a < 0xf5)
-truncated_first a u more = elim (first_byte a) [
-  | ascii high ↦ absurd (false≢true (sym (tests_ascii a high u).is_open ∙ more))
-  | lone none ↦ absurd (false≢true (sym (tests_none a none u).is_open ∙ more))
+pub truncated-first : (a : ℕ) (u : List ℕ) → is_truncated (a ∷ u) ≡ true → (0xc2 ≤ a) × (a < 0xf5)
+truncated-first a u more = elim (first_byte a) [
+  | ascii high ↦ absurd (false≢true (sym (tests-ascii a high u).is_open ∙ more))
+  | lone none ↦ absurd (false≢true (sym (tests-none a none u).is_open ∙ more))
   | of_two low high ↦ (low, omega arith)
   | of_three low high ↦ (omega arith, omega arith)
   | of_four low high ↦ (omega arith, high)
@@ -143,9 +143,9 @@ pub record TruncatedTwo (a b : ℕ) : Type 0 where
   pub high : a < 0xf5
   pub second : is_in (second_range a) b ≡ true
 
-pub truncated_two : (a b : ℕ) → is_truncated (a ∷ b ∷ []) ≡ true → TruncatedTwo a b
+pub truncated-two : (a b : ℕ) → is_truncated (a ∷ b ∷ []) ≡ true → TruncatedTwo a b
 unfolding is_truncated utf8_rows second_range
-truncated_two a b more =
+truncated-two a b more =
     record { low = grind (arith, nat_tests); high = grind (arith, nat_tests); second = grind (arith, nat_tests) }
 
 pub record TruncatedThree (a b c : ℕ) : Type 0 where
@@ -154,9 +154,9 @@ pub record TruncatedThree (a b c : ℕ) : Type 0 where
   pub second : is_in (second_range a) b ≡ true
   pub third : is_in continuation c ≡ true
 
-pub truncated_three : (a b c : ℕ) → is_truncated (a ∷ b ∷ c ∷ []) ≡ true → TruncatedThree a b c
+pub truncated-three : (a b c : ℕ) → is_truncated (a ∷ b ∷ c ∷ []) ≡ true → TruncatedThree a b c
 unfolding is_truncated utf8_rows second_range
-truncated_three a b c more =
+truncated-three a b c more =
     record {
       low = grind (arith, nat_tests);
       high = grind (arith, nat_tests);
@@ -166,8 +166,8 @@ truncated_three a b c more =
 
 -- ---- a byte of ASCII
 
-pub ascii_alone : (b : ℕ) → b < 0x80 → Tests (b ∷ []) true false
-ascii_alone b high = tests_ascii b high []
+pub ascii-alone : (b : ℕ) → b < 0x80 → Tests (b ∷ []) true false
+ascii-alone b high = tests-ascii b high []
 
 fits_front-long : (ranges : List Range) (u : List ℕ) → length ranges ≤ length u → fits_front ranges u ≡ false
 fits_front-long [] u long = refl
@@ -175,15 +175,15 @@ fits_front-long (range ∷ ranges) [] long = absurd (omega (arith, long))
 fits_front-long (range ∷ ranges) (b ∷ u) long = and_right _ _ (fits_front-long ranges u (omega (arith, long)))
 
 -- no sequence of four bytes or more is truncated
-truncated_long : (a : ℕ) (u : List ℕ) → 3 ≤ length u → is_truncated (a ∷ u) ≡ false
-truncated_long a u long = elim (first_byte a) [
-  | ascii high ↦ (tests_ascii a high u).is_open
-  | lone none ↦ (tests_none a none u).is_open
-  | of_two low high ↦ (tests_two a low high u).is_open ∙ fits_front-long (second_range a ∷ []) u (omega (arith, long))
+truncated-long : (a : ℕ) (u : List ℕ) → 3 ≤ length u → is_truncated (a ∷ u) ≡ false
+truncated-long a u long = elim (first_byte a) [
+  | ascii high ↦ (tests-ascii a high u).is_open
+  | lone none ↦ (tests-none a none u).is_open
+  | of_two low high ↦ (tests-two a low high u).is_open ∙ fits_front-long (second_range a ∷ []) u (omega (arith, long))
   | of_three low high ↦
-      (tests_three a low high u).is_open ∙ fits_front-long (second_range a ∷ continuation ∷ []) u (omega (arith, long))
+      (tests-three a low high u).is_open ∙ fits_front-long (second_range a ∷ continuation ∷ []) u (omega (arith, long))
   | of_four low high ↦
-      (tests_four a low high u).is_open ∙ fits_front-long (second_range a ∷ continuation ∷ continuation ∷ []) u long
+      (tests-four a low high u).is_open ∙ fits_front-long (second_range a ∷ continuation ∷ continuation ∷ []) u long
 ]
 
 ascii_after-one : (a b : ℕ) → b < 0x80 → Tests (a ∷ b ∷ []) false false
@@ -199,12 +199,12 @@ unfolding is_well_formed utf8_rows
 ascii_after-three a c d b high = grind (arith, nat_tests)
 
 -- it belongs to no sequence that others began
-pub ascii_breaks : (u : List ℕ) (b : ℕ) → is_truncated u ≡ true → b < 0x80 → Tests (u ++ b ∷ []) false false
+pub ascii-breaks : (u : List ℕ) (b : ℕ) → is_truncated u ≡ true → b < 0x80 → Tests (u ++ b ∷ []) false false
 unfolding is_truncated
-ascii_breaks [] b more high = cc
-ascii_breaks (a ∷ []) b more high = ascii_after-one a b high
-ascii_breaks (a ∷ c ∷ []) b more high = ascii_after-two a c b high
-ascii_breaks (a ∷ c ∷ d ∷ []) b more high =
-    record { is_whole = ascii_after-three a c d b high; is_open = truncated_long a (c ∷ d ∷ b ∷ []) (omega arith) }
-ascii_breaks (a ∷ c ∷ d ∷ e ∷ u) b more high =
-    absurd (false≢true (sym (truncated_long a (c ∷ d ∷ e ∷ u) (omega arith)) ∙ more))
+ascii-breaks [] b more high = cc
+ascii-breaks (a ∷ []) b more high = ascii_after-one a b high
+ascii-breaks (a ∷ c ∷ []) b more high = ascii_after-two a c b high
+ascii-breaks (a ∷ c ∷ d ∷ []) b more high =
+    record { is_whole = ascii_after-three a c d b high; is_open = truncated-long a (c ∷ d ∷ b ∷ []) (omega arith) }
+ascii-breaks (a ∷ c ∷ d ∷ e ∷ u) b more high =
+    absurd (false≢true (sym (truncated-long a (c ∷ d ∷ e ∷ u) (omega arith)) ∙ more))

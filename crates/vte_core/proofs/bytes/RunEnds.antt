@@ -2,7 +2,7 @@
 -- say the bytes; each test of the search excludes one row.
 use Rattle.vte_core.proofs.Common.{◌≡◌, ℕ, zero, suc, ◌+◌, ◌<◌, ◌≤◌, inl, inr, Bool, utf8_rows, true, false, List, [], ◌∷◌, length, take, drop, refl, sym, ap, subst, ◌∙◌, arith, false≢true, cases_Bool, cases_lt, and_parts, nat_tests, drop_all, drop_more, slice_index, Range, from_to, is_in, is_layout, ends_run, is_control_character, is_well_formed, second_range, scalar_of, HasNoRunAt}
 use Rattle.vte_core.proofs.bytes.Scalars.{continuation-bounds, in_range-bounds}
-use Rattle.vte_core.proofs.bytes.FirstBytes.{rows_lone, rows_none, continuation, fits, second_plain, tests_ascii, tests_none, tests_two, tests_three, tests_four}
+use Rattle.vte_core.proofs.bytes.FirstBytes.{rows-lone, rows-none, continuation, fits, second_plain, tests-ascii, tests-none, tests-two, tests-three, tests-four}
 
 -- The bytes from a position on are each in its range.
 abbrev pub AreIn : List Range → List ℕ → ℕ → Type 0
@@ -78,17 +78,17 @@ module _ (layout : Bool) (bytes : List ℕ) (from a : ℕ) (within : from < leng
       let p = begins n whole in
       elim (cases_lt a 0x80) [
         | inl low ↦
-            let none = fits-none (later p.m) (sym (tests_ascii a low (later p.m)).is_whole ∙ p.well) in
+            let none = fits-none (later p.m) (sym (tests-ascii a low (later p.m)).is_whole ∙ p.well) in
             let control : is_control_character a ≡ true = grind (arith, nat_tests) in
             rw (p.parts, none) (control-ends a control plain)
         | inr high ↦ elim (cases_lt a 0xc2) [
           | inl below ↦
               absurd
               (false≢true
-              (sym (tests_none a (rows_lone a (omega (arith, high)) below) (later p.m)).is_whole ∙ p.well))
+              (sym (tests-none a (rows-lone a (omega (arith, high)) below) (later p.m)).is_whole ∙ p.well))
           | inr above ↦
               let past : 0xf5 ≤ a = grind (arith, nat_tests) in
-              absurd (false≢true (sym (tests_none a (rows_none a past) (later p.m)).is_whole ∙ p.well))
+              absurd (false≢true (sym (tests-none a (rows-none a past) (later p.m)).is_whole ∙ p.well))
         ]
       ]
 
@@ -99,7 +99,7 @@ module _ (layout : Bool) (bytes : List ℕ) (from a : ℕ) (within : from < leng
   ends-two low high none n far whole =
       let p = begins n whole in
       let one =
-      fits-one (second_range a) bytes (from + 1) p.m (sym (tests_two a low high (later p.m)).is_whole ∙ p.well) in
+      fits-one (second_range a) bytes (from + 1) p.m (sym (tests-two a low high (later p.m)).is_whole ∙ p.well) in
       let b : ℕ = slice_index bytes (from + 1) in
       let second : is_in continuation b ≡ true =
       subst (λ range. is_in range b ≡ true)
@@ -124,7 +124,7 @@ module _ (layout : Bool) (bytes : List ℕ) (from a : ℕ) (within : from < leng
       let p = begins n whole in
       let those =
       fits-in (second_range a ∷ continuation ∷ []) bytes (from + 1) p.m
-      (sym (tests_three a low high (later p.m)).is_whole ∙ p.well) in
+      (sym (tests-three a low high (later p.m)).is_whole ∙ p.well) in
       let e : from + 1 + 1 ≡ from + 2 = omega arith in
       absurd (none (rw e at those.2.0) those.1 (rw e at those.2.1))
 
@@ -138,7 +138,7 @@ module _ (layout : Bool) (bytes : List ℕ) (from a : ℕ) (within : from < leng
       let high : a < 0xf5 = omega (arith, (in_range-bounds (from_to 0xc2 0xf4) a lead).1) in
       let those =
       fits-in (second_range a ∷ continuation ∷ continuation ∷ []) bytes (from + 1) p.m
-      (sym (tests_four a low high (later p.m)).is_whole ∙ p.well) in
+      (sym (tests-four a low high (later p.m)).is_whole ∙ p.well) in
       let e : from + 1 + 1 ≡ from + 2 = omega arith in
       let f : from + 2 + 1 ≡ from + 3 = omega arith in
       absurd (none (rw (e, f) at those.2.2.0) those.1 (rw e at those.2.1) (rw (e, f) at those.2.2.1))
@@ -172,7 +172,7 @@ ends-unprinted bytes from within ended = elim (cases_Bool (is_in (from_to 0x20 0
       let b : ℕ = slice_index bytes from in
       let one : take 1 (drop from bytes) ≡ b ∷ [] = ap (take 1) (drop_more bytes from 0 within) in
       let below : b < 0x80 = grind (arith, nat_tests) in
-      let well : is_well_formed (b ∷ []) ≡ true = (tests_ascii b below []).is_whole in
+      let well : is_well_formed (b ∷ []) ≡ true = (tests-ascii b below []).is_whole in
       let control : is_control_character b ≡ true = rw one at (ended 1 (omega arith) (rw one well)) in
       absurd (grind (arith, nat_tests))
 ]

@@ -1,6 +1,6 @@
 -- The number of a well-formed sequence is that of a character: of its bytes, each in its range, the sum has bounds.
 use Rattle.vte_core.proofs.Common.{◌≡◌, ℕ, suc, ◌<◌, ◌≤◌, true, ◌&&◌, List, [], ◌∷◌, length, refl, sym, ap, ◌∙◌, arith, inl, inr, nat_le, low_scalar, IsScalar, InScalarRange, false≢true, leb-true, and_parts, cases_lt, cases_eq, nat_tests, Range, is_in, is_well_formed, scalar_of, second_range, utf8_rows}
-use Rattle.vte_core.proofs.bytes.FirstBytes.{continuation, fits, FirstByte, ascii, lone, of_two, of_three, of_four, first_byte, tests_none, tests_ascii, tests_two, tests_three, tests_four}
+use Rattle.vte_core.proofs.bytes.FirstBytes.{continuation, fits, FirstByte, ascii, lone, of_two, of_three, of_four, first_byte, tests-none, tests-ascii, tests-two, tests-three, tests-four}
 
 -- ---- numbers from ranges
 
@@ -36,12 +36,12 @@ second_byte fits = record {
 
 -- ---- the character of a well-formed sequence
 
-two_in_range : (a b : ℕ) → 0xc2 ≤ a → a < 0xe0 → SecondByte a b → InScalarRange (scalar_of (a ∷ b ∷ []))
-two_in_range a b low high second = inl (omega arith)
+in_range-two : (a b : ℕ) → 0xc2 ≤ a → a < 0xe0 → SecondByte a b → InScalarRange (scalar_of (a ∷ b ∷ []))
+in_range-two a b low high second = inl (omega arith)
 
-three_in_range : (a b c : ℕ) → 0xe0 ≤ a → a < 0xf0 → SecondByte a b → IsContinuation c
+in_range-three : (a b c : ℕ) → 0xe0 ≤ a → a < 0xf0 → SecondByte a b → IsContinuation c
     → InScalarRange (scalar_of (a ∷ b ∷ c ∷ []))
-three_in_range a b c low high second third =
+in_range-three a b c low high second third =
     elim (cases_lt a 0xed) [
       | inl below ↦ inl (omega arith)
       | inr from_ed ↦ elim (cases_eq a 0xed) [
@@ -50,9 +50,9 @@ three_in_range a b c low high second third =
       ]
     ]
 
-four_in_range : (a b c d : ℕ) → 0xf0 ≤ a → a < 0xf5 → SecondByte a b → IsContinuation c → IsContinuation d
+in_range-four : (a b c d : ℕ) → 0xf0 ≤ a → a < 0xf5 → SecondByte a b → IsContinuation c → IsContinuation d
     → InScalarRange (scalar_of (a ∷ b ∷ c ∷ d ∷ []))
-four_in_range a b c d low high second third fourth =
+in_range-four a b c d low high second third fourth =
     elim (cases_eq a 0xf0) [
       | inl is_f0 ↦ let b_low : 0x90 ≤ b = second.not_overlong_four is_f0 in inr (omega arith, omega arith)
       | inr f0 ↦ elim (cases_eq a 0xf4) [
@@ -77,37 +77,37 @@ pub data Sequence (p : List ℕ) : Type 0 where
   whole_four : (a b c d : ℕ) → p ≡ a ∷ b ∷ c ∷ d ∷ [] → 0xf0 ≤ a → a < 0xf5 → SecondByte a b → IsContinuation c
       → IsContinuation d → Sequence p
 
-two_fit : (a : ℕ) (u : List ℕ) → 0xc2 ≤ a → a < 0xe0 → fits (second_range a ∷ []) u ≡ true → Sequence (a ∷ u)
-two_fit a (b ∷ []) low high fit = whole_two a b refl low high (second_byte (and_parts _ _ fit).0)
-two_fit a u low high fit = let one : length u ≡ 1 = fits-length (second_range a ∷ []) u fit in absurd (omega arith)
+fit-two : (a : ℕ) (u : List ℕ) → 0xc2 ≤ a → a < 0xe0 → fits (second_range a ∷ []) u ≡ true → Sequence (a ∷ u)
+fit-two a (b ∷ []) low high fit = whole_two a b refl low high (second_byte (and_parts _ _ fit).0)
+fit-two a u low high fit = let one : length u ≡ 1 = fits-length (second_range a ∷ []) u fit in absurd (omega arith)
 
-three_fit : (a : ℕ) (u : List ℕ) → 0xe0 ≤ a → a < 0xf0 → fits (second_range a ∷ continuation ∷ []) u ≡ true
+fit-three : (a : ℕ) (u : List ℕ) → 0xe0 ≤ a → a < 0xf0 → fits (second_range a ∷ continuation ∷ []) u ≡ true
     → Sequence (a ∷ u)
-three_fit a (b ∷ c ∷ []) low high fit =
+fit-three a (b ∷ c ∷ []) low high fit =
     let parts : (is_in (second_range a) b ≡ true) × ((is_in continuation c && true) ≡ true) = and_parts _ _ fit in
     whole_three a b c refl low high (second_byte parts.0) (continuation-bounds c (and_parts _ _ parts.1).0)
-three_fit a u low high fit = let two : length u ≡ 2 = fits-length (second_range a ∷ continuation ∷ []) u fit in
+fit-three a u low high fit = let two : length u ≡ 2 = fits-length (second_range a ∷ continuation ∷ []) u fit in
     absurd (omega arith)
 
-four_fit : (a : ℕ) (u : List ℕ) → 0xf0 ≤ a → a < 0xf5
+fit-four : (a : ℕ) (u : List ℕ) → 0xf0 ≤ a → a < 0xf5
     → fits (second_range a ∷ continuation ∷ continuation ∷ []) u ≡ true → Sequence (a ∷ u)
-four_fit a (b ∷ c ∷ d ∷ []) low high fit =
+fit-four a (b ∷ c ∷ d ∷ []) low high fit =
     let parts : (is_in (second_range a) b ≡ true) × ((is_in continuation c && (is_in continuation d && true)) ≡ true) =
     and_parts _ _ fit in
     let rest : (is_in continuation c ≡ true) × ((is_in continuation d && true) ≡ true) = and_parts _ _ parts.1 in
     whole_four a b c d refl low high (second_byte parts.0) (continuation-bounds c rest.0)
     (continuation-bounds d (and_parts _ _ rest.1).0)
-four_fit a u low high fit =
+fit-four a u low high fit =
     let three : length u ≡ 3 = fits-length (second_range a ∷ continuation ∷ continuation ∷ []) u fit in
     absurd (omega arith)
 
 by_first : (a : ℕ) (u : List ℕ) → FirstByte a → is_well_formed (a ∷ u) ≡ true → Sequence (a ∷ u)
 by_first a [] (ascii high) whole = whole_one a refl high
-by_first a (b ∷ u) (ascii high) whole = absurd (false≢true (sym (tests_ascii a high (b ∷ u)).is_whole ∙ whole))
-by_first a u (lone none) whole = absurd (false≢true (sym (tests_none a none u).is_whole ∙ whole))
-by_first a u (of_two low high) whole = two_fit a u low high (sym (tests_two a low high u).is_whole ∙ whole)
-by_first a u (of_three low high) whole = three_fit a u low high (sym (tests_three a low high u).is_whole ∙ whole)
-by_first a u (of_four low high) whole = four_fit a u low high (sym (tests_four a low high u).is_whole ∙ whole)
+by_first a (b ∷ u) (ascii high) whole = absurd (false≢true (sym (tests-ascii a high (b ∷ u)).is_whole ∙ whole))
+by_first a u (lone none) whole = absurd (false≢true (sym (tests-none a none u).is_whole ∙ whole))
+by_first a u (of_two low high) whole = fit-two a u low high (sym (tests-two a low high u).is_whole ∙ whole)
+by_first a u (of_three low high) whole = fit-three a u low high (sym (tests-three a low high u).is_whole ∙ whole)
+by_first a u (of_four low high) whole = fit-four a u low high (sym (tests-four a low high u).is_whole ∙ whole)
 
 pub sequence : (p : List ℕ) → is_well_formed p ≡ true → Sequence p
 unfolding is_well_formed utf8_rows
@@ -117,9 +117,9 @@ sequence (a ∷ u) whole = by_first a u (first_byte a) whole
 pub scalar_of-in_range : (p : List ℕ) → is_well_formed p ≡ true → InScalarRange (scalar_of p)
 scalar_of-in_range p whole = elim (sequence p whole) [
   | whole_one a is high ↦ rw is (inl (omega arith))
-  | whole_two a b is low high second ↦ rw is (two_in_range a b low high second)
-  | whole_three a b c is low high second third ↦ rw is (three_in_range a b c low high second third)
-  | whole_four a b c d is low high second third fourth ↦ rw is (four_in_range a b c d low high second third fourth)
+  | whole_two a b is low high second ↦ rw is (in_range-two a b low high second)
+  | whole_three a b c is low high second third ↦ rw is (in_range-three a b c low high second third)
+  | whole_four a b c d is low high second third fourth ↦ rw is (in_range-four a b c d low high second third fourth)
 ]
 
 is_scalar : (c : ℕ) → InScalarRange c → IsScalar c

@@ -69,9 +69,9 @@ AtMostOne-rows_after_bytes [] rows one = one
 AtMostOne-rows_after_bytes (b ∷ bytes) rows one =
     AtMostOne-rows_after_bytes bytes (rows_after_byte b rows) (AtMostOne-next b rows one)
 
-pub rows_after_bytes_none : (bytes : List ℕ) → rows_after_bytes bytes [] ≡ []
-rows_after_bytes_none [] = refl
-rows_after_bytes_none (b ∷ bytes) = rows_after_bytes_none bytes
+pub rows_after_bytes-none : (bytes : List ℕ) → rows_after_bytes bytes [] ≡ []
+rows_after_bytes-none [] = refl
+rows_after_bytes-none (b ∷ bytes) = rows_after_bytes-none bytes
 
 pub rows_after_bytes-append : (u v : List ℕ) (rows : List (List Range))
     → rows_after_bytes (u ++ v) rows ≡ rows_after_bytes v (rows_after_bytes u rows)
@@ -107,9 +107,9 @@ neither_whole_nor_open ((range ∷ ranges) ∷ rows) whole more = cc
 
 -- ---- how many bytes the rows allow
 
-pub allowed_length_none : (bytes : List ℕ) → allowed_length [] bytes ≡ 0
-allowed_length_none [] = refl
-allowed_length_none (b ∷ bytes) = refl
+pub allowed_length-none : (bytes : List ℕ) → allowed_length [] bytes ≡ 0
+allowed_length-none [] = refl
+allowed_length-none (b ∷ bytes) = refl
 
 -- of a byte and those after it: no row wants the byte, or it is allowed with what the rows left allow
 pub data Allowed (rows : List (List Range)) (b : ℕ) (bytes : List ℕ) : Type 0 where
@@ -133,40 +133,40 @@ allowed rows b bytes = by_rows (rows_after_byte b rows) refl
 some_left : (test : List (List Range) → Bool) → test [] ≡ false → (bytes : List ℕ) (rows : List (List Range))
     → test (rows_after_bytes bytes rows) ≡ true → rows ≢ []
 some_left test nothing bytes rows is none =
-    let same = ap (rows_after_bytes bytes) none ∙ rows_after_bytes_none bytes in
+    let same = ap (rows_after_bytes bytes) none ∙ rows_after_bytes-none bytes in
     false≢true (sym (ap test same ∙ nothing) ∙ is)
 
-allowed_length_more : (rows : List (List Range)) (b : ℕ) (bytes : List ℕ) → rows_after_byte b rows ≢ []
+allowed_length-more : (rows : List (List Range)) (b : ℕ) (bytes : List ℕ) → rows_after_byte b rows ≢ []
     → allowed_length rows (b ∷ bytes) ≡ suc (allowed_length (rows_after_byte b rows) bytes)
-allowed_length_more rows b bytes some =
+allowed_length-more rows b bytes some =
     elim (allowed rows b bytes) [ unwanted none _ ↦ absurd (some none) | wanted _ is ↦ is ]
 
 -- a sequence is allowed whole, and nothing after it
-pub allowed_length_whole : (rows : List (List Range)) (bytes x : List ℕ) → AtMostOne rows
+pub allowed_length-whole : (rows : List (List Range)) (bytes x : List ℕ) → AtMostOne rows
     → some_whole (rows_after_bytes bytes rows) ≡ true
     → allowed_length rows (bytes ++ x) ≡ length bytes
-allowed_length_whole rows [] [] one whole = refl
-allowed_length_whole [] [] (c ∷ x) one whole = refl
-allowed_length_whole ([] ∷ []) [] (c ∷ x) one whole = refl
-allowed_length_whole ((range ∷ ranges) ∷ []) [] (c ∷ x) one whole = cc
-allowed_length_whole (row ∷ next ∷ rows) [] (c ∷ x) one whole = absurd one
-allowed_length_whole rows (b ∷ bytes) x one whole =
-    allowed_length_more rows b (bytes ++ x) (some_left some_whole refl bytes _ whole)
-    ∙ ap suc (allowed_length_whole (rows_after_byte b rows) bytes x (AtMostOne-next b rows one) whole)
+allowed_length-whole rows [] [] one whole = refl
+allowed_length-whole [] [] (c ∷ x) one whole = refl
+allowed_length-whole ([] ∷ []) [] (c ∷ x) one whole = refl
+allowed_length-whole ((range ∷ ranges) ∷ []) [] (c ∷ x) one whole = cc
+allowed_length-whole (row ∷ next ∷ rows) [] (c ∷ x) one whole = absurd one
+allowed_length-whole rows (b ∷ bytes) x one whole =
+    allowed_length-more rows b (bytes ++ x) (some_left some_whole refl bytes _ whole)
+    ∙ ap suc (allowed_length-whole (rows_after_byte b rows) bytes x (AtMostOne-next b rows one) whole)
 
 -- a truncated sequence is allowed whole, and nothing after it that no row wants there
-pub allowed_length_broken : (rows : List (List Range)) (bytes : List ℕ) (b : ℕ) (x : List ℕ)
+pub allowed_length-broken : (rows : List (List Range)) (bytes : List ℕ) (b : ℕ) (x : List ℕ)
     → some_open (rows_after_bytes bytes rows) ≡ true
     → rows_after_byte b (rows_after_bytes bytes rows) ≡ [] → allowed_length rows (bytes ++ b ∷ x) ≡ length bytes
-allowed_length_broken rows [] b x more none = rw (none, allowed_length)
-allowed_length_broken rows (c ∷ bytes) b x more none =
-    allowed_length_more rows c (bytes ++ b ∷ x) (some_left some_open refl bytes _ more)
-    ∙ ap suc (allowed_length_broken (rows_after_byte c rows) bytes b x more none)
+allowed_length-broken rows [] b x more none = rw (none, allowed_length)
+allowed_length-broken rows (c ∷ bytes) b x more none =
+    allowed_length-more rows c (bytes ++ b ∷ x) (some_left some_open refl bytes _ more)
+    ∙ ap suc (allowed_length-broken (rows_after_byte c rows) bytes b x more none)
 
 -- a truncated sequence at the end is allowed whole
-pub allowed_length_end : (rows : List (List Range)) (bytes : List ℕ) → some_open (rows_after_bytes bytes rows) ≡ true
+pub allowed_length-end : (rows : List (List Range)) (bytes : List ℕ) → some_open (rows_after_bytes bytes rows) ≡ true
     → allowed_length rows bytes ≡ length bytes
-allowed_length_end rows [] more = refl
-allowed_length_end rows (c ∷ bytes) more =
-    allowed_length_more rows c bytes (some_left some_open refl bytes _ more)
-    ∙ ap suc (allowed_length_end (rows_after_byte c rows) bytes more)
+allowed_length-end rows [] more = refl
+allowed_length-end rows (c ∷ bytes) more =
+    allowed_length-more rows c bytes (some_left some_open refl bytes _ more)
+    ∙ ap suc (allowed_length-end (rows_after_byte c rows) bytes more)

@@ -4,7 +4,7 @@
 use Rattle.vte_core.proofs.Common.{◌≡◌, ◌≢◌, ℕ, ◌+◌, ◌<◌, ◌≤◌, inl, inr, true, false, Option, List, [], ◌∷◌, length, refl, ap, sym, subst, ◌∙◌, arith, cases_lt, nat_tests, slice_index, Advances, Machine, Text, Nothing, Event, Print, replacement, StandsAtPlace, TakesBytes, Place, InText, IsSettledPlace, Carries, escape, character_event, malformed_event, from_to, is_in, is_truncated, is_well_formed, Unfinished, All-cons, All-nil, IsOutsideRuns, Execute, is_control_character, AddsOutsideRuns, IsAfter, resumed_stream, BytesLead, All, cases_Bool, ChunkCall}
 use Rattle.vte_core.specs.declared.utf8.Carried.TheVariants.{Unfinished as StillUnfinished}
 use Rattle.vte_core.proofs.bytes.CarriedLemmas.{begins_none}
-use Rattle.vte_core.proofs.bytes.FirstBytes.{ascii_alone}
+use Rattle.vte_core.proofs.bytes.FirstBytes.{ascii-alone}
 use Rattle.vte_core.proofs.fields.PlaceOfState.{stands-by}
 use Rattle.vte_core.proofs.calls.CallEnds.{settled-by}
 use Rattle.vte_core.proofs.calls.Stretches.{advances-byte, advances-telling, not_escape, performs-begun}
@@ -56,7 +56,7 @@ module _ {V B : Type 0} {step : V → Event → V} {old new : V} {limit : Option
   performs-printed e printed same told =
       let low : 0x20 ≤ b = grind (arith, nat_tests) in
       let high : b < 0x80 = grind (arith, nat_tests) in
-      performs-whole e (λ escape. omega (arith, escape, low)) (ascii_alone b high).is_whole
+      performs-whole e (λ escape. omega (arith, escape, low)) (ascii-alone b high).is_whole
       (told ∙ ap (λ x. step old (Print x)) same ∙ ap (step old) (sym (character_event-printed b printed)))
 
   -- a byte that is neither printed nor begins a longer one
@@ -65,7 +65,7 @@ module _ {V B : Type 0} {step : V → Event → V} {old new : V} {limit : Option
       → (0x80 ≤ b → new ≡ step old (malformed_event (b ∷ []))) → (place : Place)
       → StandsAtPlace limit parser place → IsSettledPlace place → TakesBytes step old new limit place (b ∷ []) parser
   performs-single e n no_lead control malformed = elim (cases_lt b 0x80) [
-    | inl low ↦ performs-whole e n (ascii_alone b low).is_whole (control low)
+    | inl low ↦ performs-whole e n (ascii-alone b low).is_whole (control low)
     | inr high ↦
         let lone = begins_none b high no_lead in performs-lone e n lone.is_whole lone.is_open (malformed high)
   ]
@@ -110,7 +110,7 @@ byte-single limit b n other no_lead = elim (cases_lt b 0x80) [
     told = character_event b ∷ [];
     reads =
         reads-byte (not_escape b n)
-        (text-whole (ascii_alone b low).is_whole);
+        (text-whole (ascii-alone b low).is_whole);
     events_are = quiet-control b (grind (arith, nat_tests));
   }
   | inr high ↦

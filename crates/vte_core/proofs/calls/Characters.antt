@@ -3,7 +3,7 @@
 -- `calls/InsideCharacters`.
 use Rattle.vte_core.proofs.Common.{◌≡◌, ◌≢◌, ℕ, ◌+◌, ◌<◌, ◌≤◌, inl, inr, true, List, [], ◌∷◌, ◌++◌, length, refl, ap, sym, subst, ◌∙◌, arith, slice_index, Machine, Text, Nothing, One, Two, Three, Event, Print, replacement, StandsInside, bytes_of, may_continue, second_range, Carries, character_event, from_to, is_in, is_truncated, is_well_formed, scalar_of, Unfinished, added, All-cons, All-nil, IsOutsideRuns, append-nil, append_assoc, drop, drop_more, take, take-add, ChunkCall}
 use Rattle.vte_core.specs.declared.utf8.Carried.TheVariants.{Unfinished as StillUnfinished, Whole, Broken}
-use Rattle.vte_core.proofs.bytes.CarriedLemmas.{second_open, third_open}
+use Rattle.vte_core.proofs.bytes.CarriedLemmas.{second-open, third-open}
 use Rattle.vte_core.specs.machine.Completes.{Completes}
 use Rattle.vte_core.proofs.calls.InsideCharacters.{carried-broken, carried-more, carried-whole, in_text, inside-open, inside-same, unfinished-some, truncated-some}
 use Rattle.vte_core.proofs.calls.CallEnds.{inside-all, inside-moved}
@@ -176,7 +176,7 @@ module _ {V B : Type 0} {call : ChunkCall V} {value : V} {i x y : ℕ} where
   pub goes-second : (next : Machine B) → 0xe0 ≤ x → is_in (second_range x) y ≡ true → i < length call.bytes
       → y ≡ slice_index call.bytes i → GoesOn call value i (i + 1) (One x) (Two x y) next
   goes-second next low second within is =
-      goes-more (goes-nowhere next (unfinished-some x [])) (λ more. second_open x y more second low) within is
+      goes-more (goes-nowhere next (unfinished-some x [])) (λ more. second-open x y more second low) within is
 
   -- the second and the third of one of four
   pub goes-third : {z : ℕ} (next : Machine B) → 0xf0 ≤ x → is_in (second_range x) y ≡ true
@@ -185,7 +185,7 @@ module _ {V B : Type 0} {call : ChunkCall V} {value : V} {i x y : ℕ} where
   goes-third {z} next low second third within is is_third =
       let goes =
       goes-more {next = next} (goes-second next (omega arith) second (omega arith) is)
-      (λ more. third_open x y z more third low) (omega arith) is_third in
+      (λ more. third-open x y z more third low) (omega arith) is_third in
       record {
         inside = λ old stream parser e s. inside-moved (omega arith) (goes.inside old stream parser e s);
         kept = λ stream parser e s. inside-moved (omega arith) (goes.kept stream parser e s);

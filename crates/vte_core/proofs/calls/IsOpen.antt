@@ -2,10 +2,10 @@
 -- something else than after the empty stream.
 use Rattle.vte_core.proofs.Common.{◌≡◌, ◌≢◌, ℕ, Option, List, [], ◌∷◌, ◌++◌, refl, ap, sym, subst, ◌∙◌, arith, Digit, Machine, State, Text, StandsAtPlace, StandsBy, HasReadWithLimit, Event, Print, replacement, Place, InText, AtEscape, InEscape, InControlSequence, InDeviceControl, InDeviceData, InSystemCommand, InIgnoredString, IsAfter, Leads, ◌≤◌, ◌<◌, true, false, eqb, EscapeSequence, Unfinished, class_of, escape, is_truncated, sequence_kind}
 use Rattle.vte_core.proofs.Common.{added, bytes_of, events_from}
-use Rattle.vte_core.proofs.bytes.FirstBytes.{ascii_breaks}
+use Rattle.vte_core.proofs.bytes.FirstBytes.{ascii-breaks}
 use Rattle.vte_core.proofs.fields.PlaceOfState.{IsPlace, stands-place}
 use Rattle.vte_core.proofs.places.PlaceLeads.{escape-end, intermediate-end, control-head, device-head, data-put, command-item, ignored-more}
-use Rattle.vte_core.proofs.shapes.TextLemmas.{text_broken}
+use Rattle.vte_core.proofs.shapes.TextLemmas.{text_outcome-broken}
 use Rattle.vte_core.proofs.streams.After.{added-after, added-reads, after-events, after-nothing}
 use Rattle.vte_core.proofs.streams.Performing.{events-empty}
 use Rattle.vte_core.proofs.places.StreamLemmas.{reads-byte, waits-byte}
@@ -35,8 +35,8 @@ probe-in_character : {limit : Option ℕ} {stream u : List ℕ} {b : ℕ}
     → IsProbe b → is_truncated u ≡ true → IsAfter limit stream (InText u)
     → added limit stream (b ∷ []) ≡ Print replacement ∷ events_from limit (InText []) (b ∷ [])
 probe-in_character {limit} {u} {b} d is a =
-    let tests = ascii_breaks u b is d.high in
-    let broken = text_broken u b is tests.is_whole tests.is_open in
+    let tests = ascii-breaks u b is d.high in
+    let broken = text_outcome-broken u b is tests.is_whole tests.is_open in
     added-after (b ∷ []) a
     ∙ ap (λ o. o.told) (waits-byte limit (InText u) (InText []) b (Print replacement ∷ []) [] d.other broken)
 

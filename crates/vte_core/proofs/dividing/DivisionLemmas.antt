@@ -2,8 +2,8 @@
 -- allow a byte, a longer segment exists; where they don't, no longer one does.
 use Rattle.vte_core.proofs.Common.{◌≡◌, ◌≢◌, ℕ, zero, suc, ◌<◌, ◌≤◌, Bool, true, false, List, [], ◌∷◌, length, take, drop, refl, sym, subst, ap, ◌∙◌, arith, inl, inr, length-take-le, concat, take-append-drop, false≢true, cases_lt, Range, utf8_rows, rows_after_byte, rows_after_bytes, is_well_formed, is_truncated, allowed_length, trailing_count, segments_after}
 use Rattle.vte_core.specs.Division.{IsSegment, IsAllDivided}
-use Rattle.vte_core.proofs.bytes.Utf8Lemmas.{rows_after_bytes_none, some_whole, some_open, neither_whole_nor_open, allowed, allowed_length_none, unwanted, wanted}
-use Rattle.vte_core.proofs.shapes.TextLemmas.{trailing_count_whole}
+use Rattle.vte_core.proofs.bytes.Utf8Lemmas.{rows_after_bytes-none, some_whole, some_open, neither_whole_nor_open, allowed, allowed_length-none, unwanted, wanted}
+use Rattle.vte_core.proofs.shapes.TextLemmas.{trailing_count-whole}
 
 -- The segment that starts with b, followed by `bytes`, is the right one.
 pub record IsDividedRight (b : ℕ) (bytes : List ℕ) : Type 0 where
@@ -24,27 +24,27 @@ allowed_length-le rows (b ∷ bytes) = elim (allowed rows b bytes) [
 ]
 
 -- some row still stands after what the rows allow
-allowed_length_stands : (rows : List (List Range)) (bytes : List ℕ) → rows ≢ []
+allowed_length-stands : (rows : List (List Range)) (bytes : List ℕ) → rows ≢ []
     → rows_after_bytes (take (allowed_length rows bytes) bytes) rows ≢ []
-allowed_length_stands rows [] some none = some none
-allowed_length_stands rows (b ∷ bytes) some none = elim (allowed rows b bytes) [
+allowed_length-stands rows [] some none = some none
+allowed_length-stands rows (b ∷ bytes) some none = elim (allowed rows b bytes) [
   | unwanted _ is ↦ some (stands is)
-  | wanted left is ↦ allowed_length_stands (rows_after_byte b rows) bytes left (stands is)
+  | wanted left is ↦ allowed_length-stands (rows_after_byte b rows) bytes left (stands is)
 ]
   where
     stands : {n : ℕ} → allowed_length rows (b ∷ bytes) ≡ n → rows_after_bytes (take n (b ∷ bytes)) rows ≡ []
     stands is = subst (λ n. rows_after_bytes (take n (b ∷ bytes)) rows ≡ []) is none
 
 -- no row still stands after more bytes than the rows allow
-allowed_length_longest : (rows : List (List Range)) (bytes : List ℕ) (n : ℕ) → allowed_length rows bytes < n
+allowed_length-longest : (rows : List (List Range)) (bytes : List ℕ) (n : ℕ) → allowed_length rows bytes < n
     → n ≤ length bytes
     → rows_after_bytes (take n bytes) rows ≡ []
-allowed_length_longest rows [] n past within = absurd (omega arith)
-allowed_length_longest rows (b ∷ bytes) zero past within = absurd (omega arith)
-allowed_length_longest rows (b ∷ bytes) (suc n) past within = elim (allowed rows b bytes) [
-  | unwanted none _ ↦ ap (rows_after_bytes (take n bytes)) none ∙ rows_after_bytes_none (take n bytes)
+allowed_length-longest rows [] n past within = absurd (omega arith)
+allowed_length-longest rows (b ∷ bytes) zero past within = absurd (omega arith)
+allowed_length-longest rows (b ∷ bytes) (suc n) past within = elim (allowed rows b bytes) [
+  | unwanted none _ ↦ ap (rows_after_bytes (take n bytes)) none ∙ rows_after_bytes-none (take n bytes)
   | wanted _ is ↦
-      allowed_length_longest (rows_after_byte b rows) bytes n (omega (arith, past, is)) (omega (arith, within))
+      allowed_length-longest (rows_after_byte b rows) bytes n (omega (arith, past, is)) (omega (arith, within))
 ]
 
 is_segment : (b : ℕ) (bytes : List ℕ) → IsSegment (b ∷ take (trailing_count b bytes) bytes)
@@ -69,9 +69,9 @@ is_segment b bytes = by_rows (rows_after_byte b utf8_rows) refl
         → IsSegment (b ∷ segment (rows_after_byte b utf8_rows))
     by_rows [] same = inr (inr (
         ap (λ (rows : List (List Range)). length (b ∷ segment rows)) same
-        ∙ ap (λ (n : ℕ). length (b ∷ take n bytes)) (allowed_length_none bytes)))
+        ∙ ap (λ (n : ℕ). length (b ∷ take n bytes)) (allowed_length-none bytes)))
     by_rows (row ∷ more) same =
-        by_tests same _ _ refl refl (allowed_length_stands (row ∷ more) bytes (λ e. cc))
+        by_tests same _ _ refl refl (allowed_length-stands (row ∷ more) bytes (λ e. cc))
 
 pub divided_right : (b : ℕ) (bytes : List ℕ) → IsDividedRight b bytes
 unfolding is_truncated trailing_count
@@ -79,11 +79,11 @@ divided_right b bytes = record {
   within = allowed_length-le (rows_after_byte b utf8_rows) bytes;
   is_segment = is_segment b bytes;
   whole =
-      λ n within well. rw (take-append-drop n bytes) at (trailing_count_whole b (take n bytes) (drop n bytes) well)
+      λ n within well. rw (take-append-drop n bytes) at (trailing_count-whole b (take n bytes) (drop n bytes) well)
       ∙ length-take-le n bytes within;
   longest = λ n within more. elim (cases_lt (trailing_count b bytes) n) [
     | inl past ↦
-        let none = allowed_length_longest (rows_after_byte b utf8_rows) bytes n past within in
+        let none = allowed_length-longest (rows_after_byte b utf8_rows) bytes n past within in
         absurd (false≢true (sym (ap some_open none) ∙ more))
     | inr reaches ↦ reaches
   ];

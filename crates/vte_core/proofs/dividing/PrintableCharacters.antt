@@ -2,7 +2,7 @@
 -- run.
 use Rattle.vte_core.proofs.Common.{◌≡◌, ℕ, suc, ◌+◌, ◌-◌, ◌<◌, ◌≤◌, Bool, true, false, List, [], ◌∷◌, length, take, drop, get_or, inl, inr, refl, sym, ap, subst, ◌∙◌, arith, and_from, scalar, encode, encodes, cases_eq, nat_tests, append-nil, drop_more, All-nil, All-cons, All, slice_index, second_range, is_control_character, StaysInRun, from_to, is_in, is_well_formed, scalar_of, IsUtf8, chars, IsUtf8Run, IsRun}
 use Rattle.std.proofs.lemmas.Str.{IsUtf8-encode, chars-encodes}
-use Rattle.vte_core.proofs.bytes.FirstBytes.{second_plain, tests_two, tests_three, tests_four}
+use Rattle.vte_core.proofs.bytes.FirstBytes.{second_plain, tests-two, tests-three, tests-four}
 use Rattle.vte_core.proofs.bytes.Printable.{no_control-stays}
 use Rattle.vte_core.proofs.bytes.Scalars.{sequence, whole_one, whole_two, whole_three, whole_four, well_formed_is_scalar}
 use Rattle.vte_core.proofs.dividing.Utf8Agrees.{four_from, three_from, well_formed_is_encoded}
@@ -85,7 +85,7 @@ run-two bytes from {first} {second} long is_first is_second low high continues p
     second_plain first (λ e. omega (arith, e, high)) (λ e. omega (arith, e, high)) (λ e. omega (arith, e, high))
     (λ e. omega (arith, e, high)) in
     run-of bytes from first (second ∷ []) (omega (arith, long)) is_first (omega (arith, long), is_second, tt) low plain
-    ((tests_two first low high (second ∷ [])).is_whole ∙ and_from _ _ (ap (λ r. is_in r second) e ∙ continues) refl)
+    ((tests-two first low high (second ∷ [])).is_whole ∙ and_from _ _ (ap (λ r. is_in r second) e ∙ continues) refl)
 
 pub run-three : {layout : Bool} (bytes : List ℕ) (from : ℕ) {first second third : ℕ} → from + 3 ≤ length bytes
     → first ≡ slice_index bytes from → second ≡ slice_index bytes (from + 1)
@@ -95,7 +95,7 @@ run-three bytes from {first} {second} {third} long is_first is_second is_third l
     run-of bytes from first (second ∷ third ∷ []) (omega (arith, long)) is_first
     (omega (arith, long), is_second, (omega (arith, long), is_third, tt))
     (omega (arith, low)) (λ e. absurd (omega (arith, e, low)))
-    ((tests_three first low high (second ∷ third ∷ [])).is_whole ∙ and_from _ _ begins (and_from _ _ continues refl))
+    ((tests-three first low high (second ∷ third ∷ [])).is_whole ∙ and_from _ _ begins (and_from _ _ continues refl))
 
 pub run-four : {layout : Bool} (bytes : List ℕ) (from : ℕ) {first second third fourth : ℕ} → from + 4 ≤ length bytes
     → first ≡ slice_index bytes from
@@ -105,8 +105,9 @@ pub run-four : {layout : Bool} (bytes : List ℕ) (from : ℕ) {first second thi
     → is_in (from_to 0x80 0xbf) fourth ≡ true
     → IsRun layout bytes from (from + 4)
 run-four bytes from {first} {second} {third} {fourth} long is_first is_second is_third is_fourth low high begins
-    continues ends =
+    continues
+    ends =
     run-of bytes from first (second ∷ third ∷ fourth ∷ []) (omega (arith, long)) is_first
     (omega (arith, long), is_second, (omega (arith, long), is_third, (omega (arith, long), is_fourth, tt)))
     (omega (arith, low)) (λ e. absurd (omega (arith, e, low)))
-    ((tests_four first low high _).is_whole ∙ and_from _ _ begins (and_from _ _ continues (and_from _ _ ends refl)))
+    ((tests-four first low high _).is_whole ∙ and_from _ _ begins (and_from _ _ continues (and_from _ _ ends refl)))

@@ -5,69 +5,69 @@ use Rattle.vte_core.proofs.Common.{segments, second_range, IsUtf8, chars}
 use Rattle.std.proofs.Common.{All}
 use Rattle.std.proofs.lemmas.Str.{encode_ascii, encode_same, encodes-chars, scalars-chars, IsUtf8-encode, IsUtf8-append, IsUtf8-nil}
 use Rattle.vte_core.proofs.dividing.DivisionLemmas.{all_divided}
-use Rattle.vte_core.proofs.bytes.FirstBytes.{continuation, ascii_alone, tests_two, tests_three, tests_four}
+use Rattle.vte_core.proofs.bytes.FirstBytes.{continuation, ascii-alone, tests-two, tests-three, tests-four}
 use Rattle.vte_core.proofs.bytes.Scalars.{IsContinuation, SecondByte, sequence, whole_one, whole_two, whole_three, whole_four, well_formed_is_scalar}
-use Rattle.vte_core.proofs.shapes.TextLemmas.{trailing_count_whole, segments_first, text_outcome-well_formed, not_well_formed-nothing}
+use Rattle.vte_core.proofs.shapes.TextLemmas.{trailing_count-whole, segments-first, text_outcome-well_formed, not_well_formed-nothing}
 use Rattle.vte_core.proofs.bytes.Utf8Lemmas.{in_range}
 use Rattle.vte_core.proofs.shapes.OutcomeLemmas.{tell-append}
 
 -- ---- the encodings by their lengths
 
-encode_two : (c : ℕ) → 0x80 ≤ c → c < 0x800 → encode c ≡ (0xc0 + c / 0x40) ∷ (0x80 + c % 0x40) ∷ []
+encode-two : (c : ℕ) → 0x80 ≤ c → c < 0x800 → encode c ≡ (0xc0 + c / 0x40) ∷ (0x80 + c % 0x40) ∷ []
 unfolding encode
-encode_two c low high = grind (arith, nat_tests)
+encode-two c low high = grind (arith, nat_tests)
 
-encode_three : (c : ℕ) → 0x800 ≤ c → c < 0x10000
+encode-three : (c : ℕ) → 0x800 ≤ c → c < 0x10000
     → encode c ≡ (0xe0 + c / 0x1000) ∷ (0x80 + (c / 0x40) % 0x40) ∷ (0x80 + c % 0x40) ∷ []
 unfolding encode
-encode_three c low high = grind (arith, nat_tests)
+encode-three c low high = grind (arith, nat_tests)
 
-encode_four : (c : ℕ) → 0x10000 ≤ c
+encode-four : (c : ℕ) → 0x10000 ≤ c
     → encode c ≡ (0xf0 + c / 0x40000) ∷ (0x80 + (c / 0x1000) % 0x40) ∷ (0x80 + (c / 0x40) % 0x40)
     ∷ (0x80 + c % 0x40) ∷ []
 unfolding encode
-encode_four c low = grind (arith, nat_tests)
+encode-four c low = grind (arith, nat_tests)
 
 -- ---- a well-formed sequence is the encoding of its character
 
-encoded_two : (a b : ℕ) → 0xc2 ≤ a → a < 0xe0 → SecondByte a b → encode (scalar_of (a ∷ b ∷ [])) ≡ a ∷ b ∷ []
-encoded_two a b low high second =
+encoded-two : (a b : ℕ) → 0xc2 ≤ a → a < 0xe0 → SecondByte a b → encode (scalar_of (a ∷ b ∷ [])) ≡ a ∷ b ∷ []
+encoded-two a b low high second =
     let c : ℕ = (a - 0xc0) * 0x40 + (b - 0x80) in
     let first : 0xc0 + c / 0x40 ≡ a = omega arith in
     let last : 0x80 + c % 0x40 ≡ b = omega arith in
-    encode_two c (omega arith) (omega arith) ∙ rw (first, last) refl
+    encode-two c (omega arith) (omega arith) ∙ rw (first, last) refl
 
 pub three_from : (a b d : ℕ) → 0xe0 ≤ a → SecondByte a b → 0x800 ≤ scalar_of (a ∷ b ∷ d ∷ [])
 three_from a b d low second = grind (arith, second.not_overlong_three)
 
-encoded_three : (a b d : ℕ) → 0xe0 ≤ a → a < 0xf0 → SecondByte a b → IsContinuation d
+encoded-three : (a b d : ℕ) → 0xe0 ≤ a → a < 0xf0 → SecondByte a b → IsContinuation d
     → encode (scalar_of (a ∷ b ∷ d ∷ [])) ≡ a ∷ b ∷ d ∷ []
-encoded_three a b d low high second third =
+encoded-three a b d low high second third =
     let c : ℕ = (a - 0xe0) * 0x1000 + (b - 0x80) * 0x40 + (d - 0x80) in
     let first : 0xe0 + c / 0x1000 ≡ a = omega arith in
     let middle : 0x80 + (c / 0x40) % 0x40 ≡ b = omega arith in
     let last : 0x80 + c % 0x40 ≡ d = omega arith in
-    encode_three c (three_from a b d low second) (omega arith) ∙ rw (first, middle, last) refl
+    encode-three c (three_from a b d low second) (omega arith) ∙ rw (first, middle, last) refl
 
 pub four_from : (a b d e : ℕ) → 0xf0 ≤ a → SecondByte a b → 0x10000 ≤ scalar_of (a ∷ b ∷ d ∷ e ∷ [])
 four_from a b d e low second = grind (arith, second.not_overlong_four)
 
-encoded_four : (a b d e : ℕ) → 0xf0 ≤ a → a < 0xf5 → SecondByte a b → IsContinuation d → IsContinuation e
+encoded-four : (a b d e : ℕ) → 0xf0 ≤ a → a < 0xf5 → SecondByte a b → IsContinuation d → IsContinuation e
     → encode (scalar_of (a ∷ b ∷ d ∷ e ∷ [])) ≡ a ∷ b ∷ d ∷ e ∷ []
-encoded_four a b d e low high second third fourth =
+encoded-four a b d e low high second third fourth =
     let c : ℕ = (a - 0xf0) * 0x40000 + (b - 0x80) * 0x1000 + (d - 0x80) * 0x40 + (e - 0x80) in
     let first : 0xf0 + c / 0x40000 ≡ a = omega arith in
     let second_is : 0x80 + (c / 0x1000) % 0x40 ≡ b = omega arith in
     let third_is : 0x80 + (c / 0x40) % 0x40 ≡ d = omega arith in
     let last : 0x80 + c % 0x40 ≡ e = omega arith in
-    encode_four c (four_from a b d e low second) ∙ rw (first, second_is, third_is, last) refl
+    encode-four c (four_from a b d e low second) ∙ rw (first, second_is, third_is, last) refl
 
 pub well_formed_is_encoded : (p : List ℕ) → is_well_formed p ≡ true → encode (scalar_of p) ≡ p
 well_formed_is_encoded p well = elim (sequence p well) [
   | whole_one a is high ↦ rw is (encode_ascii a high)
-  | whole_two a b is low high second ↦ rw is (encoded_two a b low high second)
-  | whole_three a b d is low high second third ↦ rw is (encoded_three a b d low high second third)
-  | whole_four a b d e is low high second third last ↦ rw is (encoded_four a b d e low high second third last)
+  | whole_two a b is low high second ↦ rw is (encoded-two a b low high second)
+  | whole_three a b d is low high second third ↦ rw is (encoded-three a b d low high second third)
+  | whole_four a b d e is low high second third last ↦ rw is (encoded-four a b d e low high second third last)
 ]
 
 -- ---- the encoding of a character is well formed
@@ -87,8 +87,8 @@ in_second a b second =
       second.not_past_the_last,
     )
 
-formed_two : (c : ℕ) → 0x80 ≤ c → c < 0x800 → is_well_formed (encode c) ≡ true
-formed_two c low high =
+formed-two : (c : ℕ) → 0x80 ≤ c → c < 0x800 → is_well_formed (encode c) ≡ true
+formed-two c low high =
     let a : ℕ = 0xc0 + c / 0x40 in
     let b : ℕ = 0x80 + c % 0x40 in
     let second : SecondByte a b = record {
@@ -99,15 +99,15 @@ formed_two c low high =
       not_overlong_four = λ is. absurd (omega arith);
       not_past_the_last = λ is. absurd (omega arith);
     } in
-    rw (encode_two c low high)
-    ((tests_two a (omega arith) (omega arith) (b ∷ [])).is_whole ∙ rw (in_second a b second) refl)
+    rw (encode-two c low high)
+    ((tests-two a (omega arith) (omega arith) (b ∷ [])).is_whole ∙ rw (in_second a b second) refl)
 
 no_surrogate : (c : ℕ) → InScalarRange c → 0xe0 + c / 0x1000 ≡ 0xed → 0x80 + (c / 0x40) % 0x40 ≤ 0x9f
 no_surrogate c (inl below) is = omega arith
 no_surrogate c (inr above) is = absurd (omega arith)
 
-formed_three : (c : ℕ) → 0x800 ≤ c → c < 0x10000 → InScalarRange c → is_well_formed (encode c) ≡ true
-formed_three c low high range =
+formed-three : (c : ℕ) → 0x800 ≤ c → c < 0x10000 → InScalarRange c → is_well_formed (encode c) ≡ true
+formed-three c low high range =
     let a : ℕ = 0xe0 + c / 0x1000 in
     let b : ℕ = 0x80 + (c / 0x40) % 0x40 in
     let d : ℕ = 0x80 + c % 0x40 in
@@ -120,11 +120,11 @@ formed_three c low high range =
       not_past_the_last = λ is. absurd (omega arith);
     } in
     let last : is_in continuation d ≡ true = in_range continuation d (omega arith) (omega arith) in
-    let whole = (tests_three a (omega arith) (omega arith) (b ∷ d ∷ [])).is_whole in
-    rw (encode_three c low high) (whole ∙ rw (in_second a b second, last) refl)
+    let whole = (tests-three a (omega arith) (omega arith) (b ∷ d ∷ [])).is_whole in
+    rw (encode-three c low high) (whole ∙ rw (in_second a b second, last) refl)
 
-formed_four : (c : ℕ) → 0x10000 ≤ c → c < 0x110000 → is_well_formed (encode c) ≡ true
-formed_four c low high =
+formed-four : (c : ℕ) → 0x10000 ≤ c → c < 0x110000 → is_well_formed (encode c) ≡ true
+formed-four c low high =
     let a : ℕ = 0xf0 + c / 0x40000 in
     let b : ℕ = 0x80 + (c / 0x1000) % 0x40 in
     let d : ℕ = 0x80 + (c / 0x40) % 0x40 in
@@ -139,17 +139,17 @@ formed_four c low high =
     } in
     let third : is_in continuation d ≡ true = in_range continuation d (omega arith) (omega arith) in
     let last : is_in continuation e ≡ true = in_range continuation e (omega arith) (omega arith) in
-    let whole = (tests_four a (omega arith) (omega arith) (b ∷ d ∷ e ∷ [])).is_whole in
-    rw (encode_four c low) (whole ∙ rw (in_second a b second, third, last) refl)
+    let whole = (tests-four a (omega arith) (omega arith) (b ∷ d ∷ e ∷ [])).is_whole in
+    rw (encode-four c low) (whole ∙ rw (in_second a b second, third, last) refl)
 
 by_size : (c : ℕ) → InScalarRange c → c < 0x110000 → is_well_formed (encode c) ≡ true
 by_size c range below = elim (cases_lt c 0x80) [
-  | inl one ↦ rw (encode_ascii c one) (ascii_alone c one).is_whole
+  | inl one ↦ rw (encode_ascii c one) (ascii-alone c one).is_whole
   | inr from_80 ↦ elim (cases_lt c 0x800) [
-    | inl two ↦ formed_two c from_80 two
+    | inl two ↦ formed-two c from_80 two
     | inr from_800 ↦ elim (cases_lt c 0x10000) [
-      | inl three ↦ formed_three c from_800 three range
-      | inr from_10000 ↦ formed_four c from_10000 below
+      | inl three ↦ formed-three c from_800 three range
+      | inr from_10000 ↦ formed-four c from_10000 below
     ]
   ]
 ]
@@ -173,7 +173,7 @@ scalar_of-encoded c is =
 
 segments-well_formed : (p x : List ℕ) → is_well_formed p ≡ true → segments (p ++ x) ≡ p ∷ segments x
 segments-well_formed [] x well = absurd (false≢true (sym not_well_formed-nothing ∙ well))
-segments-well_formed (a ∷ u) x well = segments_first a u x (trailing_count_whole a u x well)
+segments-well_formed (a ∷ u) x well = segments-first a u x (trailing_count-whole a u x well)
 
 segments-encodes : (cs : List ℕ) → scalars cs ≡ true → segments (encodes cs) ≡ map encode cs
 segments-encodes [] are = refl

@@ -3,7 +3,7 @@ use Rattle.vte_core.proofs.Common.{◌≡◌, ℕ, true, Option, List, [], ◌�
 use Rattle.vte_core.proofs.Common.{may_continue}
 use Rattle.vte_core.specs.IgnoredString.{ignored_string_outcome}
 use Rattle.vte_core.specs.machine.Place.{control_sequence_from, device_control_from, escape_from, system_command_from}
-use Rattle.vte_core.proofs.shapes.TextLemmas.{text_end, text_nothing}
+use Rattle.vte_core.proofs.shapes.TextLemmas.{text_outcome-end, text_outcome-nothing}
 
 -- what a state says of the place, if the parser is in it
 pub stands-in : {B : Type 0} {limit : Option ℕ} {state : State} {parser : Machine B} {place : Place}
@@ -66,8 +66,8 @@ may_continue-truncated (a ∷ u) more = more
 
 text_outcome-open : (limit : Option ℕ) (u : List ℕ) → may_continue u ≡ true
     → text_outcome (u ++ []) ≡ leaves (left_at limit (InText u))
-text_outcome-open limit [] o = text_nothing
-text_outcome-open limit (a ∷ u) o = rw append-nil (text_end (a ∷ u) o)
+text_outcome-open limit [] o = text_outcome-nothing
+text_outcome-open limit (a ∷ u) o = rw append-nil (text_outcome-end (a ∷ u) o)
 
 -- nothing more tells nothing, and leaves open what is open at the place
 pub rest_outcome-nothing : (limit : Option ℕ) (place : Place) → IsPlace place

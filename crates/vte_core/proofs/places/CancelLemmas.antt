@@ -3,12 +3,12 @@ use Rattle.vte_core.proofs.Common.{◌≡◌, ℕ, ◌<◌, true, false, eqb, Op
 use Rattle.vte_core.specs.IgnoredString.{ignored_string_outcome}
 use Rattle.vte_core.specs.machine.Place.{control_sequence_from, device_control_from, escape_from, system_command_from}
 use Rattle.vte_core.proofs.bytes.ClassLemmas.{spans}
-use Rattle.vte_core.proofs.bytes.FirstBytes.{Tests, ascii_alone, ascii_breaks}
+use Rattle.vte_core.proofs.bytes.FirstBytes.{Tests, ascii-alone, ascii-breaks}
 use Rattle.vte_core.proofs.fields.PlaceOfState.{IsPlace}
 use Rattle.vte_core.proofs.places.BriefLemmas.{executed_low}
 use Rattle.vte_core.proofs.fields.KeptItems.{few_pieces, some_pieces}
 use Rattle.vte_core.proofs.places.TextSteps.{FitsLeft}
-use Rattle.vte_core.proofs.shapes.TextLemmas.{text_outcome-well_formed, text_broken}
+use Rattle.vte_core.proofs.shapes.TextLemmas.{text_outcome-well_formed, text_outcome-broken}
 
 -- ---- CAN and SUB
 
@@ -21,7 +21,7 @@ text_outcome-cancel : (rest : List ℕ) (b : ℕ) → b < 0x20
 unfolding character_event
 text_outcome-cancel rest b low =
     let control : is_control_character b ≡ true = grind (arith, nat_tests) in
-    rw control at (text_outcome-well_formed (b ∷ []) rest (ascii_alone b (omega arith)).is_whole)
+    rw control at (text_outcome-well_formed (b ∷ []) rest (ascii-alone b (omega arith)).is_whole)
 
 -- what is closed comes first, then the byte is executed
 pub byte-cancels : {limit : Option ℕ} {place : Place} {b : ℕ} → IsPlace place → class_of b ≡ Cancel
@@ -31,9 +31,9 @@ unfolding body_outcome executed_events escape_from control_sequence_from control
 byte-cancels {place = InText []} {b} is e = record { leads = λ rest. text_outcome-cancel rest b (spans b e) }
 byte-cancels {place = InText (a ∷ u)} {b} is e =
     let low : b < 0x20 = spans b e in
-    let tests : Tests (a ∷ u ++ b ∷ []) false false = ascii_breaks (a ∷ u) b is (omega arith) in
+    let tests : Tests (a ∷ u ++ b ∷ []) false false = ascii-breaks (a ∷ u) b is (omega arith) in
     record {
-      leads = λ rest. text_broken (a ∷ u) b is tests.is_whole tests.is_open rest
+      leads = λ rest. text_outcome-broken (a ∷ u) b is tests.is_whole tests.is_open rest
           ∙ ap (tell (Print replacement ∷ [])) (text_outcome-cancel rest b low);
     }
 byte-cancels {place = InSystemCommand items} {b} is e = record { leads = λ rest. simp (e, no_bell b e, append-nil) }

@@ -11,7 +11,7 @@ use Rattle.vte_core.specs.machine.Place.{control_sequence_from, device_control_f
 use Rattle.vte_core.proofs.bytes.ClassLemmas.{spans}
 use Rattle.vte_core.proofs.bytes.ClassCases.{head_is_no_control, head_is_no_end}
 use Rattle.vte_core.proofs.bytes.PlainKeys.{is_dropped, is_dropped_in_head, below_finals}
-use Rattle.vte_core.proofs.shapes.TextLemmas.{text_lone, text_outcome-well_formed}
+use Rattle.vte_core.proofs.shapes.TextLemmas.{text_outcome-lone, text_outcome-well_formed}
 
 -- ---- DEL and 80..FF
 
@@ -221,4 +221,4 @@ text-whole {u} {b} whole =
 
 pub text-lone : {limit : Option ℕ} {b : ℕ} → is_well_formed (b ∷ []) ≡ false → is_truncated (b ∷ []) ≡ false
     → Leads limit (InText []) b (malformed_event (b ∷ []) ∷ []) (InText [])
-text-lone {b} whole more = record { leads = λ rest. text_lone rest b whole more }
+text-lone {b} whole more = record { leads = λ rest. text_outcome-lone rest b whole more }

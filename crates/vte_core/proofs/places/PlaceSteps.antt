@@ -2,7 +2,7 @@
 -- (`steps`): by cases of the place and of the byte's class, each by a lemma of `PlaceLeads`.
 use Rattle.vte_core.proofs.Common.{◌≡◌, ℕ, inl, inr, false, eqb, Option, List, refl, arith, cases_Bool, nat_tests, Class, Control, Cancel, Intermediate, Final, Delete, High, class_of, ends_body, SequenceKind, EscapeSequence, sequence_kind, AreFromOneByte, Event, head_of, is_well_shaped, sequence_event, Leads, Place, InText, AtEscape, InEscape, InControlSequence, InDeviceControl, InDeviceData, InSystemCommand, InIgnoredString, closing_events_at, escape, bell, pieces_of}
 use Rattle.vte_core.proofs.Common.{kept_items, None, ◌≤◌, ◌+◌, open_data_count, left_at, breaks, open_at, sym, false≢true, ◌∙◌, [], ◌∷◌, ◌++◌, Execute}
-use Rattle.vte_core.proofs.bytes.FirstBytes.{Tests, ascii_breaks}
+use Rattle.vte_core.proofs.bytes.FirstBytes.{Tests, ascii-breaks}
 use Rattle.vte_core.proofs.shapes.Told.{breaks-broken}
 use Rattle.vte_core.specs.Class.{Escape}
 use Rattle.vte_core.proofs.places.BriefLemmas.{bounded-head, executed_low, two_at_most}
@@ -241,7 +241,7 @@ little-escape : (limit : Option ℕ) (place : Place) → IsPlace place → IsTex
     → breaks (open_at place) (escape ∷ []) ≡ false → IsLittle AtEscape (closing_events_at limit place)
 little-escape limit (InText []) is text unbroken = inl refl
 little-escape limit (InText (a ∷ u)) is text unbroken =
-    let tests : Tests (a ∷ u ++ escape ∷ []) false false = ascii_breaks (a ∷ u) escape is (omega arith) in
+    let tests : Tests (a ∷ u ++ escape ∷ []) false false = ascii-breaks (a ∷ u) escape is (omega arith) in
     absurd (false≢true (sym unbroken ∙ breaks-broken (a ∷ u) escape is tests.is_whole tests.is_open))
 little-escape limit _ is text unbroken = absurd text
 

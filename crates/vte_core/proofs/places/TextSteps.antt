@@ -1,7 +1,7 @@
 -- What one byte reports in a text, whatever it is: by whether it ends, continues or breaks the open character.
 use Rattle.vte_core.proofs.Common.{◌≡◌, ℕ, ◌⊎◌, inl, inr, true, false, eqb, Option, List, [], ◌∷◌, ◌++◌, refl, ap, sym, subst, ◌∙◌, cases_Bool, false≢true, AreFromOneByte, IsAtMostOneShort, IsOutsideRuns, class_of, is_device_data, Event, Print, ◌≤◌, ◌+◌, None, arith, FitsStore, ToClose, CommandToClose, open_data_count, left_at, replacement, tell, Place, InDeviceData, InText, breaks, open_at, escape, Leads, BytesLead, may_continue, is_truncated, is_well_formed}
 use Rattle.vte_core.proofs.places.PlaceLeads.{text-unfinished, text-whole, text-lone}
-use Rattle.vte_core.proofs.shapes.TextLemmas.{text_broken}
+use Rattle.vte_core.proofs.shapes.TextLemmas.{text_outcome-broken}
 use Rattle.vte_core.proofs.places.BriefLemmas.{short-character, short-malformed, tiny_brief, tiny-both}
 use Rattle.vte_core.proofs.fields.PlaceOfState.{IsPlace, may_continue-truncated}
 use Rattle.vte_core.proofs.shapes.Told.{breaks-broken}
@@ -111,7 +111,7 @@ step-broken limit begun byte other more part none =
       reads = record {
         reads = λ rest.
             waits-byte limit (InText begun) (InText []) byte (Print replacement ∷ []) rest other
-            (text_broken begun byte more part none)
+            (text_outcome-broken begun byte more part none)
             ∙ ap (tell (Print replacement ∷ [])) (alone.reads.reads rest);
       };
       brief =

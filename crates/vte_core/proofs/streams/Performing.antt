@@ -1,8 +1,8 @@
 -- From a byte to bytes, and from a place to what a parser has read: `TakesByte` of a byte is `TakesBytes` of one.
 use Rattle.vte_core.proofs.Common.{◌≡◌, ℕ, ◌⊎◌, inl, inr, cases_Bool, true, false, eqb, Option, List, [], ◌∷◌, ◌++◌, refl, ap, sym, ◌∙◌, arith, Machine, Event, Print, replacement, tell, after, Place, InText, AtEscape, closing_events_at, outcome_from, events, escape, TakesByte, TakesBytes, may_continue, is_truncated, is_well_formed}
 use Rattle.std.proofs.Common.{eqb-true}
-use Rattle.vte_core.proofs.bytes.FirstBytes.{Tests, ascii_breaks}
-use Rattle.vte_core.proofs.shapes.TextLemmas.{text_broken}
+use Rattle.vte_core.proofs.bytes.FirstBytes.{Tests, ascii-breaks}
+use Rattle.vte_core.proofs.shapes.TextLemmas.{text_outcome-broken}
 use Rattle.vte_core.proofs.fields.PlaceOfState.{may_continue-truncated, events_from-nothing}
 use Rattle.vte_core.proofs.places.StreamLemmas.{events-after_nothing, reads-byte, waits-byte, outcome_from-escape}
 
@@ -31,7 +31,7 @@ pub carried_is_no_escape : (u : List ℕ) (b : ℕ) → is_truncated u ≡ true
 carried_is_no_escape u b more carried = elim (cases_Bool (eqb b escape)) [
   | inl is ↦
       let e : b ≡ escape = eqb-true b escape is in
-      let tests : Tests (u ++ b ∷ []) false false = ascii_breaks u b more (omega arith) in
+      let tests : Tests (u ++ b ∷ []) false false = ascii-breaks u b more (omega arith) in
       elim carried [ inl h ↦ cc (h, tests.is_whole) | inr h ↦ cc (h, tests.is_open) ]
   | inr other ↦ other
 ]
@@ -53,7 +53,8 @@ pub waits-broken : (limit : Option ℕ) (u : List ℕ) (b : ℕ) (more : List �
     ≡ tell (Print replacement ∷ []) (outcome_from limit (InText []) (b ∷ more))
 waits-broken limit u b more begun whole next = elim (cases_Bool (eqb b escape)) [
   | inr other ↦
-      waits-byte limit (InText u) (InText []) b (Print replacement ∷ []) more other (text_broken u b begun whole next)
+      waits-byte limit (InText u) (InText []) b (Print replacement ∷ []) more other
+      (text_outcome-broken u b begun whole next)
   | inl e ↦
       let is : b ≡ escape = eqb-true b escape e in
       let there : outcome_from limit (InText []) (escape ∷ more) ≡ outcome_from limit AtEscape more =

@@ -1,7 +1,7 @@
 -- From the end back, from ESC to ESC: a begin counts, an end is the last one and ends the search, and any other
 -- sequence changes nothing (`updates/Seen`).
 use Rattle.vte.proofs.Common.{◌<◌, ◌≤◌, length, sym, ◌∙◌, arith, length-append, length-take-le}
-use Rattle.vte.proofs.updates.Seen.{last_escape, seen_all, seen_begin_before, seen_end, seen_nothing, seen_other_before, sequence_at}
+use Rattle.vte.proofs.updates.Seen.{last_escape, seen-all, seen-begin_before, seen-end, seen-nothing, seen-other_before, sequence_at}
 use Rattle.vte.proofs.ansi.release.find_release.Goals as goal
 
 -- Nothing is seen yet.
@@ -9,7 +9,7 @@ pub loop-position-init : goal.loop-position-init
 loop-position-init c =
     record {
       few = omega (arith, c.saturating_sub-unread.ensures);
-      seen = λ held more e. seen_nothing e _ c.saturating_sub-unread.ensures;
+      seen = λ held more e. seen-nothing e _ c.saturating_sub-unread.ensures;
     }
 
 -- A begin of an update: one more is counted.
@@ -27,7 +27,7 @@ loop-position-preserved-then-begins_update c =
           last_escape e c.in-Some.position _ within c.in-Some.ensures.0 c.in-Some.ensures.1
           (before.seen held more e) in
           let from = e.start_is in
-          seen_begin_before at _ (omega arith) (omega arith) (omega (arith, length-append held more))
+          seen-begin_before at _ (omega arith) (omega arith) (omega (arith, length-append held more))
           (rw (sequence_at e) at (sym c.begins_update.ensures.value ∙ c.if-begins_update.true));
     }
 
@@ -45,7 +45,7 @@ loop-position-preserved c =
           let at =
           last_escape e c.in-Some.position _ within c.in-Some.ensures.0 c.in-Some.ensures.1
           (before.seen held more e) in
-          seen_other_before at _ (omega arith) (omega arith)
+          seen-other_before at _ (omega arith) (omega arith)
           (rw (sequence_at e) at (sym c.begins_update.ensures.value ∙ c.if-begins_update.false))
           (rw (sequence_at e) at (sym c.ends_update.ensures.value ∙ c.if-ends_update.false));
     }
@@ -57,11 +57,11 @@ returns-then-ends_update c = λ held more e none.
     let at =
     last_escape e c.in-Some.position _ (omega (arith, before.few)) c.in-Some.ensures.0 c.in-Some.ensures.1
     (before.seen held more e) in
-    seen_end at.inside at.seen
+    seen-end at.inside at.seen
     (rw (sequence_at e) at (sym c.ends_update.ensures.value ∙ c.if-ends_update.true))
 
 -- No ESC is left, so no end either.
 pub returns : goal.returns
 returns c = λ held more e none.
     let before = c.loop-position.invariant in
-    seen_all e _ _ _ none (omega (arith, before.few)) c.in_default.ensures (before.seen held more e)
+    seen-all e _ _ _ none (omega (arith, before.few)) c.in_default.ensures (before.seen held more e)

@@ -1,40 +1,40 @@
 -- One byte more after one, two or three: it ends the character, leaves it open or breaks it (`bytes/CarriedLemmas`).
-use Rattle.vte_core.proofs.bytes.CarriedLemmas.{fourth_broken, fourth_whole, second_broken, second_open, second_whole, third_broken, third_open, third_whole}
+use Rattle.vte_core.proofs.bytes.CarriedLemmas.{fourth-broken, fourth-whole, second-broken, second-open, second-whole, third-broken, third-open, third-whole}
 use Rattle.vte_core.proofs.utf8.Unfinished.carried_on.Goals as goal
 
 pub returns-then-first-lt224 : goal.returns-then-first-lt224
 returns-then-first-lt224 c =
     rw c.in-One.is
-    (λ more. second_whole c.in-One.first c.args.byte _ c.whole_character.result more
+    (λ more. second-whole c.in-One.first c.args.byte _ c.whole_character.result more
     (cc) c.if-first-lt224.true c.number_of_two.ensures c.whole_character.ensures)
 
 pub returns-else-first-lt224 : goal.returns-else-first-lt224
 returns-else-first-lt224 c =
-    rw c.in-One.is (λ more. second_open c.in-One.first c.args.byte more (cc) c.if-first-lt224.false)
+    rw c.in-One.is (λ more. second-open c.in-One.first c.args.byte more (cc) c.if-first-lt224.false)
 
 pub returns-in_default : goal.returns-in_default
-returns-in_default c = rw c.in-One.is (λ more. second_broken c.in-One.first c.args.byte more (cc))
+returns-in_default c = rw c.in-One.is (λ more. second-broken c.in-One.first c.args.byte more (cc))
 
 pub returns-then-first-lt240 : goal.returns-then-first-lt240
 returns-then-first-lt240 c =
     rw c.in-Two.is
-    (λ more. third_whole c.in-Two.first c.in-Two.second c.args.byte _ c.whole_character-then-first-lt240.result more
+    (λ more. third-whole c.in-Two.first c.in-Two.second c.args.byte _ c.whole_character-then-first-lt240.result more
     (cc) c.if-first-lt240.true
     c.number_of_three.ensures c.whole_character-then-first-lt240.ensures)
 
 pub returns-else-first-lt240 : goal.returns-else-first-lt240
 returns-else-first-lt240 c =
-    rw c.in-Two.is (λ more. third_open c.in-Two.first c.in-Two.second c.args.byte more (cc) c.if-first-lt240.false)
+    rw c.in-Two.is (λ more. third-open c.in-Two.first c.in-Two.second c.args.byte more (cc) c.if-first-lt240.false)
 
 pub returns-in_default-2 : goal.returns-in_default-2
-returns-in_default-2 c = rw c.in-Two.is (λ more. third_broken c.in-Two.first c.in-Two.second c.args.byte more (cc))
+returns-in_default-2 c = rw c.in-Two.is (λ more. third-broken c.in-Two.first c.in-Two.second c.args.byte more (cc))
 
 pub returns-in-Three : goal.returns-in-Three
 returns-in-Three c =
     rw c.in-Three.is
-    (λ more. fourth_whole c.in-Three.first c.in-Three.second c.in-Three.third c.args.byte _
+    (λ more. fourth-whole c.in-Three.first c.in-Three.second c.in-Three.third c.args.byte _
     c.whole_character-in-Three.result more (cc) c.number_of_four.ensures c.whole_character-in-Three.ensures)
 
 pub returns-in_default-3 : goal.returns-in_default-3
 returns-in_default-3 c =
-    rw c.in-Three.is (λ more. fourth_broken c.in-Three.first c.in-Three.second c.in-Three.third c.args.byte more (cc))
+    rw c.in-Three.is (λ more. fourth-broken c.in-Three.first c.in-Three.second c.in-Three.third c.args.byte more (cc))

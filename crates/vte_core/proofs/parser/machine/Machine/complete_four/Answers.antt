@@ -2,7 +2,7 @@
 -- lemmas `goes-*` say how far it has gone, `completes-*` how it ends there, from the second byte on; `advances-first`
 -- leads from the first. A run that it begins is told as a text.
 use Rattle.vte_core.proofs.Common.{◌≡◌, ℕ, ◌+◌, ◌<◌, ◌≤◌, length, ap, subst, sym, ◌∙◌, arith, false≢true, slice_index, IsRun}
-use Rattle.vte_core.proofs.bytes.CarriedLemmas.{second_broken, third_broken, fourth_broken, spells_four}
+use Rattle.vte_core.proofs.bytes.CarriedLemmas.{second-broken, third-broken, fourth-broken, spells-four}
 use Rattle.vte_core.proofs.bytes.Printable.{run-append}
 use Rattle.vte_core.proofs.calls.Characters.{completes-broken, completes-then, completes-whole, goes-nowhere, goes-second, goes-third}
 use Rattle.vte_core.proofs.calls.InsideCharacters.{unfinished-some}
@@ -33,7 +33,7 @@ returns-then-not-may_begin_four-clause-advances g c =
     -- No byte more belongs to it (`goes-nowhere`), and the next one breaks it.
     (completes-broken (goes-nowhere c.args.self.now (unfinished-some _ _))
     -- So the definition says, and U+FFFD is what the code printed.
-    (λ more. second_broken c.args.first c.args.second more misfits) r.may_read.begun c.print_char.ensures.value
+    (λ more. second-broken c.args.first c.args.second more misfits) r.may_read.begun c.print_char.ensures.value
     -- The next byte is within the call, and the one that was read.
     r.within r.looked_at)
 
@@ -54,7 +54,7 @@ returns-then-not-is_continuation-clause-advances g c =
     let misfits = sym c.is_continuation.ensures ∙ c.if-not-is_continuation.true in
     advances-first r.may_read (lead_of_two _ r.lead.low) r.lead.high
     (completes-broken (goes-second c.args.self.now (lead_of_three _ r.lead.low) second r.within r.looked_at)
-    (λ more. third_broken c.args.first c.args.second c.at-third.result more misfits)
+    (λ more. third-broken c.args.first c.args.second c.at-third.result more misfits)
     r.may_read.begun c.print_char-then-not-is_continuation.ensures.value
     (omega (arith, r.within, c.if-next-len.false)) c.at-third.ensures.value)
 
@@ -68,7 +68,7 @@ returns-then-not-is_continuation-2-clause-advances g c =
     let within : c.args.from + 1 + 2 < length c.args.input.bytes.now = omega (arith, r.within, c.if-next-len.false) in
     advances-first r.may_read (lead_of_two _ r.lead.low) r.lead.high
     (completes-broken (goes-third c.args.self.now r.lead.low second third within r.looked_at c.at-third.ensures.value)
-    (λ more. fourth_broken c.args.first c.args.second c.at-third.result c.at-fourth.result more misfits)
+    (λ more. fourth-broken c.args.first c.args.second c.at-third.result c.at-fourth.result more misfits)
     r.may_read.begun c.print_char-then-not-is_continuation-2.ensures.value within c.at-fourth.ensures.value)
 
 -- The run that the character begins: the four bytes, and what follows them.
@@ -111,7 +111,7 @@ returns-clause-advances g c =
     let third = sym c.is_continuation.ensures ∙ c.if-not-is_continuation.false in
     let fourth = sym c.is_continuation-2.ensures ∙ c.if-not-is_continuation-2.false in
     let spells =
-    spells_four r.lead.low r.lead.high
+    spells-four r.lead.low r.lead.high
     second third fourth in
     let within : c.args.from + 1 + 2 < length c.args.input.bytes.now = omega (arith, r.within, c.if-next-len.false) in
     advances-first r.may_read (lead_of_two _ r.lead.low) r.lead.high

@@ -1,6 +1,6 @@
 -- The second and third byte of a character of three: each fits or breaks it, or the bytes of the call end.
 use Rattle.vte_core.proofs.Common.{◌≡◌, ℕ, ◌+◌, refl, sym, ◌∙◌, arith}
-use Rattle.vte_core.proofs.bytes.CarriedLemmas.{second_broken, third_broken, spells_three}
+use Rattle.vte_core.proofs.bytes.CarriedLemmas.{second-broken, third-broken, spells-three}
 use Rattle.vte_core.proofs.calls.Characters.{completes-all, completes-broken, completes-whole, goes-nowhere, goes-second}
 use Rattle.vte_core.proofs.calls.InsideCharacters.{unfinished-some}
 use Rattle.vte_core.proofs.parser.machine.Machine.complete_three.Goals as goal
@@ -15,7 +15,7 @@ returns-then-not-may_begin_three-clause-completes g c =
     let r = c.requires.may_read in
     let misfits = sym c.may_begin_three.ensures ∙ c.if-not-may_begin_three.true in
     completes-broken (goes-nowhere c.args.self.now (unfinished-some _ _))
-    (λ more. second_broken c.args.first c.args.second more misfits) r.begun c.print_char.ensures.value r.within
+    (λ more. second-broken c.args.first c.args.second more misfits) r.begun c.print_char.ensures.value r.within
     r.looked_at
 
 -- The call ends after two bytes: still open.
@@ -32,7 +32,7 @@ returns-then-not-is_continuation-clause-completes g c =
     let second = sym c.may_begin_three.ensures ∙ c.if-not-may_begin_three.false in
     let misfits = sym c.is_continuation.ensures ∙ c.if-not-is_continuation.true in
     completes-broken (goes-second c.args.self.now c.requires.lead.low second r.within r.looked_at)
-    (λ more. third_broken c.args.first c.args.second c.at-third.result more misfits) r.begun
+    (λ more. third-broken c.args.first c.args.second c.at-third.result more misfits) r.begun
     c.print_char-then-not-is_continuation.ensures.value
     (omega (arith, r.within, c.if-from-len.false)) c.at-third.ensures.value
 
@@ -43,7 +43,7 @@ returns-clause-completes g c =
     let second = sym c.may_begin_three.ensures ∙ c.if-not-may_begin_three.false in
     let third = sym c.is_continuation.ensures ∙ c.if-not-is_continuation.false in
     let spells =
-    spells_three c.requires.lead.low c.requires.lead.high second third in
+    spells-three c.requires.lead.low c.requires.lead.high second third in
     completes-whole (goes-second c.args.self.now c.requires.lead.low second r.within r.looked_at)
     (λ more. (spells.is_whole, c.character_of_three.ensures)) r.begun c.tell_character.ensures.value
     (omega (arith, r.within, c.if-from-len.false)) c.at-third.ensures.value (counted _)

@@ -1,7 +1,7 @@
 -- What the first byte begins is open, so the call goes on by what completes it (`advances-first`): the second byte
 -- here, or three bytes in a function of their own; that for four says the same as this one.
 use Rattle.vte_core.proofs.Common.{refl, sym, ◌∙◌, arith}
-use Rattle.vte_core.proofs.bytes.CarriedLemmas.{second_broken, second_lone, spells_two}
+use Rattle.vte_core.proofs.bytes.CarriedLemmas.{second-broken, second-lone, spells-two}
 use Rattle.vte_core.proofs.calls.Characters.{completes-all, completes-broken, completes-whole, goes-nowhere}
 use Rattle.vte_core.proofs.calls.InsideCharacters.{unfinished-some}
 use Rattle.vte_core.proofs.calls.LeadBytes.{advances-first}
@@ -18,10 +18,10 @@ pub returns-then-not-is_continuation-clause-advances : goal.returns-then-not-is_
 returns-then-not-is_continuation-clause-advances g c =
     let r = c.requires in
     let misfits =
-    second_lone c.args.first c.at-second.result (sym c.is_continuation.ensures ∙ c.if-not-is_continuation.true) in
+    second-lone c.args.first c.at-second.result (sym c.is_continuation.ensures ∙ c.if-not-is_continuation.true) in
     advances-first r.may_read r.lead r.fits
     (completes-broken (goes-nowhere c.args.self.now (unfinished-some _ _))
-    (λ more. second_broken c.args.first c.at-second.result more misfits)
+    (λ more. second-broken c.args.first c.at-second.result more misfits)
     r.may_read.begun c.print_char.ensures.value (omega arith) c.at-second.ensures.value)
 
 -- Two bytes spell a character.
@@ -29,7 +29,7 @@ pub returns-then-first-lt224-clause-advances : goal.returns-then-first-lt224-cla
 returns-then-first-lt224-clause-advances g c =
     let r = c.requires in
     let spells =
-    spells_two r.lead c.if-first-lt224.true
+    spells-two r.lead c.if-first-lt224.true
     (sym c.is_continuation.ensures ∙ c.if-not-is_continuation.false) in
     advances-first r.may_read r.lead r.fits
     (completes-whole (goes-nowhere c.args.self.now (unfinished-some _ _))

@@ -64,8 +64,8 @@ module _ (keeps_all : Bool) (pieces : List (Bor (List ℕ))) (i : ℕ) (d : Bor 
 
   -- there is room for the next text
   pub joins-room : {part : List ℕ} → Some part ≡ text_in keeps_all piece → length text + length part + 1 ≤ room
-  joins-room {part} is = omega
-      (arith, text-short keeps_all piece part is, opened.fits, length-append piece (concat left))
+  joins-room {part} is =
+      omega (arith, text-short keeps_all piece part is, opened.fits, length-append piece (concat left))
 
   -- a piece has a text
   pub joins-more : {part : List ℕ} → Some part ≡ text_in keeps_all piece

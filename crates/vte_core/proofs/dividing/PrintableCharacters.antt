@@ -105,8 +105,7 @@ pub run-four : {layout : Bool} (bytes : List ℕ) (from : ℕ) {first second thi
     → is_in (from_to 0x80 0xbf) fourth ≡ true
     → IsRun layout bytes from (from + 4)
 run-four bytes from {first} {second} {third} {fourth} long is_first is_second is_third is_fourth low high begins
-    continues
-    ends =
+    continues ends =
     run-of bytes from first (second ∷ third ∷ fourth ∷ []) (omega (arith, long)) is_first
     (omega (arith, long), is_second, (omega (arith, long), is_third, (omega (arith, long), is_fourth, tt)))
     (omega (arith, low)) (λ e. absurd (omega (arith, e, low)))

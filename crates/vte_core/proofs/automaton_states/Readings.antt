@@ -50,16 +50,16 @@ wanted_ranges-some s not going = elim (phase s) [
 ]
 
 -- a character that has not ended
-pub character-unended : (text : List ℕ) (at state : ℕ) → HasScanned text at state → state ≢ 0
+pub character-unended : {text : List ℕ} {at state : ℕ} → HasScanned text at state → state ≢ 0
     → (s : ReadSoFar text at (state_after Between (take at text))) → IsBegun text s.end at
-character-unended text at state read inside s = s.begun (λ e. inside (read.state_is ∙ ap state_code e))
+character-unended read inside s = s.begun (λ e. inside (read.state_is ∙ ap state_code e))
 
 -- the place of its first byte is the last end
 pub last_end-first : {text : List ℕ} {at state end : ℕ} → HasScanned text at state → state ≢ 0
     → (s : ReadSoFar text at (state_after Between (take at text)))
     → s.end ≤ end → end < at → 0xc0 ≤ slice_index text end → LastEnd text at end
 last_end-first {text} {at} {state} {end} read inside s from before high =
-    let u = character-unended text at state read inside s in
+    let u = character-unended read inside s in
     let same : s.end ≡ end = elim (cases_lt s.end end) [
       | inl past ↦ absurd (omega (arith, high, u.later end (omega (arith, past)) before))
       | inr back ↦ omega (arith, from, back)

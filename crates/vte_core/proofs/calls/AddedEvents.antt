@@ -103,7 +103,7 @@ module _ {limit : Option ℕ} {stream bytes : List ℕ} {i : ℕ} where
       stretch-added limit stream bytes i (i + 1) (omega arith)
       ∙ ap (λ (es : List Event). before ++ es)
       (ap (added limit (resumed_stream stream bytes i)) one
-      ∙ added-reads limit (resumed_stream stream bytes i) (b ∷ []) place next these a r is_place) in
+      ∙ added-reads a r is_place) in
       elim (cases_Bool (breaks_at stream bytes (i + 1))) [
         | inl broken ↦ record {
           events = these ++ Print replacement ∷ [];

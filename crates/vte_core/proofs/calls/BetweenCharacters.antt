@@ -133,7 +133,7 @@ adds-single : {B : Type 0} {limit : Option ℕ} {stream bytes : List ℕ} {i b :
 adds-single {limit} {stream} {bytes} {i} {b} {place} parser e n other no_lead within is s after =
     let one = byte-single limit b n other no_lead in
     adds-reads within is
-    (subst (IsAfter limit (resumed_stream stream bytes i)) (place-settled_text parser place e s) after)
+    (subst (IsAfter limit (resumed_stream stream bytes i)) (place-settled_text e s) after)
     one.reads refl one.events_are
 
 pub advances-single : {outside V B : Type 0} {call : ChunkCall V} {old new : V} {i b : ℕ} {parser : Machine B}

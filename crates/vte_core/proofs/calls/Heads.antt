@@ -70,8 +70,8 @@ match-none B (Some b) n all = absurd (n b refl)
 
 -- ---- numbers
 
-pub part_after-none : (reached : HeadProgress) (from to : ℕ) → from ≡ to → part_after reached from to ≡ reached
-part_after-none reached from to is = let same : eqb from to ≡ true = grind (arith, nat_tests) in rw same refl
+pub part_after-none : (reached : HeadProgress) {from to : ℕ} → from ≡ to → part_after reached from to ≡ reached
+part_after-none reached {from} {to} is = let same : eqb from to ≡ true = grind (arith, nat_tests) in rw same refl
 
 pub part_after-more : (reached : HeadProgress) (from to : ℕ) → from < to → part_after reached from to ≡ Parameters
 part_after-more reached from to more = let other : eqb from to ≡ false = grind (arith, nat_tests) in rw other refl

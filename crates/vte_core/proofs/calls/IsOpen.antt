@@ -28,7 +28,7 @@ probe-gives : {limit : Option ℕ} {stream : List ℕ} {place next : Place} {b :
     → IsProbe b → IsAfter limit stream place → Leads limit place b told next → IsPlace next
     → added limit stream (b ∷ []) ≡ told
 probe-gives {limit} {stream} {place} {next} {b} {told} d a leads =
-    added-reads limit stream (b ∷ []) place next told a (reads-byte d.other leads)
+    added-reads a (reads-byte d.other leads)
 
 -- it breaks a character
 probe-in_character : {limit : Option ℕ} {stream u : List ℕ} {b : ℕ}

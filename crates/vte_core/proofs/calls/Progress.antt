@@ -118,8 +118,7 @@ module _ {V : Type 0} {call : ChunkCall V} {old : V} {stream : List ℕ} where
             ∙ sym (after_events-append call.step old (told_before call.limit stream call.bytes i) these)
             ∙ ap (after call.step old) (sym (stretch-added call.limit stream call.bytes i j in_order
             ∙ ap (λ (es : List Event). told_before call.limit stream call.bytes i ++ es)
-            (added-reads call.limit (resumed_stream stream call.bytes i)
-            (take (j - i) (drop i call.bytes)) place next these c.is_after r is_place)));
+            (added-reads c.is_after r is_place)));
         is_after =
             stretch-after call.limit stream call.bytes i j in_order next
             (after-reads c.is_after r is_place);

@@ -77,12 +77,12 @@ refuses-inside {call} {old} {new} {n} {parser} r stream h =
 -- ---- what is stored
 
 -- in a command as many bytes as are open
-pub stored_is_open : {B : Type 0} (parser : Machine B) (stream : List ℕ) → parser.state ≡ SystemCommand
+pub stored_is_open : {B : Type 0} {parser : Machine B} {stream : List ℕ} → parser.state ≡ SystemCommand
     → HasReadWithLimit None parser stream
     → length parser.command.bytes ≡ open_command_size stream
-stored_is_open parser stream e h =
+stored_is_open {parser} {stream} e h =
     let k = in_command e h.stands in
-    pieces_stored None parser.command k.items k.keeps
+    pieces_stored k.keeps
     ∙ sym (ap open_data_count (left-at_place parser stream h ∙ ap (left_at None) k.same))
 
 command-by_state : {B : Type 0} (state : State) (parser : Machine B) (items : List ℕ)
@@ -110,7 +110,7 @@ pub stores_pieces : {B : Type 0} (parser : Machine B) (stream : List ℕ) → Ha
     → (pieces : List (List ℕ)) (lost : Bool)
     → (outcome None stream).left ≡ CommandToClose pieces lost → length parser.command.bytes ≡ length (concat pieces)
 stores_pieces parser stream h pieces lost open_command =
-    stored_is_open parser stream (state-in_command parser stream h pieces lost open_command) h
+    stored_is_open (state-in_command parser stream h pieces lost open_command) h
     ∙ ap open_data_count open_command
 
 open_data-by_left : (left : ToClose) (n : ℕ)
@@ -138,7 +138,7 @@ none_is_open parser stream other h =
 -- a store that was cleared has no data bytes
 pub nothing_stored : {held : Stored} → HoldsItems None held [] → length held.bytes ≡ 0
 unfolding pieces_of Rattle.vte_core.specs.SystemCommand.kept_items
-nothing_stored {held} keeps = pieces_stored None held [] keeps
+nothing_stored {held} keeps = pieces_stored keeps
 
 -- where there was memory for all bytes of the call, none is refused
 pub never_refused : {V B : Type 0} {call : ChunkCall V} {old new : V} {n : ℕ} {before parser : Machine B}
@@ -148,7 +148,7 @@ pub never_refused : {V B : Type 0} {call : ChunkCall V} {old new : V} {n : ℕ} 
 never_refused {call} {n} {parser} r stream h enough kept =
     let read : List ℕ = take n call.bytes in
     let stored =
-    stored_is_open parser (stream ++ read) r.refused.inside
+    stored_is_open r.refused.inside
     (subst (λ limit. HasReadWithLimit limit parser (stream ++ read)) r.refused.unlimited
     (inside-reads (refuses-inside r stream h))) in
     omega (

@@ -12,9 +12,9 @@ text-by_place limit parser (InText bytes) s = ap InText (sym s.0)
 text-by_place limit parser _ s = absurd s
 
 -- between characters of a text there is one place
-pub place-settled_text : {B : Type 0} {limit : Option ℕ} (parser : Machine B) (place : Place)
+pub place-settled_text : {B : Type 0} {limit : Option ℕ} {parser : Machine B} {place : Place}
     → parser.state ≡ Text Nothing → StandsAtPlace limit parser place → place ≡ InText []
-place-settled_text {limit} parser place e s = text-by_place limit parser place (stands-in e s)
+place-settled_text {limit} {parser} {place} e s = text-by_place limit parser place (stands-in e s)
 
 -- ---- whether a call asks
 

@@ -35,7 +35,7 @@ reads-characters {limit} {text} is none = record {
 pub told_as_characters : (limit : Option ℕ) (text : List ℕ) → IsUtf8 text → All (λ b. b ≢ escape) text
     → events limit text ≡ map character_event (chars text)
 told_as_characters limit text is none =
-    told_by_stream limit (InText []) text (map character_event (chars text)) refl (reads-characters is none)
+    told_by_stream refl (reads-characters is none)
 
 plain-event : (layout : Bool) (c : ℕ) → StaysInRun layout c → character_event c ≡ run_event layout c
 unfolding character_event
@@ -170,7 +170,7 @@ advances-text {V} {call} {layout} {old} {new} {i} {j} {parser}
         let all : added call.limit from front ++ added call.limit (from ++ front) rest
         ≡ map (run_event layout) (chars run) =
         sym (added-append call.limit from front rest) ∙ ap (added call.limit from) (sym parts)
-        ∙ added-reads call.limit from run (InText []) (InText []) _ c.is_after
+        ∙ added-reads c.is_after
         (reads-text prints.run) refl in
         not_stopped-told layout call (never does) value stream k
         (ap (λ es. call.is_terminated (after call.step value es)) (stretch-added call.limit stream call.bytes i k past)
@@ -183,7 +183,7 @@ advances-text {V} {call} {layout} {old} {new} {i} {j} {parser}
     inside-next : (value : V) (stream : List ℕ) → StandsAt call value old stream i parser
         → StandsInside call value new stream j parser
     inside-next value stream s =
-        let here : s.place ≡ InText [] = place-settled_text parser s.place e s.stands in
+        let here : s.place ≡ InText [] = place-settled_text e s.stands in
         let c : ProgressAt call value old stream i (InText []) =
         subst (ProgressAt call value old stream i) here s.has_come in
         record {

@@ -72,7 +72,7 @@ has-run {limit} {bytes} {place} {parser} {here} is only reads range kind whole =
       whole = whole;
       adds =
           λ stream h.
-          added-reads limit stream these here here events
+          added-reads
           (subst (IsAfter limit stream) (only h.place h.stands) h.is_after) reads is;
       reads = λ stream h. record {
         place = here;
@@ -89,7 +89,7 @@ pub has-text : {B : Type 0} {limit : Option ℕ} {bytes : List ℕ} {from end : 
     → IsRun false bytes from end → HasNoRunAt false bytes end
     → HasRun limit bytes (record { start = from; end = end; kind = OfText }) parser
 has-text {limit} {bytes} {from} {end} {parser} between low high are ended =
-    has-run refl (λ place s. place-settled_text parser place between s)
+    has-run refl (λ place s. place-settled_text between s)
     (reads-text are)
     (record { in_order = omega (arith, low); within = high }) are (low, ended)
 
@@ -133,7 +133,7 @@ pub reads-anew : {B : Type 0} {limit : Option ℕ} {stream : List ℕ} (parser :
     → HasReadWithLimit limit parser stream → HasReadWithLimit limit parser []
 reads-anew {limit} parser begun h = record {
   place = InText [];
-  stands = subst (StandsAtPlace limit parser) (place-settled_text parser h.place begun h.stands) h.stands;
+  stands = subst (StandsAtPlace limit parser) (place-settled_text begun h.stands) h.stands;
   is_after = after-nothing;
 }
 

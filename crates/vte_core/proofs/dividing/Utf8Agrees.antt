@@ -73,9 +73,9 @@ well_formed_is_encoded p well = elim (sequence p well) [
 -- ---- the encoding of a character is well formed
 
 -- the second byte is one that the first allows
-in_second : (a b : ℕ) → SecondByte a b → is_in (second_range a) b ≡ true
+in_second : {a b : ℕ} → SecondByte a b → is_in (second_range a) b ≡ true
 unfolding second_range
-in_second a b second =
+in_second second =
     grind (
       arith,
       nat_tests,
@@ -100,7 +100,7 @@ formed-two c low high =
       not_past_the_last = λ is. absurd (omega arith);
     } in
     rw (encode-two c low high)
-    ((tests-two a (omega arith) (omega arith) (b ∷ [])).is_whole ∙ rw (in_second a b second) refl)
+    ((tests-two a (omega arith) (omega arith) (b ∷ [])).is_whole ∙ rw (in_second second) refl)
 
 no_surrogate : (c : ℕ) → InScalarRange c → 0xe0 + c / 0x1000 ≡ 0xed → 0x80 + (c / 0x40) % 0x40 ≤ 0x9f
 no_surrogate c (inl below) is = omega arith
@@ -121,7 +121,7 @@ formed-three c low high range =
     } in
     let last : is_in continuation d ≡ true = in_range continuation d (omega arith) (omega arith) in
     let whole = (tests-three a (omega arith) (omega arith) (b ∷ d ∷ [])).is_whole in
-    rw (encode-three c low high) (whole ∙ rw (in_second a b second, last) refl)
+    rw (encode-three c low high) (whole ∙ rw (in_second second, last) refl)
 
 formed-four : (c : ℕ) → 0x10000 ≤ c → c < 0x110000 → is_well_formed (encode c) ≡ true
 formed-four c low high =
@@ -140,7 +140,7 @@ formed-four c low high =
     let third : is_in continuation d ≡ true = in_range continuation d (omega arith) (omega arith) in
     let last : is_in continuation e ≡ true = in_range continuation e (omega arith) (omega arith) in
     let whole = (tests-four a (omega arith) (omega arith) (b ∷ d ∷ e ∷ [])).is_whole in
-    rw (encode-four c low) (whole ∙ rw (in_second a b second, third, last) refl)
+    rw (encode-four c low) (whole ∙ rw (in_second second, third, last) refl)
 
 by_size : (c : ℕ) → InScalarRange c → c < 0x110000 → is_well_formed (encode c) ≡ true
 by_size c range below = elim (cases_lt c 0x80) [

@@ -42,12 +42,12 @@ pub length-cut_by_lengths : (lengths numbers : List ℕ) → length (cut_by_leng
 length-cut_by_lengths [] numbers = refl
 length-cut_by_lengths (n ∷ lengths) numbers = ap suc (length-cut_by_lengths lengths (drop n numbers))
 
-pub count_of-cut_by_lengths : (lengths numbers : List ℕ) → AreLengths lengths numbers
+pub count_of-cut_by_lengths : {lengths numbers : List ℕ} → AreLengths lengths numbers
     → count_of (cut_by_lengths lengths numbers) ≡ length numbers
-count_of-cut_by_lengths [] numbers ok = ok.whole
-count_of-cut_by_lengths (n ∷ lengths) numbers ok =
+count_of-cut_by_lengths {lengths = []} ok = ok.whole
+count_of-cut_by_lengths {lengths = n ∷ lengths} {numbers} ok =
     let rest = sum_rest n lengths numbers ok.whole in
-    let more = count_of-cut_by_lengths lengths (drop n numbers) (AreLengths-rest ok) in
+    let more = count_of-cut_by_lengths (AreLengths-rest ok) in
     omega (
       arith,
       rest,
@@ -78,7 +78,7 @@ pub AreGroups-cut_by_lengths : (lengths numbers : List ℕ) → AreFlatGroups le
     → length numbers ≤ most_numbers
     → AreGroups (cut_by_lengths lengths numbers)
 AreGroups-cut_by_lengths lengths numbers ok few = record {
-  few = omega (arith, count_of-cut_by_lengths lengths numbers ok.lengths_fit);
+  few = omega (arith, count_of-cut_by_lengths ok.lengths_fit);
   small = small-cut_by_lengths lengths numbers ok.small;
   filled = filled-cut_by_lengths ok.lengths_fit;
 }

@@ -80,7 +80,7 @@ open_for {held} {items} {byte} keeps few other =
     keeps.goes_on (byte ∷ []) ∙ pieces_from-byte None held.bytes held.ends refl byte other []
     ∙ pieces_from-nothing None (held.bytes ++ byte ∷ []) held.ends in
     let before =
-    pieces_held None held items keeps ∙ ap (take most_pieces) g.before ∙ pieces-few g.pieces g.last some in
+    pieces_held keeps ∙ ap (take most_pieces) g.before ∙ pieces-few g.pieces g.last some in
     let later = more ∙ ap (take most_pieces) g.later ∙ pieces-few g.pieces (g.last ++ byte ∷ []) some in
     record {
       pieces = g.pieces;

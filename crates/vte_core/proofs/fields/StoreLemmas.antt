@@ -250,19 +250,19 @@ keeps-end limit old new items few room bytes ends lost keeps = record {
 }
 
 -- the pieces, by what a store holds
-pub pieces_held : (limit : Option ℕ) (held : Stored) (items : List ℕ) → HoldsItems limit held items
+pub pieces_held : {limit : Option ℕ} {held : Stored} {items : List ℕ} → HoldsItems limit held items
     → pieces_of limit items ≡ cut_pieces held.bytes held.ends
-pieces_held limit held items keeps =
+pieces_held {limit} {held} keeps =
     rw append-nil at (keeps.goes_on [] ∙ pieces_from-nothing limit held.bytes held.ends)
 
 -- all bytes are in them
-pub pieces_stored : (limit : Option ℕ) (held : Stored) (items : List ℕ) → HoldsItems limit held items
+pub pieces_stored : {limit : Option ℕ} {held : Stored} {items : List ℕ} → HoldsItems limit held items
     → length held.bytes ≡ length (concat (pieces_of limit items))
-pieces_stored limit held items keeps =
-    rw (pieces_held limit held items keeps) (omega (arith, ends-stored most_pieces 0 held.bytes held.ends keeps.end))
+pieces_stored {held} keeps =
+    rw (pieces_held keeps) (omega (arith, ends-stored most_pieces 0 held.bytes held.ends keeps.end))
 
 -- a store knows whether data bytes were dropped
 pub loses_held : {limit : Option ℕ} {held : Stored} {items : List ℕ} → HoldsItems limit held items
     → loses_data limit items ≡ held.lost
 unfolding loses_data
-loses_held {limit} {held} {items} keeps = rw (pieces_stored limit held items keeps) at (sym keeps.lost)
+loses_held {limit} {held} {items} keeps = rw (pieces_stored keeps) at (sym keeps.lost)

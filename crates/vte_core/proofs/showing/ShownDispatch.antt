@@ -43,5 +43,5 @@ unfolding sequence_event
 shown_dispatched limit groups ok =
     let are = parameters-shown groups ok in
     let parts = rw append-nil at (held-parts [] (shown groups) [] tt are tt) in
-    told_by_stream limit (InText []) _ _ refl (reads-shown limit (shown groups) are)
+    told_by_stream refl (reads-shown limit (shown groups) are)
     ∙ rw (parts, groups_of-shown groups ok, has_too_many_numbers-shown groups ok) refl

@@ -75,10 +75,10 @@ added-after {limit} {stream} bytes {place} a =
     ∙ drop-append_seam (events limit stream) (events_from limit place bytes)
 
 -- what bytes that lead to a place add is what they tell
-pub added-reads : (limit : Option ℕ) (stream bytes : List ℕ) (place next : Place) (these : List Event)
+pub added-reads : {limit : Option ℕ} {stream bytes : List ℕ} {place next : Place} {these : List Event}
     → IsAfter limit stream place → BytesLead limit place bytes these next → IsPlace next
     → added limit stream bytes ≡ these
-added-reads limit stream bytes place next these a r is =
+added-reads {limit} {bytes} {place} {next} {these} a r is =
     added-after bytes a
     ∙ ap (events_from limit place) (sym (append-nil bytes)) ∙ ap (λ o. o.told) (r.reads [])
     ∙ ap (λ es. these ++ es) (events_from-nothing limit next is) ∙ append-nil these

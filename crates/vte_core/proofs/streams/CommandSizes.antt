@@ -10,15 +10,12 @@ fits_by n _ within = tt
 
 pub counts_data : (stream bytes : List ℕ) → CountsData stream bytes
 counts_data stream bytes =
-    let a = leads_to in
+    let a = leads_to {limit = None} {stream = stream} in
     let c = arrives None (Some (size_at None a.place + length bytes)) a.place bytes a.is_place
     (λ place few. fits_by _ (left_at None place) (few refl)) in
     let before = ap open_data_count (after-left a.is_after a.is_place) in
-    let later =
-    ap open_data_count
-    (after-left
-    (after-reads a.is_after c.reads c.is_place) c.is_place) in
+    let later = ap open_data_count (after-left (after-reads a.is_after c.reads c.is_place) c.is_place) in
     record {
-      told = rw (before, added-reads None stream bytes a.place c.next c.told a.is_after c.reads c.is_place) c.bounded;
+      told = rw (before, added-reads a.is_after c.reads c.is_place) c.bounded;
       left = omega (arith, before, later, c.grows refl);
     }

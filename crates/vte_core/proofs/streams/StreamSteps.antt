@@ -68,11 +68,11 @@ arrives limit size place (b ∷ bytes) is fits =
 
 -- ---- the events of a stream from the events that it tells
 
-pub told_by_stream : (limit : Option ℕ) (next : Place) (stream : List ℕ) (told : List Event) → IsPlace next
+pub told_by_stream : {limit : Option ℕ} {next : Place} {stream : List ℕ} {told : List Event} → IsPlace next
     → BytesLead limit (InText []) stream told next → events limit stream ≡ told
-told_by_stream limit next stream told is r =
+told_by_stream {limit} {stream} is r =
     ap (λ es. drop (length es) (events limit stream)) (sym (events-empty limit))
-    ∙ added-reads limit [] stream (InText []) next told after-nothing r is
+    ∙ added-reads after-nothing r is
 
 -- each stream leads to a place
 pub record LeadsTo (limit : Option ℕ) (stream : List ℕ) : Type 0 where
@@ -89,7 +89,7 @@ leads_to {limit} {stream} =
       place = a.next;
       is_place = a.is_place;
       is_after = after-reads after-nothing a.reads a.is_place;
-      bounded = rw (told_by_stream limit a.next stream a.told a.is_place a.reads) a.bounded;
+      bounded = rw (told_by_stream a.is_place a.reads) a.bounded;
     }
 
 -- ---- the laws
@@ -155,7 +155,7 @@ added-byte limit stream b =
       begun = after-open_character a.is_after a.is_place;
       step = s;
       ends = after-open_character later s.is_place;
-      told = added-reads limit stream (b ∷ []) a.place s.next s.told a.is_after s.reads s.is_place;
+      told = added-reads a.is_after s.reads s.is_place;
     }
 
 pub bytes_are_brief : (limit : Option ℕ) (stream : List ℕ) (b : ℕ) → AreFromOneByte limit (added limit stream (b ∷ []))

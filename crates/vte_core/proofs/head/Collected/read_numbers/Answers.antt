@@ -10,7 +10,7 @@ use Rattle.vte_core.proofs.head.Collected.read_numbers.Goals as goal
 pub loop-position-init : goal.loop-position-init
 loop-position-init g c = record {
   reads =
-      rw (part_after-none c.args.reached c.args.from c.args.from refl, c.from-number.ensures)
+      rw (part_after-none c.args.reached refl, c.from-number.ensures)
       (reads_head-nothing c.requires.in_order);
   count = omega arith;
   none = refl;
@@ -60,7 +60,7 @@ returns-then-from-position-clause-reads g c =
     let high = v.reads.high in
     record {
       head =
-          rw (part_after-none c.args.reached c.args.from c.loop-position.position c.if-from-position.true) at v.reads;
+          rw (part_after-none c.args.reached c.if-from-position.true) at v.reads;
       next = elim c.loop-position-test.branch [
         | else-loop-position-test w ↦ rw (w.next-is, v.none) (omega arith)
         | then-loop-position-test+in_default+else-several w ↦ rw w.next-is (omega arith, w.at-byte.ensures.value)

@@ -7,7 +7,7 @@ use Rattle.vte_core.proofs.params.Params.push.Goals as goal
 -- There is room for the number.
 pub push-requires : goal.push-requires
 push-requires c =
-    (lit< tt, omega (arith, count_of-cut_by_lengths _ _ c.self.invariant.lengths_fit, ap count_of c.self.view_is))
+    (lit< tt, omega (arith, count_of-cut_by_lengths c.self.invariant.lengths_fit, ap count_of c.self.view_is))
 
 -- The last length is below the most numbers, so it fits a byte.
 pub overflow_add-unwrap_or : goal.overflow_add-unwrap_or
@@ -15,7 +15,7 @@ overflow_add-unwrap_or c =
     let all = pushed _ _ _ _ _ c.args.value c.self.invariant.lengths_fit c.take_joined-length.ensures in
     let small : c.unwrap_or.result + 1 < 256 =
     rw c.unwrap_or.ensures
-    (omega (arith, all.room, count_of-cut_by_lengths _ _ c.self.invariant.lengths_fit, ap count_of c.self.view_is)) in
+    (omega (arith, all.room, count_of-cut_by_lengths c.self.invariant.lengths_fit, ap count_of c.self.view_is)) in
     record { fits = small }
 
 -- There is room for the length.
@@ -24,7 +24,7 @@ push-requires-2 c =
     let all = pushed _ _ _ _ _ c.args.value c.self.invariant.lengths_fit c.take_joined-length.ensures in (
       lit< tt,
       omega
-          (arith, all.room, count_of-cut_by_lengths _ _ c.self.invariant.lengths_fit, ap count_of c.self.view_is),
+          (arith, all.room, count_of-cut_by_lengths c.self.invariant.lengths_fit, ap count_of c.self.view_is),
     )
 
 -- The lengths are still those of the numbers.

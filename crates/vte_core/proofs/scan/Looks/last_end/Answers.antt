@@ -29,7 +29,7 @@ not_yet bytes from at state end b read inside s low is short = elim (cases_lt s.
         short,
         ap (slice_index (drop from bytes)) same,
         byte-from bytes from end b is,
-        (character-unended (drop from bytes) at state read inside s).first,
+        (character-unended read inside s).first,
       ))
 ]
 

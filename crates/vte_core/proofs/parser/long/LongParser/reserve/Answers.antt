@@ -22,7 +22,7 @@ returns-clause-lacks_open g c = λ refused stream h.
           )
       | else-not-matches w ↦ elim c.match-matches.branch [
         | in-SystemCommand v ↦
-            omega (arith, stored_is_open _ stream (ap (λ self. self.machine.state) w.self-is ∙ v.in-SystemCommand.is) h)
+            omega (arith, stored_is_open (ap (λ self. self.machine.state) w.self-is ∙ v.in-SystemCommand.is) h)
         | in_default v ↦ absurd (false≢true (sym v.matches-is ∙ w.if-not-matches.false))
       ]
     ] in

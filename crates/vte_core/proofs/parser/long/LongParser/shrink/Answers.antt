@@ -12,7 +12,7 @@ returns-clause-frees g c = λ stream h none. c.shrink_to_fit.ensures.frees (elim
     | in-SystemCommand v ↦
         omega (
           arith,
-          stored_is_open _ stream v.in-SystemCommand.is h,
+          stored_is_open v.in-SystemCommand.is h,
           none,
           ap
               (λ self. length self.machine.command.bytes) w.self-is,

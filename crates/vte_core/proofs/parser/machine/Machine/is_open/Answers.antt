@@ -15,7 +15,7 @@ returns-in-Text-clause-closed g c = λ closed stream h. elim (cases_Bool c.is_no
       let begun = c.in-Text.begun in
       let settled = settled-by c.in-Text.is (settled-nothing begun (c.is_nothing.ensures.0 nothing)) in
       let is = settled-text c.in-Text.is settled in
-      let here = place-settled_text parser h.place is h.stands in
+      let here = place-settled_text is h.stands in
       (reads-anew parser is h, is_finished-settled (subst (IsAfter g.B.Buffer.limit stream) here h.is_after))
   | inr some ↦ absurd (false≢true (sym closed ∙ ap not some))
 ]

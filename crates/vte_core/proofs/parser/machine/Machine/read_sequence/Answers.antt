@@ -17,7 +17,7 @@ returns-then-at-eq91-clause-advances g c =
     (advances-escape c.requires.may_read.begun c.requires.may_read.within c.requires.escape
     (advances-byte {next = begun} c.requires.may_read.within refl c.requires.may_read.may_go_on
     (λ place s between. performs-escape c.requires.escape refl c.begin_escape.ensures place s
-    (rw (place-settled_text _ place c.requires.may_read.begun s) refl))
+    (rw (place-settled_text c.requires.may_read.begun s) refl))
     tt))
     (advances-then
     (advances-bracket {parser = begun} refl
@@ -30,6 +30,6 @@ returns-clause-advances g c =
     (advances-escape c.requires.may_read.begun c.requires.may_read.within c.requires.escape
     (advances-byte c.requires.may_read.within refl c.requires.may_read.may_go_on
     (λ place s between. performs-escape c.requires.escape refl c.begin_escape.ensures place s
-    (rw (place-settled_text _ place c.requires.may_read.begun s) refl))
+    (rw (place-settled_text c.requires.may_read.begun s) refl))
     tt))
     c.read_escape.ensures.advances

@@ -7,7 +7,7 @@ use Rattle.vte_core.proofs.parser.machine.Machine.report_end.Goals as goal
 pub returns-in-SystemCommand-clause-told : goal.returns-in-SystemCommand-clause-told
 returns-in-SystemCommand-clause-told g c = λ place s b.
     let k = in_command c.in-SystemCommand.is s in
-    rw (pieces_held _ _ k.items k.keeps) c.dispatch.ensures.value
+    rw (pieces_held k.keeps) c.dispatch.ensures.value
     ∙ ap
     (λ place. after g.P.CountedPerform.step (g.P.CountedPerform.value_of c.args.performer.now)
     (closing_events_at g.B.Buffer.limit place)) (sym k.same)

@@ -137,7 +137,7 @@ module _ {V W : Type 0} (m : Meaning V W) {old new : PerformerValue V W} (goes_o
   stop_performs =
       let f =
       front in
-      rw (f.is, ← stops_at_front, ← told-settled m.limit p r n (rw stops_at_front (breaks_at-front m.limit p r _ f)))
+      rw (f.is, ← stops_at_front, ← told-settled m.limit p r n (rw stops_at_front (breaks_at-front f)))
       stop.comes.performed
 
   pub stop_terminated : new.terminated ≡ nat_lt 0 (begin_count (added m.limit p (front_to_begin m.limit p r)))
@@ -149,4 +149,4 @@ module _ {V W : Type 0} (m : Meaning V W) {old new : PerformerValue V W} (goes_o
   stop_stream =
       let f =
       front in rw (f.is, ← stops_at_front)
-      (resumed_stream-settled p r n (rw stops_at_front (breaks_at-front m.limit p r _ f)))
+      (resumed_stream-settled p r n (rw stops_at_front (breaks_at-front f)))

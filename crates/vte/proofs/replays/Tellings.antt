@@ -44,12 +44,12 @@ module _ (limit : Option ℕ) (parsed front : List ℕ) where
   calls_between-whole = rw (take-append_seam parsed front, take_all (length both) both (omega arith)) refl
 
   -- bytes before the first stop
-  calls_with_stops-later : (rest positions : List ℕ) (all : List ℕ) → all ≡ both ++ rest
+  calls_with_stops-later : (rest positions : List ℕ) {all : List ℕ} → all ≡ both ++ rest
       → AreInOrder (length both) positions (length all)
       → calls_with_stops limit all (length parsed) positions
       ≡ added_calls limit parsed front ++ calls_with_stops limit all (length both) positions
-  calls_with_stops-later rest [] all is from = rw is (calls_between-append rest _ (rw is at from))
-  calls_with_stops-later rest (position ∷ positions) all is (from, order) =
+  calls_with_stops-later rest [] is from = rw is (calls_between-append rest _ (rw is at from))
+  calls_with_stops-later rest (position ∷ positions) is (from, order) =
       rw (is, calls_between-append rest position from) (append_assoc (added_calls limit parsed front) _ _)
 
 -- ---- from a state to the end of a list of calls
@@ -88,7 +88,7 @@ module _ {V W : Type 0} (m : Meaning V W) (end : State V W) where
     in_order = in_order-sooner parsed front rest.positions _ rest.in_order;
     told =
         rw (
-          calls_with_stops-later m.limit parsed front rest.more rest.positions end.parsed rest.parsed_is rest.in_order,
+          calls_with_stops-later m.limit parsed front rest.more rest.positions rest.parsed_is rest.in_order,
           after_calls-append,
         ) rest.told;
   }
@@ -117,7 +117,7 @@ module _ {V W : Type 0} (m : Meaning V W) (end : State V W) where
   tells-hold state bytes = elim (cases_Option (after_last_end (state.held ++ bytes))) [
     | inl none ↦ rw (hold_turn-all m state bytes none) (λ rest. rest)
     | inr some ↦
-        rw (hold_turn-rest m state bytes some.0 some.1)
+        rw (hold_turn-rest m state bytes some.1)
         (tells-release (extend m state bytes) (from_begin_update some.0))
   ]
 

@@ -94,7 +94,7 @@ module _ {V W : Type 0} (m : Meaning V W) where
       elim (cases_Option (after_last_end (s.held ++ r))) [
         | inl none ↦ rw (hold_turn-all m s r none) held
         | inr some ↦
-            rw (hold_turn-rest m s r some.0 some.1)
+            rw (hold_turn-rest m s r some.1)
             (grows_on held (release_grows
             (rw some.1 at (stays-is (s.held ++ r)))))
       ]

@@ -111,7 +111,7 @@ module _ {V W : Type 0} (m : Meaning V W) where
         | inl none ↦
             rw (hold_turn-all m s r none) (record { no_end = none; fits = fits; steady = λ k. inr (inside k) })
         | inr some ↦
-            rw (hold_turn-rest m s r some.0 some.1)
+            rw (hold_turn-rest m s r some.1)
             (keep_well (extend m s r) (from_begin_update some.0) (rw some.1 at (stays_held (s.held ++ r))) fits inside)
       ]
 

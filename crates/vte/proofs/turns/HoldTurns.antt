@@ -29,7 +29,7 @@ module _ {V W : Type 0} (m : Meaning V W) where
         ∙ rw (is, no_front) (sym (ap (λ t. with_held t all) (parse-nothing m (extend m s r))))
     | inr last ↦
         let is : still_held (s.held ++ r) ≡ from_begin_update last.0 = rw last.1 refl in
-        hold_turn-rest m s r last.0 last.1
+        hold_turn-rest m s r last.1
         ∙ rw is (release-some (extend m s r) (from_begin_update last.0) (rw is at some))
   ]
 
@@ -39,7 +39,7 @@ module _ {V W : Type 0} (m : Meaning V W) where
     | inl whole ↦ let all : s.held ++ r ≡ [] = rw whole at none in absurd (omega (arith, some, ap length all))
     | inr last ↦
         let nothing : from_begin_update last.0 ≡ [] = rw last.1 at none in
-        hold_turn-rest m s r last.0 last.1 ∙ rw nothing refl
+        hold_turn-rest m s r last.1 ∙ rw nothing refl
   ]
 
 -- the hold has the new bytes, and the timeout was set as often as they begin updates

@@ -7,9 +7,9 @@ module _ {V W : Type 0} (m : Meaning V W) (s : State V W) (r : List ℕ) where
   pub hold_turn-all : after_last_end (s.held ++ r) ≡ None → hold_turn m s r ≡ extend m s r
   hold_turn-all none = rw none refl
 
-  pub hold_turn-rest : (rest : List ℕ) → after_last_end (s.held ++ r) ≡ Some rest
+  pub hold_turn-rest : {rest : List ℕ} → after_last_end (s.held ++ r) ≡ Some rest
       → hold_turn m s r ≡ release m (extend m s r) (from_begin_update rest)
-  hold_turn-rest rest is = rw is refl
+  hold_turn-rest is = rw is refl
 
 -- ---- whether bytes are held, and what is stopped before they are parsed
 

@@ -97,8 +97,8 @@ pub open_character-front : {limit : Option ℕ} {p r : List ℕ} {k : ℕ} → I
 open_character-front f more = open_character-begin (f.ends (f.begins more))
 
 -- no character is broken after the front
-pub breaks_at-front : (limit : Option ℕ) (p r : List ℕ) (k : ℕ) → IsFront limit p r k → breaks_at p r k ≡ false
-breaks_at-front limit p r k f = elim (cases_lt k (length r)) [
+pub breaks_at-front : {limit : Option ℕ} {p r : List ℕ} {k : ℕ} → IsFront limit p r k → breaks_at p r k ≡ false
+breaks_at-front {p} {r} {k} f = elim (cases_lt k (length r)) [
   | inl more ↦ breaks_at-settled p r k (open_character-front f more)
   | inr all ↦ breaks_at-all p r k all
 ]

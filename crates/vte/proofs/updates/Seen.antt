@@ -224,6 +224,6 @@ module _ {held more text : List ℕ} {start : ℕ} (e : IsHeldTail held more tex
       let tail : drop start all ≡ drop (length held - 7) all = rw e.start_is in
       let no_end : after_last_end all ≡ None = cc (tail, after_last_end-tail held more none, rest.no_end) in
       record {
-        begins = rw no_end (cc (tail, rest.begins_are, begins_ending_in_last-tail (length more) held more refl));
+        begins = rw no_end (cc (tail, rest.begins_are, begins_ending_in_last-tail held more refl));
         released = rw no_end (omega arith);
       }

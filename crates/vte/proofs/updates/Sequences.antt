@@ -164,16 +164,16 @@ after_last_end-tail (b ∷ old) more none = elim (cases_lt (length old) 7) [
 
 -- A begin-update ends among the last n bytes only if it begins among these and the seven before
 -- them.
-pub begins_ending_in_last-tail : (n : ℕ) (old more : List ℕ) → length more ≡ n
+pub begins_ending_in_last-tail : {n : ℕ} (old more : List ℕ) → length more ≡ n
     → begins_ending_in_last n (old ++ more) ≡ begins_ending_in_last n (drop (length old - 7) (old ++ more))
-begins_ending_in_last-tail n [] more is = refl
-begins_ending_in_last-tail n (b ∷ old) more is = elim (cases_lt (length old) 7) [
+begins_ending_in_last-tail [] more is = refl
+begins_ending_in_last-tail {n} (b ∷ old) more is = elim (cases_lt (length old) 7) [
   | inl few ↦ let e : suc (length old) - 7 ≡ 0 = omega arith in rw e
   | inr many ↦
       let e : suc (length old) - 7 ≡ suc (length old - 7) = omega arith in
       let far : nat_lt (length (drop 7 (old ++ more))) n ≡ false =
       rw (length-drop, length-append) (grind (arith, nat_tests)) in
-      let tail = begins_ending_in_last-tail n old more is in
+      let tail = begins_ending_in_last-tail old more is in
       rw e (elim (cases_Bool (begins_with begin_update (b ∷ (old ++ more)))) [
         | inl here ↦ rw (after_word-whole begin_update (b ∷ (old ++ more)) here, far, zero-add) tail
         | inr other ↦ rw (not_some _ other, zero-add) tail

@@ -1,9 +1,7 @@
 -- Texts joined one by one: the buffer holds what was joined, the rest adds the others, and there is room for them
 -- (`Joins`).
 use Rattle.std.proofs.lemmas.Str.{IsUtf8-from_is_utf8, is_utf8-from_IsUtf8}
-use Rattle.vte.proofs.Common.{◌≡◌, ◌≤◌, ◌<◌, ◌+◌, ◌∙◌, ℕ, Bool, true, false, List, [], ◌∷◌, ◌++◌, length, refl, sym, ap, arith, map, drop, get_or, Bor}
-use Rattle.vte.proofs.Common.{false_from_ne_true, append-nil, drop_more, concat, join_with_byte, is_utf8, IsUtf8}
-use Rattle.vte.proofs.Common.{append_assoc, length-append, decimal, text_to_join, joined_texts, text_in, filter_map, Option, Some, None, FitsRoom, joined_size}
+use Rattle.vte.proofs.Common.{◌≡◌, ◌≤◌, ◌<◌, ◌+◌, ◌∙◌, ℕ, Bool, true, false, List, [], ◌∷◌, ◌++◌, length, refl, sym, ap, arith, map, drop, get_or, Bor, false_from_ne_true, append-nil, drop_more, concat, join_with_byte, is_utf8, IsUtf8, append_assoc, length-append, decimal, text_to_join, joined_texts, text_in, filter_map, Option, Some, None, FitsRoom, joined_size}
 use Rattle.std.proofs.lemmas.Fmt.{length-decimal-le}
 use Rattle.std.specs.Option.{option_map, unwrap_or}
 

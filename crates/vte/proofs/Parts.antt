@@ -1,7 +1,6 @@
 -- The first part of a text ends at its first separator, and a text without one is its own part.
 use Rattle.std.specs.List.{position_or_len, slice_split}
-use Rattle.vte.proofs.Common.{◌≡◌, ◌<◌, ℕ, Bool, List, [], ◌∷◌, ◌+◌, length, Option, None, Some, sym, arith, Bor, take, drop, slice_split_first, slice_split_none}
-use Rattle.vte.proofs.Common.{fails_before_first}
+use Rattle.vte.proofs.Common.{◌≡◌, ◌<◌, ℕ, Bool, List, [], ◌∷◌, ◌+◌, length, Option, None, Some, sym, arith, Bor, take, drop, slice_split_first, slice_split_none, fails_before_first}
 
 -- where no separator stands, the text is one part
 pub whole_part : (p : ℕ → Bool) (text : List ℕ) → position_or_len p text ≡ length text → slice_split p text ≡ text ∷ []

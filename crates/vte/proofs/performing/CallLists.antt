@@ -1,8 +1,6 @@
 -- The calls of events that follow one another, and those that more bytes add: those of the whole are those of the
 -- parts joined. By induction over the events, with the last printed character carried along.
-use Rattle.vte.proofs.Common.{◌≡◌, ℕ, None, List, [], ◌∷◌, ◌++◌, Option, refl, ap, ◌∙◌, append_assoc, drop-append_seam, Event, added, events, added-append, added-nothing}
-use Rattle.vte.proofs.Common.{events_grow, Call, after, added_calls, calls_after, calls, calls_from, last_printed_after, last_printed, last_printed_from, zero, suc, ◌+◌, zero-add, suc-add, Bool, ◌||◌}
-use Rattle.vte.proofs.Common.{nat_lt, arith, nat_tests, TimeoutMeaning, set_times, update_nanos, PerformerValue, first_number, is_update_group, update_group_count, with_private_mode, with_private_modes}
+use Rattle.vte.proofs.Common.{◌≡◌, ℕ, None, List, [], ◌∷◌, ◌++◌, Option, refl, ap, ◌∙◌, append_assoc, drop-append_seam, Event, added, events, added-append, added-nothing, events_grow, Call, after, added_calls, calls_after, calls, calls_from, last_printed_after, last_printed, last_printed_from, zero, suc, ◌+◌, zero-add, suc-add, Bool, ◌||◌, nat_lt, arith, nat_tests, TimeoutMeaning, set_times, update_nanos, PerformerValue, first_number, is_update_group, update_group_count, with_private_mode, with_private_modes}
 use Rattle.std.specs.Bool.{if◌then◌else◌}
 
 pub after_calls-append : {V : Type 0} (step : V → Call → V) (value : V) (xs ys : List Call)

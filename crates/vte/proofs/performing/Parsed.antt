@@ -1,9 +1,6 @@
 -- What parsed bytes make of a handler and a timeout. A performer's value steps by events; all events together make the
 -- calls of their rows and set the timeout once per begin of an update. An early stop is the front up to the begin.
-use Rattle.vte.proofs.Common.{◌≡◌, ℕ, ◌+◌, ◌<◌, inl, inr, Bool, false, ◌||◌, nat_lt, All, List, [], ◌∷◌, ◌++◌, length, take, refl, ap, sym, ◌∙◌, arith, or-false}
-use Rattle.vte.proofs.Common.{cases_lt, false≢true, nat_tests, All-head, All-tail, told_before, resumed_stream, StopsExactly, Event, added, events, starts-settled, resumed_stream-settled, told-settled, events_grow}
-use Rattle.vte.proofs.Common.{after, PerformerState, begin_count, begins_in_event, calls_of, calls_from, last_printed_after, last_printed, last_printed_from, performer_value, Meaning, set_times, FitsText, PerformerValue}
-use Rattle.vte.proofs.Common.{with_event, engine_meaning, ArePartsAt, ArePartsAtKeeping, KeepsMemory, State, parse, front_to_begin, ParserMeaning}
+use Rattle.vte.proofs.Common.{◌≡◌, ℕ, ◌+◌, ◌<◌, inl, inr, Bool, false, ◌||◌, nat_lt, All, List, [], ◌∷◌, ◌++◌, length, take, refl, ap, sym, ◌∙◌, arith, or-false, cases_lt, false≢true, nat_tests, All-head, All-tail, told_before, resumed_stream, StopsExactly, Event, added, events, starts-settled, resumed_stream-settled, told-settled, events_grow, after, PerformerState, begin_count, begins_in_event, calls_of, calls_from, last_printed_after, last_printed, last_printed_from, performer_value, Meaning, set_times, FitsText, PerformerValue, with_event, engine_meaning, ArePartsAt, ArePartsAtKeeping, KeepsMemory, State, parse, front_to_begin, ParserMeaning}
 use Rattle.vte_core.specs.Perform.{after as performed}
 use Rattle.vte.specs.declared.ansi.performer.Performer.{Performer}
 use Rattle.vte.proofs.performing.CallLists.{after_calls-append, added_calls-events, last_printed-append, set_times-add}

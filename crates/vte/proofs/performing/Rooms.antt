@@ -1,9 +1,6 @@
 -- With room for all bytes, a parser reads them all, and each command's joined text fits. No command has more data than
 -- was stored and read, nor more separators than 16; so the contracts of both parsers become those of one.
-use Rattle.vte.proofs.Common.{◌≡◌, ℕ, ◌+◌, ◌≤◌, true, All, Option, Some, None, List, [], ◌∷◌, ◌++◌, length, Result, Ok, Err, refl, arith, concat, take-append_seam, usual_limit}
-use Rattle.vte.proofs.Common.{false≢true, nat_tests, All-cons, All-drop, All-head, All-nil, All-tail, All-take, Event, OscDispatch}
-use Rattle.vte.proofs.Common.{added, events, LongParser, Refused, added-append, counts_data, events_are_bounded, PerformsAll, PerformsUntilStop, FitsText, PerformerValue, ParserHasMemory, KeepsMemory, fits_room, limited_meaning}
-use Rattle.vte.proofs.Common.{long_meaning}
+use Rattle.vte.proofs.Common.{◌≡◌, ℕ, ◌+◌, ◌≤◌, true, All, Option, Some, None, List, [], ◌∷◌, ◌++◌, length, Result, Ok, Err, refl, arith, concat, take-append_seam, usual_limit, false≢true, nat_tests, All-cons, All-drop, All-head, All-nil, All-tail, All-take, Event, OscDispatch, added, events, LongParser, Refused, added-append, counts_data, events_are_bounded, PerformsAll, PerformsUntilStop, FitsText, PerformerValue, ParserHasMemory, KeepsMemory, fits_room, limited_meaning, long_meaning}
 use Rattle.vte_core.specs.EventBounds.{IsBounded}
 use Rattle.vte_core.specs.LongParserCalls.{ReadsBytesLong, ReadsUntilTerminatedLong}
 use Rattle.vte_core.specs.LongParser.{memory_of, open_command_size, read_count}

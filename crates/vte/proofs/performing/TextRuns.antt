@@ -1,8 +1,6 @@
 -- What a run of text makes of a performer: the calls of its characters, and its last character. By induction over the
 -- characters; the last one is found from the end, because no character begins with a byte that continues one.
-use Rattle.vte.proofs.Common.{◌≡◌, ℕ, ◌≤◌, Option, Some, None, List, [], ◌∷◌, ◌++◌, length, get_or, map, refl, ap, sym, ◌∙◌, add-zero, arith, or-false}
-use Rattle.vte.proofs.Common.{drop-append_seam, take-append_seam, nat_tests, append-nil, get_or-append-add, length-append, IsCharBoundary, IsUtf8, chars, Print, Input, after, last_printed_from}
-use Rattle.vte.proofs.Common.{Call, TimeoutMeaning, PerformerValue, with_event, option_or}
+use Rattle.vte.proofs.Common.{◌≡◌, ℕ, ◌≤◌, Option, Some, None, List, [], ◌∷◌, ◌++◌, length, get_or, map, refl, ap, sym, ◌∙◌, add-zero, arith, or-false, drop-append_seam, take-append_seam, nat_tests, append-nil, get_or-append-add, length-append, IsCharBoundary, IsUtf8, chars, Print, Input, after, last_printed_from, Call, TimeoutMeaning, PerformerValue, with_event, option_or}
 use Rattle.std.proofs.Math.Utf8.{encode}
 use Rattle.std.proofs.lemmas.Str.{IsUtf8-drop, IsUtf8-take, chars-append, chars-nil, chars_past_char}
 use Rattle.std.proofs.lemmas.List.{nil_from_length}

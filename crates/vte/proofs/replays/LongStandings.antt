@@ -1,8 +1,7 @@
 -- A processor without a limit stands where its engine does, and does what that ensures. A call is refused no memory
 -- that was there for all its bytes: room for the held and the given bytes at the start leaves room for what is left,
 -- turn by turn.
-use Rattle.vte.proofs.Common.{◌≡◌, ℕ, ◌+◌, ◌-◌, ◌<◌, List, ◌++◌, length, Result, Ok, Err, refl, ap, arith, length-append, Refused, counts_data}
-use Rattle.vte.proofs.Common.{AdvancesLong, Bor, Meaning, IsAt, HasMemory, HasParsedAndHoldsLong, HasTaken, Reserves, StopsSyncLong, EngineLacksMemory, EngineReads, EngineReserves, EngineStandsAt, EngineStops, State, Bool, stop, drop, length-drop, unlimited, rules}
+use Rattle.vte.proofs.Common.{◌≡◌, ℕ, ◌+◌, ◌-◌, ◌<◌, List, ◌++◌, length, Result, Ok, Err, refl, ap, arith, length-append, Refused, counts_data, AdvancesLong, Bor, Meaning, IsAt, HasMemory, HasParsedAndHoldsLong, HasTaken, Reserves, StopsSyncLong, EngineLacksMemory, EngineReads, EngineReserves, EngineStandsAt, EngineStops, State, Bool, stop, drop, length-drop, unlimited, rules}
 use Rattle.vte.proofs.turns.EngineTurns.{taken-to}
 use Rattle.vte.proofs.replays.Standings.{reads_in_turns}
 use Rattle.vte.specs.declared.ansi.long_processor.LongProcessor.{LongProcessor}

@@ -1,7 +1,6 @@
 -- With a timeout that is never pending nothing is ever held, so a list of calls has no stops, and makes the calls of
 -- the whole stream. By induction over turns: each one is open, and ends with nothing held.
-use Rattle.vte.proofs.Common.{◌≡◌, ℕ, true, false, List, [], ◌∷◌, ◌++◌, refl, ap, sym, ◌∙◌, Bor, append-nil, events, after, Step, Advance, StopSync, added_calls, calls}
-use Rattle.vte.proofs.Common.{Meaning, HasAdvanced, HasParsedAll, IsAt, HasReplayed, Replays, TakesSteps, StandingPredicate, given_bytes, State, TakesAllTurns, done, turns, turn}
+use Rattle.vte.proofs.Common.{◌≡◌, ℕ, true, false, List, [], ◌∷◌, ◌++◌, refl, ap, sym, ◌∙◌, Bor, append-nil, events, after, Step, Advance, StopSync, added_calls, calls, Meaning, HasAdvanced, HasParsedAll, IsAt, HasReplayed, Replays, TakesSteps, StandingPredicate, given_bytes, State, TakesAllTurns, done, turns, turn}
 use Rattle.vte.specs.ProcessorCalls.{AreAdvances, IsNeverPending, ParsesAll}
 use Rattle.vte.proofs.performing.CallLists.{after_calls-append, calls_whole}
 use Rattle.vte.proofs.replays.Replays.{advance_runs}

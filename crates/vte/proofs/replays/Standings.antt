@@ -1,7 +1,5 @@
 -- A processor with a limit stands where its engine does: there is always memory. So it does what the engine ensures.
-use Rattle.vte.proofs.Common.{◌≤◌, ℕ, List, length, Result, Ok, Err, arith, Bor, Refused, EngineMeaning, Meaning, State, usual_limit}
-use Rattle.vte.proofs.Common.{HasAdvanced, HasParsedAndHolds, HasTaken, IsAt, ReadsInTurns, EngineReads, StandingPredicate, EngineStandsAt}
-use Rattle.vte.proofs.Common.{◌≡◌, refl, rules, limited_meaning, engine_meaning}
+use Rattle.vte.proofs.Common.{◌≤◌, ℕ, List, length, Result, Ok, Err, arith, Bor, Refused, EngineMeaning, Meaning, State, usual_limit, HasAdvanced, HasParsedAndHolds, HasTaken, IsAt, ReadsInTurns, EngineReads, StandingPredicate, EngineStandsAt, ◌≡◌, refl, rules, limited_meaning, engine_meaning}
 use Rattle.vte_core.specs.declared.parser.Parser.{Parser}
 use Rattle.vte.proofs.replays.PlainReplays.{plain_call}
 use Rattle.vte.proofs.turns.EngineTurns.{has_advanced, taken-to}

@@ -1,8 +1,6 @@
 -- Each given byte is parsed or held, once and in order. Each turn and stop keeps `Progresses`: parsed, held and left
 -- bytes together are those of before, and `Progresses` composes over the turns of a call and over calls.
-use Rattle.vte.proofs.Common.{◌≡◌, ℕ, ◌-◌, suc, inl, inr, Bool, Option, List, [], ◌∷◌, ◌++◌, length, take, drop, refl, ap, sym, ◌∙◌, append_assoc, arith}
-use Rattle.vte.proofs.Common.{take-append-drop, Step, Advance, StopSync, Meaning, TakesSteps, given_bytes, after_last_end, State, TakesTurns, all_bytes, front_to_begin, extend, hold_turn, release}
-use Rattle.vte.proofs.Common.{cases_Bool, nat_tests, append-nil, parse, stop, turn, done, turns}
+use Rattle.vte.proofs.Common.{◌≡◌, ℕ, ◌-◌, suc, inl, inr, Bool, Option, List, [], ◌∷◌, ◌++◌, length, take, drop, refl, ap, sym, ◌∙◌, append_assoc, arith, take-append-drop, Step, Advance, StopSync, Meaning, TakesSteps, given_bytes, after_last_end, State, TakesTurns, all_bytes, front_to_begin, extend, hold_turn, release, cases_Bool, nat_tests, append-nil, parse, stop, turn, done, turns}
 use Rattle.std.proofs.lemmas.List.{nil_from_length}
 use Rattle.vte.proofs.updates.Fronts.{front-is}
 use Rattle.vte.proofs.turns.Kinds.{hold_turn-all, hold_turn-rest, is_held, is_stopped, stop_if_due, turn-holds, turn-parses}

@@ -1,10 +1,6 @@
 -- The facts of a hold, `HoldsWell`, are kept by turns and stops: by cases of the timeout's answer and of what a hold
 -- turn keeps, which is all, or starts with a begin-update, or is nothing.
-use Rattle.vte.proofs.Common.{◌≡◌, ℕ, zero, suc, ◌-◌, ◌<◌, ◌≤◌, inl, inr, Bool, true, false, List, [], ◌∷◌, ◌++◌, length, take, refl, sym}
-use Rattle.vte.proofs.Common.{length-append, arith, cases_Bool, cases_lt, false≢true, nat_tests, added}
-use Rattle.vte.proofs.Common.{TimeoutMeaning, AllowsOnly, IsSteady, begin_count, IsOutsideUpdate, IsInsideUpdate, Meaning, set_times}
-use Rattle.vte.proofs.Common.{update_nanos, HoldsWellAt, begin_update, begins_ending_in_last, after_last_end, from_begin_update, part_after_last_end, State, TakesTurns, stop, front_to_begin, open_turn, release}
-use Rattle.vte.proofs.Common.{extend, hold_turn, turn, done, turns, most_held, ap, append-nil}
+use Rattle.vte.proofs.Common.{◌≡◌, ℕ, zero, suc, ◌-◌, ◌<◌, ◌≤◌, inl, inr, Bool, true, false, List, [], ◌∷◌, ◌++◌, length, take, refl, sym, length-append, arith, cases_Bool, cases_lt, false≢true, nat_tests, added, TimeoutMeaning, AllowsOnly, IsSteady, begin_count, IsOutsideUpdate, IsInsideUpdate, Meaning, set_times, update_nanos, HoldsWellAt, begin_update, begins_ending_in_last, after_last_end, from_begin_update, part_after_last_end, State, TakesTurns, stop, front_to_begin, open_turn, release, extend, hold_turn, turn, done, turns, most_held, ap, append-nil}
 use Rattle.vte.proofs.turns.EachOnce.{stop_if_due_none}
 use Rattle.vte.proofs.updates.Fronts.{front-is}
 use Rattle.vte.proofs.turns.Kinds.{hold_turn-all, hold_turn-rest, is_held, is_stopped, stop_if_due, turn-holds, turn-parses}

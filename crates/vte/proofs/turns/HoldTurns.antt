@@ -1,8 +1,6 @@
 -- A hold turn by its parts: bytes join the hold, the timeout is set as often as they begin updates, and what the hold
 -- releases is parsed.
-use Rattle.vte.proofs.Common.{◌≡◌, ℕ, ◌+◌, ◌-◌, ◌<◌, List, [], ◌∷◌, ◌++◌, length, length-append, length-take, take, refl, sym, ◌∙◌, arith, take_all, Engine, IsAdded}
-use Rattle.vte.proofs.Common.{held_of, released_of, still_held, Meaning, set_times, EngineIsAt, EngineMeaning, EngineIsAtKeeping, ArePartsAt, ArePartsAtKeeping, ArePartsAtWithMemory, State, after_last_end, extend, from_begin_update, hold_turn, release}
-use Rattle.vte.proofs.Common.{ap, inl, inr, parse, stop, with_held}
+use Rattle.vte.proofs.Common.{◌≡◌, ℕ, ◌+◌, ◌-◌, ◌<◌, List, [], ◌∷◌, ◌++◌, length, length-append, length-take, take, refl, sym, ◌∙◌, arith, take_all, Engine, IsAdded, held_of, released_of, still_held, Meaning, set_times, EngineIsAt, EngineMeaning, EngineIsAtKeeping, ArePartsAt, ArePartsAtKeeping, ArePartsAtWithMemory, State, after_last_end, extend, from_begin_update, hold_turn, release, ap, inl, inr, parse, stop, with_held}
 use Rattle.std.proofs.lemmas.List.{nil_from_length}
 use Rattle.vte.proofs.turns.Kinds.{hold_turn-all, hold_turn-rest}
 use Rattle.vte.proofs.turns.Slices.{parse-nothing}

@@ -1,6 +1,5 @@
 -- Turns by their cases: a hold turn by whether the hold has an end-update, and a turn by whether its bytes are held.
-use Rattle.vte.proofs.Common.{◌≡◌, ◌⊎◌, inl, inr, refl, Bool, true, false, List, [], Some, None, ◌++◌, ◌+◌, ◌||◌, ℕ, zero, suc, length, nat_le, nat_lt, cases_Bool, arith, nat_tests}
-use Rattle.vte.proofs.Common.{ExpiredTurn, Meaning, OpenTurn, OpenTurnIsRefused, State, TurnIsRefused, after_last_end, extend, from_begin_update, hold_turn, kind_of, most_held, open_turn, release, stop, turn}
+use Rattle.vte.proofs.Common.{◌≡◌, ◌⊎◌, inl, inr, refl, Bool, true, false, List, [], Some, None, ◌++◌, ◌+◌, ◌||◌, ℕ, zero, suc, length, nat_le, nat_lt, cases_Bool, arith, nat_tests, ExpiredTurn, Meaning, OpenTurn, OpenTurnIsRefused, State, TurnIsRefused, after_last_end, extend, from_begin_update, hold_turn, kind_of, most_held, open_turn, release, stop, turn}
 use Rattle.std.specs.Prelude.{◌&&◌, if◌then◌else◌}
 
 module _ {V W : Type 0} (m : Meaning V W) (s : State V W) (r : List ℕ) where

@@ -1,10 +1,7 @@
 -- An open turn by its slices, and turns that are refused memory. Slices in which no update begins add up to a longer
 -- front, so the turn ends where the front of the whole does; where one is refused, `OpenTurnIsRefused` says how far it
 -- came.
-use Rattle.vte.proofs.Common.{◌≡◌, ℕ, ◌+◌, ◌-◌, ◌<◌, ◌≤◌, inl, Bool, true, false, nat_lt, List, [], ◌∷◌, ◌++◌, length, take, drop, refl, ap, sym, subst}
-use Rattle.vte.proofs.Common.{◌∙◌, arith, length-append, length-drop, append_assoc, drop-append-add, take-add, nat_tests, append-nil, drop_all, length-take-le}
-use Rattle.vte.proofs.Common.{take-append-drop, take_all, take_at, added, IsSteady, begin_count, IsOutsideUpdate, Meaning, HoldsWellAt, HasHalted, HasParsedFront, HasParsedWithoutBegin, HasTakenOpenTurn}
-use Rattle.vte.proofs.Common.{TakesAllTurns, OpenTurn, OpenTurnIsRefused, State, TakesTurnsUntilRefused, TakesTurns, front_to_begin, between_turns, done, kind_of, open_turn, parse, turn, turns, inside_turn}
+use Rattle.vte.proofs.Common.{◌≡◌, ℕ, ◌+◌, ◌-◌, ◌<◌, ◌≤◌, inl, Bool, true, false, nat_lt, List, [], ◌∷◌, ◌++◌, length, take, drop, refl, ap, sym, subst, ◌∙◌, arith, length-append, length-drop, append_assoc, drop-append-add, take-add, nat_tests, append-nil, drop_all, length-take-le, take-append-drop, take_all, take_at, added, IsSteady, begin_count, IsOutsideUpdate, Meaning, HoldsWellAt, HasHalted, HasParsedFront, HasParsedWithoutBegin, HasTakenOpenTurn, TakesAllTurns, OpenTurn, OpenTurnIsRefused, State, TakesTurnsUntilRefused, TakesTurns, front_to_begin, between_turns, done, kind_of, open_turn, parse, turn, turns, inside_turn}
 use Rattle.vte.proofs.performing.CallLists.{after_calls-append, added_calls-append, added_calls-nothing, set_times-add}
 use Rattle.vte.proofs.turns.EachOnce.{Progresses, grows_on, stop_if_due_grows, stop_if_due_none, parse_grows, turns_grow}
 use Rattle.vte.proofs.updates.Fronts.{begin_count-added, front-after, front-all, front-more, front-some, begin_count-nothing, begin_count-none}

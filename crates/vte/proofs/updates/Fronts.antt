@@ -1,9 +1,7 @@
 -- An early stop reads exactly the front up to the byte that begins an update. Such a byte ends a control sequence, so
 -- no character is open or broken there, and the front is the shortest that adds a begin.
 use Rattle.vte_core.proofs.shapes.Told.{breaks_at-all, breaks_at-settled, told-broken}
-use Rattle.vte.proofs.Common.{◌≡◌, ℕ, zero, suc, ◌+◌, ◌<◌, ◌≤◌, inl, inr, false, nat_lt, Option, List, [], ◌∷◌, ◌++◌, length, take, refl, ap, subst, ◌∙◌}
-use Rattle.vte.proofs.Common.{append_assoc, arith, cases_Bool, cases_lt, nat_tests, append-nil, take_all, breaks_at, told_before, Event, Print, replacement, added, open_character}
-use Rattle.vte.proofs.Common.{told-settled, added-append, added-nothing, opens_silently, begin_count, EndsInBegin, front_to_begin}
+use Rattle.vte.proofs.Common.{◌≡◌, ℕ, zero, suc, ◌+◌, ◌<◌, ◌≤◌, inl, inr, false, nat_lt, Option, List, [], ◌∷◌, ◌++◌, length, take, refl, ap, subst, ◌∙◌, append_assoc, arith, cases_Bool, cases_lt, nat_tests, append-nil, take_all, breaks_at, told_before, Event, Print, replacement, added, open_character, told-settled, added-append, added-nothing, opens_silently, begin_count, EndsInBegin, front_to_begin}
 
 -- ---- how often bytes begin an update
 

@@ -1,8 +1,6 @@
 -- The two sequences of updates in a text, and the parts after them. Both have eight bytes and one ESC, so they never
 -- overlap; without an end-update in the older bytes, their last seven decide as all of them would.
-use Rattle.vte.proofs.Common.{◌≡◌, ℕ, zero, suc, ◌+◌, ◌-◌, ◌≤◌, inl, inr, ◌⊎◌, true, false, Option, Some, None, List, [], ◌∷◌, ◌++◌, length, drop, refl, ap}
-use Rattle.vte.proofs.Common.{zero-add, length-append, length-drop, arith, cases_Bool, cases_lt, nat_tests, drop-drop, after_word, begin_update, end_update, begins_with, after_last_end, from_begin_update}
-use Rattle.vte.proofs.Common.{begins_ending_in_last, still_held, sym, ◌<◌}
+use Rattle.vte.proofs.Common.{◌≡◌, ℕ, zero, suc, ◌+◌, ◌-◌, ◌≤◌, inl, inr, ◌⊎◌, true, false, Option, Some, None, List, [], ◌∷◌, ◌++◌, length, drop, refl, ap, zero-add, length-append, length-drop, arith, cases_Bool, cases_lt, nat_tests, drop-drop, after_word, begin_update, end_update, begins_with, after_last_end, from_begin_update, begins_ending_in_last, still_held, sym, ◌<◌}
 use Rattle.std.specs.Prelude.{is_some, nat_lt}
 
 -- an `Option` by cases, for `elim`

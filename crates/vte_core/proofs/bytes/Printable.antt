@@ -1,7 +1,6 @@
 -- The text of runs: bytes of ASCII, or a character, are well-formed text whose events are theirs, and two runs one
 -- after another are a run. By induction over the bytes.
-use Rattle.vte_core.proofs.Common.{◌≡◌, ℕ, ◌+◌, ◌-◌, ◌<◌, ◌≤◌, Bool, true, false, ◌&&◌, not, List, [], ◌∷◌, ◌++◌, map, length, get_or, take, drop, refl, sym, ap, subst, ◌∙◌, arith, and_right, nat_tests, get_or-drop, All-append, All-nil, All-cons, All, slice_index, IsAscii, chars, Print, IsPrintedAscii, ArePrintedAscii, IsUtf8Run, IsRun, from_to, append-nil, encode, IsScalar, after, Event, is_in}
-use Rattle.vte_core.proofs.Common.{is_control_character, is_layout, StaysInRun, run_event}
+use Rattle.vte_core.proofs.Common.{◌≡◌, ℕ, ◌+◌, ◌-◌, ◌<◌, ◌≤◌, Bool, true, false, ◌&&◌, not, List, [], ◌∷◌, ◌++◌, map, length, get_or, take, drop, refl, sym, ap, subst, ◌∙◌, arith, and_right, nat_tests, get_or-drop, All-append, All-nil, All-cons, All, slice_index, IsAscii, chars, Print, IsPrintedAscii, ArePrintedAscii, IsUtf8Run, IsRun, from_to, append-nil, encode, IsScalar, after, Event, is_in, is_control_character, is_layout, StaysInRun, run_event}
 use Rattle.std.proofs.Common.{take-add}
 use Rattle.vte_core.proofs.bytes.EachLemmas.{one_byte}
 use Rattle.std.proofs.lemmas.List.{length-take, get_or-take}

@@ -1,7 +1,6 @@
 -- What is told from position to position. A call is followed with a performer that keeps all events; so what any
 -- performer receives is a function of the bytes, and a stretch that tells no run is known by its events.
-use Rattle.vte_core.proofs.Common.{◌≡◌, ℕ, ◌+◌, ◌<◌, inl, inr, false, Option, List, [], ◌∷◌, ◌++◌, length, take, refl, ap, sym, ◌∙◌, append_assoc, append-nil, arith, cases_Bool, slice_index, false≢true, All, All-append, All-cons, All-nil, Event, Print, replacement, after, added, told_before, resumed_stream, breaks_at, State, Text, DeviceData, Machine, StandsBy, StandsAt, StandsInside, BytesLead, ChunkCall, chunk_call}
-use Rattle.vte_core.proofs.Common.{Place, InText, InDeviceData, IsAfter, AddsOutsideRuns, IsOutsideRuns}
+use Rattle.vte_core.proofs.Common.{◌≡◌, ℕ, ◌+◌, ◌<◌, inl, inr, false, Option, List, [], ◌∷◌, ◌++◌, length, take, refl, ap, sym, ◌∙◌, append_assoc, append-nil, arith, cases_Bool, slice_index, false≢true, All, All-append, All-cons, All-nil, Event, Print, replacement, after, added, told_before, resumed_stream, breaks_at, State, Text, DeviceData, Machine, StandsBy, StandsAt, StandsInside, BytesLead, ChunkCall, chunk_call, Place, InText, InDeviceData, IsAfter, AddsOutsideRuns, IsOutsideRuns}
 use Rattle.vte_core.specs.machine.Completes.{AddsCharacter}
 use Rattle.vte_core.specs.machine.Progress.{HasProgress}
 use Rattle.vte_core.specs.machine.ToRun.{IsReadOutsideRuns}

@@ -1,7 +1,6 @@
 -- A byte that a state's function reads: the state says at which place the parser is, so what the byte does after that
 -- place is what the function must have done.
-use Rattle.vte_core.proofs.Common.{◌≡◌, ℕ, ◌+◌, ◌<◌, false, Option, List, [], ◌∷◌, sym, subst, length, slice_index, class_of, ends_body, Machine, State, Escape, EscapeIntermediate, DeviceData, SystemCommand, IgnoredString, Event, Advances, MayGoOn, IsSettled, Leads, BytesLead, HoldsIntermediates, StandsAtPlace, StandsBy, TakesBytes, Place, AtEscape, InEscape, InDeviceData, InSystemCommand, InIgnoredString, IsSettledPlace, closing_events_at, HoldsItems, TakesByte, ChunkCall}
-use Rattle.vte_core.proofs.Common.{after, escape}
+use Rattle.vte_core.proofs.Common.{◌≡◌, ℕ, ◌+◌, ◌<◌, false, Option, List, [], ◌∷◌, sym, subst, length, slice_index, class_of, ends_body, Machine, State, Escape, EscapeIntermediate, DeviceData, SystemCommand, IgnoredString, Event, Advances, MayGoOn, IsSettled, Leads, BytesLead, HoldsIntermediates, StandsAtPlace, StandsBy, TakesBytes, Place, AtEscape, InEscape, InDeviceData, InSystemCommand, InIgnoredString, IsSettledPlace, closing_events_at, HoldsItems, TakesByte, ChunkCall, after, escape}
 use Rattle.vte_core.proofs.calls.Stretches.{advances-byte, advances-if}
 use Rattle.vte_core.specs.machine.ToRun.{IsReadOutsideRuns}
 use Rattle.vte_core.proofs.fields.PlaceOfState.{stands-by, stands-in, stands-place}

@@ -1,7 +1,6 @@
 -- Where a call starts (`starts-*`), stops or ends (`ends-*`), and where no character is open, so that something may
 -- start (`settles`).
-use Rattle.vte_core.proofs.Common.{◌≡◌, ℕ, ◌<◌, ◌≤◌, true, Option, List, [], ◌++◌, length, refl, sym, subst, arith, Machine, State, Text, Nothing, StopsExactly, resumed_stream, IsSettled, ReadsUpTo, StandsAt, StandsInside, StandsAtPlace, StandsBy, HasReadWithLimit, after, Place, InText, ChunkCall}
-use Rattle.vte_core.proofs.Common.{IsSettledPlace, added, bytes_of, Unfinished, ComesTo}
+use Rattle.vte_core.proofs.Common.{◌≡◌, ℕ, ◌<◌, ◌≤◌, true, Option, List, [], ◌++◌, length, refl, sym, subst, arith, Machine, State, Text, Nothing, StopsExactly, resumed_stream, IsSettled, ReadsUpTo, StandsAt, StandsInside, StandsAtPlace, StandsBy, HasReadWithLimit, after, Place, InText, ChunkCall, IsSettledPlace, added, bytes_of, Unfinished, ComesTo}
 use Rattle.vte_core.proofs.calls.Progress.{come-all, come-settled, come-nowhere, come-performs, come-starts, come-to}
 use Rattle.vte_core.proofs.fields.PlaceOfState.{stands-place}
 use Rattle.vte_core.proofs.shapes.Told.{resumed_stream-all}

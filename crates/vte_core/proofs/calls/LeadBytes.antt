@@ -1,7 +1,6 @@
 -- What a character tells that a lead byte begins: a call that completes it from the second byte on (`Completes`) does
 -- from the first what any call does (`Advances`). What it tells is no printed character where no run could begin.
-use Rattle.vte_core.proofs.Common.{◌+◌, ◌<◌, ◌≤◌, ◌≡◌, ◌∷◌, ℕ, suc, refl, ap, sym, ◌∙◌, arith, inl, inr, false, drop, drop_more, take, HasNoRunAt, Machine, Text, Nothing, One, Advances, ChunkCall}
-use Rattle.vte_core.proofs.Common.{All, IsOutsideRuns, false≢true, subst}
+use Rattle.vte_core.proofs.Common.{◌+◌, ◌<◌, ◌≤◌, ◌≡◌, ◌∷◌, ℕ, suc, refl, ap, sym, ◌∙◌, arith, inl, inr, false, drop, drop_more, take, HasNoRunAt, Machine, Text, Nothing, One, Advances, ChunkCall, All, IsOutsideRuns, false≢true, subst}
 use Rattle.vte_core.specs.machine.Prelude.{Completes, MayReadByte}
 use Rattle.vte_core.proofs.bytes.CarriedLemmas.{first_truncated}
 use Rattle.vte_core.proofs.calls.CallEnds.{settled-by}

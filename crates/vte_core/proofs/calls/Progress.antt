@@ -8,8 +8,7 @@
 -- or the next byte breaks the open one; `come-command`: back from there
 -- `come-starts`: there something starts
 -- `come-to`, `come-performs`: the public clauses of a call that stops, and of one that reads all
-use Rattle.vte_core.proofs.Common.{◌≡◌, ℕ, zero, suc, ◌+◌, ◌-◌, ◌<◌, ◌≤◌, inl, inr, true, false, Option, List, [], ◌∷◌, ◌++◌, length, take, drop, refl, ap, sym, subst, ◌∙◌, append_assoc, arith, slice_index, cases_Bool, cases_lt, append-nil, drop_more, take-add, breaks, breaks_at, IsStart, told_before, resumed_stream, Event, Print, replacement, after, added, open_character, ProgressAt, ProgressInside, MayGoOn, BytesLead, Place, InText, ChunkCall}
-use Rattle.vte_core.proofs.Common.{InSystemCommand, IsAfter, IsSettledPlace, open_at, ComesTo}
+use Rattle.vte_core.proofs.Common.{◌≡◌, ℕ, zero, suc, ◌+◌, ◌-◌, ◌<◌, ◌≤◌, inl, inr, true, false, Option, List, [], ◌∷◌, ◌++◌, length, take, drop, refl, ap, sym, subst, ◌∙◌, append_assoc, arith, slice_index, cases_Bool, cases_lt, append-nil, drop_more, take-add, breaks, breaks_at, IsStart, told_before, resumed_stream, Event, Print, replacement, after, added, open_character, ProgressAt, ProgressInside, MayGoOn, BytesLead, Place, InText, ChunkCall, InSystemCommand, IsAfter, IsSettledPlace, open_at, ComesTo}
 use Rattle.vte_core.proofs.streams.After.{after-left, after-nothing, after-open_character, after-reads, added-reads, added-nothing}
 use Rattle.vte_core.proofs.calls.States.{reads-item}
 use Rattle.vte_core.proofs.fields.PlaceOfState.{IsPlace, open_at-settled}

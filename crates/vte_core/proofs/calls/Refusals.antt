@@ -1,7 +1,6 @@
 -- What a call without a limit stores, and where it stops for lack of memory. What is stored of an open command is said
 -- of its place, so it holds of every parser that is at one.
-use Rattle.vte_core.proofs.Common.{◌≡◌, ℕ, ◌+◌, ◌≤◌, Bool, None, List, [], ◌∷◌, ◌++◌, length, take, Result, Ok, Err, IfErr, IfOk, IsOk, refl, ap, sym, subst, ◌∙◌, length-take, IsAfter, arith, concat, slice_index, Machine, MeetsData, open_data_count, open_command_size, read_count, State, SystemCommand, ProgressAt, IsRefusedInCommand, ReadsUntilRefused, StandsInside, HasReadWithLimit, StandsAtPlace, StandsBy, Place, InSystemCommand, InText, ChunkCall}
-use Rattle.vte_core.proofs.Common.{left_at, Stored, HoldsItems, ToClose, CommandToClose, loses_data, outcome, pieces_of, Refused}
+use Rattle.vte_core.proofs.Common.{◌≡◌, ℕ, ◌+◌, ◌≤◌, Bool, None, List, [], ◌∷◌, ◌++◌, length, take, Result, Ok, Err, IfErr, IfOk, IsOk, refl, ap, sym, subst, ◌∙◌, length-take, IsAfter, arith, concat, slice_index, Machine, MeetsData, open_data_count, open_command_size, read_count, State, SystemCommand, ProgressAt, IsRefusedInCommand, ReadsUntilRefused, StandsInside, HasReadWithLimit, StandsAtPlace, StandsBy, Place, InSystemCommand, InText, ChunkCall, left_at, Stored, HoldsItems, ToClose, CommandToClose, loses_data, outcome, pieces_of, Refused}
 use Rattle.vte_core.proofs.calls.States.{reads-item}
 use Rattle.vte_core.proofs.calls.Progress.{come-command}
 use Rattle.vte_core.proofs.fields.OpenPieces.{open_for}

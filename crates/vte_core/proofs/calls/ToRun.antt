@@ -1,7 +1,6 @@
 -- Runs that a caller takes from its own input: bytes that lead from the parser's place back to it, so the parser
 -- needn't change, and that no further printed character or data byte follows.
-use Rattle.vte_core.proofs.Common.{◌≡◌, ℕ, zero, suc, ◌+◌, ◌-◌, ◌<◌, ◌≤◌, false, true, Option, List, [], ◌++◌, drop, length, length-take, length-drop, map, take, refl, ap, sym, subst, ◌∙◌, arith, append-nil, drop_more, slice_index, Machine, DeviceData, Text, State, Nothing, class_of, resumed_stream, Event, Print, Put, BytesLead, StandsAtPlace, StandsBy, HasReadWithLimit, Place, InDeviceData, InText, IsAfter, IsSettled, StandsAt, ChunkCall}
-use Rattle.vte_core.proofs.Common.{HasNoRunAt, IsRun, chars, Unfinished, IsRange}
+use Rattle.vte_core.proofs.Common.{◌≡◌, ℕ, zero, suc, ◌+◌, ◌-◌, ◌<◌, ◌≤◌, false, true, Option, List, [], ◌++◌, drop, length, length-take, length-drop, map, take, refl, ap, sym, subst, ◌∙◌, arith, append-nil, drop_more, slice_index, Machine, DeviceData, Text, State, Nothing, class_of, resumed_stream, Event, Print, Put, BytesLead, StandsAtPlace, StandsBy, HasReadWithLimit, Place, InDeviceData, InText, IsAfter, IsSettled, StandsAt, ChunkCall, HasNoRunAt, IsRun, chars, Unfinished, IsRange}
 use Rattle.vte_core.specs.machine.Prelude.{ArePut, AreOfKind, ComesToRun, IsOutsideTextAndData, IsDeviceData, IsTaken}
 use Rattle.vte_core.specs.machine.ToRun.{HasRun, IsWholeAt, bytes_at, kind_events}
 use Rattle.vte_core.specs.AdvanceToRun.{IsRunIn, IsLongestRun, ReturnsRun, run_bytes, taken_bytes, taken_events}

@@ -1,7 +1,6 @@
 -- The well-formed sequences are the encodings of characters, as the standard library has them: by the number of bytes,
 -- with division and remainder by 64 on both sides.
-use Rattle.vte_core.proofs.Common.{map, ◌≡◌, ℕ, ◌+◌, ◌-◌, ◌*◌, ◌/◌, ◌%◌, ◌<◌, ◌≤◌, true, List, [], ◌∷◌, ◌++◌, refl, sym, ap, ◌∙◌, arith, ◌≢◌, inl, inr, append_assoc, scalar, scalars, encode, encodes, scalar_cases, concat, IsScalar, InScalarRange, false≢true, and_parts, cases_lt, ne_eqb, nat_tests, All-head, All-tail, tell, cut_at_escape, escape, character_event, text_outcome, is_in, is_well_formed, scalar_of}
-use Rattle.vte_core.proofs.Common.{segments, second_range, IsUtf8, chars}
+use Rattle.vte_core.proofs.Common.{map, ◌≡◌, ℕ, ◌+◌, ◌-◌, ◌*◌, ◌/◌, ◌%◌, ◌<◌, ◌≤◌, true, List, [], ◌∷◌, ◌++◌, refl, sym, ap, ◌∙◌, arith, ◌≢◌, inl, inr, append_assoc, scalar, scalars, encode, encodes, scalar_cases, concat, IsScalar, InScalarRange, false≢true, and_parts, cases_lt, ne_eqb, nat_tests, All-head, All-tail, tell, cut_at_escape, escape, character_event, text_outcome, is_in, is_well_formed, scalar_of, segments, second_range, IsUtf8, chars}
 use Rattle.std.proofs.Common.{All}
 use Rattle.std.proofs.lemmas.Str.{encode_ascii, encode_same, encodes-chars, scalars-chars, IsUtf8-encode, IsUtf8-append, IsUtf8-nil}
 use Rattle.vte_core.proofs.dividing.DivisionLemmas.{all_divided}

@@ -1,6 +1,5 @@
 -- How lengths cut numbers into groups: by induction over the lengths, which together are as many as the numbers.
-use Rattle.vte_core.proofs.Common.{◌≡◌, ℕ, suc, ◌+◌, ◌<◌, ◌≤◌, Bool, true, false, List, [], ◌∷◌, ◌++◌, length, take, drop, sum, Option, Some, None, refl, sym, ap, subst, ◌∙◌, arith, length-drop, length-append, get_or, All, take_all, take_more, take-append-le, drop-append-le, append-nil, take-append-drop, All-nil, drop_all, All-cons, All-head, All-tail, All-push, All-pop, All-take, All-drop, sum_by-cons, sum_by_push}
-use Rattle.vte_core.proofs.Common.{sum_by-take-le, Number, with_number, count_of, greatest_number, most_numbers, AreGroups}
+use Rattle.vte_core.proofs.Common.{◌≡◌, ℕ, suc, ◌+◌, ◌<◌, ◌≤◌, Bool, true, false, List, [], ◌∷◌, ◌++◌, length, take, drop, sum, Option, Some, None, refl, sym, ap, subst, ◌∙◌, arith, length-drop, length-append, get_or, All, take_all, take_more, take-append-le, drop-append-le, append-nil, take-append-drop, All-nil, drop_all, All-cons, All-head, All-tail, All-push, All-pop, All-take, All-drop, sum_by-cons, sum_by_push, sum_by-take-le, Number, with_number, count_of, greatest_number, most_numbers, AreGroups}
 use Rattle.std.proofs.lemmas.List.{length-take-le, append_assoc}
 use Rattle.std.specs.Option.{unwrap_or}
 use Rattle.vte_core.specs.machine.Groups.{cut_by_lengths, AreLengths, AreFlatGroups, IsTakenOff}

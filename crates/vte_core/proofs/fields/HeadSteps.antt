@@ -1,8 +1,7 @@
 -- What one byte makes of the head that is held: by the part of the head that was reached and the byte's class.
 --
 -- `holds-X`: the head is held after X (`HoldsHead`); `malformed-X`, `ill_shaped-X`: it stays ill-shaped after X.
-use Rattle.vte_core.proofs.Common.{◌≡◌, ℕ, ◌⊎◌, inl, inr, Bool, true, false, ◌||◌, List, [], ◌∷◌, ◌++◌, length, refl, ap, ◌∙◌, append_assoc, arith, length-append, append-nil, Class, Intermediate, Marker, class_of, is_head_byte, is_intermediate, is_marker, is_parameter_text, Collected, HeadProgress, Entry, Parameters, Intermediates, IllShaped, Event, head_of, is_well_shaped, sequence_event, HoldsIntermediates, CountsNumbers, HoldsNumbers, HoldsHead}
-use Rattle.vte_core.proofs.Common.{SameNumbers, SameIntermediates, StandsInHead, StaysIllShaped}
+use Rattle.vte_core.proofs.Common.{◌≡◌, ℕ, ◌⊎◌, inl, inr, Bool, true, false, ◌||◌, List, [], ◌∷◌, ◌++◌, length, refl, ap, ◌∙◌, append_assoc, arith, length-append, append-nil, Class, Intermediate, Marker, class_of, is_head_byte, is_intermediate, is_marker, is_parameter_text, Collected, HeadProgress, Entry, Parameters, Intermediates, IllShaped, Event, head_of, is_well_shaped, sequence_event, HoldsIntermediates, CountsNumbers, HoldsNumbers, HoldsHead, SameNumbers, SameIntermediates, StandsInHead, StaysIllShaped}
 use Rattle.vte_core.specs.machine.Ready.{IsReady}
 use Rattle.vte_core.proofs.shapes.HeadLemmas.{begins-intermediates, head_of-parts, held-parts, held-well_shaped, list_all-not}
 use Rattle.vte_core.proofs.bytes.ClassCases.{AreInClass-append}

@@ -1,7 +1,6 @@
 -- What is kept of the items of a command, and the pieces of what is kept. By induction over the items, with the piece
 -- that is open carried along.
-use Rattle.vte_core.proofs.Common.{◌≡◌, ℕ, ◌+◌, ◌<◌, ◌≤◌, zero, suc, Bool, true, false, List, [], ◌∷◌, ◌++◌, length, take, Option, Some, None, refl, sym, arith, append_assoc, length-append, take_at, length-take, All, filter, slice_split, onto_first, concat, ltb-true, All-push, FitsStore, semicolon, cut_data, ends_after, is_data_item, kept_after, kept_items, most_pieces, pieces_of, ap, inl, inr, cases_Bool}
-use Rattle.vte_core.proofs.Common.{common_steps, eqb, take-nil, drop, take-append-drop, ◌∙◌}
+use Rattle.vte_core.proofs.Common.{◌≡◌, ℕ, ◌+◌, ◌<◌, ◌≤◌, zero, suc, Bool, true, false, List, [], ◌∷◌, ◌++◌, length, take, Option, Some, None, refl, sym, arith, append_assoc, length-append, take_at, length-take, All, filter, slice_split, onto_first, concat, ltb-true, All-push, FitsStore, semicolon, cut_data, ends_after, is_data_item, kept_after, kept_items, most_pieces, pieces_of, ap, inl, inr, cases_Bool, common_steps, eqb, take-nil, drop, take-append-drop, ◌∙◌}
 use Rattle.std.proofs.Common.{append-nil, drop_at, ◌==◌}
 use Rattle.std.proofs.lemmas.List.Folds.{concat-append}
 use Rattle.std.proofs.lemmas.List.Splits.{length-slice_split, slice_split_at, slice_split_none}

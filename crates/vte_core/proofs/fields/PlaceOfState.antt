@@ -1,6 +1,5 @@
 -- What is known of a parser that is at a place: by cases of its state, to each of which belongs one kind of place.
-use Rattle.vte_core.proofs.Common.{◌≡◌, ℕ, true, Option, List, [], ◌∷◌, ◌++◌, refl, ap, sym, subst, ◌∙◌, append-nil, Machine, State, Text, Escape, SystemCommand, body_outcome, device_data_outcome, executed_events, leaves, open_bytes, HoldsIntermediates, StandsBy, StandsAtPlace, Place, InText, AtEscape, InSystemCommand, open_at, left_at, rest_outcome, outcome_from, events_from, IsSettledPlace, Stored, HoldsItems, SameItems, text_outcome, is_truncated, Nothing}
-use Rattle.vte_core.proofs.Common.{may_continue}
+use Rattle.vte_core.proofs.Common.{◌≡◌, ℕ, true, Option, List, [], ◌∷◌, ◌++◌, refl, ap, sym, subst, ◌∙◌, append-nil, Machine, State, Text, Escape, SystemCommand, body_outcome, device_data_outcome, executed_events, leaves, open_bytes, HoldsIntermediates, StandsBy, StandsAtPlace, Place, InText, AtEscape, InSystemCommand, open_at, left_at, rest_outcome, outcome_from, events_from, IsSettledPlace, Stored, HoldsItems, SameItems, text_outcome, is_truncated, Nothing, may_continue}
 use Rattle.vte_core.specs.IgnoredString.{ignored_string_outcome}
 use Rattle.vte_core.specs.machine.Place.{control_sequence_from, device_control_from, escape_from, system_command_from}
 use Rattle.vte_core.proofs.shapes.TextLemmas.{text_outcome-end, text_outcome-nothing}

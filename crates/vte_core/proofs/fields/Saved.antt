@@ -1,12 +1,11 @@
 -- A machine that is made of what was saved of another is at the place where that one was: by cases of the state.
-use Rattle.vte_core.proofs.Common.{◌≡◌, ℕ, Option, List, take, arith, refl, subst, ◌∙◌, Machine, State, Text, Escape, EscapeIntermediate, ControlSequence, DeviceControl, DeviceData, SystemCommand, IgnoredString, HoldsIntermediates, HasReadWithLimit, StandsBy, StandsInHead, Place, InText, AtEscape, InEscape, InControlSequence, InDeviceControl, InDeviceData, InSystemCommand, InIgnoredString, SameItems}
+use Rattle.vte_core.proofs.Common.{◌≡◌, ℕ, Option, List, take, arith, refl, subst, ◌∙◌, Machine, State, Text, Escape, EscapeIntermediate, ControlSequence, DeviceControl, DeviceData, SystemCommand, IgnoredString, HoldsIntermediates, HasReadWithLimit, StandsBy, StandsInHead, Place, InText, AtEscape, InEscape, InControlSequence, InDeviceControl, InDeviceData, InSystemCommand, InIgnoredString, SameItems, usual_limit}
 use Rattle.vte_core.specs.declared.parser.saved.Saved.{Saved}
 use Rattle.vte_core.specs.machine.SavedLayout.{IsInHead, IsRestored, flag_of, state_bytes}
 use Rattle.vte_core.specs.machine.Groups.{AreParts}
 use Rattle.vte_core.specs.machine.Store.{ArePieceEnds}
 use Rattle.vte_core.specs.Saved.{HasReadSaved}
 use Rattle.vte_core.proofs.fields.PlaceOfState.{keeps-same, stands-by}
-use Rattle.vte_core.proofs.Common.{usual_limit}
 
 -- Everything that counts of a machine is saved: in a head the numbers, in a command its pieces.
 pub record HasSaved {B : Type 0} (saved : Saved) (machine : Machine B) : Type 0 where

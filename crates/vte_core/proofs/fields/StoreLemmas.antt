@@ -2,8 +2,7 @@
 -- byte either joins the last piece, ends it, or is dropped.
 --
 -- `pieces_from-X`: the pieces if X follows; `ends-X`: where pieces end; `keeps-X`: what is kept after X (`HoldsItems`).
-use Rattle.vte_core.proofs.Common.{◌≡◌, ◌≢◌, ℕ, ◌+◌, ◌-◌, ◌≤◌, ◌<◌, zero, suc, true, false, List, [], ◌∷◌, ◌++◌, length, take, drop, Option, Some, None, refl, sym, ap, ◌∙◌, arith, append_assoc, length-append, length-drop, length-take, inl, inr, All, concat, filter, slice_range, drop-append-le, take-append-le, All-head, All-tail, take-nil, cases_Bool, ltb-false, ltb-true, ne_eqb, semicolon, Stored, HoldsItems, PiecesEnd}
-use Rattle.vte_core.proofs.Common.{cut_data, cut_pieces, ends_after, fitting, pieces_from, Bool, loses_data, has_room, is_data_item, nat_tests, kept_after, kept_items, most_pieces, pieces_of}
+use Rattle.vte_core.proofs.Common.{◌≡◌, ◌≢◌, ℕ, ◌+◌, ◌-◌, ◌≤◌, ◌<◌, zero, suc, true, false, List, [], ◌∷◌, ◌++◌, length, take, drop, Option, Some, None, refl, sym, ap, ◌∙◌, arith, append_assoc, length-append, length-drop, length-take, inl, inr, All, concat, filter, slice_range, drop-append-le, take-append-le, All-head, All-tail, take-nil, cases_Bool, ltb-false, ltb-true, ne_eqb, semicolon, Stored, HoldsItems, PiecesEnd, cut_data, cut_pieces, ends_after, fitting, pieces_from, Bool, loses_data, has_room, is_data_item, nat_tests, kept_after, kept_items, most_pieces, pieces_of}
 use Rattle.std.proofs.Common.{append-nil}
 use Rattle.std.specs.Prelude.{◌||◌, nat_lt}
 use Rattle.std.proofs.lemmas.List.Elements.{filter-append}

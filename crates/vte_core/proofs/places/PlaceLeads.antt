@@ -2,8 +2,7 @@
 -- definition of that shape alone.
 --
 -- A lemma is named by the place and what comes there, as `escape-end` for the end of a sequence right after ESC.
-use Rattle.vte_core.proofs.Common.{◌≡◌, ℕ, ◌≤◌, true, false, eqb, Option, List, [], ◌∷◌, ◌++◌, ap, sym, append_assoc, append-nil, arith, nat_tests, Class, Control, Intermediate, Delete, Digit, Colon, Semicolon, Marker, Final, High, dispatches_escape, class_of, is_cancel, is_device_data, is_head_byte, EscapeSequence, sequence_kind, body_outcome, control_sequence_end, control_sequence_outcome, device_data_outcome, device_control_after_head, ends_command}
-use Rattle.vte_core.proofs.Common.{ends_device_data, device_control_outcome, escape_outcome, executed_events, first_two, are_too_many, Execute, Hook, Put, Unhook, OscDispatch, CsiDispatch, EscDispatch, head_of, is_well_shaped, sequence_event, Leads, InText, AtEscape, InEscape, InControlSequence, InDeviceControl, InDeviceData, InSystemCommand, InIgnoredString, pieces_of, bell, system_command_outcome, text_outcome, character_event, Bool}
+use Rattle.vte_core.proofs.Common.{◌≡◌, ℕ, ◌≤◌, true, false, eqb, Option, List, [], ◌∷◌, ◌++◌, ap, sym, append_assoc, append-nil, arith, nat_tests, Class, Control, Intermediate, Delete, Digit, Colon, Semicolon, Marker, Final, High, dispatches_escape, class_of, is_cancel, is_device_data, is_head_byte, EscapeSequence, sequence_kind, body_outcome, control_sequence_end, control_sequence_outcome, device_data_outcome, device_control_after_head, ends_command, ends_device_data, device_control_outcome, escape_outcome, executed_events, first_two, are_too_many, Execute, Hook, Put, Unhook, OscDispatch, CsiDispatch, EscDispatch, head_of, is_well_shaped, sequence_event, Leads, InText, AtEscape, InEscape, InControlSequence, InDeviceControl, InDeviceData, InSystemCommand, InIgnoredString, pieces_of, bell, system_command_outcome, text_outcome, character_event, Bool}
 use Rattle.vte_core.proofs.Common.{Place, refl, malformed_event, is_truncated, is_well_formed, scalar_of, nat_le}
 use Rattle.vte_core.specs.IgnoredString.{ignored_string_outcome}
 use Rattle.vte_core.specs.SequenceKind.{ControlSequence, DeviceControl, SystemCommand, IgnoredString, SequenceKind}

@@ -1,7 +1,6 @@
 -- The division of a text, and what it gives, from the front: a well-formed sequence, a maximal subpart or a byte comes
 -- off, and the rest is divided as a text of its own.
-use Rattle.vte_core.proofs.Common.{◌≡◌, ℕ, ◌≤◌, true, false, List, [], ◌∷◌, ◌++◌, length, refl, sym, ap, subst, ◌∙◌, arith, take-append_seam, false≢true, nat_tests, Event, Print, replacement, NothingToClose, CharacterToClose, leaves, tell, utf8_rows, rows_after_byte, rows_after_bytes, is_well_formed, is_truncated, trailing_count, segments_after, segments, scalar_of, is_control_character, character_event, malformed_event, segment_event}
-use Rattle.vte_core.proofs.Common.{segments_outcome, text_outcome}
+use Rattle.vte_core.proofs.Common.{◌≡◌, ℕ, ◌≤◌, true, false, List, [], ◌∷◌, ◌++◌, length, refl, sym, ap, subst, ◌∙◌, arith, take-append_seam, false≢true, nat_tests, Event, Print, replacement, NothingToClose, CharacterToClose, leaves, tell, utf8_rows, rows_after_byte, rows_after_bytes, is_well_formed, is_truncated, trailing_count, segments_after, segments, scalar_of, is_control_character, character_event, malformed_event, segment_event, segments_outcome, text_outcome}
 use Rattle.std.proofs.Common.{append-nil}
 use Rattle.vte_core.proofs.bytes.Utf8Lemmas.{AtMostOne-first, AtMostOne-rows_after_bytes, rows_after_bytes-append, whole_not_open, open_not_whole, neither_whole_nor_open, allowed_length-none, allowed_length-whole, allowed_length-broken, allowed_length-end}
 use Rattle.vte_core.proofs.bytes.FirstBytes.{truncated-first}

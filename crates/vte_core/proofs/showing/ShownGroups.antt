@@ -1,6 +1,5 @@
 -- The text of groups, read back: digits give their number back, `:` joins and `;` parts, so the groups are the same.
-use Rattle.vte_core.proofs.Common.{◌≡◌, ℕ, ◌≤◌, Bool, true, false, if◌then◌else◌, List, [], ◌∷◌, ◌++◌, length, take, drop, subst, map, refl, sym, ap, ◌∙◌, arith, decimal, All, flat_map, fold, nat_tests, flat_map-append, append-nil, take_all, All-nil, All-cons, All-head, All-tail, All-append, All-map, All-weaker, fold-append, class_of, is_parameter_text, AreInClass, AreParameters, Number, numbers_from, colon}
-use Rattle.vte_core.proofs.Common.{semicolon, numbers, number_of, is_colon, is_separator, greatest_number, most_numbers, grouped, groups_of, has_too_many_numbers, with_number, count_of, shown}
+use Rattle.vte_core.proofs.Common.{◌≡◌, ℕ, ◌≤◌, Bool, true, false, if◌then◌else◌, List, [], ◌∷◌, ◌++◌, length, take, drop, subst, map, refl, sym, ap, ◌∙◌, arith, decimal, All, flat_map, fold, nat_tests, flat_map-append, append-nil, take_all, All-nil, All-cons, All-head, All-tail, All-append, All-map, All-weaker, fold-append, class_of, is_parameter_text, AreInClass, AreParameters, Number, numbers_from, colon, semicolon, numbers, number_of, is_colon, is_separator, greatest_number, most_numbers, grouped, groups_of, has_too_many_numbers, with_number, count_of, shown}
 use Rattle.std.specs.Str.Parse.{AllDigits, digits_value}
 use Rattle.std.proofs.lemmas.Fmt.{decimal_is_IsNumeral}
 use Rattle.std.proofs.lemmas.List.{append_assoc}

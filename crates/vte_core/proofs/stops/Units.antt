@@ -1,7 +1,6 @@
 -- What is told before a position, and what goes on from there, is what the whole gives (`goes_on_from`); from one
 -- position to the next at most one unit is told. By what a byte does to an open character.
-use Rattle.vte_core.proofs.Common.{◌≡◌, ℕ, zero, suc, add-one, ◌+◌, ◌<◌, ◌≤◌, ◌⊎◌, inl, inr, Bool, true, false, if◌then◌else◌, Option, None, List, [], ◌∷◌, ◌++◌, length, take, drop, get_or, refl, ap, sym, subst, ◌∙◌, append_assoc, arith, drop-append_seam, cases_Bool, false≢true, append-nil, take_more, take-append-drop, AreFromOneByte, IsAtMostOneShort, breaks, breaks_at, told_before, resumed_stream, Event, Print, replacement, added, events}
-use Rattle.vte_core.proofs.Common.{open_character, open_at, Place, IsAfter, IsStart}
+use Rattle.vte_core.proofs.Common.{◌≡◌, ℕ, zero, suc, add-one, ◌+◌, ◌<◌, ◌≤◌, ◌⊎◌, inl, inr, Bool, true, false, if◌then◌else◌, Option, None, List, [], ◌∷◌, ◌++◌, length, take, drop, get_or, refl, ap, sym, subst, ◌∙◌, append_assoc, arith, drop-append_seam, cases_Bool, false≢true, append-nil, take_more, take-append-drop, AreFromOneByte, IsAtMostOneShort, breaks, breaks_at, told_before, resumed_stream, Event, Print, replacement, added, events, open_character, open_at, Place, IsAfter, IsStart}
 use Rattle.vte_core.specs.EarlyStopLaws.{GoesOnFromPositions, AreToldAtStart, TellsUnits}
 use Rattle.vte_core.proofs.streams.After.{added-nothing, after-open_character}
 use Rattle.vte_core.proofs.places.BriefLemmas.{tiny-both}

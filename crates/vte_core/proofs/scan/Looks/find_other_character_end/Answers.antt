@@ -6,8 +6,7 @@ use Rattle.vte_core.proofs.bytes.RunEnds.{ends-single, ends-long, ends-two, ends
 use Rattle.vte_core.proofs.bytes.Printable.{run-layout}
 use Rattle.vte_core.proofs.bytes.Scalars.{in_range-bounds}
 use Rattle.vte_core.proofs.dividing.PrintableCharacters.{run-two, run-three, run-four}
-use Rattle.vte_core.proofs.scan.Looks.find_other_character_end.Goals.{else-layout-via-then-layout+else-is_layout, else-layout-via-else-layout, else-may_begin_three-via-then-may_begin_three+in_ok-get+else-is_continuation, else-may_begin_three-via-else-may_begin_three, else-may_begin_four-via-then-may_begin_four+in_ok-get-2+then-is_continuation-2+in_ok-get-3+else-is_continuation-3 as fourth-misfits}
-use Rattle.vte_core.proofs.scan.Looks.find_other_character_end.Goals.{else-may_begin_four-via-then-may_begin_four+in_ok-get-2+else-is_continuation-2, else-may_begin_four-via-else-may_begin_four}
+use Rattle.vte_core.proofs.scan.Looks.find_other_character_end.Goals.{else-layout-via-then-layout+else-is_layout, else-layout-via-else-layout, else-may_begin_three-via-then-may_begin_three+in_ok-get+else-is_continuation, else-may_begin_three-via-else-may_begin_three, else-may_begin_four-via-then-may_begin_four+in_ok-get-2+then-is_continuation-2+in_ok-get-3+else-is_continuation-3 as fourth-misfits, else-may_begin_four-via-then-may_begin_four+in_ok-get-2+else-is_continuation-2, else-may_begin_four-via-else-may_begin_four}
 use Rattle.vte_core.proofs.scan.Looks.find_other_character_end.Goals as goal
 
 -- HT, LF or CR, if the performer keeps them: a run of one byte.

@@ -1,13 +1,11 @@
 -- By the timeout's answer: the bytes are held while an update is pending and there is room. Otherwise it is stopped if
 -- it is pending or bytes are held, and the turn is an open one.
-use Rattle.vte.proofs.Common.{◌≡◌, ◌<◌, length, refl, sym, ◌∙◌, arith, nat_tests, nat_le, most_held, held_of, inr, true, false, and-false, ◌+◌}
-use Rattle.vte.proofs.Common.{meaning_of, engine_meaning, EngineIsAtKeeping}
+use Rattle.vte.proofs.Common.{◌≡◌, ◌<◌, length, refl, sym, ◌∙◌, arith, nat_tests, nat_le, most_held, held_of, inr, true, false, and-false, ◌+◌, meaning_of, engine_meaning, EngineIsAtKeeping}
 use Rattle.vte.proofs.turns.Kinds.{is_held, is_stopped, stop_if_due}
 use Rattle.vte.proofs.turns.Slices.{halted-nothing}
 use Rattle.vte.proofs.turns.EngineTurns.{after-next, ends_turn, kept-next, next-at, stops-next, turned_hold}
 use Rattle.vte.proofs.ansi.engine.Engine.turn.Goals as goal
-use Rattle.vte.proofs.ansi.engine.Engine.turn.Goals.{else-pending-via-else-pending, else-pending-via-then-pending+else-has_room, else-pending-2+else-len-gt0, then-pending-2}
-use Rattle.vte.proofs.ansi.engine.Engine.turn.Goals.{then-pending-2-via-else-pending-2+then-len-gt0, then-pending-2-via-then-pending-2}
+use Rattle.vte.proofs.ansi.engine.Engine.turn.Goals.{else-pending-via-else-pending, else-pending-via-then-pending+else-has_room, else-pending-2+else-len-gt0, then-pending-2, then-pending-2-via-else-pending-2+then-len-gt0, then-pending-2-via-then-pending-2}
 
 -- An open turn: the bytes are not to be held, and what was pending or held is stopped first, as `opened` says.
 pub returns-clause-turned : goal.returns-clause-turned

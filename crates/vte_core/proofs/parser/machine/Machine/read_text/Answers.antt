@@ -8,8 +8,7 @@ use Rattle.vte_core.proofs.calls.TextRuns.{advances-text, may_go_on-malformed, m
 use Rattle.vte_core.proofs.calls.BetweenCharacters.{performs-printed, performs-single}
 use Rattle.vte_core.proofs.parser.machine.Machine.read_text.Given.{Over}
 use Rattle.vte_core.proofs.parser.machine.Machine.read_text.Invariants.{call_at}
-use Rattle.vte_core.proofs.parser.machine.Machine.read_text.Goals.{Joined-IN_RUNS-2, then-IN_RUNS-2+then-is_printed_ascii+in-Some, else-IN_RUNS-2, Joined-is_printed_ascii-2, then-is_printed_ascii-2, else-is_printed_ascii-2+else-IN_RUNS-3+then-is_lead-2+else-this-ne0-2, then-is_lead+else-this-ne0, else-is_lead}
-use Rattle.vte_core.proofs.parser.machine.Machine.read_text.Goals.{else-is_printed_ascii-2+else-IN_RUNS-3+else-is_lead-2+else-byte-eq-ESCAPE}
+use Rattle.vte_core.proofs.parser.machine.Machine.read_text.Goals.{Joined-IN_RUNS-2, then-IN_RUNS-2+then-is_printed_ascii+in-Some, else-IN_RUNS-2, Joined-is_printed_ascii-2, then-is_printed_ascii-2, else-is_printed_ascii-2+else-IN_RUNS-3+then-is_lead-2+else-this-ne0-2, then-is_lead+else-this-ne0, else-is_lead, else-is_printed_ascii-2+else-IN_RUNS-3+else-is_lead-2+else-byte-eq-ESCAPE}
 use Rattle.vte_core.proofs.parser.machine.Machine.read_text.Goals as goal
 
 -- the call has come past the run of ASCII, if there was one

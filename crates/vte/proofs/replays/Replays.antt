@@ -1,6 +1,6 @@
 -- From calls to a list of them: a loop over calls makes `TakesSteps`, call by call. A steady timeout allows one answer
 -- in each state, so where the list leads is then a function of its calls.
-use Rattle.vte.proofs.Common.{ℕ, ◌+◌, ◌<◌, List, [], ◌∷◌, ◌++◌, length, take, drop, get_or, refl, ap, append-nil, Bor, drop_more, take_more, Step, Advance, StopSync, Meaning, HasAdvanced, HoldsWellAt, TakesSteps, HasReplayed, State, stop, ◌≡◌, ◌-◌, HasTaken, inl, inr, Bool, sym, ◌∙◌, IsSteady, TakesAllTurns, done, turns}
+use Rattle.vte.proofs.Common.{ℕ, ◌+◌, ◌<◌, List, [], ◌∷◌, ◌++◌, length, take, drop, get_or, refl, ap, append-nil, Bor, drop_more, take_more, Step, Advance, StopSync, Meaning, HasAdvanced, HoldsWellAt, TakesSteps, HasReplayed, State, stop, ◌≡◌, ◌-◌, HasTaken, inl, inr, Bool, sym, ◌∙◌, IsSteady, TakesAllTurns, done, turns, given_bytes}
 use Rattle.vte.specs.Refusal.{IsFirstRefused}
 use Rattle.vte.proofs.turns.EachOnce.{replay_grows}
 use Rattle.vte.proofs.replays.Tellings.{tells-replay}

@@ -370,7 +370,8 @@ PROGRAMS = {
     ("--strict first proofs", "", "first proofs", 0, "5 passed, 0 failed"),
     ("--strict second", "", "second", 1, "1 passed, 0 failed"),
     ("--strict lacking", "", "", 1, "0 passed, 0 failed"),
-    ("unknown", "", "", 1, "0 passed, 0 failed"),
+    ("unknown", "", "", 2, "test: no part is named unknown"),
+    ("first unknown", "", "", 2, "test: no part is named unknown"),
 ])
 def test_what_is_run_and_listed(folder, words, fails, ran, status, last):
     text = (TOOLS / "test").read_text()

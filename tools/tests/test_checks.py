@@ -211,9 +211,10 @@ def differences(source, written, place="c/mod.rs", **given):
     ("pub const N: u8 = 1;", "pub const N: u8 = 2;", ["const N: : u8 = 2 ;", "const N"]),
     ("impl S { const N: u8 = 1; }", "impl S {}", ["const N"]),
     ("fn f<const N: u8>() -> *const u8 { N }", "fn f<const N: u8>() -> *const u8 { N }", []),
-    ("fn f() { one(); looks.g(input, a); looks.at(input, b); }",
-     "fn f() { two(); g(input, a); input[b]; }", []),
-    ("fn f() { looks.at(input, a); }", "fn f() { input[b]; }", ["fn f: { input [ b ] ; }", "fn f"]),
+    ("fn f() { one(); g(&mut self.looks, Input::new(a), input.up_to(b)); }",
+     "fn f() { two(); g(self.looks, a, up_to(input, b)); }", []),
+    ("fn f() { input.up_to(a); }", "fn f() { up_to(input, b); }",
+     ["fn f: { up_to ( input , b ) ; }", "fn f"]),
 ])
 def test_what_differs_is_told(source, written, wanted):
     told = [f"c/lib {item}: it isn't " + ("in the source as it is written: " + said if said

@@ -1,8 +1,8 @@
 //! The classes of bytes.
 #![tactic(auto, unfolding(crate::specs::Class::class_of))]
 
-ghost use Rattle.std.specs.Prelude.{◌≡◌, ◌-◌, ◌<◌, ◌≤◌, ◌↔◌, true, false, IsTrue, MatchOption};
-ghost use Rattle.vte_core.specs.machine.Prelude.{IsCommandData, begins_ignored_string, class_of, dispatches_escape, ends_body, is_plain_control, is_device_data, is_final, is_head_byte, is_intermediate, is_layout, is_parameter_text, is_separator};
+ghost use Rattle.std.specs.Prelude.{◌≡◌, ◌-◌, ◌<◌, ◌≤◌, true, false, MatchOption};
+ghost use Rattle.vte_core.specs.machine.Prelude.{begins_ignored_string, class_of, dispatches_escape, ends_body, is_plain_control, is_device_data, is_final, is_head_byte, is_intermediate, is_layout, is_parameter_text, is_separator};
 
 pub(crate) const ESCAPE: u8 = 0x1b;
 
@@ -41,13 +41,6 @@ pub(crate) fn is_device_data(byte: u8) -> bool
     ensures { result ≡ is_device_data (class_of byte) }
 {
     (byte >= 0x20 && byte < 0x7f) || is_plain_control(byte)
-}
-
-/// Returns whether a byte is one of the data of an operating system command: 20 and up, but `;`.
-pub(crate) fn is_command_data(byte: u8) -> bool
-    ensures { IsTrue result ↔ IsCommandData byte }
-{
-    byte >= 0x20 && byte != b';'
 }
 
 /// Returns whether a byte is an intermediate 20..2F.

@@ -293,7 +293,9 @@ impl<B> Looks<B> {
         self.add(to - from);
         array.try_extend_from_slice(&input.bytes[from..to])
     }
+}
 
+impl<B> Looks<B> {
     /// Appends the bytes from one position to another to a vector that has memory for them.
     pub(crate) fn copy_to_vec<A: Allocator>(
         &mut self,

@@ -95,7 +95,7 @@ pub(crate) fn may_begin_four(first: u8, second: u8) -> bool
     ensures { result ≡ is_in (second_range first) second }
 {
     let number = (first % 8) as u32 * 0x40000 + (second % 64) as u32 * 0x1000;
-    is_continuation(second) && number >= 0x10000 && number < 0x110000
+    is_continuation(second) && matches!(number, 0x10000..=0x10ffff)
 }
 
 /// Returns whether `byte` is an ASCII character that is printed. DEL is.

@@ -2,10 +2,10 @@
 //! What the oldest rustc lacks: `first_chunk`. What the crate `memchr` has, without that crate.
 #[cfg(feature = "ansi")]
 pub(crate) use memchr::memchr;
-#[cfg(any(feature = "std", feature = "ansi"))]
-pub(crate) use memory::Vec;
 #[cfg(feature = "ansi")]
-pub(crate) use memory::{AllocError, String};
+pub(crate) use memory::String;
+#[cfg(any(feature = "std", feature = "ansi"))]
+pub(crate) use memory::{AllocError, Vec};
 
 /// The first N bytes, which `first_chunk` returns as a method since Rust 1.77.
 #[inline(always)]

@@ -15,8 +15,6 @@ VTE = Plan(
     of_std={"alloc": "crate::prelude"},
     crate_conditions={name: 'feature = "ansi"' for name in ("vte_types", "vte_handler", "vte")},
     dropped_files=frozenset({
-        # it only counts
-        "vte_core/scan/counted_perform",
         # the crate's own timeout is over `std::time::Instant`
         "vte/ansi/clock", "vte/ansi/std_sync_handler",
         # the crate `cursor-icon`

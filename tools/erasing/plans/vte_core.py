@@ -1,6 +1,5 @@
 """The part of rust/vte that is crates/vte_core: the parser. Plan says what each table is."""
 from erasing.passes import INLINE
-from erasing.plans import looks
 
 WITH_MEMORY = 'any(feature = "std", feature = "ansi")'
 # With `std` processors have no limit: what has one is there without it.
@@ -10,6 +9,13 @@ OWN = 'feature = "__own"'
 OWN_OR_ANSI = f'any({OWN}, feature = "ansi")'
 
 # Why `unsafe` is right, said where it stands; tests run with the assertions.
+OF_TEXT = """\
+// SAFETY: `to` is where a search found the end of a run that begins at `from`. Searches pass
+// one whole character at a time: a byte of ASCII, or a lead byte with all its continuation
+// bytes, the first of which `may_begin_three` and `may_begin_four` test. The automaton, which
+// passes blocks, goes back to where no character is open.
+debug_assert!(str::from_utf8(bytes).is_ok());
+"""
 OF_THREE = """\
 // SAFETY: the remainders leave at most FFFF. Callers have tested `may_begin_three`, by which the
 // number is no surrogate's, D800 to DFFF.
@@ -23,6 +29,33 @@ debug_assert!(is_continuation(third) && is_continuation(fourth));
 """
 
 
+# A `Looks` counts for contracts alone, and has no bytes at run time. So it is passed by value,
+# which takes no argument. An `Input` is a slice, of whose length rustc tells LLVM more than of a
+# struct's, and its methods are functions. Neither type says for which buffer `B` a parser counts:
+# a function with another use of its own `B` would no longer compile.
+METHODS_OF_INPUT = ("up_to", "text", "data", "take_run")
+COUNTS = [
+    ("&mut Looks<B>", "Looks"), ("&mut self.looks", "self.looks"),
+    ("impl<$$x> Looks<$$b> { $$$f }",
+     lambda names: f"impl Looks {{ {names['f'].replace('&mut self', 'self')} }}"),
+    ("impl Looks<$$b> {", "impl Looks {"), ("looks: Looks<$$b>,", "looks: Looks,"),
+    ("Looks<B>", "Looks"), ("Input<'_, B>", "&[u8]"), ("Input::new($x)", "$x"),
+    # inlined by rustc before LLVM sees its caller, it would move a branch of the loop over text
+    ("looks.tell_text(performer, input, $$p)", "performer.print_text(looks, text(input, $p))"),
+    *((f"input.{name}(", f"{name}(input, ") for name in METHODS_OF_INPUT),
+    ("CountedPerform<B, $g>", "CountedPerform<$g>"), ("fn $f<B>", "fn $f"), ("fn $f<B, ", "fn $f<"),
+]
+
+
+def functions_of_input(names):
+    """The methods of `Input` as functions of a slice."""
+    text = names["f"]
+    for old, new in (("(self,", "(input: &[u8],"), ("self", "input"), ("Self", "&[u8]"),
+                     ("&'a ", "&"), ("<'a>", "<'_>")):
+        text = text.replace(old, new)
+    return text
+
+
 def private(*names):
     """Rules by which functions are the crate's own."""
     return [(f"pub fn {name}", f"pub(crate) fn {name}") for name in names]
@@ -32,22 +65,9 @@ def private(*names):
 CLONE = "#[derive(Clone)]"
 
 VTE_CORE = dict(
-    homes={
-        "vte_core": {
-            "crate::proved::vte_core::automaton": "skip_run_blocks",
-            "crate::proved::vte_core::run":
-                "begins_ascii_run find_ascii_run_end find_run_end_at_lead find_run_end "
-                "find_run_end_for",
-            "crate::proved::vte_core::scan":
-                "Grain InRuns Run RunKind RunRange Singly data get get_block take_run "
-                "tell_character tell_lone_byte text up_to",
-            "crate::proved::vte_core::scan::grain": "PerformAs",
-            "crate::proved::vte_core::scan::search":
-                "find_command_data_end find_device_data_end find_string_end search_text",
-        },
-    },
+    homes={"vte_core": {"crate::proved::vte_core::scan": "take_run text up_to"}},
     item_conditions={
-        "vte_core": {WITH_MEMORY: "Vec long"},
+        "vte_core": {WITH_MEMORY: "AllocError Vec for_unlimited long"},
         "vte_core/lib": {WITH_MEMORY: "LongParser Refused", OWN: "Saved",
                          'feature = "ansi"': "InRuns Singly"},
         # the module has the condition
@@ -55,13 +75,9 @@ VTE_CORE = dict(
         "vte_core/parser": {OWN: "saved"},
     },
     dropped_items={
-        "vte_core/scan": (
-            "enum Trail", "struct Looks", "struct Input", "impl<B> Clone for Input",
-            "impl<B> Copy for Input", "impl<const N: usize> Looks",
-            "impl<A: Allocator> Looks", "fn new", "fn len", "fn none", "fn add", "fn at",
-            "fn copy_to_array", "fn copy_to_vec", "fn tell_data", "fn tell_text"),
-        # their expressions stand where they are called
-        "vte_core/class": ("fn is_command_data",),
+        # the count of looks, which contracts alone read, and clones that can be refused memory
+        "vte_core/scan": ("enum Trail", "struct Input", "impl<B> Clone for Input",
+                          "impl<B> Copy for Input", "fn new", "fn len", "fn tell_text"),
         # only proofs use it
         "vte_core/perform": ("trait PerformThroughText",),
         # rustc derives it, with the same copies of the fields, and as much memory
@@ -72,38 +88,36 @@ VTE_CORE = dict(
     },
     imports={
         "vte_core": {"arrayvec::ArrayVec": "crate::adapter::array_vec::ArrayVec",
-                     "memchr::memchr": "crate::prelude::memchr",
-                     "crate::scan::": ""},
+                     "arrayvec::CapacityError": "crate::adapter::array_vec::CapacityError",
+                     "memchr::memchr": "crate::prelude::memchr"},
     },
     rules={
-        **looks.OF_FILES,
-        "vte_core": looks.COUNTS + looks.PARAMETERS
+        "vte_core": COUNTS
         + [("P: PerformThroughText", "P: PerformText"), (", PerformThroughText", "")],
+        "vte_core/scan": [
+            ("trail: $$x, buffer: $$y,", ""),
+            ("let before = $$a; self.trail = $$b;", "let _ = count;"),
+            ("impl<'a, B> Input<'a, B> { $$$f }", functions_of_input),
+            ("Input { bytes: $$x, buffer: PhantomData, }", "$x"), ("input.bytes", "input"),
+            ("fn text(", "pub(crate) fn text("),
+            ("input[from..].first_chunk::<N>()", "first_chunk::<N>(&input[from..])"),
+            ("unsafe {", f"{OF_TEXT}unsafe {{")],
+        "vte_core/scan/search": [("input.bytes", "input")],
+        "vte_core/scan/counted_perform": [
+            ("impl<P: PerformAs<G>, B, G>", "impl<P: PerformAs<G>, G>")],
         "vte_core/parser": [
             ("struct Parser<const OSC_RAW_BUF_SIZE: usize>",
              "struct Parser<const OSC_RAW_BUF_SIZE: usize = MAX_OSC_RAW>"),
+            ("CountedPerform<$$b>, G>", "CountedPerform<G>"),
             *private("advance_text_until_terminated"),
         ],
         "vte_core/parser/long": private("advance_text_until_terminated", "stored"),
         "vte_core/perform": [
             ("fn keeps_layout(&self) -> bool;", "fn keeps_layout(&self) -> bool { false }")],
-        # a performer takes the parts of what is held of a sequence
-        "vte_core/parser/escape": [
-            ("esc_dispatch(looks, &self.collected, byte)",
-             "esc_dispatch(self.collected.intermediates.as_slice(), "
-             "self.collected.too_many_intermediates, byte)")
-        ],
-        **{f"vte_core/parser/{module}": [
-            (f"{event}(looks, &self.collected, ignore, byte)",
-             f"{event}(&self.collected.params, self.collected.intermediates.as_slice(), ignore, "
-             "char::from(byte))")]
-           for module, event in (("control_sequence", "csi_dispatch"), ("device_control", "hook"))},
         # writes nothing over what it held: that would take 1.02 times the instructions on colours
         "vte_core/params": [
             ("*self = Params::new();", "self.numbers.clear(); self.lengths.clear();")],
         "vte_core/utf8": [
-            # else random bytes would take 1.02 times the instructions in the best build
-            ("number >= 0x10000 && number < 0x110000", "matches!(number, 0x10000..=0x10ffff)"),
             # below the surrogates whatever the bytes are, as compilers see
             ("unsafe { char::from_u32_unchecked(number_of_two($$a)) }",
              "char::from_u32(number_of_two($a)).unwrap_or(char::REPLACEMENT_CHARACTER)"),
@@ -144,7 +158,9 @@ VTE_CORE = dict(
         "vte_core/perform": {
             '#[doc = include_str!("../../docs/perform.md")]': ["pub trait Perform {"],
             '#[doc = include_str!("../../docs/perform_text.md")]': ["pub trait PerformText: "]},
-        "vte_core/scan": {"#[allow(unsafe_code)]": ["pub(crate) fn text"]},
+        "vte_core/scan": {
+            "#[allow(unsafe_code)]": ["pub(crate) fn text"],
+            "#[derive(Clone, Copy)]": ["pub(crate) struct Looks"]},
         "vte_core/utf8": {"#[allow(unsafe_code)]": [
             "pub(crate) fn character_of_three", "pub(crate) fn character_of_four"]},
         # the loops over bytes: rustc compiles modules apart, and so would keep them from the
@@ -154,8 +170,9 @@ VTE_CORE = dict(
         # as a part of a program's own function, its loops would keep their places on the stack
         "vte_core/parser/drive": {"#[inline(never)]": ["pub(crate) fn drive<"]},
         # .. and so would these, which are rare, if they were parts of it
-        **{f"vte_core/parser/{name}": {"#[inline(never)]": [f"pub(crate) fn read_{name}<"]}
-           for name in ("device_control", "system_command")},
+        **{f"vte_core/parser/{module}": {"#[inline(never)]": [f"pub(crate) fn read_{name}<"]}
+           for module, name in (("device_control", "device_control"), ("escape", "intermediates"),
+                                ("system_command", "system_command"))},
         "vte_core/parser/long": {
             CLONE: ["pub struct LongParser"],
             '#[must_use = "the memory may be refused"]': ["pub fn reserve"],

@@ -3,7 +3,7 @@
 
 /// The error of adding an element to a full vector.
 #[derive(Debug)]
-pub(crate) struct Full;
+pub(crate) struct CapacityError;
 
 /// A vector of at most N elements.
 #[derive(Clone)]
@@ -68,8 +68,8 @@ impl<T: Copy + Default, const N: usize> ArrayVec<T, N> {
     }
 
     #[inline(always)]
-    pub(crate) fn try_push(&mut self, element: T) -> Result<(), Full> {
-        *self.elements.get_mut(self.count).ok_or(Full)? = element;
+    pub(crate) fn try_push(&mut self, element: T) -> Result<(), CapacityError> {
+        *self.elements.get_mut(self.count).ok_or(CapacityError)? = element;
         self.count += 1;
         Ok(())
     }
@@ -83,10 +83,10 @@ impl<T: Copy + Default, const N: usize> ArrayVec<T, N> {
 
     /// Adds all elements of a slice, or none if there isn't room for all.
     #[inline(always)]
-    pub(crate) fn try_extend_from_slice(&mut self, more: &[T]) -> Result<(), Full> {
-        let room = self.elements.get_mut(self.count..).ok_or(Full)?;
+    pub(crate) fn try_extend_from_slice(&mut self, more: &[T]) -> Result<(), CapacityError> {
+        let room = self.elements.get_mut(self.count..).ok_or(CapacityError)?;
         room.get_mut(..more.len())
-            .ok_or(Full)?
+            .ok_or(CapacityError)?
             .copy_from_slice(more);
         self.count += more.len();
         Ok(())
@@ -95,7 +95,7 @@ impl<T: Copy + Default, const N: usize> ArrayVec<T, N> {
 
 #[cfg(test)]
 mod tests {
-    use super::{ArrayVec, Full};
+    use super::{ArrayVec, CapacityError};
 
     #[test]
     fn elements_are_added_up_to_the_last() {
@@ -106,7 +106,10 @@ mod tests {
             assert!(bytes.try_extend_from_slice(&[byte]).is_ok());
         }
         assert_eq!((bytes.len(), bytes.as_slice()), (3, [7, 0, 9].as_slice()));
-        assert!(matches!(bytes.try_extend_from_slice(&[1]), Err(Full)));
+        assert!(matches!(
+            bytes.try_extend_from_slice(&[1]),
+            Err(CapacityError)
+        ));
         assert_eq!(bytes.as_slice(), [7, 0, 9]);
     }
 

@@ -7,7 +7,7 @@
 //! here.
 
 use crate::proved::vte_core::class::is_layout;
-use crate::proved::vte_core::scan::get_block;
+use crate::proved::vte_core::scan::Looks;
 use crate::proved::vte_core::utf8::is_printed_ascii;
 
 // States: between two characters; before one, two or three more bytes 80..BF; after a first byte
@@ -115,38 +115,40 @@ fn step(state: u64, byte: u8) -> u64 {
     TABLE[byte as usize] >> (state % 64)
 }
 
-/// Skips blocks of a run, and returns where the last character ended. With `layout`, the run
-/// may hold HT, LF and CR. A block with a byte that fits nowhere, or with another control, is
-/// read in vain.
-#[inline(never)]
-pub(crate) fn skip_run_blocks(input: &[u8], from: usize, layout: bool) -> usize {
-    let mut at = 0;
-    let mut state = BETWEEN;
-    while let Some(block) = get_block::<16>(input, from + at) {
-        if !layout && has_control(&block) {
-            break;
+impl Looks {
+    /// Skips blocks of a run, and returns where the last character ended. If it `keeps` them, the
+    /// run may hold HT, LF and CR. A block with a byte that fits nowhere, or with a control that
+    /// isn't kept, is read in vain.
+    #[inline(never)]
+    pub(crate) fn skip_run_blocks(self, input: &[u8], from: usize, keeps: bool) -> usize {
+        let mut at = 0;
+        let mut state = BETWEEN;
+        while let Some(block) = self.get_block::<16>(input, from + at) {
+            if !keeps && has_control(&block) {
+                break;
+            }
+            let next = state_after_block(state, &block);
+            if next == FAILED {
+                break;
+            }
+            state = next;
+            at += 16;
         }
-        let next = state_after_block(state, &block);
-        if next == FAILED {
-            break;
-        }
-        state = next;
-        at += 16;
+        from + self.last_end(input, from, at, state)
     }
-    from + last_end(input, from, at, state)
-}
 
-/// Finds where the last character ended before a position.
-#[inline(always)]
-fn last_end(input: &[u8], from: usize, at: usize, state: u64) -> usize {
-    if state == BETWEEN {
-        return at;
+    /// Finds where the last character ended before a position.
+    #[inline(always)]
+    fn last_end(self, input: &[u8], from: usize, at: usize, state: u64) -> usize {
+        if state == BETWEEN {
+            return at;
+        }
+        let mut end = at - 1;
+        while self.at(input, from + end) < 0xc0 {
+            end -= 1;
+        }
+        end
     }
-    let mut end = at - 1;
-    while input[from + end] < 0xc0 {
-        end -= 1;
-    }
-    end
 }
 
 /// Returns the state after 16 bytes. Between two characters they are tested first for printed

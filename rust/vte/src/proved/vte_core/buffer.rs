@@ -4,6 +4,7 @@
 use crate::adapter::array_vec::ArrayVec;
 #[cfg(any(feature = "std", feature = "ansi"))]
 use crate::prelude::Vec;
+use crate::proved::vte_core::scan::Looks;
 
 /// Holds bytes, up to a limit or as many as there is memory for.
 pub(crate) trait Buffer {
@@ -21,7 +22,7 @@ pub(crate) trait Buffer {
     fn reserve(&mut self, more: usize) -> bool;
 
     /// Adds the bytes of an input from one position to another, up to the limit.
-    fn append(&mut self, input: &[u8], from: usize, to: usize);
+    fn append(&mut self, looks: Looks, input: &[u8], from: usize, to: usize);
 }
 
 impl<const N: usize> Buffer for ArrayVec<u8, N> {
@@ -41,10 +42,10 @@ impl<const N: usize> Buffer for ArrayVec<u8, N> {
         true
     }
 
-    fn append(&mut self, input: &[u8], from: usize, to: usize) {
+    fn append(&mut self, looks: Looks, input: &[u8], from: usize, to: usize) {
         let kept = (to - from).min(self.remaining_capacity());
         // It fits.
-        let _ = self.try_extend_from_slice(&input[from..from + kept]);
+        let _ = looks.copy_to_array(input, from, from + kept, self);
     }
 }
 
@@ -71,8 +72,8 @@ impl Buffer for Vec<u8> {
     }
 
     #[inline]
-    fn append(&mut self, input: &[u8], from: usize, to: usize) {
+    fn append(&mut self, looks: Looks, input: &[u8], from: usize, to: usize) {
         // There is room.
-        let _ = self.extend_from_slice(&input[from..to]);
+        let _ = looks.copy_to_vec(input, from, to, self);
     }
 }

@@ -21,8 +21,7 @@ mod to_run;
 use crate::adapter::array_vec::ArrayVec;
 use crate::proved::vte_core::head::HeadProgress;
 use crate::proved::vte_core::perform::{Perform, PerformText};
-use crate::proved::vte_core::scan::grain::PerformAs;
-use crate::proved::vte_core::scan::{Grain, InRuns, Singly};
+use crate::proved::vte_core::scan::{CountedPerform, Grain, InRuns, Looks, Singly};
 use crate::proved::vte_core::utf8::Unfinished;
 #[cfg(any(feature = "std", feature = "ansi"))]
 pub use long::LongParser;
@@ -81,6 +80,7 @@ pub(crate) enum State {
 #[derive(Clone)]
 pub struct Parser<const OSC_RAW_BUF_SIZE: usize = MAX_OSC_RAW> {
     machine: Machine<ArrayVec<u8, OSC_RAW_BUF_SIZE>>,
+    looks: Looks,
 }
 
 impl Parser<MAX_OSC_RAW> {
@@ -103,6 +103,7 @@ impl<const OSC_RAW_BUF_SIZE: usize> Parser<OSC_RAW_BUF_SIZE> {
     pub fn new_with_size() -> Self {
         Parser {
             machine: Machine::new(ArrayVec::new()),
+            looks: Looks::for_limited(),
         }
     }
 
@@ -161,12 +162,15 @@ impl<const OSC_RAW_BUF_SIZE: usize> Parser<OSC_RAW_BUF_SIZE> {
 
     /// Reads the bytes of a call, all of them or, if it `MAY_STOP`, until the performer is
     /// terminated, and returns how many were read.
-    fn drive<P: PerformAs<G>, G: Grain, const MAY_STOP: bool>(
+    fn drive<P: CountedPerform<G>, G: Grain, const MAY_STOP: bool>(
         &mut self,
         performer: &mut P,
         bytes: &[u8],
     ) -> usize {
-        match self.machine.drive::<P, G, MAY_STOP>(performer, bytes) {
+        match self
+            .machine
+            .drive::<P, G, MAY_STOP>(self.looks, performer, bytes)
+        {
             Ok(read) => read,
             // Never: with a limit no memory is refused.
             Err(refused) => refused.read,

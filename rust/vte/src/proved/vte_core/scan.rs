@@ -1,17 +1,28 @@
 // Written by tools/erase from crates/vte_core/src/scan.rt: edit that one.
-//! Searches of the input.
+//! The only module that reads input bytes and reports events. It counts both, for contracts alone.
 
-pub(crate) mod grain;
-pub(crate) mod search;
+mod counted_perform;
+mod grain;
+mod search;
 mod taken;
 
+use crate::adapter::array_vec::{ArrayVec, CapacityError};
 use crate::prelude::first_chunk;
-use crate::proved::vte_core::scan::grain::PerformAs;
+#[cfg(any(feature = "std", feature = "ansi"))]
+use crate::prelude::AllocError;
+#[cfg(any(feature = "std", feature = "ansi"))]
+use crate::prelude::Vec;
 use core::str;
+pub(crate) use counted_perform::CountedPerform;
 pub(crate) use grain::Grain;
 pub use grain::{InRuns, Singly};
 pub use taken::{Run, Taken};
 pub(crate) use taken::{RunKind, RunRange};
+
+/// How many looks a parser with the buffer `B` took at input bytes, and how many events it told. It
+/// has no bytes at run time.
+#[derive(Clone, Copy)]
+pub(crate) struct Looks {}
 
 /// Returns the bytes up to a position.
 #[inline(always)]
@@ -34,7 +45,7 @@ pub(crate) fn text(input: &[u8], from: usize, to: usize) -> &str {
 
 /// Returns the data from one position to another.
 #[inline(always)]
-pub(crate) fn data(input: &[u8], from: usize, to: usize) -> &[u8] {
+fn data(input: &[u8], from: usize, to: usize) -> &[u8] {
     &input[from..to]
 }
 
@@ -52,35 +63,108 @@ pub(crate) fn take_run(input: &[u8], range: RunRange) -> Run<'_> {
     }
 }
 
-/// Returns the byte at an index, or `None` past the end.
-#[inline(always)]
-pub(crate) fn get(input: &[u8], index: usize) -> Option<u8> {
-    let byte = *input.get(index)?;
-    Some(byte)
-}
-
-/// Returns a copy of the `N` bytes from a position on, or `None` if there are fewer.
-#[inline(always)]
-pub(crate) fn get_block<const N: usize>(input: &[u8], from: usize) -> Option<[u8; N]> {
-    let block = *first_chunk::<N>(&input[from..])?;
-    Some(block)
-}
-
-/// Tells a whole character.
-#[inline(always)]
-pub(crate) fn tell_character<P: PerformAs<G>, G>(performer: &mut P, c: char) {
-    match c {
-        '\u{0}'..='\u{1f}' | '\u{80}'..='\u{9f}' => performer.execute_control(c as u8),
-        _ => performer.print_char(c),
+impl Looks {
+    /// Creates a count of no looks, for a parser with a limit.
+    pub(crate) fn for_limited() -> Self {
+        Looks::none()
     }
 }
 
-/// Tells a byte that is neither printed nor a lead byte: a control, or a malformed sequence
-/// alone.
-#[inline(always)]
-pub(crate) fn tell_lone_byte<P: PerformAs<G>, G>(performer: &mut P, byte: u8) {
-    match byte {
-        0x00..=0x1f | 0x80..=0x9f => performer.execute_control(byte),
-        _ => performer.print_char(char::REPLACEMENT_CHARACTER),
+#[cfg(any(feature = "std", feature = "ansi"))]
+impl Looks {
+    /// Creates a count of no looks, for a parser without a limit.
+    pub(crate) fn for_unlimited() -> Self {
+        Looks::none()
+    }
+}
+
+impl Looks {
+    fn none() -> Self {
+        Looks {}
+    }
+
+    /// Counts looks.
+    fn add(self, count: usize) {
+        let _ = count;
+    }
+
+    /// Returns the byte at an index.
+    pub(crate) fn at(self, input: &[u8], index: usize) -> u8 {
+        self.add(1);
+        input[index]
+    }
+
+    /// Returns the byte at an index, or `None` past the end.
+    #[inline(always)]
+    pub(crate) fn get(self, input: &[u8], index: usize) -> Option<u8> {
+        let byte = *input.get(index)?;
+        self.add(1);
+        Some(byte)
+    }
+
+    /// Returns a copy of the `N` bytes from a position on, or `None` if there are fewer.
+    #[inline(always)]
+    pub(crate) fn get_block<const N: usize>(self, input: &[u8], from: usize) -> Option<[u8; N]> {
+        let block = *first_chunk::<N>(&input[from..])?;
+        self.add(N);
+        Some(block)
+    }
+
+    /// Tells a whole character.
+    #[inline(always)]
+    pub(crate) fn tell_character<P: CountedPerform<G>, G>(self, performer: &mut P, c: char) {
+        match c {
+            '\u{0}'..='\u{1f}' | '\u{80}'..='\u{9f}' => performer.execute_control(self, c as u8),
+            _ => performer.print_char(self, c),
+        }
+    }
+
+    /// Tells a byte that is neither printed nor a lead byte: a control, or a malformed sequence
+    /// alone.
+    #[inline(always)]
+    pub(crate) fn tell_single<P: CountedPerform<G>, G>(self, performer: &mut P, byte: u8) {
+        match byte {
+            0x00..=0x1f | 0x80..=0x9f => performer.execute_control(self, byte),
+            _ => performer.print_char(self, char::REPLACEMENT_CHARACTER),
+        }
+    }
+
+    /// Tells the data that stand from one position to another, which counts them.
+    #[inline(always)]
+    pub(crate) fn tell_data<P: CountedPerform<G>, G>(
+        self,
+        performer: &mut P,
+        input: &[u8],
+        from: usize,
+        to: usize,
+    ) {
+        performer.put_slice(self, data(input, from, to));
+    }
+
+    /// Appends the bytes from one position to another to an array that has room for them.
+    pub(crate) fn copy_to_array<const N: usize>(
+        self,
+        input: &[u8],
+        from: usize,
+        to: usize,
+        array: &mut ArrayVec<u8, N>,
+    ) -> Result<(), CapacityError> {
+        self.add(to - from);
+        array.try_extend_from_slice(&input[from..to])
+    }
+}
+
+#[cfg(any(feature = "std", feature = "ansi"))]
+impl Looks {
+    /// Appends the bytes from one position to another to a vector that has memory for them.
+    pub(crate) fn copy_to_vec(
+        self,
+        input: &[u8],
+        from: usize,
+        to: usize,
+        vec: &mut Vec<u8>,
+    ) -> Result<(), AllocError> {
+        self.add(to - from);
+        vec.extend_from_slice(&input[from..to])
     }
 }

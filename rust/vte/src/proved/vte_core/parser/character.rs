@@ -3,9 +3,7 @@
 
 use crate::proved::vte_core::buffer::Buffer;
 use crate::proved::vte_core::parser::{Machine, State};
-use crate::proved::vte_core::run::find_run_end_for;
-use crate::proved::vte_core::scan::grain::PerformAs;
-use crate::proved::vte_core::scan::{tell_character, text, Grain};
+use crate::proved::vte_core::scan::{text, CountedPerform, Grain, Looks};
 use crate::proved::vte_core::utf8::{
     character_of_four, character_of_three, character_of_two, is_continuation, may_begin_four,
     may_begin_three, Carried, Unfinished,
@@ -16,8 +14,9 @@ impl<B: Buffer> Machine<B> {
     /// at. A byte that breaks it is left unread, and U+FFFD is printed for those before it. If text
     /// is taken in runs, a character of four bytes begins one.
     #[inline(always)]
-    pub(crate) fn read_character<P: PerformAs<G>, G: Grain>(
+    pub(crate) fn read_character<P: CountedPerform<G>, G: Grain, const MAY_STOP: bool>(
         &mut self,
+        looks: Looks,
         performer: &mut P,
         input: &[u8],
         from: usize,
@@ -28,26 +27,27 @@ impl<B: Buffer> Machine<B> {
             self.state = State::Text(Unfinished::One(first));
             return next;
         }
-        let second = input[next];
+        let second = looks.at(input, next);
         if !is_continuation(second) {
-            performer.print_char(char::REPLACEMENT_CHARACTER);
+            performer.print_char(looks, char::REPLACEMENT_CHARACTER);
             return next;
         }
         if first < 0xe0 {
-            tell_character(performer, character_of_two(first, second));
+            looks.tell_character(performer, character_of_two(first, second));
             return next + 1;
         }
         if first < 0xf0 {
-            self.complete_three(performer, first, second, input, next)
+            self.complete_three::<P, G, MAY_STOP>(looks, performer, first, second, input, next)
         } else {
-            self.complete_four(performer, first, second, input, from)
+            self.complete_four::<P, G, MAY_STOP>(looks, performer, first, second, input, from)
         }
     }
 
     /// Reads the second and third byte of a character of three. The second was looked at.
     #[inline(always)]
-    pub(crate) fn complete_three<P: PerformAs<G>, G: Grain>(
+    pub(crate) fn complete_three<P: CountedPerform<G>, G: Grain, const MAY_STOP: bool>(
         &mut self,
+        looks: Looks,
         performer: &mut P,
         first: u8,
         second: u8,
@@ -55,27 +55,28 @@ impl<B: Buffer> Machine<B> {
         from: usize,
     ) -> usize {
         if !may_begin_three(first, second) {
-            performer.print_char(char::REPLACEMENT_CHARACTER);
+            performer.print_char(looks, char::REPLACEMENT_CHARACTER);
             return from;
         }
         if from + 1 >= input.len() {
             self.state = State::Text(Unfinished::Two(first, second));
             return from + 1;
         }
-        let third = input[from + 1];
+        let third = looks.at(input, from + 1);
         if !is_continuation(third) {
-            performer.print_char(char::REPLACEMENT_CHARACTER);
+            performer.print_char(looks, char::REPLACEMENT_CHARACTER);
             return from + 1;
         }
-        tell_character(performer, character_of_three(first, second, third));
+        looks.tell_character(performer, character_of_three(first, second, third));
         from + 2
     }
 
     /// Reads the character of four bytes that begins at a position, whose first two were looked at.
     /// If text is taken in runs, it begins one.
     #[inline(always)]
-    pub(crate) fn complete_four<P: PerformAs<G>, G: Grain>(
+    pub(crate) fn complete_four<P: CountedPerform<G>, G: Grain, const MAY_STOP: bool>(
         &mut self,
+        looks: Looks,
         performer: &mut P,
         first: u8,
         second: u8,
@@ -84,41 +85,43 @@ impl<B: Buffer> Machine<B> {
     ) -> usize {
         let next = from + 1;
         if !may_begin_four(first, second) {
-            performer.print_char(char::REPLACEMENT_CHARACTER);
+            performer.print_char(looks, char::REPLACEMENT_CHARACTER);
             return next;
         }
         if next + 2 >= input.len() {
-            return self.continue_character(
+            return self.continue_character::<P, G, MAY_STOP>(
+                looks,
                 performer,
                 Unfinished::Two(first, second),
                 input,
                 next + 1,
             );
         }
-        let third = input[next + 1];
+        let third = looks.at(input, next + 1);
         if !is_continuation(third) {
-            performer.print_char(char::REPLACEMENT_CHARACTER);
+            performer.print_char(looks, char::REPLACEMENT_CHARACTER);
             return next + 1;
         }
-        let fourth = input[next + 2];
+        let fourth = looks.at(input, next + 2);
         if !is_continuation(fourth) {
-            performer.print_char(char::REPLACEMENT_CHARACTER);
+            performer.print_char(looks, char::REPLACEMENT_CHARACTER);
             return next + 2;
         }
         if G::IN_RUNS {
-            let end = find_run_end_for(performer, input, next + 3);
-            performer.print_text(text(input, from, end));
+            let end = looks.find_run_end_of(performer, input, next + 3);
+            performer.print_text(looks, text(input, from, end));
             return end;
         }
-        tell_character(performer, character_of_four(first, second, third, fourth));
+        looks.tell_character(performer, character_of_four(first, second, third, fourth));
         next + 3
     }
 
     /// Reads the bytes that an unfinished character continues with. A byte that breaks it is left
     /// unread, and U+FFFD is printed for those before it.
     #[inline(always)]
-    pub(crate) fn continue_character<P: PerformAs<G>, G: Grain>(
+    pub(crate) fn continue_character<P: CountedPerform<G>, G: Grain, const MAY_STOP: bool>(
         &mut self,
+        looks: Looks,
         performer: &mut P,
         begun: Unfinished,
         input: &[u8],
@@ -126,15 +129,15 @@ impl<B: Buffer> Machine<B> {
     ) -> usize {
         let mut unfinished = begun;
         for position in from..input.len() {
-            match unfinished.carried_on(input[position]) {
+            match unfinished.carried_on(looks.at(input, position)) {
                 Carried::Unfinished(more) => unfinished = more,
                 Carried::Whole(c) => {
-                    tell_character(performer, c);
+                    looks.tell_character(performer, c);
                     self.state = State::Text(Unfinished::Nothing);
                     return position + 1;
                 }
                 Carried::Broken => {
-                    performer.print_char(char::REPLACEMENT_CHARACTER);
+                    performer.print_char(looks, char::REPLACEMENT_CHARACTER);
                     self.state = State::Text(Unfinished::Nothing);
                     return position;
                 }

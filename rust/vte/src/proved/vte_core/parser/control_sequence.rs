@@ -5,8 +5,7 @@ use crate::proved::vte_core::buffer::Buffer;
 use crate::proved::vte_core::class::{ends_body, is_final, is_plain_control};
 use crate::proved::vte_core::head::HeadProgress;
 use crate::proved::vte_core::parser::{Machine, State, Unfinished};
-use crate::proved::vte_core::scan::grain::PerformAs;
-use crate::proved::vte_core::scan::Grain;
+use crate::proved::vte_core::scan::{CountedPerform, Grain, Looks};
 
 impl<B: Buffer> Machine<B> {
     /// Goes on with a control sequence whose head has come so far: by digits, by separators too if
@@ -14,8 +13,13 @@ impl<B: Buffer> Machine<B> {
     /// most one number: for them this calls nothing before the dispatch. If calls have one byte
     /// each, most bytes of long sequences come this way.
     #[inline(always)]
-    pub(crate) fn read_short_head<P: PerformAs<G>, G: Grain>(
+    pub(crate) fn continue_control_sequence<
+        P: CountedPerform<G>,
+        G: Grain,
+        const MAY_STOP: bool,
+    >(
         &mut self,
+        looks: Looks,
         performer: &mut P,
         input: &[u8],
         reached: HeadProgress,
@@ -23,40 +27,50 @@ impl<B: Buffer> Machine<B> {
         from: usize,
     ) -> usize {
         if !reached.may_have_parameters() {
-            return self.read_control_sequence(performer, input, reached, from);
+            return self
+                .read_control_sequence::<P, G, MAY_STOP>(looks, performer, input, reached, from);
         }
-        let head = self.collected.read_numbers(reached, several, input, from);
+        let head = self
+            .collected
+            .read_numbers(looks, reached, several, input, from);
         if let Some(byte) = head.next {
             if is_final(byte) {
-                return self.end_control_sequence(performer, head.progress, byte, head.position);
+                return self.end_control_sequence(looks, performer, head.part, byte, head.position);
             }
         }
-        self.state = State::ControlSequence(head.progress);
+        self.state = State::ControlSequence(head.part);
         if head.next.is_none() {
             return head.position;
         }
-        self.read_control_sequence(performer, input, head.progress, head.position)
+        self.read_control_sequence::<P, G, MAY_STOP>(
+            looks,
+            performer,
+            input,
+            head.part,
+            head.position,
+        )
     }
 
     /// Reads the head of a control sequence, which has come so far, and the byte after it.
     #[inline(never)]
-    pub(crate) fn read_control_sequence<P: PerformAs<G>, G: Grain>(
+    pub(crate) fn read_control_sequence<P: CountedPerform<G>, G: Grain, const MAY_STOP: bool>(
         &mut self,
+        looks: Looks,
         performer: &mut P,
         input: &[u8],
         reached: HeadProgress,
         from: usize,
     ) -> usize {
-        let head = self.collected.read_head(reached, input, from);
-        self.state = State::ControlSequence(head.progress);
+        let head = self.collected.read_head(looks, reached, input, from);
+        self.state = State::ControlSequence(head.part);
         if let Some(byte) = head.next {
             if is_final(byte) {
-                return self.end_control_sequence(performer, head.progress, byte, head.position);
+                return self.end_control_sequence(looks, performer, head.part, byte, head.position);
             }
             if ends_body(byte) {
-                self.end_body(performer, byte);
+                self.end_body(looks, performer, byte);
             } else if is_plain_control(byte) {
-                performer.execute_control(byte);
+                performer.execute_control(looks, byte);
             }
             // DEL and 80..FF are dropped.
             return head.position + 1;
@@ -64,41 +78,38 @@ impl<B: Buffer> Machine<B> {
         head.position
     }
 
-    /// Ends a control sequence at its final byte: dispatches it, unless its head is ill-shaped.
+    /// Ends a control sequence at its final byte: dispatches it, unless its head is malformed.
     /// Returns the next position.
     #[inline(always)]
-    fn end_control_sequence<P: PerformAs<G>, G: Grain>(
+    fn end_control_sequence<P: CountedPerform<G>, G: Grain>(
         &mut self,
+        looks: Looks,
         performer: &mut P,
-        progress: HeadProgress,
+        part: HeadProgress,
         byte: u8,
         position: usize,
     ) -> usize {
-        if let HeadProgress::IllShaped = progress {
+        if let HeadProgress::IllShaped = part {
             self.state = State::Text(Unfinished::Nothing);
             return position + 1;
         }
         let ignore = self.collected.end_head();
-        self.dispatch_control_sequence(performer, ignore, byte, position)
+        self.dispatch_control_sequence(looks, performer, ignore, byte, position)
     }
 
     /// Dispatches a control sequence at its final byte, and returns the next position, so that
     /// callers need not keep it.
     #[inline(never)]
-    fn dispatch_control_sequence<P: PerformAs<G>, G: Grain>(
+    fn dispatch_control_sequence<P: CountedPerform<G>, G: Grain>(
         &mut self,
+        looks: Looks,
         performer: &mut P,
         ignore: bool,
         byte: u8,
         position: usize,
     ) -> usize {
         self.state = State::Text(Unfinished::Nothing);
-        performer.csi_dispatch(
-            &self.collected.params,
-            self.collected.intermediates.as_slice(),
-            ignore,
-            char::from(byte),
-        );
+        performer.csi_dispatch(looks, &self.collected, ignore, byte);
         position + 1
     }
 }

@@ -5,9 +5,7 @@ use crate::proved::vte_core::buffer::Buffer;
 use crate::proved::vte_core::class::{ends_body, is_device_data, is_final};
 use crate::proved::vte_core::head::HeadProgress;
 use crate::proved::vte_core::parser::{Machine, State, Unfinished};
-use crate::proved::vte_core::scan::grain::PerformAs;
-use crate::proved::vte_core::scan::search::find_device_data_end;
-use crate::proved::vte_core::scan::{data, Grain};
+use crate::proved::vte_core::scan::{CountedPerform, Grain, Looks};
 
 /// The one 8-bit control that is read: ST, the end of the data.
 const STRING_TERMINATOR: u8 = 0x9c;
@@ -16,68 +14,67 @@ impl<B: Buffer> Machine<B> {
     /// Reads the head of a device control string, which has come so far, and its final byte.
     /// Controls in it are dropped.
     #[inline(never)]
-    pub(crate) fn read_device_control<P: PerformAs<G>, G: Grain>(
+    pub(crate) fn read_device_control<P: CountedPerform<G>, G: Grain, const MAY_STOP: bool>(
         &mut self,
+        looks: Looks,
         performer: &mut P,
         input: &[u8],
         reached: HeadProgress,
         from: usize,
     ) -> usize {
-        let head = self.collected.read_head(reached, input, from);
-        self.state = State::DeviceControl(head.progress);
+        let head = self.collected.read_head(looks, reached, input, from);
+        self.state = State::DeviceControl(head.part);
         if let Some(byte) = head.next {
             if is_final(byte) {
-                self.hook(performer, head.progress, byte);
+                self.hook(looks, performer, head.part, byte);
             } else if ends_body(byte) {
-                self.end_body(performer, byte);
+                self.end_body(looks, performer, byte);
             }
-            // Plain controls, DEL and 80..FF are dropped.
+            // C0, DEL and 80..FF are dropped.
             return head.position + 1;
         }
         head.position
     }
 
-    /// Hooks the string at the final byte of its head, or ignores it if the head is ill-shaped.
-    fn hook<P: PerformAs<G>, G: Grain>(
+    /// Hooks the string at the final byte of its head, or ignores it if the head is malformed.
+    fn hook<P: CountedPerform<G>, G: Grain>(
         &mut self,
+        looks: Looks,
         performer: &mut P,
-        progress: HeadProgress,
+        part: HeadProgress,
         byte: u8,
     ) {
-        if let HeadProgress::IllShaped = progress {
+        if let HeadProgress::IllShaped = part {
             self.state = State::IgnoredString;
             return;
         }
         let ignore = self.collected.end_head();
-        performer.hook(
-            &self.collected.params,
-            self.collected.intermediates.as_slice(),
-            ignore,
-            char::from(byte),
-        );
+        performer.hook(looks, &self.collected, ignore, byte);
         self.state = State::DeviceData;
     }
 
     /// Reads the data of a device control string, and the byte that ends them. For a performer that
     /// takes slices and is never asked, it reads either data up to a byte that isn't put, or such a
     /// byte.
-    pub(crate) fn read_device_data<P: PerformAs<G>, G: Grain, const MAY_STOP: bool>(
+    pub(crate) fn read_device_data<P: CountedPerform<G>, G: Grain, const MAY_STOP: bool>(
         &mut self,
+        looks: Looks,
         performer: &mut P,
         input: &[u8],
         from: usize,
     ) -> usize {
         for position in from..input.len() {
-            let byte = input[position];
+            let byte = looks.at(input, position);
             if !is_device_data(byte) {
-                return self.read_other_in_data::<P, G, MAY_STOP>(performer, input, position, byte);
+                return self
+                    .end_device_data::<P, G, MAY_STOP>(looks, performer, input, position, byte);
             }
             if G::IN_RUNS && !MAY_STOP {
-                let end = find_device_data_end(input, position + 1);
-                performer.put_slice(data(input, position, end));
+                let end = looks.find_device_data_end(input, position + 1);
+                looks.tell_data(performer, input, position, end);
                 return end;
             }
-            performer.put_byte(byte);
+            performer.put_byte(looks, byte);
             if MAY_STOP && performer.terminated() {
                 return position + 1;
             }
@@ -87,18 +84,19 @@ impl<B: Buffer> Machine<B> {
 
     /// Reads a byte among the data that isn't put: it ends them, or is dropped.
     #[inline(never)]
-    pub(crate) fn read_other_in_data<P: PerformAs<G>, G: Grain, const MAY_STOP: bool>(
+    pub(crate) fn end_device_data<P: CountedPerform<G>, G: Grain, const MAY_STOP: bool>(
         &mut self,
+        looks: Looks,
         performer: &mut P,
         input: &[u8],
         from: usize,
         byte: u8,
     ) -> usize {
         if ends_body(byte) {
-            return self.read_end::<P, G, MAY_STOP>(performer, input, from, byte);
+            return self.read_end::<P, G, MAY_STOP>(looks, performer, input, from, byte);
         }
         if byte == STRING_TERMINATOR {
-            performer.unhook();
+            performer.unhook(looks);
             self.state = State::Text(Unfinished::Nothing);
         }
         from + 1

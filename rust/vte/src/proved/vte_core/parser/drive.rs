@@ -3,31 +3,32 @@
 
 use crate::proved::vte_core::buffer::Buffer;
 use crate::proved::vte_core::parser::{Machine, Refused, State};
-use crate::proved::vte_core::scan::grain::PerformAs;
-use crate::proved::vte_core::scan::Grain;
+use crate::proved::vte_core::scan::{CountedPerform, Grain, Looks};
 
 impl<B: Buffer> Machine<B> {
     /// Reads the bytes of a call, as many as there is memory for, and returns how many: all of
     /// them, or up to a stop if `MAY_STOP`.
     #[inline(never)]
-    pub(crate) fn drive<P: PerformAs<G>, G: Grain, const MAY_STOP: bool>(
+    pub(crate) fn drive<P: CountedPerform<G>, G: Grain, const MAY_STOP: bool>(
         &mut self,
+        looks: Looks,
         performer: &mut P,
         input: &[u8],
     ) -> Result<usize, Refused> {
-        let mut position = self.finish_character(performer, input);
+        let mut position = self.finish_character::<P, G, MAY_STOP>(looks, performer, input);
         while position < input.len() {
             if MAY_STOP && performer.terminated() {
                 return Ok(position);
             }
-            position = self.read_by_state::<P, G, MAY_STOP>(performer, input, position)?;
+            position = self.read_by_state::<P, G, MAY_STOP>(looks, performer, input, position)?;
         }
         Ok(position)
     }
 
     /// Completes the character that an earlier call began, if one is open.
-    pub(crate) fn finish_character<P: PerformAs<G>, G: Grain>(
+    pub(crate) fn finish_character<P: CountedPerform<G>, G: Grain, const MAY_STOP: bool>(
         &mut self,
+        looks: Looks,
         performer: &mut P,
         input: &[u8],
     ) -> usize {
@@ -36,7 +37,7 @@ impl<B: Buffer> Machine<B> {
                 if begun.is_nothing() {
                     return 0;
                 }
-                self.continue_character(performer, begun, input, 0)
+                self.continue_character::<P, G, MAY_STOP>(looks, performer, begun, input, 0)
             }
             _ => 0,
         }
@@ -45,33 +46,38 @@ impl<B: Buffer> Machine<B> {
     /// Reads at least one byte, before which the performer was asked, or none if memory is refused
     /// for it.
     #[inline]
-    pub(crate) fn read_by_state<P: PerformAs<G>, G: Grain, const MAY_STOP: bool>(
+    pub(crate) fn read_by_state<P: CountedPerform<G>, G: Grain, const MAY_STOP: bool>(
         &mut self,
+        looks: Looks,
         performer: &mut P,
         input: &[u8],
         from: usize,
     ) -> Result<usize, Refused> {
         // A comparison, because the match jumps by a table, which is hard to predict.
         if let State::Text(_) = self.state {
-            return Ok(self.read_text::<P, G, MAY_STOP>(performer, input, from));
+            return Ok(self.read_text::<P, G, MAY_STOP>(looks, performer, input, from));
         }
         Ok(match self.state {
             // Never: this was tested above.
-            State::Text(_) => self.read_text::<P, G, MAY_STOP>(performer, input, from),
-            State::Escape => self.read_escape(performer, input, from),
-            State::EscapeIntermediate => self.read_intermediates(performer, input, from),
-            State::ControlSequence(progress) => {
-                self.read_short_head(performer, input, progress, true, from)
+            State::Text(_) => self.read_text::<P, G, MAY_STOP>(looks, performer, input, from),
+            State::Escape => self.read_escape::<P, G, MAY_STOP>(looks, performer, input, from),
+            State::EscapeIntermediate => {
+                self.read_intermediates::<P, G, MAY_STOP>(looks, performer, input, from)
             }
-            State::DeviceControl(progress) => {
-                self.read_device_control(performer, input, progress, from)
+            State::ControlSequence(part) => self.continue_control_sequence::<P, G, MAY_STOP>(
+                looks, performer, input, part, true, from,
+            ),
+            State::DeviceControl(part) => {
+                self.read_device_control::<P, G, MAY_STOP>(looks, performer, input, part, from)
             }
-            State::DeviceData => self.read_device_data::<P, G, MAY_STOP>(performer, input, from),
+            State::DeviceData => {
+                self.read_device_data::<P, G, MAY_STOP>(looks, performer, input, from)
+            }
             State::SystemCommand => {
-                self.read_system_command::<P, G, MAY_STOP>(performer, input, from)?
+                self.read_system_command::<P, G, MAY_STOP>(looks, performer, input, from)?
             }
             State::IgnoredString => {
-                self.read_ignored_string::<P, G, MAY_STOP>(performer, input, from)
+                self.read_ignored_string::<P, G, MAY_STOP>(looks, performer, input, from)
             }
         })
     }

@@ -8,51 +8,65 @@ use crate::proved::vte_core::class::{
 };
 use crate::proved::vte_core::head::HeadProgress;
 use crate::proved::vte_core::parser::{Machine, State, Unfinished};
-use crate::proved::vte_core::scan::grain::PerformAs;
-use crate::proved::vte_core::scan::Grain;
+use crate::proved::vte_core::scan::{CountedPerform, Grain, Looks};
 
 impl<B: Buffer> Machine<B> {
     /// Begins an escape sequence at an ESC in a text, which was looked at, and reads the bytes
     /// after it.
     #[inline(never)]
-    pub(crate) fn read_sequence<P: PerformAs<G>, G: Grain>(
+    pub(crate) fn read_sequence<P: CountedPerform<G>, G: Grain, const MAY_STOP: bool>(
         &mut self,
+        looks: Looks,
         performer: &mut P,
         input: &[u8],
         from: usize,
     ) -> usize {
         self.collected.begin_escape();
         let next = from + 1;
-        if next < input.len() && input[next] == b'[' {
+        if next < input.len() && looks.at(input, next) == b'[' {
             self.collected.begin_head();
             self.state = State::ControlSequence(HeadProgress::Entry);
-            return self.read_short_head(performer, input, HeadProgress::Entry, false, next + 1);
+            return self.continue_control_sequence::<P, G, MAY_STOP>(
+                looks,
+                performer,
+                input,
+                HeadProgress::Entry,
+                false,
+                next + 1,
+            );
         }
         self.state = State::Escape;
-        self.read_escape(performer, input, next)
+        self.read_escape::<P, G, MAY_STOP>(looks, performer, input, next)
     }
 
     /// Reads bytes after ESC, up to the one that says what begins; after `[` the control sequence
     /// too.
     #[inline(never)]
-    pub(crate) fn read_escape<P: PerformAs<G>, G: Grain>(
+    pub(crate) fn read_escape<P: CountedPerform<G>, G: Grain, const MAY_STOP: bool>(
         &mut self,
+        looks: Looks,
         performer: &mut P,
         input: &[u8],
         from: usize,
     ) -> usize {
         for position in from..input.len() {
-            let byte = input[position];
+            let byte = looks.at(input, position);
             // Added before the branches, so that the loop over ESC is shorter.
             let next = position + 1;
             if byte == b'[' {
                 self.collected.begin_head();
                 self.state = State::ControlSequence(HeadProgress::Entry);
-                return self.read_control_sequence(performer, input, HeadProgress::Entry, next);
+                return self.read_control_sequence::<P, G, MAY_STOP>(
+                    looks,
+                    performer,
+                    input,
+                    HeadProgress::Entry,
+                    next,
+                );
             }
             // Another ESC changes nothing: nothing was collected since the one before.
             if byte != ESCAPE {
-                self.read_after_escape(performer, byte);
+                self.read_after_escape(looks, performer, byte);
                 return next;
             }
         }
@@ -60,18 +74,23 @@ impl<B: Buffer> Machine<B> {
     }
 
     /// Reads a byte after ESC, other than `[`.
-    fn read_after_escape<P: PerformAs<G>, G: Grain>(&mut self, performer: &mut P, byte: u8) {
+    fn read_after_escape<P: CountedPerform<G>, G: Grain>(
+        &mut self,
+        looks: Looks,
+        performer: &mut P,
+        byte: u8,
+    ) {
         if is_final(byte) {
-            self.begin_or_dispatch(performer, byte);
+            self.read_key(looks, performer, byte);
         } else if is_intermediate(byte) {
             self.collected.collect(byte);
             self.state = State::EscapeIntermediate;
         } else if is_head_byte(byte) {
-            self.dispatch_escape(performer, byte);
+            self.dispatch_escape(looks, performer, byte);
         } else if ends_body(byte) {
-            self.end_body(performer, byte);
+            self.end_body(looks, performer, byte);
         } else if is_plain_control(byte) {
-            performer.execute_control(byte);
+            performer.execute_control(looks, byte);
         }
         // DEL and 80..FF are dropped.
     }
@@ -79,7 +98,12 @@ impl<B: Buffer> Machine<B> {
     /// Begins the string that a byte 40..7E other than `[` begins after ESC, or dispatches an
     /// escape sequence that ends with it.
     #[inline(never)]
-    fn begin_or_dispatch<P: PerformAs<G>, G: Grain>(&mut self, performer: &mut P, byte: u8) {
+    fn read_key<P: CountedPerform<G>, G: Grain>(
+        &mut self,
+        looks: Looks,
+        performer: &mut P,
+        byte: u8,
+    ) {
         if byte == b'P' {
             self.collected.begin_head();
             self.state = State::DeviceControl(HeadProgress::Entry);
@@ -89,29 +113,31 @@ impl<B: Buffer> Machine<B> {
         } else if begins_ignored_string(byte) {
             self.state = State::IgnoredString;
         } else {
-            self.dispatch_escape(performer, byte);
+            self.dispatch_escape(looks, performer, byte);
         }
     }
 
     /// Reads the intermediates of an escape sequence and its final byte.
-    pub(crate) fn read_intermediates<P: PerformAs<G>, G: Grain>(
+    #[inline(never)]
+    pub(crate) fn read_intermediates<P: CountedPerform<G>, G: Grain, const MAY_STOP: bool>(
         &mut self,
+        looks: Looks,
         performer: &mut P,
         input: &[u8],
         from: usize,
     ) -> usize {
         for position in from..input.len() {
-            let byte = input[position];
+            let byte = looks.at(input, position);
             if is_intermediate(byte) {
                 self.collected.collect(byte);
             } else if dispatches_escape(byte) {
-                self.dispatch_escape(performer, byte);
+                self.dispatch_escape(looks, performer, byte);
                 return position + 1;
             } else if ends_body(byte) {
-                self.end_body(performer, byte);
+                self.end_body(looks, performer, byte);
                 return position + 1;
             } else if is_plain_control(byte) {
-                performer.execute_control(byte);
+                performer.execute_control(looks, byte);
                 return position + 1;
             }
             // DEL and 80..FF are dropped.
@@ -120,12 +146,13 @@ impl<B: Buffer> Machine<B> {
     }
 
     /// Dispatches an escape sequence at its final byte.
-    fn dispatch_escape<P: PerformAs<G>, G: Grain>(&mut self, performer: &mut P, byte: u8) {
-        performer.esc_dispatch(
-            self.collected.intermediates.as_slice(),
-            self.collected.too_many_intermediates,
-            byte,
-        );
+    fn dispatch_escape<P: CountedPerform<G>, G: Grain>(
+        &mut self,
+        looks: Looks,
+        performer: &mut P,
+        byte: u8,
+    ) {
+        performer.esc_dispatch(looks, &self.collected, byte);
         self.state = State::Text(Unfinished::Nothing);
     }
 }

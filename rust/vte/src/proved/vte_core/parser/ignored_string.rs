@@ -3,21 +3,20 @@
 
 use crate::proved::vte_core::buffer::Buffer;
 use crate::proved::vte_core::parser::machine::Machine;
-use crate::proved::vte_core::scan::grain::PerformAs;
-use crate::proved::vte_core::scan::search::find_string_end;
-use crate::proved::vte_core::scan::{get, Grain};
+use crate::proved::vte_core::scan::{CountedPerform, Grain, Looks};
 
 impl<B: Buffer> Machine<B> {
     /// Reads a string that means nothing, and the byte that ends it.
-    pub(crate) fn read_ignored_string<P: PerformAs<G>, G: Grain, const MAY_STOP: bool>(
+    pub(crate) fn read_ignored_string<P: CountedPerform<G>, G: Grain, const MAY_STOP: bool>(
         &mut self,
+        looks: Looks,
         performer: &mut P,
         input: &[u8],
         from: usize,
     ) -> usize {
-        let end = find_string_end(input, from);
-        match get(input, end) {
-            Some(byte) => self.read_end::<P, G, MAY_STOP>(performer, input, end, byte),
+        let end = looks.find_string_end(input, from);
+        match looks.get(input, end) {
+            Some(byte) => self.read_end::<P, G, MAY_STOP>(looks, performer, input, end, byte),
             None => end,
         }
     }

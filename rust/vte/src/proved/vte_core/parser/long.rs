@@ -4,7 +4,7 @@
 use crate::prelude::Vec;
 use crate::proved::vte_core::parser::{Machine, Refused, State};
 use crate::proved::vte_core::perform::{Perform, PerformText};
-use crate::proved::vte_core::scan::{take_run, InRuns, Run, Singly};
+use crate::proved::vte_core::scan::{take_run, InRuns, Looks, Run, Singly};
 
 /// A parser whose calls return an error if they are refused memory.
 ///
@@ -34,6 +34,7 @@ use crate::proved::vte_core::scan::{take_run, InRuns, Run, Singly};
 #[derive(Clone)]
 pub struct LongParser {
     machine: Machine<Vec<u8>>,
+    looks: Looks,
 }
 
 impl LongParser {
@@ -42,6 +43,7 @@ impl LongParser {
     pub fn new() -> Self {
         LongParser {
             machine: Machine::new(Vec::new()),
+            looks: Looks::for_unlimited(),
         }
     }
 
@@ -89,7 +91,8 @@ impl LongParser {
     /// Reads the next bytes of the stream, and performs the events that they add to it: all of
     /// them, or as many as there is memory for.
     pub fn advance<P: Perform>(&mut self, performer: &mut P, bytes: &[u8]) -> Result<(), Refused> {
-        self.machine.drive::<P, Singly, false>(performer, bytes)?;
+        self.machine
+            .drive::<P, Singly, false>(self.looks, performer, bytes)?;
         Ok(())
     }
 
@@ -101,7 +104,8 @@ impl LongParser {
         performer: &mut P,
         bytes: &[u8],
     ) -> Result<(), Refused> {
-        self.machine.drive::<P, InRuns, false>(performer, bytes)?;
+        self.machine
+            .drive::<P, InRuns, false>(self.looks, performer, bytes)?;
         Ok(())
     }
 
@@ -116,7 +120,8 @@ impl LongParser {
         performer: &mut P,
         bytes: &[u8],
     ) -> Result<usize, Refused> {
-        self.machine.drive::<P, Singly, true>(performer, bytes)
+        self.machine
+            .drive::<P, Singly, true>(self.looks, performer, bytes)
     }
 
     /// Reads bytes as [`advance_until_terminated`](Self::advance_until_terminated) does, and passes
@@ -128,7 +133,8 @@ impl LongParser {
         performer: &mut P,
         bytes: &[u8],
     ) -> Result<usize, Refused> {
-        self.machine.drive::<P, InRuns, true>(performer, bytes)
+        self.machine
+            .drive::<P, InRuns, true>(self.looks, performer, bytes)
     }
 
     /// Reads bytes up to a run of text, or of data of a device control string, and the run itself,
@@ -140,7 +146,7 @@ impl LongParser {
         bytes: &'a [u8],
     ) -> Result<Run<'a>, Refused> {
         let input = bytes;
-        let range = self.machine.drive_to_run(performer, input)?;
+        let range = self.machine.drive_to_run(self.looks, performer, input)?;
         Ok(take_run(input, range))
     }
 

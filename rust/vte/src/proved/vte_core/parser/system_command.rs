@@ -4,9 +4,7 @@
 use crate::proved::vte_core::buffer::Buffer;
 use crate::proved::vte_core::class::ends_body;
 use crate::proved::vte_core::parser::{Machine, Refused, State, Unfinished};
-use crate::proved::vte_core::scan::grain::PerformAs;
-use crate::proved::vte_core::scan::search::find_command_data_end;
-use crate::proved::vte_core::scan::{get, Grain};
+use crate::proved::vte_core::scan::{CountedPerform, Grain, Looks};
 
 const BELL: u8 = 0x07;
 
@@ -14,28 +12,29 @@ impl<B: Buffer> Machine<B> {
     /// Reads data bytes of an operating system command, and the byte after them. It takes memory
     /// for the data, or else reads nothing.
     #[inline(never)]
-    pub(crate) fn read_system_command<P: PerformAs<G>, G: Grain, const MAY_STOP: bool>(
+    pub(crate) fn read_system_command<P: CountedPerform<G>, G: Grain, const MAY_STOP: bool>(
         &mut self,
+        looks: Looks,
         performer: &mut P,
         input: &[u8],
         from: usize,
     ) -> Result<usize, Refused> {
-        let end = find_command_data_end(input, from);
+        let end = looks.find_command_data_end(input, from);
         if !self.command.take_memory(end - from) {
             return Err(Refused { read: from });
         }
-        self.command.push_data(input, from, end);
-        let byte = match get(input, end) {
+        self.command.push_data(looks, input, from, end);
+        let byte = match looks.get(input, end) {
             Some(byte) => byte,
             None => return Ok(end),
         };
         if ends_body(byte) {
-            return Ok(self.read_end::<P, G, MAY_STOP>(performer, input, end, byte));
+            return Ok(self.read_end::<P, G, MAY_STOP>(looks, performer, input, end, byte));
         }
         if byte == b';' {
             self.command.end_piece();
         } else if byte == BELL {
-            self.command.dispatch(performer, true);
+            self.command.dispatch(looks, performer, true);
             self.state = State::Text(Unfinished::Nothing);
         }
         Ok(end + 1)

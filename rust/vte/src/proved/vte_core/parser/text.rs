@@ -4,10 +4,7 @@
 use crate::proved::vte_core::buffer::Buffer;
 use crate::proved::vte_core::class::ESCAPE;
 use crate::proved::vte_core::parser::Machine;
-use crate::proved::vte_core::run::{begins_ascii_run, find_ascii_run_end, find_run_end_at_lead};
-use crate::proved::vte_core::scan::grain::PerformAs;
-use crate::proved::vte_core::scan::search::search_text;
-use crate::proved::vte_core::scan::{get, tell_lone_byte, text, up_to, Grain};
+use crate::proved::vte_core::scan::{text, up_to, CountedPerform, Grain, Looks};
 use crate::proved::vte_core::utf8::{is_lead, is_printed_ascii};
 
 /// The bytes of a text that are read before it is searched for ESC. Shorter texts, and so most,
@@ -24,19 +21,20 @@ struct AsciiRun {
 /// Prints the run of ASCII that stands at a position, whose first byte was looked at. If it is
 /// short, that is the first byte alone.
 #[inline(always)]
-fn print_ascii<P: PerformAs<G>, G: Grain>(
+fn print_ascii<P: CountedPerform<G>, G: Grain>(
+    looks: Looks,
     performer: &mut P,
     input: &[u8],
     from: usize,
     first: u8,
 ) -> AsciiRun {
-    let next = get(input, from + 1);
-    if begins_ascii_run(input, from, next) {
-        let end = find_ascii_run_end(performer, input, from);
-        performer.print_text(text(input, from, end));
+    let next = looks.get(input, from + 1);
+    if looks.begins_ascii(input, from, next) {
+        let end = looks.find_ascii_run_end(performer, input, from);
+        performer.print_text(looks, text(input, from, end));
         return AsciiRun { end, next: None };
     }
-    performer.print_char(char::from(first));
+    performer.print_char(looks, char::from(first));
     let end = from + 1;
     match next {
         Some(byte) if !is_printed_ascii(byte) => AsciiRun { end, next },
@@ -47,8 +45,9 @@ fn print_ascii<P: PerformAs<G>, G: Grain>(
 impl<B: Buffer> Machine<B> {
     /// Reads text up to an ESC, and then the bytes after that.
     #[inline]
-    pub(crate) fn read_text<P: PerformAs<G>, G: Grain, const MAY_STOP: bool>(
+    pub(crate) fn read_text<P: CountedPerform<G>, G: Grain, const MAY_STOP: bool>(
         &mut self,
+        looks: Looks,
         performer: &mut P,
         input: &[u8],
         from: usize,
@@ -63,9 +62,9 @@ impl<B: Buffer> Machine<B> {
         };
         while position < input.len() {
             while position < front.len() {
-                let mut byte = front[position];
+                let mut byte = looks.at(front, position);
                 if G::IN_RUNS && is_printed_ascii(byte) {
-                    let run = print_ascii(performer, input, position, byte);
+                    let run = print_ascii(looks, performer, input, position, byte);
                     position = run.end;
                     match run.next {
                         Some(next) => byte = next,
@@ -75,22 +74,25 @@ impl<B: Buffer> Machine<B> {
                 // Here `position` is the last byte that was read; the `+= 1` below steps past it,
                 // for all branches without `continue`.
                 if is_printed_ascii(byte) {
-                    performer.print_char(char::from(byte));
+                    performer.print_char(looks, char::from(byte));
                 } else if G::IN_RUNS && byte >= 0xa0 {
                     // One comparison tells lead bytes and malformed ones from ESC and controls. A
                     // lead byte may begin a control, which may stop the call; U+FFFD doesn't.
                     if is_lead(byte) {
-                        position = self.read_at_lead(performer, input, position, byte);
+                        position = self.read_at_lead::<P, G, MAY_STOP>(
+                            looks, performer, input, position, byte,
+                        );
                         if MAY_STOP && performer.terminated() {
                             return position;
                         }
                     } else {
-                        tell_lone_byte(performer, byte);
+                        looks.tell_single(performer, byte);
                         position += 1;
                     }
                     continue;
                 } else if is_lead(byte) {
-                    let next = self.read_character(performer, input, position, byte);
+                    let next = self
+                        .read_character::<P, G, MAY_STOP>(looks, performer, input, position, byte);
                     // A path of its own takes fewer instructions if the call may stop after a
                     // character, and more otherwise.
                     if MAY_STOP {
@@ -102,9 +104,9 @@ impl<B: Buffer> Machine<B> {
                     }
                     position = next - 1;
                 } else if byte == ESCAPE {
-                    return self.read_sequence(performer, input, position);
+                    return self.read_sequence::<P, G, MAY_STOP>(looks, performer, input, position);
                 } else {
-                    tell_lone_byte(performer, byte);
+                    looks.tell_single(performer, byte);
                 }
                 position += 1;
                 if MAY_STOP && performer.terminated() {
@@ -112,7 +114,7 @@ impl<B: Buffer> Machine<B> {
                 }
             }
             if !G::IN_RUNS && position < input.len() {
-                front = up_to(input, search_text::<MAY_STOP>(input, from, position));
+                front = up_to(input, looks.search_text::<MAY_STOP>(input, from, position));
             }
         }
         position
@@ -121,18 +123,19 @@ impl<B: Buffer> Machine<B> {
     /// Reads what begins with a lead byte, which was looked at, for a performer that takes runs: a
     /// run, a character or a malformed sequence.
     #[inline(always)]
-    fn read_at_lead<P: PerformAs<G>, G: Grain>(
+    fn read_at_lead<P: CountedPerform<G>, G: Grain, const MAY_STOP: bool>(
         &mut self,
+        looks: Looks,
         performer: &mut P,
         input: &[u8],
         from: usize,
         first: u8,
     ) -> usize {
-        let end = find_run_end_at_lead(performer, input, from, first);
+        let end = looks.find_run_end_at_lead(performer, input, from, first);
         if end > from {
-            performer.print_text(text(input, from, end));
+            performer.print_text(looks, text(input, from, end));
             return end;
         }
-        self.read_character(performer, input, from, first)
+        self.read_character::<P, G, MAY_STOP>(looks, performer, input, from, first)
     }
 }

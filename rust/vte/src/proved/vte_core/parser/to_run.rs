@@ -5,10 +5,9 @@ use crate::proved::vte_core::buffer::Buffer;
 use crate::proved::vte_core::class::ESCAPE;
 use crate::proved::vte_core::parser::{Machine, Parser, Refused, State};
 use crate::proved::vte_core::perform::Perform;
-use crate::proved::vte_core::run::find_run_end;
-use crate::proved::vte_core::scan::grain::PerformAs;
-use crate::proved::vte_core::scan::search::find_device_data_end;
-use crate::proved::vte_core::scan::{take_run, tell_lone_byte, Run, RunKind, RunRange, Singly};
+use crate::proved::vte_core::scan::{
+    take_run, CountedPerform, Looks, Run, RunKind, RunRange, Singly,
+};
 use crate::proved::vte_core::utf8::{is_lead, is_printed_ascii};
 
 impl<const OSC_RAW_BUF_SIZE: usize> Parser<OSC_RAW_BUF_SIZE> {
@@ -41,7 +40,7 @@ impl<const OSC_RAW_BUF_SIZE: usize> Parser<OSC_RAW_BUF_SIZE> {
         bytes: &'a [u8],
     ) -> Run<'a> {
         let input = bytes;
-        match self.machine.drive_to_run(performer, input) {
+        match self.machine.drive_to_run(self.looks, performer, input) {
             Ok(range) => take_run(input, range),
             // Never: with a limit no memory is refused.
             Err(refused) => take_run(input, RunRange::empty(refused.read)),
@@ -52,16 +51,17 @@ impl<const OSC_RAW_BUF_SIZE: usize> Parser<OSC_RAW_BUF_SIZE> {
 impl<B: Buffer> Machine<B> {
     /// Reads bytes up to a run, and finds the run. It stays in the state of the run, which changes
     /// nothing.
-    pub(crate) fn drive_to_run<P: PerformAs<Singly>>(
+    pub(crate) fn drive_to_run<P: CountedPerform<Singly>>(
         &mut self,
+        looks: Looks,
         performer: &mut P,
         input: &[u8],
     ) -> Result<RunRange, Refused> {
-        let mut position = self.finish_character::<P, Singly>(performer, input);
+        let mut position = self.finish_character::<P, Singly, true>(looks, performer, input);
         while position < input.len() && !performer.terminated() {
             position = match self.state {
                 State::Text(_) => {
-                    let end = find_run_end(input, position, false);
+                    let end = looks.find_run_end(input, position, false);
                     if end > position {
                         return Ok(RunRange {
                             start: position,
@@ -69,10 +69,10 @@ impl<B: Buffer> Machine<B> {
                             kind: RunKind::OfText,
                         });
                     }
-                    self.read_unprinted(performer, input, position)
+                    self.read_unprinted(looks, performer, input, position)
                 }
                 State::DeviceData => {
-                    let end = find_device_data_end(input, position);
+                    let end = looks.find_device_data_end(input, position);
                     if end > position {
                         return Ok(RunRange {
                             start: position,
@@ -80,10 +80,10 @@ impl<B: Buffer> Machine<B> {
                             kind: RunKind::OfData,
                         });
                     }
-                    let byte = input[position];
-                    self.read_other_in_data::<P, Singly, true>(performer, input, position, byte)
+                    let byte = looks.at(input, position);
+                    self.end_device_data::<P, Singly, true>(looks, performer, input, position, byte)
                 }
-                _ => self.read_by_state::<P, Singly, true>(performer, input, position)?,
+                _ => self.read_by_state::<P, Singly, true>(looks, performer, input, position)?,
             };
         }
         Ok(RunRange::empty(position))
@@ -91,28 +91,29 @@ impl<B: Buffer> Machine<B> {
 
     /// Reads a character that isn't printed or a malformed sequence, or controls and what is
     /// malformed up to where a run may begin, or an escape sequence.
-    fn read_unprinted<P: PerformAs<Singly>>(
+    fn read_unprinted<P: CountedPerform<Singly>>(
         &mut self,
+        looks: Looks,
         performer: &mut P,
         input: &[u8],
         from: usize,
     ) -> usize {
         let mut position = from;
-        let mut byte = input[from];
+        let mut byte = looks.at(input, from);
         if is_lead(byte) {
-            return self.read_character::<P, Singly>(performer, input, from, byte);
+            return self.read_character::<P, Singly, true>(looks, performer, input, from, byte);
         }
         while byte != ESCAPE {
-            tell_lone_byte(performer, byte);
+            looks.tell_single(performer, byte);
             position += 1;
             if position == input.len() || performer.terminated() {
                 return position;
             }
-            byte = input[position];
+            byte = looks.at(input, position);
             if is_printed_ascii(byte) || is_lead(byte) {
                 return position;
             }
         }
-        self.read_sequence::<P, Singly>(performer, input, position)
+        self.read_sequence::<P, Singly, true>(looks, performer, input, position)
     }
 }

@@ -1,0 +1,112 @@
+// Written by tools/erase from crates/vte_core/src/scan/counted_perform.rt: edit that one.
+//! Performers that count each event as it is reported.
+
+use crate::proved::vte_core::head::Collected;
+use crate::proved::vte_core::perform::Perform;
+use crate::proved::vte_core::scan::grain::PerformAs;
+use crate::proved::vte_core::scan::Looks;
+
+/// A performer, as the functions of a parser with the buffer `B` see it. Each event counts one.
+pub(crate) trait CountedPerform<G> {
+    /// Returns whether HT, LF and CR come as text.
+    fn keeps_layout(&self) -> bool;
+
+    fn print_char(&mut self, looks: Looks, c: char);
+
+    /// Counts a text's bytes, which are no fewer than its characters.
+    fn print_text(&mut self, looks: Looks, text: &str);
+
+    fn execute_control(&mut self, looks: Looks, byte: u8);
+
+    fn hook(&mut self, looks: Looks, held: &Collected, ignore: bool, byte: u8);
+
+    fn put_byte(&mut self, looks: Looks, byte: u8);
+
+    /// Counts each byte.
+    fn put_slice(&mut self, looks: Looks, bytes: &[u8]);
+
+    fn unhook(&mut self, looks: Looks);
+
+    fn osc_dispatch(&mut self, looks: Looks, pieces: &[&[u8]], bell: bool);
+
+    fn csi_dispatch(&mut self, looks: Looks, held: &Collected, ignore: bool, byte: u8);
+
+    fn esc_dispatch(&mut self, looks: Looks, held: &Collected, byte: u8);
+
+    fn terminated(&self) -> bool;
+}
+
+impl<P: PerformAs<G>, G> CountedPerform<G> for P {
+    #[inline(always)]
+    fn keeps_layout(&self) -> bool {
+        PerformAs::<G>::keeps_layout(self)
+    }
+
+    #[inline(always)]
+    fn print_char(&mut self, looks: Looks, c: char) {
+        looks.add(1);
+        PerformAs::<G>::print_char(self, c);
+    }
+
+    #[inline(always)]
+    fn print_text(&mut self, looks: Looks, text: &str) {
+        looks.add(text.len());
+        PerformAs::<G>::print_text(self, text);
+    }
+
+    #[inline(always)]
+    fn execute_control(&mut self, looks: Looks, byte: u8) {
+        looks.add(1);
+        PerformAs::<G>::execute_control(self, byte);
+    }
+
+    #[inline(always)]
+    fn hook(&mut self, looks: Looks, held: &Collected, ignore: bool, byte: u8) {
+        looks.add(1);
+        let (intermediates, action) = (held.intermediates.as_slice(), char::from(byte));
+        Perform::hook(self, &held.params, intermediates, ignore, action);
+    }
+
+    #[inline(always)]
+    fn put_byte(&mut self, looks: Looks, byte: u8) {
+        looks.add(1);
+        PerformAs::<G>::put_byte(self, byte);
+    }
+
+    #[inline(always)]
+    fn put_slice(&mut self, looks: Looks, bytes: &[u8]) {
+        looks.add(bytes.len());
+        PerformAs::<G>::put_slice(self, bytes);
+    }
+
+    #[inline(always)]
+    fn unhook(&mut self, looks: Looks) {
+        looks.add(1);
+        Perform::unhook(self);
+    }
+
+    #[inline(always)]
+    fn osc_dispatch(&mut self, looks: Looks, pieces: &[&[u8]], bell: bool) {
+        looks.add(1);
+        Perform::osc_dispatch(self, pieces, bell);
+    }
+
+    #[inline(always)]
+    fn csi_dispatch(&mut self, looks: Looks, held: &Collected, ignore: bool, byte: u8) {
+        looks.add(1);
+        let (intermediates, action) = (held.intermediates.as_slice(), char::from(byte));
+        Perform::csi_dispatch(self, &held.params, intermediates, ignore, action);
+    }
+
+    #[inline(always)]
+    fn esc_dispatch(&mut self, looks: Looks, held: &Collected, byte: u8) {
+        looks.add(1);
+        let intermediates = held.intermediates.as_slice();
+        Perform::esc_dispatch(self, intermediates, held.too_many_intermediates, byte);
+    }
+
+    #[inline(always)]
+    fn terminated(&self) -> bool {
+        Perform::terminated(self)
+    }
+}

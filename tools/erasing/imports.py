@@ -69,8 +69,7 @@ def settle_imports(source, crate, plan, before):
         for visibility, path in names:
             name = path.rpartition("::")[2]
             elsewhere = plan.imported_from(source, path)
-            is_needed = visibility or used[name] or not before[name]
-            if elsewhere != "" and is_needed:
+            if visibility or used[name] or not before[name]:
                 paths.append(elsewhere or renamed(source, at, path, crate, plan))
                 known.add(name)
         if paths:

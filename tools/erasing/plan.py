@@ -12,27 +12,30 @@ def table():
 
 @dataclass(frozen=True)
 class Plan:
-    """A Rust crate. Tables are by file, unless they say something else."""
+    """A Rust crate. Tables are by file, unless they say something else. What they say can't be seen
+    in the sources, which know one prover and one library, no features and no other users."""
 
     folder: str  # what is written; nothing else stands there
     modules: dict  # the Rattle crates: the path of each, seen from anywhere in the Rust crate
     allowed_lints: tuple = ()  # those that the text needn't pass
 
-    # where names come from
+    # where names come from: by hand in the Rust crate, or from crates that it depends on
     other_crates: dict = table()  # those that aren't part of this one
     of_std: dict = table()  # modules of std that Rust's `core` hasn't, or has otherwise
     homes: dict = table()  # by crate, or "" for all: modules, and their names that are imported
     imports: dict = table()  # by the front of files' names: paths, and what is imported instead
 
-    # under which conditions something is there
+    # under which conditions something is there: cargo's features
     crate_conditions: dict = table()  # of the crates' modules
     item_conditions: dict = table()  # by crate too: conditions, and words of items that have them
 
-    # what goes
+    # what goes: it is by hand in the Rust crate, rustc derives it, or only proofs, tests or other
+    # crates use it
     dropped_files: frozenset = frozenset()
     dropped_items: dict = table()  # items and functions, by their first words
 
-    # what changes, and what comes
+    # what changes, and what comes: the interface of `vte`, what rustc asks for, and what was
+    # measured to be as fast as the crate
     rules: dict = table()  # by crate and "" for all, too: patterns, and what stands in their place
     first_lines: dict = table()  # lines above the first item
     attributes: dict = table()  # attributes, and the first words of what has them
@@ -40,7 +43,7 @@ class Plan:
     default_bodies: dict = table()  # traits whose methods do nothing by default
     handler: dict = table()  # by the file of the trait `Handler`, rules for arguments it copies
 
-    # comments
+    # comments: what readers of the Rust crate look for in docs
     comments: dict = table()  # words of comments, and what stands in their place
     members: dict = table()  # docs of members that have none, by the first words of their type
     examples: dict = table()  # hidden lines before examples, and after "..", or None to drop these
@@ -57,10 +60,9 @@ class Plan:
         return tuple(dict.fromkeys(condition for _, condition in found))
 
     def imported_from(self, source, path):
-        """Another path for an import, or "" if it goes, or None."""
-        found = [it for front, imports in self.imports.items() if source.name.startswith(front)
-                 for it in imports.items()
-                 if path == it[0] or not it[1] and path.startswith(it[0])][:1]
+        """Another path for an import, or None."""
+        found = [(path, imports[path]) for front, imports in self.imports.items()
+                 if source.name.startswith(front) and path in imports][:1]
         source.used.update(found)
         return found[0][1] if found else None
 

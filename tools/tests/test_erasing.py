@@ -111,8 +111,7 @@ TEXTS = [
     (dict(homes={"a": {"q": "find"}}), "«use q::find;\n»pub use q::l; fn f() { find() }"),
     (dict(homes={"a": {"q": "find Big g h D"}}), "use q::‹k›«{Big, find, k}»; pub use q::l; "
      "use c::D; fn f(d: D) { find::<u8>(k); Big; a.g(); g } fn h() { h() }"),
-    (dict(imports={"a": {"c::D": "e::D", "f::": ""}}),
-     "use ‹c::D›«e::D»; use c::{I as J, K};\n‹// why\nuse f::{G, H};›"),
+    (dict(imports={"a": {"c::D": "e::D"}}), "use ‹c::D›«e::D»; use c::{I as J, K};"),
     (DROPPED, "‹use c::d;› pub use c::d::E; ‹fn f() { d(E) }›"),
     (dict(members={"a/x": {"enum E {": {"*": "{words} {snake} {name}.", "Four": "4."}}}),
      "enum E {\n«/// One one One.\n»#[default] One,\n«/// Two words two_words TwoWords.\n»"

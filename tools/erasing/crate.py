@@ -92,12 +92,11 @@ def erase(text, crate, name, plan):
     before = words_of_code(source)
     passes.drop_items(source, plan.dropped_items.get(name, ()))
     _drop_modules(source, name, plan)
+    passes.inline(source)
     apply(source, plan.rules.get(name, ()), are_needed=True)
     apply(source, GENERAL + plan.rules.get("", []) + plan.rules.get(crate, []) + OLDER)
     if name in plan.default_bodies:
         passes.give_bodies(source, plan.default_bodies[name])
-    if name in plan.inlined:
-        passes.inline(source, plan.inlined[name])
     passes.add_attributes(source, plan.attributes.get(name, {}))
     passes.document_members(source, plan.members.get(name, {}))
     passes.complete_examples(source, plan.examples.get(name, ()))

@@ -95,15 +95,16 @@ def add_attributes(source, attributes):
             source.insert(at, f"{line}\n")
 
 
-def inline(source, front):
-    """The functions of an impl whose only parameter goes may still be inlined into other crates."""
-    at = source.place(front)
-    for place in range(source.item_end(at), at, -1):
-        start = source.with_visibility(place)
-        is_generic = source.is_sign(source.after(source.after(place)), "<")
-        is_said = "inline" in source.between(source.attached(start), start)
-        if source.is_word(place, "fn") and not is_generic and not is_said:
-            source.insert(start, f"{INLINE}\n")
+def inline(source):
+    """The functions of an impl whose only parameter is the allocator, which goes, may still be
+    inlined into other crates."""
+    for at in source.places("impl<A: Allocator>"):
+        for place in range(source.item_end(at), at, -1):
+            start = source.with_visibility(place)
+            is_generic = source.is_sign(source.after(source.after(place)), "<")
+            is_said = "inline" in source.between(source.attached(start), start)
+            if source.is_word(place, "fn") and not is_generic and not is_said:
+                source.insert(start, f"{INLINE}\n")
 
 
 def set_conditions(source, conditions_of):

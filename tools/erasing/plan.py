@@ -39,7 +39,6 @@ class Plan:
     rules: dict = table()  # by crate and "" for all, too: patterns, and what stands in their place
     first_lines: dict = table()  # lines above the first item
     attributes: dict = table()  # attributes, and the first words of what has them
-    inlined: dict = table()  # impls whose functions are inlined
     default_bodies: dict = table()  # traits whose methods do nothing by default
     handler: dict = table()  # by the file of the trait `Handler`, rules for arguments it copies
 

@@ -122,7 +122,7 @@ TEXTS = [
     (dict(default_bodies={"a/x": "trait H {"}), "«#[allow(unused_variables)]» trait H { "
      "fn f(&self) -> bool‹;›« { false }» fn g(&self, k: u8)‹;›« {}» } trait I { fn h(); } "
      "impl H for K { fn f(&self) -> bool { a; b } }"),
-    (dict(inlined={"a/x": "impl V"}), "fn f() {} impl V { «#[inline]» pub(crate) fn f() {} "
+    ({}, "fn f() {} impl<A: Allocator> V<A> { «#[inline]» pub(crate) fn f() {} "
      "fn g<T>() {} #[inline(never)]\n/// H.\nfn h() {} } fn i() {}"),
     (dict(attributes={"a/x": {"#[derive(Eq)]": ["pub struct S", "pub struct T"],
                               "#[x]": ["pub struct S"]}}),

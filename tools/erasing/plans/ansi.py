@@ -99,7 +99,9 @@ PROCESSOR = dict(
             "#[allow(clippy::collapsible_match)]": ["pub(crate) fn perform_control"],
         },
         "vte/ansi/rendition": {INLINE: ["fn attribute"]},
-        "vte/ansi/numbers": {INLINE: ["fn next_or", "pub(crate) fn first_number"]},
+        "vte/ansi/numbers": {
+            INLINE: ["fn next_number(&mut self) -> Option<u16> { Some", "fn next_or",
+                     "pub(crate) fn first_number"]},
         # what a processor does per call, which matters if a call has few bytes
         "vte/ansi/engine": {
             INLINE: ["pub(crate) fn read<", "fn turn<", "fn hold_bytes"],
@@ -117,6 +119,4 @@ PROCESSOR = dict(
         "vte/ansi/escape_calls": {
             "#[allow(clippy::manual_range_patterns)]": ["pub(crate) fn perform_execute"]},
     },
-    inlined={"vte/ansi/hold": "impl Hold",
-             "vte/ansi/numbers": "impl NumberIterator for ParamsIter"},
 )

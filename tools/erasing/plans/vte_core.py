@@ -180,7 +180,5 @@ VTE_CORE = dict(
                 "pub(crate) fn advance_text_until_terminated", "pub(crate) fn stored"],
         },
     },
-    inlined={"vte_core/buffer": "impl Buffer for Vec", "vte_core/store": "impl Store<Vec",
-             "vte_core/parser/long": "impl LongParser"},
     default_bodies={"vte_core/perform": "pub trait Perform {"},
 )

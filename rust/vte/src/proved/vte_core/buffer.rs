@@ -71,7 +71,6 @@ impl Buffer for Vec<u8> {
         self.reserve(more).is_ok()
     }
 
-    #[inline]
     fn append(&mut self, looks: Looks, input: &[u8], from: usize, to: usize) {
         // There is room.
         let _ = looks.copy_to_vec(input, from, to, self);

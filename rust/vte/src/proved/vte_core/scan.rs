@@ -73,6 +73,7 @@ impl Looks {
 #[cfg(any(feature = "std", feature = "ansi"))]
 impl Looks {
     /// Creates a count of no looks, for a parser without a limit.
+    #[inline]
     pub(crate) fn for_unlimited() -> Self {
         Looks::none()
     }

@@ -14,6 +14,7 @@ pub(crate) struct GrowingText {
 
 impl GrowingText {
     /// Creates an empty text. It takes no memory.
+    #[inline]
     pub(crate) fn new() -> Self {
         GrowingText {
             text: String::new(),
@@ -22,6 +23,7 @@ impl GrowingText {
     }
 
     /// Gives back its memory.
+    #[inline]
     pub(crate) fn free(&mut self) {
         self.text.clear();
         self.text.shrink_to_fit();
@@ -30,10 +32,12 @@ impl GrowingText {
 }
 
 impl TextBuffer for GrowingText {
+    #[inline]
     fn capacity(&self) -> usize {
         self.size
     }
 
+    #[inline]
     fn reserve(&mut self, size: usize) -> bool {
         if size <= self.size {
             return true;
@@ -46,20 +50,24 @@ impl TextBuffer for GrowingText {
         true
     }
 
+    #[inline]
     fn clear(&mut self) {
         self.text.clear();
     }
 
+    #[inline]
     fn push(&mut self, c: char) {
         // There is room.
         let _ = self.text.push(c);
     }
 
+    #[inline]
     fn push_str(&mut self, part: &str) {
         // There is room.
         let _ = self.text.push_str(part);
     }
 
+    #[inline]
     fn as_str(&self) -> &str {
         self.text.as_str()
     }

@@ -92,6 +92,7 @@ def erase(text, crate, name, plan):
     before = words_of_code(source)
     passes.drop_items(source, plan.dropped_items.get(name, ()))
     _drop_modules(source, name, plan)
+    passes.derive_clones(source)
     passes.inline(source)
     apply(source, plan.rules.get(name, ()), are_needed=True)
     apply(source, GENERAL + plan.rules.get("", []) + plan.rules.get(crate, []) + OLDER)

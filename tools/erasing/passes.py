@@ -82,17 +82,32 @@ def give_bodies(source, front):
     source.insert(at, "#[allow(unused_variables)]\n")
 
 
+def derive_clones(source):
+    """Clones can be refused memory in Rattle. Here they are derived: rustc copies the same fields,
+    and those that are vectors have as much memory."""
+    for at in source.places("Clone for"):
+        first, end = next((first, end) for first, end in source.items() if first < at < end)
+        name = source.text(source.after(source.after(at)))
+        source.cut(source.attached(first), end)
+        for struct in source.places(f"struct {name}"):
+            _add_attribute(source, source.with_visibility(struct), "#[derive(Clone)]")
+
+
 def add_attributes(source, attributes):
-    """Puts attributes above what begins with the given words. A derive joins another."""
+    """Puts attributes above what begins with the given words."""
     for line, front in ((it, front) for it, fronts in attributes.items() for front in fronts):
-        at = source.place(front)
-        derive = next((place for place in range(source.attached(at), at)
-                       if source.words(place, 3) == ["#", "[", "derive"]), None)
-        if line.startswith("#[derive(") and derive is not None:
-            source.insert(source.before(source.attribute_end(derive)),
-                          f", {line[len('#[derive('):-2]}")
-        else:
-            source.insert(at, f"{line}\n")
+        _add_attribute(source, source.place(front), line)
+
+
+def _add_attribute(source, at, line):
+    """A derive joins another."""
+    derive = next((place for place in range(source.attached(at), at)
+                   if source.words(place, 3) == ["#", "[", "derive"]), None)
+    if line.startswith("#[derive(") and derive is not None:
+        source.insert(source.before(source.attribute_end(derive)),
+                      f", {line[len('#[derive('):-2]}")
+    else:
+        source.insert(at, f"{line}\n")
 
 
 def inline(source):

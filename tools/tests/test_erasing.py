@@ -122,6 +122,9 @@ TEXTS = [
     (dict(default_bodies={"a/x": "trait H {"}), "«#[allow(unused_variables)]» trait H { "
      "fn f(&self) -> bool‹;›« { false }» fn g(&self, k: u8)‹;›« {}» } trait I { fn h(); } "
      "impl H for K { fn f(&self) -> bool { a; b } }"),
+    ({}, "#[derive(Debug«, Clone»)] pub struct S<A> { a: A }\n‹// goes\nimpl<A: B> Clone for S<A> "
+     "{ fn clone(&self) -> Result<Self, AllocError> { self.a } }› «#[derive(Clone)]» struct T; "
+     "‹impl Clone for T {}› ‹impl Clone for U {}› impl Copy for T {}"),
     ({}, "fn f() {} impl<A: Allocator> V<A> { «#[inline]» pub(crate) fn f() {} "
      "fn g<T>() {} #[inline(never)]\n/// H.\nfn h() {} } fn i() {}"),
     (dict(attributes={"a/x": {"#[derive(Eq)]": ["pub struct S", "pub struct T"],

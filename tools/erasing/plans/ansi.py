@@ -2,7 +2,7 @@
 crates/vte. Plan says what each table is.
 """
 from erasing.passes import INLINE
-from erasing.plans.vte_core import CLONE, OWN, WITH_LIMIT, private
+from erasing.plans.vte_core import OWN, WITH_LIMIT, private
 
 # inlined by rustc, it would take 1.02 times the instructions on cells with attributes
 HINTED = [("#[inline(always)] fn terminal_attribute", "#[inline]\nfn terminal_attribute")]
@@ -75,13 +75,6 @@ PROCESSOR = dict(
         "vte/ansi/performer": (
             "impl<'s, 'h, H: HandlerText, T: Timeout + Drop, B: TextBuffer + Drop> "
             "PerformThroughText",),
-        # rustc derives it, with the same copies of the fields, and as much memory
-        "vte/ansi/growing_text": ("impl<A: Allocator + Clone> Clone for GrowingText",),
-        "vte/ansi/hold": ("impl<A: Allocator + Clone> Clone for Hold",),
-        "vte/ansi/long_processor": (
-            "impl<T: Timeout + Clone + Drop, A: Allocator + Clone> Clone for LongProcessor",),
-        "vte/ansi/processor": (
-            "impl<T: Timeout + Clone + Drop, A: Allocator + Clone> Clone for Processor",),
         # src/lib.rs says what the crate shows
         "vte/lib": ("use vte_core",),
         "vte/ansi": ("use vte_handler", "use vte_types"),
@@ -108,11 +101,7 @@ PROCESSOR = dict(
             # stops are rare: kept out of a turn, they leave its loop over bytes as it is
             "#[inline(never)]": ["pub(crate) fn stop<"],
         },
-        "vte/ansi/growing_text": {CLONE: ["pub(crate) struct GrowingText"]},
-        "vte/ansi/hold": {CLONE: ["pub(crate) struct Hold"]},
-        "vte/ansi/processor": {CLONE: ["pub struct Processor"]},
         "vte/ansi/long_processor": {
-            CLONE: ["pub struct LongProcessor"],
             '#[must_use = "the memory may be refused"]': ["pub fn reserve"],
         },
         # three numbers for one jump by a table: a range is compared first

@@ -61,9 +61,6 @@ def private(*names):
     return [(f"pub fn {name}", f"pub(crate) fn {name}") for name in names]
 
 
-# The Rust crate's parsers and processors can be copied, with as much memory.
-CLONE = "#[derive(Clone)]"
-
 VTE_CORE = dict(
     homes={"vte_core": {"crate::proved::vte_core::scan": "take_run text up_to"}},
     item_conditions={
@@ -75,16 +72,14 @@ VTE_CORE = dict(
         "vte_core/parser": {OWN: "saved"},
     },
     dropped_items={
-        # the count of looks, which contracts alone read, and clones that can be refused memory
-        "vte_core/scan": ("enum Trail", "struct Input", "impl<B> Clone for Input",
-                          "impl<B> Copy for Input", "fn new", "fn len", "fn tell_text"),
+        # what only contracts read, and what a slice has, or is where it is called
+        "vte_core/scan": ("enum Trail", "struct Input", "impl<B> Copy for Input", "fn new",
+                          "fn len", "fn tell_text"),
         # only proofs use it
         "vte_core/perform": ("trait PerformThroughText",),
-        # rustc derives it, with the same copies of the fields, and as much memory
-        "vte_core/parser": ("impl<const OSC_RAW_BUF_SIZE: usize> Clone for Parser",),
         # nobody asks
-        "vte_core/parser/long": ("fn memory", "impl<A: Allocator + Clone> Clone for LongParser"),
-        "vte_core/store": ("fn capacity", "impl<A: Allocator + Clone> Clone for Store"),
+        "vte_core/parser/long": ("fn memory",),
+        "vte_core/store": ("fn capacity",),
     },
     imports={
         "vte_core": {"arrayvec::ArrayVec": "crate::adapter::array_vec::ArrayVec",
@@ -127,9 +122,8 @@ VTE_CORE = dict(
              f"{OF_FOUR}unsafe {{ char::from_u32_unchecked(number_of_four($a)) }}")],
     },
     attributes={
-        "vte_core/parser/machine": {CLONE: ["pub(crate) struct Machine"]},
+        "vte_core/parser/machine": {"#[derive(Clone)]": ["pub(crate) struct Machine"]},
         "vte_core/parser": {
-            CLONE: ["pub struct Parser"],
             '#[must_use = "the bytes after the stop are still to be read"]': [
                 "pub fn advance_until_terminated"],
             f'#[cfg(any({OWN}, all(feature = "ansi", {WITH_LIMIT})))]': [
@@ -146,7 +140,6 @@ VTE_CORE = dict(
             f"#[cfg({OWN})]": ["pub(crate) fn parts", "pub(crate) fn from_parts", "fn are_lengths"],
         },
         "vte_core/store": {
-            CLONE: ["pub(crate) struct Store"],
             f"#[cfg({OWN})]": ["impl<const N: usize> Store<ArrayVec<u8, N>>", "fn are_piece_ends"],
             f"#[cfg({OWN_OR_ANSI})]": ["pub(crate) fn len"],
         },
@@ -174,7 +167,6 @@ VTE_CORE = dict(
            for module, name in (("device_control", "device_control"), ("escape", "intermediates"),
                                 ("system_command", "system_command"))},
         "vte_core/parser/long": {
-            CLONE: ["pub struct LongParser"],
             '#[must_use = "the memory may be refused"]': ["pub fn reserve"],
             f"#[cfg({OWN_OR_ANSI})]": [
                 "pub(crate) fn advance_text_until_terminated", "pub(crate) fn stored"],

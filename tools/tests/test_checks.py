@@ -373,6 +373,7 @@ PROGRAMS = {
     ("--strict lacking", "", "", 1, "0 passed, 0 failed"),
     ("unknown", "", "", 2, "test: no part is named unknown"),
     ("first unknown", "", "", 2, "test: no part is named unknown"),
+    ("fir.t", "", "", 2, "test: no part is named fir.t"),
 ])
 def test_what_is_run_and_listed(folder, words, fails, ran, status, last):
     text = (TOOLS / "test").read_text()

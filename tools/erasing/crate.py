@@ -95,7 +95,7 @@ def erase(text, crate, name, plan):
     passes.derive_clones(source)
     passes.inline(source)
     apply(source, plan.rules.get(name, ()), are_needed=True)
-    apply(source, GENERAL + plan.rules.get("", []) + plan.rules.get(crate, []) + OLDER)
+    apply(source, plan.rules.get(crate, []) + plan.rules.get("", []) + GENERAL + OLDER)
     if name in plan.default_bodies:
         passes.give_bodies(source, plan.default_bodies[name])
     passes.add_attributes(source, plan.attributes.get(name, {}))

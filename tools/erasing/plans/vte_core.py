@@ -38,8 +38,8 @@ COUNTS = [
     ("&mut Looks<B>", "Looks"), ("&mut self.looks", "self.looks"),
     ("impl<$$x> Looks<$$b> { $$$f }",
      lambda names: f"impl Looks {{ {names['f'].replace('&mut self', 'self')} }}"),
-    ("impl Looks<$$b> {", "impl Looks {"), ("looks: Looks<$$b>,", "looks: Looks,"),
-    ("Looks<B>", "Looks"), ("Input<'_, B>", "&[u8]"), ("Input::new($x)", "$x"),
+    ("looks: Looks<$$b>,", "looks: Looks,"), ("Looks<B>", "Looks"),
+    ("Input<'_, B>", "&[u8]"), ("Input::new($x)", "$x"),
     # inlined by rustc before LLVM sees its caller, it would move a branch of the loop over text
     ("looks.tell_text(performer, input, $$p)", "performer.print_text(looks, text(input, $p))"),
     *((f"input.{name}(", f"{name}(input, ") for name in METHODS_OF_INPUT),

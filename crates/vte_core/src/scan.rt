@@ -32,8 +32,8 @@ enum Trail {
     Then(Snapshot<Trail>, usize),
 }
 
-/// How many looks a parser with the buffer `B` took at input bytes, and how many events it told. It
-/// has no bytes at run time.
+/// How many looks a parser took at input bytes, and how many events it told. It has no bytes at run
+/// time.
 #[derive(Drop)]
 pub(crate) struct Looks<B> {
     trail: Snapshot<Trail>,

@@ -7,7 +7,7 @@ use crate::perform::Perform;
 use crate::scan::Looks;
 use crate::scan::grain::PerformAs;
 
-/// A performer, as the functions of a parser with the buffer `B` see it. Each event counts one.
+/// A performer, as the functions of a parser see it. Each event counts one.
 pub(crate) trait CountedPerform<B, G> {
     ghost Value: { Type 0 };
 

@@ -19,8 +19,8 @@ pub use grain::{InRuns, Singly};
 pub use taken::{Run, Taken};
 pub(crate) use taken::{RunKind, RunRange};
 
-/// How many looks a parser with the buffer `B` took at input bytes, and how many events it told. It
-/// has no bytes at run time.
+/// How many looks a parser took at input bytes, and how many events it told. It has no bytes at run
+/// time.
 #[derive(Clone, Copy)]
 pub(crate) struct Looks {}
 

@@ -6,7 +6,7 @@ use crate::proved::vte_core::perform::Perform;
 use crate::proved::vte_core::scan::grain::PerformAs;
 use crate::proved::vte_core::scan::Looks;
 
-/// A performer, as the functions of a parser with the buffer `B` see it. Each event counts one.
+/// A performer, as the functions of a parser see it. Each event counts one.
 pub(crate) trait CountedPerform<G> {
     /// Returns whether HT, LF and CR come as text.
     fn keeps_layout(&self) -> bool;

@@ -51,7 +51,7 @@ pub use Rattle.vte.specs.Numbers.{decimal_number, first_number, first_numbers, n
 pub use Rattle.vte.specs.Parts.{first_after, parts_of}
 pub use Rattle.vte.specs.machine.Performer.{FitsText, PerformerValue, with_event}
 pub use Rattle.vte.specs.machine.Engine.{EngineIsAt, EngineIsAtKeeping, EndsOpen, EndsTurn, HasHalted, HasParsedFront, HasParsedWithoutBegin, ArePartsAt, ArePartsAtKeeping, ArePartsAtWithMemory, HasTakenOpenTurn, HasTurned, EngineHasMemory, EngineLacksMemory, EngineReads, EngineReserves, EngineStandsAt, EngineStops}
-pub use Rattle.vte.specs.machine.Meanings.{ParserMeaning, EngineMeaning, long_meaning, engine_meaning, limited_meaning, unlimited}
+pub use Rattle.vte.specs.machine.Views.{ParserView, EngineView, long_parser_view, engine_view, limited_parser_view, long_engine_view}
 pub use Rattle.vte.specs.Rendition.{attribute_calls, attributes_from}
 pub use Rattle.vte.specs.Synchronized.{begin_update, begins_ending_in_last, begins_with, after_last_end, end_update, from_begin_update, part_after_last_end}
 pub use Rattle.vte.specs.machine.Texts.{FitsRoom, fits_room, joined_size, parts_left, text_to_join}

@@ -4,6 +4,6 @@ pub mod Texts
 pub mod ColorReader
 pub mod Performer
 pub mod Performing
-pub mod Meanings
+pub mod Views
 pub mod Hold
 pub mod Engine

@@ -93,5 +93,5 @@ abbrev pub events_from : Option ℕ → Place → List ℕ → List Event
 events_from limit place more = (outcome_from limit place more).told
 
 -- How far a head has been read after numbers that stand from one position to another.
-abbrev pub part_after : HeadProgress → ℕ → ℕ → HeadProgress
-part_after reached from to = if from == to then reached else Parameters
+abbrev pub progress_after : HeadProgress → ℕ → ℕ → HeadProgress
+progress_after reached from to = if from == to then reached else Parameters

@@ -1,6 +1,6 @@
 -- With room for all bytes, a parser reads them all, and each command's joined text fits. No command has more data than
 -- was stored and read, nor more separators than 16; so the contracts of both parsers become those of one.
-use Rattle.vte.proofs.Common.{◌≡◌, ℕ, ◌+◌, ◌≤◌, true, All, Option, Some, None, List, [], ◌∷◌, ◌++◌, length, Result, Ok, Err, refl, arith, concat, take-append_seam, usual_limit, false≢true, nat_tests, All-cons, All-drop, All-head, All-nil, All-tail, All-take, Event, OscDispatch, added, events, LongParser, Refused, added-append, counts_data, events_are_bounded, PerformsAll, PerformsUntilStop, FitsText, PerformerValue, ParserHasMemory, KeepsMemory, fits_room, limited_meaning, long_meaning}
+use Rattle.vte.proofs.Common.{◌≡◌, ℕ, ◌+◌, ◌≤◌, true, All, Option, Some, None, List, [], ◌∷◌, ◌++◌, length, Result, Ok, Err, refl, arith, concat, take-append_seam, usual_limit, false≢true, nat_tests, All-cons, All-drop, All-head, All-nil, All-tail, All-take, Event, OscDispatch, added, events, LongParser, Refused, added-append, counts_data, events_are_bounded, PerformsAll, PerformsUntilStop, FitsText, PerformerValue, ParserHasMemory, KeepsMemory, fits_room, limited_parser_view, long_parser_view}
 use Rattle.vte_core.specs.EventBounds.{IsBounded}
 use Rattle.vte_core.specs.LongParserCalls.{ReadsBytesLong, ReadsUntilTerminatedLong}
 use Rattle.vte_core.specs.LongParser.{memory_of, open_command_size, read_count}
@@ -51,7 +51,7 @@ module _ {V W : Type 0} {step : PerformerValue V W → Event → PerformerValue 
     {old new : PerformerValue V W} {bytes : List ℕ}
     {parser next : Parser 1024} where
   pub short_parses : ReadsBytes step old new bytes parser next
-      → PerformsAll limited_meaning usual_limit step parser next old new bytes
+      → PerformsAll limited_parser_view usual_limit step parser next old new bytes
   short_parses r = record {
     parses =
         λ stream n read room. record {
@@ -64,7 +64,7 @@ module _ {V W : Type 0} {step : PerformerValue V W → Event → PerformerValue 
   }
 
   pub short_stops : {read : ℕ} → ReadsUntilTerminated step (λ lent. lent.terminated) old new bytes read parser next
-      → PerformsUntilStop limited_meaning usual_limit step parser next old new bytes read
+      → PerformsUntilStop limited_parser_view usual_limit step parser next old new bytes read
   short_stops r = record {
     within = r.within;
     stops =
@@ -112,7 +112,7 @@ module _ {A V W : Type 0} {step : PerformerValue V W → Event → PerformerValu
     {bytes : List ℕ}
     {parser next : LongParser A} where
   pub long_parses : (result : Result (Unit {0}) Refused) → ReadsBytesLong step old new bytes result parser next
-      → PerformsAll long_meaning None step parser next old new bytes
+      → PerformsAll long_parser_view None step parser next old new bytes
   long_parses (Ok _) r = record {
     parses = λ stream n read room. record {
       performs = r.performs stream read;
@@ -129,7 +129,7 @@ module _ {A V W : Type 0} {step : PerformerValue V W → Event → PerformerValu
 
   pub long_stops : (result : Result ℕ Refused)
       → ReadsUntilTerminatedLong step (λ lent. lent.terminated) old new bytes result parser next
-      → PerformsUntilStop long_meaning None step parser next old new bytes (read_count result)
+      → PerformsUntilStop long_parser_view None step parser next old new bytes (read_count result)
   long_stops (Ok read) r = record {
     within = r.within;
     stops =

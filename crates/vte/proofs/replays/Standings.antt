@@ -1,13 +1,13 @@
 -- A processor with a limit stands where its engine does: there is always memory. So it does what the engine ensures.
-use Rattle.vte.proofs.Common.{◌≤◌, ℕ, List, length, Result, Ok, Err, arith, Bor, Refused, EngineMeaning, Meaning, State, usual_limit, HasAdvanced, HasParsedAndHolds, HasTaken, IsAt, ReadsInTurns, EngineReads, StandingPredicate, EngineStandsAt, ◌≡◌, refl, rules, limited_meaning, engine_meaning}
+use Rattle.vte.proofs.Common.{◌≤◌, ℕ, List, length, Result, Ok, Err, arith, Bor, Refused, EngineView, Meaning, State, usual_limit, HasAdvanced, HasParsedAndHolds, HasTaken, IsAt, ReadsInTurns, EngineReads, StandingPredicate, EngineStandsAt, ◌≡◌, refl, rules, limited_parser_view, engine_view}
 use Rattle.vte_core.specs.declared.parser.Parser.{Parser}
 use Rattle.vte.proofs.replays.PlainReplays.{plain_call}
 use Rattle.vte.proofs.turns.EngineTurns.{has_advanced, taken-to}
 use Rattle.vte.specs.declared.ansi.processor.Processor.{Processor}
 use Rattle.vte.specs.declared.ansi.titles.TheConstants.{TEXT_ROOM}
 
-abbrev pub limited : {N : ℕ} {B T W : Type 0} → (T → W) → EngineMeaning (Parser N) B T W
-limited timeout_of = engine_meaning usual_limit limited_meaning (λ text. TEXT_ROOM) timeout_of
+abbrev pub limited : {N : ℕ} {B T W : Type 0} → (T → W) → EngineView (Parser N) B T W
+limited timeout_of = engine_view usual_limit limited_parser_view (λ text. TEXT_ROOM) timeout_of
 
 module _ {T A V W : Type 0} {timeout_of : T → W} {processor : Processor T A} {value : V} (s : State V W) where
   is_at-engine : IsAt (HasParsedAndHolds timeout_of processor) value s

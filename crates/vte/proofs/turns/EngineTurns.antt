@@ -1,19 +1,19 @@
 -- From turns to a call: what the private functions ensure of parser, hold and handler is put together into `HasTurned`
 -- and `HasHalted`, and the loop over turns into `TakesTurns` and `TakesTurnsUntilRefused`.
-use Rattle.vte.proofs.Common.{◌≡◌, ℕ, ◌+◌, ◌-◌, ◌<◌, ◌≤◌, Bool, true, List, [], ◌++◌, length, take, drop, refl, ap, sym, ◌∙◌, arith, length-drop, append_assoc, Result, Ok, Err, append_cancel_right, drop_all, drop-drop, take_all, take-append-drop, Refused, PerformerState, Engine, Meaning, held_of, rules, false, MatchResult, EndsTurn, inside_turn, HasAdvanced, EngineIsAt, HasTaken, EngineMeaning, KeepsMemory, EngineHasMemory, EngineReads, EngineStops, EngineIsAtKeeping, EndsOpen, HasHalted, HasParsedFront, HasParsedWithoutBegin, ArePartsAt, ArePartsAtKeeping, ArePartsAtWithMemory, HasTurned, State, TakesTurnsUntilRefused, TakesTurns, all_bytes, turn, hold_turn, parse, stop, between_turns, done, EngineLacksMemory, EngineReserves}
+use Rattle.vte.proofs.Common.{◌≡◌, ℕ, ◌+◌, ◌-◌, ◌<◌, ◌≤◌, Bool, true, List, [], ◌++◌, length, take, drop, refl, ap, sym, ◌∙◌, arith, length-drop, append_assoc, Result, Ok, Err, append_cancel_right, drop_all, drop-drop, take_all, take-append-drop, Refused, PerformerState, Engine, Meaning, held_of, rules, false, MatchResult, EndsTurn, inside_turn, HasAdvanced, EngineIsAt, HasTaken, EngineView, KeepsMemory, EngineHasMemory, EngineReads, EngineStops, EngineIsAtKeeping, EndsOpen, HasHalted, HasParsedFront, HasParsedWithoutBegin, ArePartsAt, ArePartsAtKeeping, ArePartsAtWithMemory, HasTurned, State, TakesTurnsUntilRefused, TakesTurns, all_bytes, turn, hold_turn, parse, stop, between_turns, done, EngineLacksMemory, EngineReserves}
 use Rattle.vte.proofs.turns.EachOnce.{grown_bytes}
 use Rattle.vte.proofs.turns.Kinds.{refused-by_open, is_held, stop_if_due, turn-holds, turn-parses}
 use Rattle.vte.proofs.turns.Slices.{until_refused-all, open-halts, takes-one, until_refused-grows, until_refused-on, until_refused-well, taken_on}
 
 -- an engine stands where its parts do
-module _ {P B T A V W : Type 0} {parts : EngineMeaning P B T W} {engine : Engine P B T A} {value : V} {s : State V W}
+module _ {P B T A V W : Type 0} {view : EngineView P B T W} {engine : Engine P B T A} {value : V} {s : State V W}
   where
-    pub parts-at : EngineIsAt parts engine value s → ArePartsAt parts engine.parser engine.state value s
+    pub parts-at : EngineIsAt view engine value s → ArePartsAt view engine.parser engine.state value s
     parts-at at = search rules
 
     -- if they hold nothing
-    pub at-parts : ArePartsAt parts engine.parser engine.state value s → held_of engine.hold ≡ s.held → s.held ≡ []
-        → EngineIsAt parts engine value s
+    pub at-parts : ArePartsAt view engine.parser engine.state value s → held_of engine.hold ≡ s.held → s.held ≡ []
+        → EngineIsAt view engine value s
     at-parts parsed holds none = record {
       stands =
           record {
@@ -27,13 +27,13 @@ module _ {P B T A V W : Type 0} {parts : EngineMeaning P B T W} {engine : Engine
     }
 
 -- turns that go on, with the memory that was there before
-module _ {P B T A V W : Type 0} {parts : EngineMeaning P B T W} {value : V} {s : State V W} where
-  pub next-at : {engine : Engine P B T A} → EngineIsAt parts engine value s
-      → EngineIsAtKeeping parts engine engine value s
+module _ {P B T A V W : Type 0} {view : EngineView P B T W} {value : V} {s : State V W} where
+  pub next-at : {engine : Engine P B T A} → EngineIsAt view engine value s
+      → EngineIsAtKeeping view engine engine value s
   next-at at = record { engine_at = at; memory = λ stream count had. had }
 
-  pub after-next : {old mid new : Engine P B T A} → KeepsMemory (EngineHasMemory parts old) (EngineHasMemory parts mid)
-      → EngineIsAtKeeping parts mid new value s → EngineIsAtKeeping parts old new value s
+  pub after-next : {old mid new : Engine P B T A} → KeepsMemory (EngineHasMemory view old) (EngineHasMemory view mid)
+      → EngineIsAtKeeping view mid new value s → EngineIsAtKeeping view old new value s
   after-next keeps next =
       record {
         engine_at = next.engine_at;
@@ -42,8 +42,8 @@ module _ {P B T A V W : Type 0} {parts : EngineMeaning P B T W} {value : V} {s :
       }
 
   -- they stand where they stood, and the handler is the same
-  pub kept-next : {old mid new : Engine P B T A} {more : ℕ} {result : Bool} → EngineReserves parts mid new more result
-      → EngineIsAtKeeping parts old mid value s → EngineIsAtKeeping parts old new value s
+  pub kept-next : {old mid new : Engine P B T A} {more : ℕ} {result : Bool} → EngineReserves view mid new more result
+      → EngineIsAtKeeping view old mid value s → EngineIsAtKeeping view old new value s
   kept-next r at = record {
     engine_at = record
         { stands = r.same s.parsed s.held s.timeout at.engine_at.stands; handler_is = at.engine_at.handler_is };
@@ -51,18 +51,18 @@ module _ {P B T A V W : Type 0} {parts : EngineMeaning P B T W} {value : V} {s :
   }
 
 -- a slice is parsed with the memory that was taken for it
-module _ {P B T A V W : Type 0} {parts : EngineMeaning P B T W} {m : Meaning V W} {s : State V W} {bytes slice : List ℕ}
+module _ {P B T A V W : Type 0} {view : EngineView P B T W} {m : Meaning V W} {s : State V W} {bytes slice : List ℕ}
     {read count n : ℕ} {b : Bool}
     {first old taken : Engine P B T A} {parser : P} {state : PerformerState T B} {before value : V} where
-  pub slice_parsed : HasParsedWithoutBegin m s bytes read (EngineIsAtKeeping parts first old before)
-      → EngineReserves parts old taken count true
+  pub slice_parsed : HasParsedWithoutBegin m s bytes read (EngineIsAtKeeping view first old before)
+      → EngineReserves view old taken count true
       → length slice ≡ count → s.held ≡ []
-      → ((t : State V W) (k : ℕ) → ArePartsAtWithMemory parts taken.parser taken.state before t (length slice + k)
-      → HasParsedFront m t slice n b (ArePartsAtKeeping parts taken.parser taken.state parser state value))
+      → ((t : State V W) (k : ℕ) → ArePartsAtWithMemory view taken.parser taken.state before t (length slice + k)
+      → HasParsedFront m t slice n b (ArePartsAtKeeping view taken.parser taken.state parser state value))
       → HasParsedFront m (parse m s (take read bytes)) slice n b
-      (EngineIsAtKeeping parts first (record taken { parser = parser; state = state }) value)
+      (EngineIsAtKeeping view first (record taken { parser = parser; state = state }) value)
   slice_parsed o reserved size none parses =
-      let here : EngineIsAtKeeping parts first taken before
+      let here : EngineIsAtKeeping view first taken before
       (parse m s (take read bytes)) = kept-next reserved o.is_at in
       let all : length slice + 0 ≡ length s.held + count = omega (arith, size, ap length none) in
       let p =
@@ -80,29 +80,29 @@ module _ {P B T A V W : Type 0} {parts : EngineMeaning P B T W} {m : Meaning V W
       }
 
 -- after a stop
-pub stops_update : {P B T A V W : Type 0} {parts : EngineMeaning P B T W} {m : Meaning V W}
+pub stops_update : {P B T A V W : Type 0} {view : EngineView P B T W} {m : Meaning V W}
     {old mid new : Engine P B T A}
-    {before value : V} → KeepsMemory (EngineHasMemory parts old) (EngineHasMemory parts mid)
-    → ((s : State V W) → EngineIsAt parts old before s → EngineIsAtKeeping parts mid new value (stop m s))
-    → EngineStops parts m old new before value
+    {before value : V} → KeepsMemory (EngineHasMemory view old) (EngineHasMemory view mid)
+    → ((s : State V W) → EngineIsAt view old before s → EngineIsAtKeeping view mid new value (stop m s))
+    → EngineStops view m old new before value
 stops_update {m} keeps ends = record {
   stops = λ s at. (ends s at).engine_at;
   memory = λ s at stream count had. (ends s at).memory stream count (keeps stream count had);
 }
 
-pub stops-next : {P B T A V W : Type 0} {parts : EngineMeaning P B T W} {m : Meaning V W} {old new : Engine P B T A}
-    {before value : V} {s : State V W} → EngineStops parts m old new before value
-    → EngineIsAt parts old before s → EngineIsAtKeeping parts old new value (stop m s)
+pub stops-next : {P B T A V W : Type 0} {view : EngineView P B T W} {m : Meaning V W} {old new : Engine P B T A}
+    {before value : V} {s : State V W} → EngineStops view m old new before value
+    → EngineIsAt view old before s → EngineIsAtKeeping view old new value (stop m s)
 stops-next stopped at = record { engine_at = stopped.stops _ at; memory = stopped.memory _ at }
 
 -- a turn that parses bytes, after a stop if need be
-pub ends_turn : {P B T A V W : Type 0} {parts : EngineMeaning P B T W} {m : Meaning V W} {old mid new : Engine P B T A}
+pub ends_turn : {P B T A V W : Type 0} {view : EngineView P B T W} {m : Meaning V W} {old mid new : Engine P B T A}
     {value : V} {s : State V W} {bytes : List ℕ} (pending : Bool)
     → m.timeout.allows s.timeout pending → is_held pending s bytes ≡ false
-    → KeepsMemory (EngineHasMemory parts old) (EngineHasMemory parts mid) → (result : Result ℕ Refused)
+    → KeepsMemory (EngineHasMemory view old) (EngineHasMemory view mid) → (result : Result ℕ Refused)
     → MatchResult result (λ read. read ≤ length bytes) (λ refused. refused.read < length bytes)
-    → EndsOpen m (stop_if_due m pending s) bytes result (EngineIsAtKeeping parts mid new value)
-    → EndsTurn m s bytes result (EngineIsAtKeeping parts old new value)
+    → EndsOpen m (stop_if_due m pending s) bytes result (EngineIsAtKeeping view mid new value)
+    → EndsTurn m s bytes result (EngineIsAtKeeping view old new value)
 ends_turn {m} {s} {bytes} pending allowed parses keeps (Ok read) less e = record {
   turned =
       record {
@@ -161,12 +161,12 @@ module _ {V W : Type 0} (m : Meaning V W) (s : State V W) (bytes : List ℕ) whe
   pub reaches-nothing : {IsNowAt : State V W → Type 0} → IsNowAt s → HasReached 0 0 IsNowAt
   reaches-nothing at = record { here = s; enough = omega arith; takes = done; is_at = at }
 
-  pub reaches-more : {P B T A : Type 0} {parts : EngineMeaning P B T W} {first mid new : Engine P B T A}
+  pub reaches-more : {P B T A : Type 0} {view : EngineView P B T W} {first mid new : Engine P B T A}
       {before value : V}
       {count read n : ℕ}
-      → (r : HasReached count read (EngineIsAtKeeping parts first mid before)) → read < length bytes
-      → HasTurned m r.here (take (length bytes - read) (drop read bytes)) n (EngineIsAtKeeping parts mid new value)
-      → HasReached (count + 1) (read + n) (EngineIsAtKeeping parts first new value)
+      → (r : HasReached count read (EngineIsAtKeeping view first mid before)) → read < length bytes
+      → HasTurned m r.here (take (length bytes - read) (drop read bytes)) n (EngineIsAtKeeping view mid new value)
+      → HasReached (count + 1) (read + n) (EngineIsAtKeeping view first new value)
   reaches-more {count} {read} {n} r some turned =
       let slice = take (length bytes - read) (drop read bytes) in
       let is : slice ≡ drop read bytes = rest-is bytes read (omega arith) in
@@ -200,12 +200,12 @@ module _ {V W : Type 0} (m : Meaning V W) (s : State V W) (bytes : List ℕ) whe
   has_taken-reached r = has_taken-turns r.here (between_turns r.takes) r.is_at
 
   -- a turn was refused memory
-  pub reached-halted : {P B T A : Type 0} {parts : EngineMeaning P B T W} {first mid new : Engine P B T A}
+  pub reached-halted : {P B T A : Type 0} {view : EngineView P B T W} {first mid new : Engine P B T A}
       {before value : V}
       {count read n : ℕ}
-      → (r : HasReached count read (EngineIsAtKeeping parts first mid before)) → read ≤ length bytes
-      → HasHalted m r.here (take (length bytes - read) (drop read bytes)) n (EngineIsAtKeeping parts mid new value)
-      → HasTaken m s bytes (read + n) (EngineIsAtKeeping parts first new value)
+      → (r : HasReached count read (EngineIsAtKeeping view first mid before)) → read ≤ length bytes
+      → HasHalted m r.here (take (length bytes - read) (drop read bytes)) n (EngineIsAtKeeping view mid new value)
+      → HasTaken m s bytes (read + n) (EngineIsAtKeeping view first new value)
   reached-halted {read} {n} r inside h =
       let slice = take (length bytes - read) (drop read bytes) in
       let is : slice ≡ drop read bytes = rest-is bytes read inside in
@@ -238,19 +238,19 @@ module _ {V W : Type 0} {m : Meaning V W} {s : State V W} {bytes : List ℕ} {re
         is_at = follows h.next h.is_at;
       }
 
-  taken-at : {P B T A : Type 0} {parts : EngineMeaning P B T W} {old new : Engine P B T A} {value : V}
-      → HasTaken m s bytes read (EngineIsAtKeeping parts old new value)
-      → HasTaken m s bytes read (EngineIsAt parts new value)
+  taken-at : {P B T A : Type 0} {view : EngineView P B T W} {old new : Engine P B T A} {value : V}
+      → HasTaken m s bytes read (EngineIsAtKeeping view old new value)
+      → HasTaken m s bytes read (EngineIsAt view new value)
   taken-at = taken-to (λ t next. next.engine_at)
 
 -- what a call ensures by its turns
-module _ {P B T A V W : Type 0} {parts : EngineMeaning P B T W} {m : Meaning V W} {old new : Engine P B T A}
+module _ {P B T A V W : Type 0} {view : EngineView P B T W} {m : Meaning V W} {old new : Engine P B T A}
     {before value : V} (bytes : List ℕ) where
   pub engine_reads-all : {count read : ℕ}
-      → ((s : State V W) → EngineIsAt parts old before s
-      → HasReached m s bytes count read (EngineIsAtKeeping parts old new value))
-      → ((s : State V W) → EngineIsAt parts old before s → read ≡ length bytes)
-      → EngineReads parts m old new before value bytes (Ok tt)
+      → ((s : State V W) → EngineIsAt view old before s
+      → HasReached m s bytes count read (EngineIsAtKeeping view old new value))
+      → ((s : State V W) → EngineIsAt view old before s → read ≡ length bytes)
+      → EngineReads view m old new before value bytes (Ok tt)
   engine_reads-all reaches is = record {
     takes = λ s at. rw (is s at) at (taken-at (has_taken-reached m s bytes (reaches s at)));
     within = tt;
@@ -259,10 +259,10 @@ module _ {P B T A V W : Type 0} {parts : EngineMeaning P B T W} {m : Meaning V W
   }
 
   pub engine_reads-until : {refused : Refused}
-      → ((s : State V W) → EngineIsAt parts old before s
-      → HasTaken m s bytes refused.read (EngineIsAtKeeping parts old new value))
-      → refused.read < length bytes → EngineLacksMemory parts new (length bytes - refused.read)
-      → EngineReads parts m old new before value bytes (Err refused)
+      → ((s : State V W) → EngineIsAt view old before s
+      → HasTaken m s bytes refused.read (EngineIsAtKeeping view old new value))
+      → refused.read < length bytes → EngineLacksMemory view new (length bytes - refused.read)
+      → EngineReads view m old new before value bytes (Err refused)
   engine_reads-until taken less lacks =
       record {
         takes = λ s at. taken-at (taken s at);

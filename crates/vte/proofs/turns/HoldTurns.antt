@@ -1,6 +1,6 @@
 -- A hold turn by its parts: bytes join the hold, the timeout is set as often as they begin updates, and what the hold
 -- releases is parsed.
-use Rattle.vte.proofs.Common.{◌≡◌, ℕ, ◌+◌, ◌-◌, ◌<◌, List, [], ◌∷◌, ◌++◌, length, length-append, length-take, take, refl, sym, ◌∙◌, arith, take_all, Engine, IsAdded, held_of, released_of, still_held, Meaning, set_times, EngineIsAt, EngineMeaning, EngineIsAtKeeping, ArePartsAt, ArePartsAtKeeping, ArePartsAtWithMemory, State, after_last_end, extend, from_begin_update, hold_turn, release, ap, inl, inr, parse, stop, with_held}
+use Rattle.vte.proofs.Common.{◌≡◌, ℕ, ◌+◌, ◌-◌, ◌<◌, List, [], ◌∷◌, ◌++◌, length, length-append, length-take, take, refl, sym, ◌∙◌, arith, take_all, Engine, IsAdded, held_of, released_of, still_held, Meaning, set_times, EngineIsAt, EngineView, EngineIsAtKeeping, ArePartsAt, ArePartsAtKeeping, ArePartsAtWithMemory, State, after_last_end, extend, from_begin_update, hold_turn, release, ap, inl, inr, parse, stop, with_held}
 use Rattle.std.proofs.lemmas.List.{nil_from_length}
 use Rattle.vte.proofs.turns.Kinds.{hold_turn-all, hold_turn-rest}
 use Rattle.vte.proofs.turns.Slices.{parse-nothing}
@@ -41,20 +41,20 @@ module _ {V W : Type 0} (m : Meaning V W) where
   ]
 
 -- the hold has the new bytes, and the timeout was set as often as they begin updates
-module _ {P B T A V W : Type 0} {parts : EngineMeaning P B T W} (m : Meaning V W) {s : State V W} {more : List ℕ}
+module _ {P B T A V W : Type 0} {view : EngineView P B T W} (m : Meaning V W) {s : State V W} {more : List ℕ}
     {old : Engine P B T A} {hold : Hold A} {timeout : T} {begins : ℕ} {value : V}
-    (at : EngineIsAt parts old value s) (added : IsAdded s.held more hold begins)
-    (is_set : parts.timeout_of timeout ≡ set_times m.timeout begins (parts.timeout_of old.state.timeout))
-    (room : parts.reading.has_memory old.parser (parts.room_of old.state.text) s.parsed
+    (at : EngineIsAt view old value s) (added : IsAdded s.held more hold begins)
+    (is_set : view.timeout_of timeout ≡ set_times m.timeout begins (view.timeout_of old.state.timeout))
+    (room : view.reading.has_memory old.parser (view.room_of old.state.text) s.parsed
     (length s.held + length more)) where
   abbrev set : Engine P B T A
   set = record old { hold = hold; state = record old.state { timeout = timeout } }
 
   -- there is memory to parse so many more bytes
   abbrev HasRoom : List ℕ → ℕ → Type 0
-  HasRoom = parts.reading.has_memory old.parser (parts.room_of old.state.text)
+  HasRoom = view.reading.has_memory old.parser (view.room_of old.state.text)
 
-  extended : ArePartsAt parts set.parser set.state value (extend m s more)
+  extended : ArePartsAt view set.parser set.state value (extend m s more)
   extended = record {
     has_read = at.stands.has_read;
     last = at.stands.last;
@@ -64,14 +64,14 @@ module _ {P B T A V W : Type 0} {parts : EngineMeaning P B T W} (m : Meaning V W
 
   -- the released bytes are parsed, and the others stay held, with memory to parse them
   pub turned_cut : {last : Engine P B T A} {next : V} → 0 < length (held_of hold)
-      → ((t : State V W) (n : ℕ) → ArePartsAt parts set.parser set.state value t
+      → ((t : State V W) (n : ℕ) → ArePartsAt view set.parser set.state value t
       → (0 < length (released_of hold)
       → HasRoom t.parsed (length (released_of hold) + n))
-      → ArePartsAtKeeping parts set.parser set.state last.parser last.state next (parse m t (released_of hold)))
-      → ((t : State V W) (n : ℕ) → ArePartsAtWithMemory parts set.parser set.state value t
+      → ArePartsAtKeeping view set.parser set.state last.parser last.state next (parse m t (released_of hold)))
+      → ((t : State V W) (n : ℕ) → ArePartsAtWithMemory view set.parser set.state value t
       (length (released_of hold) + n)
-      → parts.reading.has_memory last.parser (parts.room_of last.state.text) (t.parsed ++ released_of hold) n)
-      → last.hold ≡ hold → EngineIsAtKeeping parts old last next (hold_turn m s more)
+      → view.reading.has_memory last.parser (view.room_of last.state.text) (t.parsed ++ released_of hold) n)
+      → last.hold ≡ hold → EngineIsAtKeeping view old last next (hold_turn m s more)
   turned_cut {last} {next} some parses leaves kept =
       let t = extend m s more in
       let all = s.held ++ more in
@@ -89,7 +89,7 @@ module _ {P B T A V W : Type 0} {parts : EngineMeaning P B T W} (m : Meaning V W
       =
       rw sum room in
       let there = parses t rest extended (λ some. ready) in
-      let parsed : ArePartsAt parts last.parser last.state next
+      let parsed : ArePartsAt view last.parser last.state next
       (parse m t (take (length all - length (still_held all)) all)) =
       rw added.released_is at there.parts_at in
       rw (holds-some m s more (rw added.held_is at some)) (record {
@@ -111,12 +111,12 @@ module _ {P B T A V W : Type 0} {parts : EngineMeaning P B T W} (m : Meaning V W
 
   -- the update is stopped
   pub turned_stop : {last : Engine P B T A} {next : V} → 0 < length more → length (held_of hold) ≡ 0
-      → ((t : State V W) (n : ℕ) → ArePartsAt parts set.parser set.state value t → released_of hold ≡ t.held
+      → ((t : State V W) (n : ℕ) → ArePartsAt view set.parser set.state value t → released_of hold ≡ t.held
       → held_of hold ≡ []
       → (0 < length t.held → HasRoom t.parsed
       (length t.held + n))
-      → EngineIsAtKeeping parts set last next (stop m t))
-      → EngineIsAtKeeping parts old last next (hold_turn m s more)
+      → EngineIsAtKeeping view set last next (stop m t))
+      → EngineIsAtKeeping view old last next (hold_turn m s more)
   turned_stop {last} {next} some is stops =
       let all = s.held ++ more in
       let none : held_of hold ≡ [] = nil_from_length (held_of hold) is in
@@ -124,7 +124,7 @@ module _ {P B T A V W : Type 0} {parts : EngineMeaning P B T W} (m : Meaning V W
       let whole : released_of hold ≡ all =
       added.released_is ∙ rw nothing (take_all (length all - 0) all (omega arith)) in
       let sum : length all + 0 ≡ length s.held + length more = omega (arith, length-append s.held more) in
-      let there : EngineIsAtKeeping parts set last next (stop m (extend m s more)) =
+      let there : EngineIsAtKeeping view set last next (stop m (extend m s more)) =
       stops (extend m s more) 0 extended whole none (λ some. rw sum room) in
       rw (holds-none m s more (omega (arith, some, length-append s.held more)) nothing)
       (record { engine_at = there.engine_at; memory = there.memory })

@@ -85,12 +85,12 @@ module _ {V W : Type 0} (m : Meaning V W) (s : State V W) (bytes : List ℕ) whe
       let all = front-whole at uncut in
       let zero : begin_count (added m.limit (s.parsed ++ take read bytes) slice) ≡ 0 =
       rw all at (begins-none at uncut) in
-      let parts : drop read bytes ≡ slice ++ drop k (drop read bytes) =
+      let view : drop read bytes ≡ slice ++ drop k (drop read bytes) =
       rw is (sym (take-append-drop k (drop read bytes))) in
       let more : take (read + n) bytes ≡ take read bytes ++ slice =
       take-add read n bytes
       ∙ ap (λ x. take read bytes ++ x)
-      (ap (take n) parts ∙ take_at slice (drop k (drop read bytes)) n (sym (begin-whole at uncut))) in
+      (ap (take n) view ∙ take_at slice (drop k (drop read bytes)) n (sym (begin-whole at uncut))) in
       record {
         none_begin = rw more (begin_count-none m.limit s.parsed (take read bytes) slice o.none_begin zero);
         is_at = rw (more, ← parse-append m s (take read bytes) slice) (rw all at at.is_at);
@@ -106,10 +106,10 @@ module _ {V W : Type 0} (m : Meaning V W) (s : State V W) (bytes : List ℕ) whe
       let test : nat_lt 0 (begin_count (added m.limit (s.parsed ++ take read bytes) front)) ≡ true =
       sym at.begins_is ∙ begun in
       let some : 0 < begin_count (added m.limit (s.parsed ++ take read bytes) front) = grind (arith, nat_tests) in
-      let parts : drop read bytes ≡ slice ++ drop k (drop read bytes) =
+      let view : drop read bytes ≡ slice ++ drop k (drop read bytes) =
       rw is (sym (take-append-drop k (drop read bytes))) in
       let whole : bytes ≡ take read bytes ++ (slice ++ drop k (drop read bytes)) =
-      sym (take-append-drop read bytes) ∙ ap (λ rest. take read bytes ++ rest) parts in
+      sym (take-append-drop read bytes) ∙ ap (λ rest. take read bytes ++ rest) view in
       let all : front_to_begin m.limit s.parsed bytes ≡ take read bytes ++ front =
       ap (front_to_begin m.limit s.parsed) whole ∙ front-after m.limit s.parsed (take read bytes) _ o.none_begin
       ∙ ap (λ x. take read bytes ++ x)

@@ -6,7 +6,7 @@ use Rattle.std.specs.List.{All}
 use Rattle.vte.specs.BeginUpdate.{update_group_count, update_mode}
 use Rattle.vte.specs.ModeChange.{change_call, change_calls}
 use Rattle.vte.specs.Memory.{KeepsMemory}
-use Rattle.vte.specs.machine.Meanings.{ParserMeaning}
+use Rattle.vte.specs.machine.Views.{ParserView}
 use Rattle.vte.specs.Processor.{set_times}
 use Rattle.vte.specs.Numbers.{first_numbers}
 use Rattle.vte.specs.machine.Performer.{FitsText, PerformerValue}
@@ -52,7 +52,7 @@ with_private_modes step timeout performer groups = record performer {
 
 -- A parser has read bytes after a stream, and performed what they add. It still has memory for n
 -- others.
-pub record HasPerformed {P V W : Type 0} (reading : ParserMeaning P) (limit : Option ℕ)
+pub record HasPerformed {P V W : Type 0} (reading : ParserView P) (limit : Option ℕ)
     (step : PerformerValue V W → Event → PerformerValue V W) (next : P)
     (old new : PerformerValue V W)
     (stream bytes : List ℕ) (more : ℕ) : Type 0 where
@@ -63,7 +63,7 @@ pub record HasPerformed {P V W : Type 0} (reading : ParserMeaning P) (limit : Op
 
 -- A parser has read `read` of the bytes after a stream: up to an event that terminates the
 -- performer, or all.
-pub record HasStopped {P V W : Type 0} (reading : ParserMeaning P) (limit : Option ℕ)
+pub record HasStopped {P V W : Type 0} (reading : ParserView P) (limit : Option ℕ)
     (step : PerformerValue V W → Event → PerformerValue V W) (next : P)
     (old new : PerformerValue V W)
     (stream bytes : List ℕ) (read : ℕ) : Type 0 where
@@ -73,7 +73,7 @@ pub record HasStopped {P V W : Type 0} (reading : ParserMeaning P) (limit : Opti
 
 -- After each stream that the parser has read, it performs all bytes if it has memory for them.
 -- Memory that was there stays.
-pub record PerformsAll {P V W : Type 0} (reading : ParserMeaning P) (limit : Option ℕ)
+pub record PerformsAll {P V W : Type 0} (reading : ParserView P) (limit : Option ℕ)
     (step : PerformerValue V W → Event → PerformerValue V W) (parser next : P)
     (old new : PerformerValue V W)
     (bytes : List ℕ) : Type 0 where
@@ -83,7 +83,7 @@ pub record PerformsAll {P V W : Type 0} (reading : ParserMeaning P) (limit : Opt
   pub memory : (size : ℕ)
       → KeepsMemory (reading.has_memory parser size) (reading.has_memory next size)
 
-pub record PerformsUntilStop {P V W : Type 0} (reading : ParserMeaning P) (limit : Option ℕ)
+pub record PerformsUntilStop {P V W : Type 0} (reading : ParserView P) (limit : Option ℕ)
     (step : PerformerValue V W → Event → PerformerValue V W) (parser next : P)
     (old new : PerformerValue V W)
     (bytes : List ℕ) (read : ℕ) : Type 0 where

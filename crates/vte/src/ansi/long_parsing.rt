@@ -1,7 +1,7 @@
 //! The parser of a processor without a limit. It takes memory before it reads, so that none is
 //! refused on the way.
 ghost use Rattle.std.specs.Prelude.{◌≡◌, ◌+◌, ◌≤◌, ◌^◌, IfSome, None};
-ghost use Rattle.vte.specs.machine.Meanings.{long_meaning};
+ghost use Rattle.vte.specs.machine.Views.{long_parser_view};
 ghost use Rattle.vte.specs.declared.ansi.titles.TheConstants.{SEPARATORS};
 
 use crate::ansi::parsing::{EventParser, ParseAs};
@@ -15,7 +15,7 @@ use vte_handler::{Handler, HandlerText, Timeout};
 impl<A: Allocator> EventParser for LongParser<A> {
     ghost limit = { None };
 
-    ghost reading = { long_meaning };
+    ghost reading = { long_parser_view };
 
     fn reserve<B: TextBuffer>(&mut self, text: &mut B, held: usize, more: usize) -> bool {
         let Some(count) = held.checked_add(more) else {

@@ -5,7 +5,7 @@ ghost use Rattle.vte.specs.machine.Performing.{PerformsAll, PerformsUntilStop, p
 ghost use Rattle.vte.specs.Processor.{State, meaning_of, parse};
 ghost use Rattle.vte.specs.machine.Performer.{with_event};
 ghost use Rattle.vte.specs.machine.Engine.{HasParsedFront, ArePartsAtKeeping, ArePartsAtWithMemory};
-ghost use Rattle.vte.specs.machine.Meanings.{ParserMeaning, engine_meaning, limited_meaning};
+ghost use Rattle.vte.specs.machine.Views.{ParserView, engine_view, limited_parser_view};
 ghost use Rattle.vte.specs.Memory.{KeepsMemory};
 ghost use Rattle.vte_handler.specs.Timeout.{timeout_meaning};
 ghost use Rattle.vte_core.specs.Stream.{usual_limit};
@@ -30,7 +30,7 @@ pub(crate) trait EventParser {
     ghost limit: { Option ℕ };
 
     /// Which streams it has read, and for which bytes it has memory.
-    ghost reading: { ParserMeaning Self };
+    ghost reading: { ParserView Self };
 
     /// Takes memory for held bytes and for more, and for the texts that are joined from them.
     /// Returns whether it is there.
@@ -48,7 +48,7 @@ pub(crate) trait EventParser {
 impl EventParser for ProcessorParser {
     ghost limit = { usual_limit };
 
-    ghost reading = { limited_meaning };
+    ghost reading = { limited_parser_view };
 
     fn reserve<B: TextBuffer>(&mut self, text: &mut B, _held: usize, _more: usize) -> bool {
         text.reserve(TEXT_ROOM)
@@ -132,15 +132,15 @@ pub(crate) fn parse_all<
     G: ParseAs<H, T, P>,
 >(parser: &mut P, state: &mut PerformerState<T, B>, handler: &mut H, bytes: &[u8])
     ensures parsed { (s : State H.Value T.Value) (n : ℕ)
-        → ArePartsAtWithMemory (engine_meaning P.limit P.reading B.room T.value_of) parser.old
+        → ArePartsAtWithMemory (engine_view P.limit P.reading B.room T.value_of) parser.old
         state.old (H.value_of handler.old) s (length bytes.now + n) →
         ArePartsAtKeeping
-        (engine_meaning P.limit P.reading B.room T.value_of) parser.old state.old parser.new
+        (engine_view P.limit P.reading B.room T.value_of) parser.old state.old parser.new
         state.new
         (H.value_of handler.new)
         (parse (meaning_of P.limit H.step T.set T.clear T.allows) s bytes.now) }
     ensures room { (s : State H.Value T.Value) (n : ℕ)
-        → ArePartsAtWithMemory (engine_meaning P.limit P.reading B.room T.value_of) parser.old
+        → ArePartsAtWithMemory (engine_view P.limit P.reading B.room T.value_of) parser.old
         state.old (H.value_of handler.old) s (length bytes.now + n) →
         P.reading.has_memory parser.new (B.room state.new.text) (s.parsed ++ bytes.now) n }
 {
@@ -164,11 +164,11 @@ pub(crate) fn parse_until_begin<
 >(parser: &mut P, state: &mut PerformerState<T, B>, handler: &mut H, bytes: &[u8]) -> (usize, bool)
     ensures within { result.0 ≤ length bytes.now }
     ensures stops { (s : State H.Value T.Value) (n : ℕ)
-        → ArePartsAtWithMemory (engine_meaning P.limit P.reading B.room T.value_of) parser.old
+        → ArePartsAtWithMemory (engine_view P.limit P.reading B.room T.value_of) parser.old
         state.old (H.value_of handler.old) s (length bytes.now + n) →
         HasParsedFront (meaning_of P.limit H.step T.set T.clear T.allows) s bytes.now result.0
         result.1 (ArePartsAtKeeping
-        (engine_meaning P.limit P.reading B.room T.value_of) parser.old state.old parser.new
+        (engine_view P.limit P.reading B.room T.value_of) parser.old state.old parser.new
         state.new
         (H.value_of handler.new)) }
 {

@@ -1,7 +1,7 @@
 -- The bytes of a head: a function that reads several of them goes on by each. `ReadsHeadUpTo` says which, without the
 -- performer, which learns of a head only at its end; both shapes share it.
 use Rattle.vte_core.specs.machine.ToRun.{IsReadOutsideRuns}
-use Rattle.vte_core.proofs.Common.{◌≡◌, ℕ, zero, suc, ◌+◌, ◌-◌, ◌<◌, ◌≤◌, ◌⊎◌, inr, eqb, Option, List, [], ◌∷◌, ◌++◌, Bool, true, false, length, take, drop, refl, sym, subst, append_assoc, arith, nat_tests, append-nil, drop-drop, drop_more, take-add, slice_index, MatchOption, class_of, is_head_byte, is_parameter_text, AreInClass, Collected, HeadProgress, Entry, Parameters, Machine, State, ControlSequence, DeviceControl, Event, ChunkCall, Leads, CountsNumbers, SameIntermediates, StandsAtPlace, StandsBy, StandsInHead, Place, InControlSequence, InDeviceControl, IsSettledPlace, Advances, ProgressAt, StandsAt, IsSettled, MayGoOn, TakesBytes, TakesByte, ends_body, part_after, ReadsHead, Some, None, false≢true}
+use Rattle.vte_core.proofs.Common.{◌≡◌, ℕ, zero, suc, ◌+◌, ◌-◌, ◌<◌, ◌≤◌, ◌⊎◌, inr, eqb, Option, List, [], ◌∷◌, ◌++◌, Bool, true, false, length, take, drop, refl, sym, subst, append_assoc, arith, nat_tests, append-nil, drop-drop, drop_more, take-add, slice_index, MatchOption, class_of, is_head_byte, is_parameter_text, AreInClass, Collected, HeadProgress, Entry, Parameters, Machine, State, ControlSequence, DeviceControl, Event, ChunkCall, Leads, CountsNumbers, SameIntermediates, StandsAtPlace, StandsBy, StandsInHead, Place, InControlSequence, InDeviceControl, IsSettledPlace, Advances, ProgressAt, StandsAt, IsSettled, MayGoOn, TakesBytes, TakesByte, ends_body, progress_after, ReadsHead, Some, None, false≢true}
 use Rattle.vte_core.proofs.bytes.ClassCases.{head_ends_nothing, AreInClass-append, parameter_is_head}
 use Rattle.vte_core.proofs.calls.Progress.{come-settled, come-byte}
 use Rattle.vte_core.proofs.calls.Arms.{performs-in}
@@ -70,18 +70,19 @@ match-none B (Some b) n all = absurd (n b refl)
 
 -- ---- numbers
 
-pub part_after-none : (reached : HeadProgress) {from to : ℕ} → from ≡ to → part_after reached from to ≡ reached
-part_after-none reached {from} {to} is = let same : eqb from to ≡ true = grind (arith, nat_tests) in rw same refl
+pub progress_after-none : (reached : HeadProgress) {from to : ℕ} → from ≡ to → progress_after reached from to ≡ reached
+progress_after-none reached {from} {to} is = let same : eqb from to ≡ true = grind (arith, nat_tests) in rw same refl
 
-pub part_after-more : (reached : HeadProgress) (from to : ℕ) → from < to → part_after reached from to ≡ Parameters
-part_after-more reached from to more = let other : eqb from to ≡ false = grind (arith, nat_tests) in rw other refl
+pub progress_after-more : (reached : HeadProgress) (from to : ℕ) → from < to
+    → progress_after reached from to ≡ Parameters
+progress_after-more reached from to more = let other : eqb from to ≡ false = grind (arith, nat_tests) in rw other refl
 
-part_after-may : (reached : HeadProgress) (from to : ℕ) → (reached ≡ Entry) ⊎ (reached ≡ Parameters)
-    → (part_after reached from to ≡ Entry) ⊎ (part_after reached from to ≡ Parameters)
-part_after-may reached from to may = by_test (eqb from to) refl
+progress_after-may : (reached : HeadProgress) (from to : ℕ) → (reached ≡ Entry) ⊎ (reached ≡ Parameters)
+    → (progress_after reached from to ≡ Entry) ⊎ (progress_after reached from to ≡ Parameters)
+progress_after-may reached from to may = by_test (eqb from to) refl
   where
     by_test : (t : Bool) → eqb from to ≡ t
-        → (part_after reached from to ≡ Entry) ⊎ (part_after reached from to ≡ Parameters)
+        → (progress_after reached from to ≡ Entry) ⊎ (progress_after reached from to ≡ Parameters)
     by_test true e = rw e may
     by_test false e = inr (rw e refl)
 
@@ -90,13 +91,13 @@ pub reads_head-parameter : {bytes : List ℕ} {from i b : ℕ} {reached : HeadPr
     → (reached ≡ Entry) ⊎ (reached ≡ Parameters)
     → i < length bytes → b ≡ slice_index bytes i → is_parameter_text (class_of b) ≡ true → SameIntermediates old new
     → ((text : List ℕ) → CountsNumbers old text → CountsNumbers new (text ++ b ∷ []))
-    → ReadsHead bytes from i reached (part_after reached from i) first old
-    → ReadsHead bytes from (i + 1) reached (part_after reached from (i + 1)) first new
+    → ReadsHead bytes from i reached (progress_after reached from i) first old
+    → ReadsHead bytes from (i + 1) reached (progress_after reached from (i + 1)) first new
 reads_head-parameter {from} {i} {b} {reached} {old} {new} may within at is keeps counts before =
-    rw (part_after-more reached from (i + 1) (omega (arith, before.low)))
+    rw (progress_after-more reached from (i + 1) (omega (arith, before.low)))
     (reads_head-then before (reads_head-byte within at (parameter_is_head (class_of b) is)
     (λ head s.
-    holds-parameter head b (part_after-may reached from i may) s is keeps counts)))
+    holds-parameter head b (progress_after-may reached from i may) s is keeps counts)))
 
 -- ---- the shapes that have a head
 

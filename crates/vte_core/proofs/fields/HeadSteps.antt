@@ -1,6 +1,6 @@
 -- What one byte makes of the head that is held: by the part of the head that was reached and the byte's class.
 --
--- `holds-X`: the head is held after X (`HoldsHead`); `malformed-X`, `ill_shaped-X`: it stays ill-shaped after X.
+-- `holds-X`: the head is held after X (`HoldsHead`); `ill_shaped-X`: it stays ill-shaped after X.
 use Rattle.vte_core.proofs.Common.{◌≡◌, ℕ, ◌⊎◌, inl, inr, Bool, true, false, ◌||◌, List, [], ◌∷◌, ◌++◌, length, refl, ap, ◌∙◌, append_assoc, arith, length-append, append-nil, Class, Intermediate, Marker, class_of, is_head_byte, is_intermediate, is_marker, is_parameter_text, Collected, HeadProgress, Entry, Parameters, Intermediates, IllShaped, Event, head_of, is_well_shaped, sequence_event, HoldsIntermediates, CountsNumbers, HoldsNumbers, HoldsHead, SameNumbers, SameIntermediates, StandsInHead, StaysIllShaped}
 use Rattle.vte_core.specs.machine.Ready.{IsReady}
 use Rattle.vte_core.proofs.shapes.HeadLemmas.{begins-intermediates, head_of-parts, held-parts, held-well_shaped, list_all-not}
@@ -100,10 +100,10 @@ holds-parameter {old} head b (inr e) s is k more =
     rw e at s in after_no_intermediate Parameters head b h h.reaches.1 is k more
 
 -- a marker after a marker or a parameter
-malformed-marker : (old : Collected) (head : List ℕ) (b : ℕ) → HoldsHead old Parameters head → class_of b ≡ Marker
+ill_shaped-marker : (old : Collected) (head : List ℕ) (b : ℕ) → HoldsHead old Parameters head → class_of b ≡ Marker
     → StaysIllShaped (head ++ b ∷ [])
 unfolding is_well_shaped
-malformed-marker old head b h is = record {
+ill_shaped-marker old head b h is = record {
   stays = λ more.
       let e : (head ++ b ∷ []) ++ more ≡ h.marker ++ (h.parameters ++ (b ∷ more)) =
       rw (h.shape, h.reaches.1) (simp (append-nil, append_assoc)) in
@@ -182,7 +182,7 @@ pub ill_shaped-late : (old : Collected) (progress : HeadProgress) (head : List �
     → ((progress ≡ Entry) ⊎ (progress ≡ Parameters) → is_parameter_text (class_of b) ≡ false)
     → (progress ≡ Entry → ⊥) → StaysIllShaped (head ++ b ∷ [])
 ill_shaped-late old Entry head b s h i p n = absurd (n refl)
-ill_shaped-late old Parameters head b s h i p n = malformed-marker old head b s (left_is_marker _ h (p (inr refl)) i)
+ill_shaped-late old Parameters head b s h i p n = ill_shaped-marker old head b s (left_is_marker _ h (p (inr refl)) i)
 ill_shaped-late old Intermediates head b s h i p n = ill_shaped-after_intermediate old head b s i
 ill_shaped-late old IllShaped head b s h i p n = ill_shaped-more head b s
 

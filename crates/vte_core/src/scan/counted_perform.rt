@@ -38,9 +38,10 @@ pub(crate) trait CountedPerform<B, G> {
         ensures { Tells step (value_of self.old) (value_of self.new)
             (Execute byte) looks.old looks.new };
 
-    fn hook(&mut self, looks: &mut Looks<B>, held: &Collected, ignore: bool, byte: u8)
+    fn hook(&mut self, looks: &mut Looks<B>, collected: &Collected, ignore: bool, byte: u8)
         ensures { Tells step (value_of self.old) (value_of self.new)
-            (Hook held.now.params held.now.intermediates.items ignore byte) looks.old looks.new };
+            (Hook collected.now.params collected.now.intermediates.items ignore byte) looks.old
+            looks.new };
 
     fn put_byte(&mut self, looks: &mut Looks<B>, byte: u8)
         ensures { Tells step (value_of self.old) (value_of self.new)
@@ -59,14 +60,15 @@ pub(crate) trait CountedPerform<B, G> {
         ensures { Tells step (value_of self.old) (value_of self.new)
             (OscDispatch (map (λ piece. piece.now) pieces.now) bell) looks.old looks.new };
 
-    fn csi_dispatch(&mut self, looks: &mut Looks<B>, held: &Collected, ignore: bool, byte: u8)
+    fn csi_dispatch(&mut self, looks: &mut Looks<B>, collected: &Collected, ignore: bool, byte: u8)
         ensures { Tells step (value_of self.old) (value_of self.new)
-            (CsiDispatch held.now.params held.now.intermediates.items ignore byte)
+            (CsiDispatch collected.now.params collected.now.intermediates.items ignore byte)
             looks.old looks.new };
 
-    fn esc_dispatch(&mut self, looks: &mut Looks<B>, held: &Collected, byte: u8)
+    fn esc_dispatch(&mut self, looks: &mut Looks<B>, collected: &Collected, byte: u8)
         ensures { Tells step (value_of self.old) (value_of self.new)
-            (EscDispatch held.now.intermediates.items held.now.too_many_intermediates byte)
+            (EscDispatch collected.now.intermediates.items collected.now.too_many_intermediates
+            byte)
             looks.old looks.new };
 
     fn terminated(&self) -> bool
@@ -108,10 +110,10 @@ impl<P: PerformAs<G>, B, G> CountedPerform<B, G> for P {
     }
 
     #[inline(always)]
-    fn hook(&mut self, looks: &mut Looks<B>, held: &Collected, ignore: bool, byte: u8) {
+    fn hook(&mut self, looks: &mut Looks<B>, collected: &Collected, ignore: bool, byte: u8) {
         looks.add(1);
-        let (intermediates, action) = (held.intermediates.as_slice(), char::from(byte));
-        Perform::hook(self, &held.params, intermediates, ignore, action);
+        let (intermediates, action) = (collected.intermediates.as_slice(), char::from(byte));
+        Perform::hook(self, &collected.params, intermediates, ignore, action);
     }
 
     #[inline(always)]
@@ -139,17 +141,23 @@ impl<P: PerformAs<G>, B, G> CountedPerform<B, G> for P {
     }
 
     #[inline(always)]
-    fn csi_dispatch(&mut self, looks: &mut Looks<B>, held: &Collected, ignore: bool, byte: u8) {
+    fn csi_dispatch(
+        &mut self,
+        looks: &mut Looks<B>,
+        collected: &Collected,
+        ignore: bool,
+        byte: u8,
+    ) {
         looks.add(1);
-        let (intermediates, action) = (held.intermediates.as_slice(), char::from(byte));
-        Perform::csi_dispatch(self, &held.params, intermediates, ignore, action);
+        let (intermediates, action) = (collected.intermediates.as_slice(), char::from(byte));
+        Perform::csi_dispatch(self, &collected.params, intermediates, ignore, action);
     }
 
     #[inline(always)]
-    fn esc_dispatch(&mut self, looks: &mut Looks<B>, held: &Collected, byte: u8) {
+    fn esc_dispatch(&mut self, looks: &mut Looks<B>, collected: &Collected, byte: u8) {
         looks.add(1);
-        let intermediates = held.intermediates.as_slice();
-        Perform::esc_dispatch(self, intermediates, held.too_many_intermediates, byte);
+        let intermediates = collected.intermediates.as_slice();
+        Perform::esc_dispatch(self, intermediates, collected.too_many_intermediates, byte);
     }
 
     #[inline(always)]

@@ -1,7 +1,7 @@
 -- A digit makes the open number longer, a separator settles it and opens another: so the head is read byte by byte. At
 -- the end either no byte was read, and the part of the head is the old one, or it is that of parameters.
 use Rattle.vte_core.proofs.Common.{refl, sym, ◌∙◌, arith, rules}
-use Rattle.vte_core.proofs.calls.Heads.{part_after-more, part_after-none, reads_head-nothing, reads_head-parameter}
+use Rattle.vte_core.proofs.calls.Heads.{progress_after-more, progress_after-none, reads_head-nothing, reads_head-parameter}
 use Rattle.vte_core.proofs.fields.NumberSteps.{counts-digit, counts-separator}
 use Rattle.vte_core.proofs.head.Collected.read_numbers.Goals.{else-loop-position-test, then-loop-position-test+in_default+else-several, in-Some, in_default+then-several+then-is_separator}
 use Rattle.vte_core.proofs.head.Collected.read_numbers.Goals as goal
@@ -10,7 +10,7 @@ use Rattle.vte_core.proofs.head.Collected.read_numbers.Goals as goal
 pub loop-position-init : goal.loop-position-init
 loop-position-init g c = record {
   reads =
-      rw (part_after-none c.args.reached refl, c.from-number.ensures)
+      rw (progress_after-none c.args.reached refl, c.from-number.ensures)
       (reads_head-nothing c.requires.in_order);
   count = omega arith;
   none = refl;
@@ -60,7 +60,7 @@ returns-then-from-position-clause-reads g c =
     let high = v.reads.high in
     record {
       head =
-          rw (part_after-none c.args.reached c.if-from-position.true) at v.reads;
+          rw (progress_after-none c.args.reached c.if-from-position.true) at v.reads;
       next = elim c.loop-position-test.branch [
         | else-loop-position-test w ↦ rw (w.next-is, v.none) (omega arith)
         | then-loop-position-test+in_default+else-several w ↦ rw w.next-is (omega arith, w.at-byte.ensures.value)
@@ -74,7 +74,7 @@ returns-else-from-position-clause-reads g c =
     let high = v.reads.high in
     let low = v.reads.low in
     record {
-      head = rw (part_after-more c.args.reached c.args.from c.loop-position.position (omega arith)) at v.reads;
+      head = rw (progress_after-more c.args.reached c.args.from c.loop-position.position (omega arith)) at v.reads;
       next = elim c.loop-position-test.branch [
         | else-loop-position-test w ↦ rw (w.next-is, v.none) (omega arith)
         | then-loop-position-test+in_default+else-several w ↦ rw w.next-is (omega arith, w.at-byte.ensures.value)

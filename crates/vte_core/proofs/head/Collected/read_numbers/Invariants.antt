@@ -1,5 +1,5 @@
 -- The numbers are read up to this position; the last one is open, in a local variable. One look for each byte.
-use Rattle.vte_core.proofs.Common.{◌≡◌, ◌≤◌, ◌+◌, ◌-◌, length, looked, None, part_after, ReadsHead}
+use Rattle.vte_core.proofs.Common.{◌≡◌, ◌≤◌, ◌+◌, ◌-◌, length, looked, None, progress_after, ReadsHead}
 use Rattle.vte_core.specs.Parameters.{greatest_number}
 use Rattle.vte_core.specs.machine.Reading.{with_open_number}
 use Rattle.vte_core.proofs.head.Collected.read_numbers.Given as goal
@@ -7,7 +7,7 @@ use Rattle.vte_core.proofs.head.Collected.read_numbers.Given as goal
 abbrev pub invariant-loop-position : goal.invariant-loop-position
 invariant-loop-position g l = record {
   reads : ReadsHead l.input.bytes.now l.from l.position l.reached
-      (part_after l.reached l.from l.position) l.initial.self (with_open_number l.self l.number);
+      (progress_after l.reached l.from l.position) l.initial.self (with_open_number l.self l.number);
   count : looked l.looks + l.from ≡ looked l.initial.looks + l.position;
   none : l.next ≡ None;
   small : l.number ≤ greatest_number;

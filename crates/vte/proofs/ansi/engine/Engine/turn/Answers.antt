@@ -1,6 +1,6 @@
 -- By the timeout's answer: the bytes are held while an update is pending and there is room. Otherwise it is stopped if
 -- it is pending or bytes are held, and the turn is an open one.
-use Rattle.vte.proofs.Common.{◌≡◌, ◌<◌, length, refl, sym, ◌∙◌, arith, nat_tests, nat_le, most_held, held_of, inr, true, false, and-false, ◌+◌, meaning_of, engine_meaning, EngineIsAtKeeping}
+use Rattle.vte.proofs.Common.{◌≡◌, ◌<◌, length, refl, sym, ◌∙◌, arith, nat_tests, nat_le, most_held, held_of, inr, true, false, and-false, ◌+◌, meaning_of, engine_view, EngineIsAtKeeping}
 use Rattle.vte.proofs.turns.Kinds.{is_held, is_stopped, stop_if_due}
 use Rattle.vte.proofs.turns.Slices.{halted-nothing}
 use Rattle.vte.proofs.turns.EngineTurns.{after-next, ends_turn, kept-next, next-at, stops-next, turned_hold}
@@ -21,8 +21,8 @@ returns-clause-turned g c = λ s at.
       | else-pending-via-else-pending w ↦ rw w.if-pending.false refl
     ] in
     let m = meaning_of g.P.EventParser.limit g.H.Handler.step g.T.Timeout.set g.T.Timeout.clear g.T.Timeout.allows in
-    let parts = engine_meaning g.P.EventParser.limit g.P.EventParser.reading g.B.TextBuffer.room g.T.Timeout.value_of in
-    let here : EngineIsAtKeeping parts c.args.self.now c.if-pending-2.self (g.H.Handler.value_of c.if-pending-2.handler)
+    let view = engine_view g.P.EventParser.limit g.P.EventParser.reading g.B.TextBuffer.room g.T.Timeout.value_of in
+    let here : EngineIsAtKeeping view c.args.self.now c.if-pending-2.self (g.H.Handler.value_of c.if-pending-2.handler)
     (stop_if_due m pending s) = elim c.if-pending-2.branch [
       -- Stopped first.
       | then-pending-2 w ↦

@@ -12,32 +12,33 @@ use Rattle.vte.specs.declared.ansi.titles.TheConstants.{TEXT_ROOM}
 
 -- A parser: the streams that it has read, and for how many more bytes it has memory after each,
 -- with a text of `size` bytes.
-pub record ParserMeaning (P : Type 0) : Type 1 where
+pub record ParserView (P : Type 0) : Type 1 where
   pub has_read : P → List ℕ → Type 0
   pub has_memory : P → (size : ℕ) → List ℕ → ℕ → Type 0
 
 -- With a limit it needs memory only for a text of a fixed size, which holds what is joined.
-abbrev pub limited_meaning : {N : ℕ} → ParserMeaning (Parser N)
-limited_meaning = record {
+abbrev pub limited_parser_view : {N : ℕ} → ParserView (Parser N)
+limited_parser_view = record {
   has_read = HasRead;
   has_memory = λ parser size stream count. TEXT_ROOM ≤ size;
 }
 
-abbrev pub long_meaning : {A : Type 0} → ParserMeaning (LongParser A)
-long_meaning = record { has_read = HasReadLong; has_memory = ParserHasMemory }
+abbrev pub long_parser_view : {A : Type 0} → ParserView (LongParser A)
+long_parser_view = record { has_read = HasReadLong; has_memory = ParserHasMemory }
 
 -- The parser, with its limit, the buffer for texts and the timeout.
-pub record EngineMeaning (P B T W : Type 0) : Type 1 where
+pub record EngineView (P B T W : Type 0) : Type 1 where
   pub limit : Option ℕ
-  pub reading : ParserMeaning P
+  pub reading : ParserView P
   pub room_of : B → ℕ
   pub timeout_of : T → W
 
-abbrev pub engine_meaning : {P B T W : Type 0} → Option ℕ → ParserMeaning P → (B → ℕ) → (T → W)
-    → EngineMeaning P B T W
-engine_meaning limit reading room_of timeout_of =
+abbrev pub engine_view : {P B T W : Type 0} → Option ℕ → ParserView P → (B → ℕ) → (T → W)
+    → EngineView P B T W
+engine_view limit reading room_of timeout_of =
     record { limit = limit; reading = reading; room_of = room_of; timeout_of = timeout_of }
 
 -- The parts of a processor without a limit.
-abbrev pub unlimited : {T A W : Type 0} → (T → W) → EngineMeaning (LongParser A) (GrowingText A) T W
-unlimited timeout_of = engine_meaning None long_meaning (λ text. text.size) timeout_of
+abbrev pub long_engine_view : {T A W : Type 0} → (T → W)
+    → EngineView (LongParser A) (GrowingText A) T W
+long_engine_view timeout_of = engine_view None long_parser_view (λ text. text.size) timeout_of

@@ -211,8 +211,8 @@ def differences(source, written, place="c/mod.rs", **given):
     ("pub const N: u8 = 1;", "pub const N: u8 = 2;", ["const N: : u8 = 2 ;", "const N"]),
     ("impl S { const N: u8 = 1; }", "impl S {}", ["const N"]),
     ("fn f<const N: u8>() -> *const u8 { N }", "fn f<const N: u8>() -> *const u8 { N }", []),
-    ("fn f() { one(); g(&mut self.looks, Input::new(a), input.up_to(b)); }",
-     "fn f() { two(); g(self.looks, a, up_to(input, b)); }", []),
+    ("fn f() { one(); g(&mut self.reader, Input::new(a), input.up_to(b)); }",
+     "fn f() { two(); g(self.reader, a, up_to(input, b)); }", []),
     ("fn f() { input.up_to(a); }", "fn f() { up_to(input, b); }",
      ["fn f: { up_to ( input , b ) ; }", "fn f"]),
 ])

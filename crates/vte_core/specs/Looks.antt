@@ -5,7 +5,7 @@
 -- the one that it finds, and a copy each byte that it copies. A text that is handed over is not
 -- loaded for it. Each event counts one look, and those of a run as many as it has bytes.
 use Rattle.std.specs.Prelude.{ℕ, ◌+◌}
-use Rattle.vte_core.specs.declared.scan.Looks.{Looks}
+use Rattle.vte_core.specs.declared.scan.Reader.{Reader}
 use Rattle.vte_core.specs.declared.scan.Trail.{Trail}
 use Rattle.vte_core.specs.declared.scan.Trail.TheOpen.{Trail-F}
 use Rattle.vte_core.specs.declared.scan.Trail.TheFolds.{fold-Trail}
@@ -20,13 +20,13 @@ count_step (Trail-F.Then before count) = before.value + count
 abbrev pub look_count : Trail → ℕ
 look_count = fold-Trail ℕ count_step
 
-abbrev pub looked : {B : Type 0} → Looks B → ℕ
-looked looks = look_count looks.trail.value
+abbrev pub looked : {B : Type 0} → Reader B → ℕ
+looked reader = look_count reader.trail.value
 
 -- The count of a parser since it was created.
 abbrev pub looks : {N : ℕ} → Parser N → ℕ
-looks parser = looked parser.looks
+looks parser = looked parser.reader
 
 -- The count of a parser without a limit since it was created.
 abbrev pub looks_long : {A : Type 0} → LongParser A → ℕ
-looks_long parser = looked parser.looks
+looks_long parser = looked parser.reader

@@ -9,7 +9,7 @@ ghost use Rattle.vte_core.specs.machine.Automaton.{AutomatonState, Between, stat
 ghost use Rattle.vte_core.specs.machine.Prelude.{Each, IsRun, Scans, is_layout, looked};
 
 use crate::class::is_layout;
-use crate::scan::{Input, Looks};
+use crate::scan::{Input, Reader};
 use crate::utf8::is_printed_ascii;
 
 // States: between two characters; before one, two or three more bytes 80..BF; after a first byte
@@ -120,7 +120,7 @@ fn step(state: u64, byte: u8) -> u64
     TABLE[byte as usize] >> (state % 64)
 }
 
-impl<B> Looks<B> {
+impl<B> Reader<B> {
     /// Skips blocks of a run, and returns where the last character ended. With `layout`, the run
     /// may hold HT, LF and CR. A block with a byte that fits nowhere, or with another control, is
     /// read in vain.

@@ -2,7 +2,7 @@
 ghost use Rattle.std.specs.Prelude.{◌≡◌, ◌+◌, ◌-◌, ◌<◌, ◌≤◌, ◌++◌, ℕ, true, false, List, [], Option, Some, None, not, length, drop, take, vec_capacity};
 ghost use Rattle.vte_core.specs.machine.Prelude.{HasCapacity, IsRange, ReservesCapacity, LooksAtMost, fitting, has_room};
 
-use crate::scan::{Input, Looks};
+use crate::scan::{Input, Reader};
 use arrayvec::ArrayVec;
 use std::alloc::Allocator;
 
@@ -38,7 +38,7 @@ pub(crate) trait Buffer {
             (capacity self.new) result };
 
     /// Adds the bytes of an input from one position to another, up to the limit.
-    fn append<B>(&mut self, looks: &mut Looks<B>, input: Input<'_, B>, from: usize, to: usize)
+    fn append<B>(&mut self, reader: &mut Reader<B>, input: Input<'_, B>, from: usize, to: usize)
         requires range { IsRange input.bytes.now from to }
         requires memory { HasCapacity limit (capacity self.old) (length (held self.old))
             (to - from) }
@@ -47,7 +47,7 @@ pub(crate) trait Buffer {
             ++ fitting limit (length (held self.old))
             (take (to - from) (drop from input.entry.bytes.now)) }
         ensures memory { capacity self.old ≤ capacity self.new }
-        ensures few { LooksAtMost (to - from) looks.old looks.new };
+        ensures few { LooksAtMost (to - from) reader.old reader.new };
 }
 
 impl<const N: usize> Buffer for ArrayVec<u8, N> {
@@ -73,10 +73,10 @@ impl<const N: usize> Buffer for ArrayVec<u8, N> {
         true
     }
 
-    fn append<B>(&mut self, looks: &mut Looks<B>, input: Input<'_, B>, from: usize, to: usize) {
+    fn append<B>(&mut self, reader: &mut Reader<B>, input: Input<'_, B>, from: usize, to: usize) {
         let kept = (to - from).min(self.remaining_capacity());
         // It fits.
-        let _ = looks.copy_to_array(input, from, from + kept, self);
+        let _ = reader.copy_to_array(input, from, from + kept, self);
     }
 }
 
@@ -103,8 +103,8 @@ impl<A: Allocator> Buffer for Vec<u8, A> {
         self.reserve(more).is_ok()
     }
 
-    fn append<B>(&mut self, looks: &mut Looks<B>, input: Input<'_, B>, from: usize, to: usize) {
+    fn append<B>(&mut self, reader: &mut Reader<B>, input: Input<'_, B>, from: usize, to: usize) {
         // There is room.
-        let _ = looks.copy_to_vec(input, from, to, self);
+        let _ = reader.copy_to_vec(input, from, to, self);
     }
 }

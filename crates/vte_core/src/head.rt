@@ -6,7 +6,7 @@ ghost use Rattle.vte_core.specs.machine.Prelude.{is_separator, looked, with_open
 
 use crate::class::{digit_of, is_head_byte, is_intermediate, is_parameter_text, is_separator};
 use crate::params::Params;
-use crate::scan::{Input, Looks};
+use crate::scan::{Input, Reader};
 use arrayvec::ArrayVec;
 
 /// How far a head has been read.
@@ -139,7 +139,7 @@ impl Collected {
     #[inline(always)]
     pub(crate) fn read_numbers<B>(
         &mut self,
-        looks: &mut Looks<B>,
+        reader: &mut Reader<B>,
         reached: HeadProgress,
         several: bool,
         input: Input<'_, B>,
@@ -151,8 +151,8 @@ impl Collected {
         ensures progress { several ≡ true → from < length input.entry.bytes.now
             → is_parameter_text (class_of (slice_index input.entry.bytes.now from)) ≡ true
             → (from < result.position) × (result.progress ≡ HeadProgress.Parameters) }
-        ensures count { looked looks.new + from
-            ≡ looked looks.old + min (result.position + 1) (length input.entry.bytes.now) }
+        ensures count { looked reader.new + from
+            ≡ looked reader.old + min (result.position + 1) (length input.entry.bytes.now) }
     {
         // In a local, because a field would be stored at each digit, and as wide as the sum that
         // each digit makes.
@@ -160,7 +160,7 @@ impl Collected {
         let mut position = from;
         let mut next = None;
         while position < input.len() {
-            let byte = looks.at(input, position);
+            let byte = reader.at(input, position);
             if let Some(digit) = digit_of(byte) {
                 // 65,535 stands for all greater numbers.
                 number = (number * 10 + digit).min(u32::from(u16::MAX));
@@ -192,7 +192,7 @@ impl Collected {
     #[inline(always)]
     pub(crate) fn read_head<B>(
         &mut self,
-        looks: &mut Looks<B>,
+        reader: &mut Reader<B>,
         reached: HeadProgress,
         input: Input<'_, B>,
         from: usize,
@@ -200,23 +200,23 @@ impl Collected {
         requires { from ≤ length input.bytes.now }
         ensures reads { ReadsHeadUpTo input.entry.bytes.now from reached result self.old self.new }
         ensures other { IfSome result.next (λ byte. is_head_byte (class_of byte) ≡ false) }
-        ensures count { looked looks.new + 3 * from
-            ≤ looked looks.old + 2 * result.position
+        ensures count { looked reader.new + 3 * from
+            ≤ looked reader.old + 2 * result.position
             + min (result.position + 1) (length input.entry.bytes.now) }
-        ensures least { looked looks.old + min (result.position + 1) (length input.entry.bytes.now)
-            ≤ looked looks.new + from }
+        ensures least { looked reader.old + min (result.position + 1) (length input.entry.bytes.now)
+            ≤ looked reader.new + from }
     {
         let mut progress = reached;
         let mut position = from;
         let mut next = None;
         while position < input.len() {
-            let byte = looks.at(input, position);
+            let byte = reader.at(input, position);
             if !is_head_byte(byte) {
                 next = Some(byte);
                 break;
             }
             if is_parameter_text(byte) && progress.may_have_parameters() {
-                let numbers = self.read_numbers(looks, progress, true, input, position);
+                let numbers = self.read_numbers(reader, progress, true, input, position);
                 // As a constant, because the loop over numbers is longer with `numbers.progress`.
                 progress = HeadProgress::Parameters;
                 position = numbers.position;

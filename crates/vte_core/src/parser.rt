@@ -24,7 +24,7 @@ mod to_run;
 
 use crate::head::HeadProgress;
 use crate::perform::{Perform, PerformText, PerformThroughText};
-use crate::scan::{CountedPerform, Grain, InRuns, Input, Looks, Singly};
+use crate::scan::{CountedPerform, Grain, InRuns, Input, Reader, Singly};
 use crate::utf8::Unfinished;
 use arrayvec::ArrayVec;
 pub use long::LongParser;
@@ -74,7 +74,7 @@ pub(crate) enum State {
 #[derive(Drop)]
 pub struct Parser<const OSC_RAW_BUF_SIZE: usize> {
     machine: Machine<ArrayVec<u8, OSC_RAW_BUF_SIZE>>,
-    looks: Looks<ArrayVec<u8, OSC_RAW_BUF_SIZE>>,
+    reader: Reader<ArrayVec<u8, OSC_RAW_BUF_SIZE>>,
 }
 
 impl Parser<MAX_OSC_RAW> {
@@ -120,7 +120,7 @@ impl<const OSC_RAW_BUF_SIZE: usize> Parser<OSC_RAW_BUF_SIZE> {
     {
         Parser {
             machine: Machine::new(ArrayVec::new()),
-            looks: Looks::for_limited(),
+            reader: Reader::for_limited(),
         }
     }
 
@@ -212,7 +212,7 @@ impl<const OSC_RAW_BUF_SIZE: usize> Parser<OSC_RAW_BUF_SIZE> {
     {
         match self
             .machine
-            .drive::<P, G, MAY_STOP>(&mut self.looks, performer, Input::new(bytes))
+            .drive::<P, G, MAY_STOP>(&mut self.reader, performer, Input::new(bytes))
         {
             Ok(read) => read,
             // Never: with a limit no memory is refused.

@@ -6,14 +6,14 @@ ghost use Rattle.std.specs.Prelude.{◌≡◌, ◌+◌, ◌*◌, ◌<◌, ◌≤
 ghost use Rattle.vte_core.specs.machine.Prelude.{ArePrintedAscii, HasNoRunAt, IsPrintedAscii, IsRange, IsRun, Scans, LooksAtMost, is_in, looked, from_to};
 
 use crate::class::is_layout;
-use crate::scan::{CountedPerform, Grain, Input, Looks};
+use crate::scan::{CountedPerform, Grain, Input, Reader};
 use crate::utf8::{is_continuation, is_lead, is_printed_ascii, may_begin_four, may_begin_three};
 
 /// Longer runs go on in blocks. By then single bytes have taken fewer looks than they may, enough
 /// to pay for one wasted block.
 const SHORT_RUN: usize = 48;
 
-impl<B> Looks<B> {
+impl<B> Reader<B> {
     /// Returns whether printed ASCII begins a run at a position: four bytes of it, of which the
     /// first was looked at, and `next` too.
     #[inline(always)]

@@ -1,11 +1,11 @@
 //! The only module that reads input bytes, and the only way to report events. It counts both, for
 //! contracts alone.
 //!
-//! An [`Input`] has no other way to its bytes, and a [`CountedPerform`] takes each event together
-//! with the count. Bytes leave this module one by one, in blocks, as a copy in a buffer, or as text
-//! or data: for a performer, or in a [`Run`] for the caller. Only `for_limited` and `for_unlimited`
-//! make a `Looks<B>`: a function that is generic in the buffer `B` can't replace a count by a new
-//! one.
+//! A [`Reader`] is the only way to the bytes of an [`Input`], and a [`CountedPerform`] takes events
+//! with a reader alone. Bytes leave this module one by one, in blocks, as a copy in a buffer, or as
+//! text or data: for a performer, or in a [`Run`] for the caller. Only `for_limited` and `for_long`
+//! make a `Reader<B>`: a function that is generic in the buffer `B` can't replace one, and its
+//! count, by a new one.
 ghost use Rattle.std.specs.Prelude.{◌≡◌, ◌+◌, ◌-◌, ◌<◌, ◌≤◌, ℕ, [], ◌∷◌, ◌++◌, false, length, drop, map, take, slice_index, vec_capacity, MatchOption, IsUtf8};
 ghost use Rattle.vte_core.specs.machine.Prelude.{AreOfKind, ArePut, IsRange, IsRun, IsTaken, PrintsRun, Put, Tells, after, character_event, is_in, looked, malformed_event, from_to};
 
@@ -32,15 +32,14 @@ enum Trail {
     Then(Snapshot<Trail>, usize),
 }
 
-/// How many looks a parser took at input bytes, and how many events it told. It has no bytes at run
-/// time.
+/// Reads input bytes and reports events, and counts both as looks. It has no bytes at run time.
 #[derive(Drop)]
-pub(crate) struct Looks<B> {
+pub(crate) struct Reader<B> {
     trail: Snapshot<Trail>,
     buffer: PhantomData<B>,
 }
 
-/// The bytes of a call of a parser with the buffer `B`. They are read by way of its `Looks` alone.
+/// The bytes of a call of a parser with the buffer `B`. Only its `Reader` reads them.
 pub(crate) struct Input<'a, B> {
     bytes: &'a [u8],
     buffer: PhantomData<B>,
@@ -127,29 +126,29 @@ impl<'a, B> Input<'a, B> {
     }
 }
 
-impl<const N: usize> Looks<ArrayVec<u8, N>> {
-    /// Creates a count of no looks, for a parser with a limit.
+impl<const N: usize> Reader<ArrayVec<u8, N>> {
+    /// Creates a reader that has taken no looks, for a parser with a limit.
     pub(crate) fn for_limited() -> Self
         ensures { looked result ≡ 0 }
     {
-        Looks::none()
+        Reader::none()
     }
 }
 
-impl<A: Allocator> Looks<Vec<u8, A>> {
-    /// Creates a count of no looks, for a parser without a limit.
-    pub(crate) fn for_unlimited() -> Self
+impl<A: Allocator> Reader<Vec<u8, A>> {
+    /// Creates a reader that has taken no looks, for a parser without a limit.
+    pub(crate) fn for_long() -> Self
         ensures { looked result ≡ 0 }
     {
-        Looks::none()
+        Reader::none()
     }
 }
 
-impl<B> Looks<B> {
+impl<B> Reader<B> {
     fn none() -> Self
         ensures { looked result ≡ 0 }
     {
-        Looks {
+        Reader {
             trail: Snapshot::of(&Trail::Start),
             buffer: PhantomData,
         }
@@ -295,7 +294,7 @@ impl<B> Looks<B> {
     }
 }
 
-impl<B> Looks<B> {
+impl<B> Reader<B> {
     /// Appends the bytes from one position to another to a vector that has memory for them.
     pub(crate) fn copy_to_vec<A: Allocator>(
         &mut self,

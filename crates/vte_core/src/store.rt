@@ -4,7 +4,7 @@ ghost use Rattle.std.specs.List.Sorted.{IsNonDecreasing};
 ghost use Rattle.vte_core.specs.machine.Prelude.{ArePieceEnds, HasCapacity, Stored, IsRange, HoldsItems, OscDispatch, ReservesCapacity, SameItems, LooksAtMost, Tells, cut_pieces, most_pieces};
 
 use crate::buffer::Buffer;
-use crate::scan::{CountedPerform, Grain, Input, Looks};
+use crate::scan::{CountedPerform, Grain, Input, Reader};
 use arrayvec::ArrayVec;
 use std::alloc::{AllocError, Allocator};
 use std::marker::Model;
@@ -107,7 +107,7 @@ impl<B: Buffer> Store<B> {
     /// none after 16 pieces.
     pub(crate) fn push_data(
         &mut self,
-        looks: &mut Looks<B>,
+        reader: &mut Reader<B>,
         input: Input<'_, B>,
         from: usize,
         to: usize,
@@ -119,11 +119,11 @@ impl<B: Buffer> Store<B> {
         ensures holds { (items : List ℕ) → HoldsItems B.limit self.old items → HoldsItems B.limit
             self.new (items ++ take (to - from) (drop from input.entry.bytes.now)) }
         ensures memory { self.old.capacity ≤ self.new.capacity }
-        ensures few { LooksAtMost (to - from) looks.old looks.new }
+        ensures few { LooksAtMost (to - from) reader.old reader.new }
     {
         let before = self.bytes.bytes().len();
         if !self.ends.is_full() {
-            self.bytes.append(looks, input, from, to);
+            self.bytes.append(reader, input, from, to);
         }
         self.lost |= self.bytes.bytes().len() - before < to - from;
     }
@@ -132,21 +132,21 @@ impl<B: Buffer> Store<B> {
     #[tactic(auto, using(std::proofs::lemmas::Grind::common_steps))]
     pub(crate) fn dispatch<P: CountedPerform<B, G>, G: Grain>(
         &self,
-        looks: &mut Looks<B>,
+        reader: &mut Reader<B>,
         performer: &mut P,
         bell_terminated: bool,
     )
         ensures { Tells P.step (P.value_of performer.old) (P.value_of performer.new)
             (OscDispatch (cut_pieces self.now.bytes self.now.ends) bell_terminated)
-            looks.old looks.new }
+            reader.old reader.new }
     {
         let (bytes, ends) = (self.bytes.bytes(), self.ends.as_slice());
         // most commands have one piece or two
         match ends {
-            [] => return performer.osc_dispatch(looks, &[bytes], bell_terminated),
+            [] => return performer.osc_dispatch(reader, &[bytes], bell_terminated),
             [end] => {
                 let pieces = [&bytes[..*end], &bytes[*end..]];
-                return performer.osc_dispatch(looks, &pieces, bell_terminated);
+                return performer.osc_dispatch(reader, &pieces, bell_terminated);
             }
             _ => {}
         }
@@ -161,7 +161,7 @@ impl<B: Buffer> Store<B> {
             pieces[count] = &bytes[start..];
             count += 1;
         }
-        performer.osc_dispatch(looks, &pieces[..count], bell_terminated);
+        performer.osc_dispatch(reader, &pieces[..count], bell_terminated);
     }
 }
 

@@ -29,19 +29,19 @@ debug_assert!(is_continuation(third) && is_continuation(fourth));
 """
 
 
-# A `Looks` counts for contracts alone, and has no bytes at run time. So it is passed by value,
-# which takes no argument. An `Input` is a slice, of whose length rustc tells LLVM more than of a
-# struct's, and its methods are functions. Neither type says for which buffer `B` a parser counts:
-# a function with another use of its own `B` would no longer compile.
+# A `Reader` counts looks for contracts alone, and has no bytes at run time. So it is passed by
+# value, which takes no argument. An `Input` is a slice, of whose length rustc tells LLVM more than
+# of a struct's, and its methods are functions. Neither type says for which buffer `B` a parser
+# counts: a function with another use of its own `B` would no longer compile.
 METHODS_OF_INPUT = ("up_to", "text", "data", "take_run")
 COUNTS = [
-    ("&mut Looks<B>", "Looks"), ("&mut self.looks", "self.looks"),
-    ("impl<$$x> Looks<$$b> { $$$f }",
-     lambda names: f"impl Looks {{ {names['f'].replace('&mut self', 'self')} }}"),
-    ("looks: Looks<$$b>,", "looks: Looks,"), ("Looks<B>", "Looks"),
+    ("&mut Reader<B>", "Reader"), ("&mut self.reader", "self.reader"),
+    ("impl<$$x> Reader<$$b> { $$$f }",
+     lambda names: f"impl Reader {{ {names['f'].replace('&mut self', 'self')} }}"),
+    ("reader: Reader<$$b>,", "reader: Reader,"), ("Reader<B>", "Reader"),
     ("Input<'_, B>", "&[u8]"), ("Input::new($x)", "$x"),
     # inlined by rustc before LLVM sees its caller, it would move a branch of the loop over text
-    ("looks.tell_text(performer, input, $$p)", "performer.print_text(looks, text(input, $p))"),
+    ("reader.tell_text(performer, input, $$p)", "performer.print_text(reader, text(input, $p))"),
     *((f"input.{name}(", f"{name}(input, ") for name in METHODS_OF_INPUT),
     ("CountedPerform<B, $g>", "CountedPerform<$g>"), ("fn $f<B>", "fn $f"), ("fn $f<B, ", "fn $f<"),
 ]
@@ -64,7 +64,7 @@ def private(*names):
 VTE_CORE = dict(
     homes={"vte_core": {"crate::proved::vte_core::scan": "take_run text up_to"}},
     item_conditions={
-        "vte_core": {WITH_MEMORY: "AllocError Vec for_unlimited long"},
+        "vte_core": {WITH_MEMORY: "AllocError Vec for_long long"},
         "vte_core/lib": {WITH_MEMORY: "LongParser Refused", OWN: "Saved",
                          'feature = "ansi"': "InRuns Singly"},
         # the module has the condition
@@ -153,7 +153,7 @@ VTE_CORE = dict(
             '#[doc = include_str!("../../docs/perform_text.md")]': ["pub trait PerformText: "]},
         "vte_core/scan": {
             "#[allow(unsafe_code)]": ["pub(crate) fn text"],
-            "#[derive(Clone, Copy)]": ["pub(crate) struct Looks"]},
+            "#[derive(Clone, Copy)]": ["pub(crate) struct Reader"]},
         "vte_core/utf8": {"#[allow(unsafe_code)]": [
             "pub(crate) fn character_of_three", "pub(crate) fn character_of_four"]},
         # the loops over bytes: rustc compiles modules apart, and so would keep them from the

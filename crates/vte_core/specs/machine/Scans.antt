@@ -1,6 +1,6 @@
 -- Parts of a call's bytes, how far a search in them goes, and how few looks are taken.
 use Rattle.std.specs.Prelude.{◌≡◌, ℕ, ◌+◌, ◌<◌, ◌≤◌, List, length, min, slice_index}
-use Rattle.vte_core.specs.declared.scan.Looks.{Looks}
+use Rattle.vte_core.specs.declared.scan.Reader.{Reader}
 use Rattle.vte_core.specs.Looks.{looked}
 use Rattle.vte_core.specs.machine.Each.{Each}
 
@@ -12,7 +12,7 @@ pub record IsRange (bytes : List ℕ) (from to : ℕ) : Type 0 where
 -- A search from one position ends at another, takes at least one look for each byte between, and
 -- has found out what these are.
 pub record Scans {B : Type 0} (Are : List ℕ → ℕ → ℕ → Type 0) (bytes : List ℕ) (from to : ℕ)
-    (before after : Looks B) : Type 0 where
+    (before after : Reader B) : Type 0 where
   pub low : from ≤ to
   pub high : to ≤ length bytes
   pub are : Are bytes from to
@@ -21,7 +21,7 @@ pub record Scans {B : Type 0} (Are : List ℕ → ℕ → ℕ → Type 0) (bytes
 -- A search from one position ends at another: at the first byte that `Is` doesn't hold of, or with
 -- the bytes. It looks once at each byte up to there, and at the byte there.
 pub record FindsEnd {B : Type 0} (Is : ℕ → Type 0) (bytes : List ℕ) (from to : ℕ)
-    (before after : Looks B) : Type 0 where
+    (before after : Reader B) : Type 0 where
   pub low : from ≤ to
   pub high : to ≤ length bytes
   pub are : Each Is bytes from to
@@ -29,6 +29,6 @@ pub record FindsEnd {B : Type 0} (Is : ℕ → Type 0) (bytes : List ℕ) (from 
   pub count : looked after + from ≡ looked before + min (to + 1) (length bytes)
 
 -- The count of looks grew by at most `most`.
-pub record LooksAtMost {B : Type 0} (most : ℕ) (before after : Looks B) : Type 0 where
+pub record LooksAtMost {B : Type 0} (most : ℕ) (before after : Reader B) : Type 0 where
   pub few : looked after ≤ looked before + most
   pub grows : looked before ≤ looked after

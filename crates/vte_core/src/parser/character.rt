@@ -4,7 +4,7 @@ ghost use Rattle.vte_core.specs.machine.Prelude.{Advances, BeginsFour, BeginsThr
 
 use crate::buffer::Buffer;
 use crate::parser::{Machine, State};
-use crate::scan::{CountedPerform, Grain, Input, Looks};
+use crate::scan::{CountedPerform, Grain, Input, Reader};
 use crate::utf8::{
     Carried, Unfinished, character_of_four, character_of_three, character_of_two, is_continuation,
     may_begin_four, may_begin_three,
@@ -17,7 +17,7 @@ impl<B: Buffer> Machine<B> {
     #[inline(always)]
     pub(crate) fn read_character<P: CountedPerform<B, G>, G: Grain, const MAY_STOP: bool>(
         &mut self,
-        looks: &mut Looks<B>,
+        reader: &mut Reader<B>,
         performer: &mut P,
         input: Input<'_, B>,
         from: usize,
@@ -36,32 +36,32 @@ impl<B: Buffer> Machine<B> {
             (P.value_of performer.old) (P.value_of performer.new) from result self.old self.new }
         ensures text { result < length input.entry.bytes.now → self.new.state ≡ Text Nothing }
         ensures moves { MovesWithin 5 1 input.entry.bytes.now from result self.old self.new
-            looks.old looks.new }
+            reader.old reader.new }
         // Three are left of 5 per byte: one for the lead byte, and two for a search that found no
         // run.
-        ensures spare { looked looks.new + 5 * from + 3 ≤ looked looks.old + 5 * result }
+        ensures spare { looked reader.new + 5 * from + 3 ≤ looked reader.old + 5 * result }
         // Without runs 3 per byte are enough, with that for the lead byte.
         ensures few { G.IN_RUNS ≡ false
-            → looked looks.new + 3 * from + 1 ≤ looked looks.old + 3 * result }
+            → looked reader.new + 3 * from + 1 ≤ looked reader.old + 3 * result }
     {
         let next = from + 1;
         if next >= input.len() {
             self.state = State::Text(Unfinished::One(first));
             return next;
         }
-        let second = looks.at(input, next);
+        let second = reader.at(input, next);
         if !is_continuation(second) {
-            performer.print_char(looks, char::REPLACEMENT_CHARACTER);
+            performer.print_char(reader, char::REPLACEMENT_CHARACTER);
             return next;
         }
         if first < 0xe0 {
-            looks.tell_character(performer, character_of_two(first, second));
+            reader.tell_character(performer, character_of_two(first, second));
             return next + 1;
         }
         if first < 0xf0 {
-            self.complete_three::<P, G, MAY_STOP>(looks, performer, first, second, input, next)
+            self.complete_three::<P, G, MAY_STOP>(reader, performer, first, second, input, next)
         } else {
-            self.complete_four::<P, G, MAY_STOP>(looks, performer, first, second, input, from)
+            self.complete_four::<P, G, MAY_STOP>(reader, performer, first, second, input, from)
         }
     }
 
@@ -69,7 +69,7 @@ impl<B: Buffer> Machine<B> {
     #[inline(always)]
     pub(crate) fn complete_three<P: CountedPerform<B, G>, G: Grain, const MAY_STOP: bool>(
         &mut self,
-        looks: &mut Looks<B>,
+        reader: &mut Reader<B>,
         performer: &mut P,
         first: u8,
         second: u8,
@@ -84,22 +84,22 @@ impl<B: Buffer> Machine<B> {
             (chunk_call MAY_STOP P.step P.is_terminated B.limit input.entry.bytes.now)
             (P.value_of performer.old) (P.value_of performer.new) from result (One first) self.new }
         ensures spends { SpendsWithin 2 1 2 input.entry.bytes.now from result self.old self.new
-            looks.old looks.new }
+            reader.old reader.new }
     {
         if !may_begin_three(first, second) {
-            performer.print_char(looks, char::REPLACEMENT_CHARACTER);
+            performer.print_char(reader, char::REPLACEMENT_CHARACTER);
             return from;
         }
         if from + 1 >= input.len() {
             self.state = State::Text(Unfinished::Two(first, second));
             return from + 1;
         }
-        let third = looks.at(input, from + 1);
+        let third = reader.at(input, from + 1);
         if !is_continuation(third) {
-            performer.print_char(looks, char::REPLACEMENT_CHARACTER);
+            performer.print_char(reader, char::REPLACEMENT_CHARACTER);
             return from + 1;
         }
-        looks.tell_character(performer, character_of_three(first, second, third));
+        reader.tell_character(performer, character_of_three(first, second, third));
         from + 2
     }
 
@@ -108,7 +108,7 @@ impl<B: Buffer> Machine<B> {
     #[inline(always)]
     pub(crate) fn complete_four<P: CountedPerform<B, G>, G: Grain, const MAY_STOP: bool>(
         &mut self,
-        looks: &mut Looks<B>,
+        reader: &mut Reader<B>,
         performer: &mut P,
         first: u8,
         second: u8,
@@ -129,42 +129,42 @@ impl<B: Buffer> Machine<B> {
             (P.value_of performer.old) (P.value_of performer.new) from result self.old self.new }
         ensures text { result < length input.entry.bytes.now → self.new.state ≡ Text Nothing }
         ensures moves { MovesWithin 5 2 input.entry.bytes.now from result self.old self.new
-            looks.old looks.new }
+            reader.old reader.new }
         // As in `read_character`, with one more for the second byte.
-        ensures spare { looked looks.new + 5 * from + 4 ≤ looked looks.old + 5 * result }
+        ensures spare { looked reader.new + 5 * from + 4 ≤ looked reader.old + 5 * result }
         ensures few { G.IN_RUNS ≡ false
-            → looked looks.new + 3 * from + 2 ≤ looked looks.old + 3 * result }
+            → looked reader.new + 3 * from + 2 ≤ looked reader.old + 3 * result }
     {
         let next = from + 1;
         if !may_begin_four(first, second) {
-            performer.print_char(looks, char::REPLACEMENT_CHARACTER);
+            performer.print_char(reader, char::REPLACEMENT_CHARACTER);
             return next;
         }
         if next + 2 >= input.len() {
             return self.continue_character::<P, G, MAY_STOP>(
-                looks,
+                reader,
                 performer,
                 Unfinished::Two(first, second),
                 input,
                 next + 1,
             );
         }
-        let third = looks.at(input, next + 1);
+        let third = reader.at(input, next + 1);
         if !is_continuation(third) {
-            performer.print_char(looks, char::REPLACEMENT_CHARACTER);
+            performer.print_char(reader, char::REPLACEMENT_CHARACTER);
             return next + 1;
         }
-        let fourth = looks.at(input, next + 2);
+        let fourth = reader.at(input, next + 2);
         if !is_continuation(fourth) {
-            performer.print_char(looks, char::REPLACEMENT_CHARACTER);
+            performer.print_char(reader, char::REPLACEMENT_CHARACTER);
             return next + 2;
         }
         if G::IN_RUNS {
-            let end = looks.find_run_end_for(performer, input, next + 3);
-            looks.tell_text(performer, input, from, end);
+            let end = reader.find_run_end_for(performer, input, next + 3);
+            reader.tell_text(performer, input, from, end);
             return end;
         }
-        looks.tell_character(performer, character_of_four(first, second, third, fourth));
+        reader.tell_character(performer, character_of_four(first, second, third, fourth));
         next + 3
     }
 
@@ -173,7 +173,7 @@ impl<B: Buffer> Machine<B> {
     #[inline(always)]
     pub(crate) fn continue_character<P: CountedPerform<B, G>, G: Grain, const MAY_STOP: bool>(
         &mut self,
-        looks: &mut Looks<B>,
+        reader: &mut Reader<B>,
         performer: &mut P,
         begun: Unfinished,
         input: Input<'_, B>,
@@ -185,19 +185,19 @@ impl<B: Buffer> Machine<B> {
             (chunk_call MAY_STOP P.step P.is_terminated B.limit input.entry.bytes.now)
             (P.value_of performer.old) (P.value_of performer.new) from result begun self.new }
         ensures spends { SpendsWithin 2 0 2 input.entry.bytes.now from result self.old self.new
-            looks.old looks.new }
+            reader.old reader.new }
     {
         let mut unfinished = begun;
         for position in from..input.len() {
-            match unfinished.carried_on(looks.at(input, position)) {
+            match unfinished.carried_on(reader.at(input, position)) {
                 Carried::Unfinished(more) => unfinished = more,
                 Carried::Whole(c) => {
-                    looks.tell_character(performer, c);
+                    reader.tell_character(performer, c);
                     self.state = State::Text(Unfinished::Nothing);
                     return position + 1;
                 }
                 Carried::Broken => {
-                    performer.print_char(looks, char::REPLACEMENT_CHARACTER);
+                    performer.print_char(reader, char::REPLACEMENT_CHARACTER);
                     self.state = State::Text(Unfinished::Nothing);
                     return position;
                 }

@@ -6,7 +6,7 @@ use crate::buffer::Buffer;
 use crate::class::{ends_body, is_final, is_plain_control};
 use crate::head::HeadProgress;
 use crate::parser::{Machine, State, Unfinished};
-use crate::scan::{CountedPerform, Grain, Input, Looks};
+use crate::scan::{CountedPerform, Grain, Input, Reader};
 
 impl<B: Buffer> Machine<B> {
     /// Goes on with a control sequence whose head has come so far: by digits, by separators too if
@@ -16,7 +16,7 @@ impl<B: Buffer> Machine<B> {
     #[inline(always)]
     pub(crate) fn read_short_head<P: CountedPerform<B, G>, G: Grain, const MAY_STOP: bool>(
         &mut self,
-        looks: &mut Looks<B>,
+        reader: &mut Reader<B>,
         performer: &mut P,
         input: Input<'_, B>,
         reached: HeadProgress,
@@ -29,20 +29,20 @@ impl<B: Buffer> Machine<B> {
             (chunk_call MAY_STOP P.step P.is_terminated B.limit input.entry.bytes.now)
             (P.value_of performer.old) (P.value_of performer.new) from result self.old self.new }
         ensures moves { MovesWithin 5 0 input.entry.bytes.now from result self.old self.new
-            looks.old looks.new }
+            reader.old reader.new }
     {
         if !reached.may_have_parameters() {
             return self.read_control_sequence::<P, G, MAY_STOP>(
-                looks, performer, input, reached, from,
+                reader, performer, input, reached, from,
             );
         }
         let head = self
             .collected
-            .read_numbers(looks, reached, several, input, from);
+            .read_numbers(reader, reached, several, input, from);
         if let Some(byte) = head.next {
             if is_final(byte) {
                 return self.end_control_sequence(
-                    looks,
+                    reader,
                     performer,
                     head.progress,
                     byte,
@@ -55,7 +55,7 @@ impl<B: Buffer> Machine<B> {
             return head.position;
         }
         self.read_control_sequence::<P, G, MAY_STOP>(
-            looks,
+            reader,
             performer,
             input,
             head.progress,
@@ -67,7 +67,7 @@ impl<B: Buffer> Machine<B> {
     #[inline(never)]
     pub(crate) fn read_control_sequence<P: CountedPerform<B, G>, G: Grain, const MAY_STOP: bool>(
         &mut self,
-        looks: &mut Looks<B>,
+        reader: &mut Reader<B>,
         performer: &mut P,
         input: Input<'_, B>,
         reached: HeadProgress,
@@ -79,14 +79,14 @@ impl<B: Buffer> Machine<B> {
             (chunk_call MAY_STOP P.step P.is_terminated B.limit input.entry.bytes.now)
             (P.value_of performer.old) (P.value_of performer.new) from result self.old self.new }
         ensures moves { MovesWithin 3 0 input.entry.bytes.now from result self.old self.new
-            looks.old looks.new }
+            reader.old reader.new }
     {
-        let head = self.collected.read_head(looks, reached, input, from);
+        let head = self.collected.read_head(reader, reached, input, from);
         self.state = State::ControlSequence(head.progress);
         if let Some(byte) = head.next {
             if is_final(byte) {
                 return self.end_control_sequence(
-                    looks,
+                    reader,
                     performer,
                     head.progress,
                     byte,
@@ -94,9 +94,9 @@ impl<B: Buffer> Machine<B> {
                 );
             }
             if ends_body(byte) {
-                self.end_body(looks, performer, byte);
+                self.end_body(reader, performer, byte);
             } else if is_plain_control(byte) {
-                performer.execute_control(looks, byte);
+                performer.execute_control(reader, byte);
             }
             // DEL and 80..FF are dropped.
             return head.position + 1;
@@ -109,7 +109,7 @@ impl<B: Buffer> Machine<B> {
     #[inline(always)]
     fn end_control_sequence<P: CountedPerform<B, G>, G: Grain>(
         &mut self,
-        looks: &mut Looks<B>,
+        reader: &mut Reader<B>,
         performer: &mut P,
         progress: HeadProgress,
         byte: u8,
@@ -121,14 +121,14 @@ impl<B: Buffer> Machine<B> {
         ensures takes { (head : List ℕ) → StandsInHead self.old.collected progress head
             → TakesByte P.step (P.value_of performer.old) (P.value_of performer.new) B.limit
             (InControlSequence head) byte self.new }
-        ensures handles { HandlesByte 1 self.old self.new looks.old looks.new }
+        ensures handles { HandlesByte 1 self.old self.new reader.old reader.new }
     {
         if let HeadProgress::IllShaped = progress {
             self.state = State::Text(Unfinished::Nothing);
             return position + 1;
         }
         let ignore = self.collected.end_head();
-        self.dispatch_control_sequence(looks, performer, ignore, byte, position)
+        self.dispatch_control_sequence(reader, performer, ignore, byte, position)
     }
 
     /// Dispatches a control sequence at its final byte, and returns the next position, so that
@@ -136,7 +136,7 @@ impl<B: Buffer> Machine<B> {
     #[inline(never)]
     fn dispatch_control_sequence<P: CountedPerform<B, G>, G: Grain>(
         &mut self,
-        looks: &mut Looks<B>,
+        reader: &mut Reader<B>,
         performer: &mut P,
         ignore: bool,
         byte: u8,
@@ -146,10 +146,10 @@ impl<B: Buffer> Machine<B> {
         ensures next { result ≡ position + 1 }
         ensures dispatches { Dispatches P.step (P.value_of performer.old) (P.value_of performer.new)
             (CsiDispatch self.old.collected.params self.old.collected.intermediates.items ignore
-            byte) self.old self.new looks.old looks.new }
+            byte) self.old self.new reader.old reader.new }
     {
         self.state = State::Text(Unfinished::Nothing);
-        performer.csi_dispatch(looks, &self.collected, ignore, byte);
+        performer.csi_dispatch(reader, &self.collected, ignore, byte);
         position + 1
     }
 }

@@ -6,7 +6,7 @@ use crate::buffer::Buffer;
 use crate::class::{ends_body, is_device_data, is_final};
 use crate::head::HeadProgress;
 use crate::parser::{Machine, State, Unfinished};
-use crate::scan::{CountedPerform, Grain, Input, Looks};
+use crate::scan::{CountedPerform, Grain, Input, Reader};
 
 /// The one 8-bit control that is read: ST, the end of the data.
 const STRING_TERMINATOR: u8 = 0x9c;
@@ -16,7 +16,7 @@ impl<B: Buffer> Machine<B> {
     /// Controls in it are dropped.
     pub(crate) fn read_device_control<P: CountedPerform<B, G>, G: Grain, const MAY_STOP: bool>(
         &mut self,
-        looks: &mut Looks<B>,
+        reader: &mut Reader<B>,
         performer: &mut P,
         input: Input<'_, B>,
         reached: HeadProgress,
@@ -28,15 +28,15 @@ impl<B: Buffer> Machine<B> {
             (chunk_call MAY_STOP P.step P.is_terminated B.limit input.entry.bytes.now)
             (P.value_of performer.old) (P.value_of performer.new) from result self.old self.new }
         ensures moves { MovesWithin 5 0 input.entry.bytes.now from result self.old self.new
-            looks.old looks.new }
+            reader.old reader.new }
     {
-        let head = self.collected.read_head(looks, reached, input, from);
+        let head = self.collected.read_head(reader, reached, input, from);
         self.state = State::DeviceControl(head.progress);
         if let Some(byte) = head.next {
             if is_final(byte) {
-                self.hook(looks, performer, head.progress, byte);
+                self.hook(reader, performer, head.progress, byte);
             } else if ends_body(byte) {
-                self.end_body(looks, performer, byte);
+                self.end_body(reader, performer, byte);
             }
             // Plain controls, DEL and 80..FF are dropped.
             return head.position + 1;
@@ -47,7 +47,7 @@ impl<B: Buffer> Machine<B> {
     /// Hooks the string at the final byte of its head, or ignores it if the head is ill-shaped.
     fn hook<P: CountedPerform<B, G>, G: Grain>(
         &mut self,
-        looks: &mut Looks<B>,
+        reader: &mut Reader<B>,
         performer: &mut P,
         progress: HeadProgress,
         byte: u8,
@@ -56,14 +56,14 @@ impl<B: Buffer> Machine<B> {
         ensures takes { (head : List ℕ) → StandsInHead self.old.collected progress head
             → TakesByte P.step (P.value_of performer.old) (P.value_of performer.new) B.limit
             (InDeviceControl head) byte self.new }
-        ensures handles { HandlesByte 1 self.old self.new looks.old looks.new }
+        ensures handles { HandlesByte 1 self.old self.new reader.old reader.new }
     {
         if let HeadProgress::IllShaped = progress {
             self.state = State::IgnoredString;
             return;
         }
         let ignore = self.collected.end_head();
-        performer.hook(looks, &self.collected, ignore, byte);
+        performer.hook(reader, &self.collected, ignore, byte);
         self.state = State::DeviceData;
     }
 
@@ -72,7 +72,7 @@ impl<B: Buffer> Machine<B> {
     /// byte.
     pub(crate) fn read_device_data<P: CountedPerform<B, G>, G: Grain, const MAY_STOP: bool>(
         &mut self,
-        looks: &mut Looks<B>,
+        reader: &mut Reader<B>,
         performer: &mut P,
         input: Input<'_, B>,
         from: usize,
@@ -83,21 +83,21 @@ impl<B: Buffer> Machine<B> {
             (chunk_call MAY_STOP P.step P.is_terminated B.limit input.entry.bytes.now)
             (P.value_of performer.old) (P.value_of performer.new) from result self.old self.new }
         ensures moves { MovesWithin 5 0 input.entry.bytes.now from result self.old self.new
-            looks.old looks.new }
+            reader.old reader.new }
     {
         for position in from..input.len() {
-            let byte = looks.at(input, position);
+            let byte = reader.at(input, position);
             if !is_device_data(byte) {
                 return self.read_other_in_data::<P, G, MAY_STOP>(
-                    looks, performer, input, position, byte,
+                    reader, performer, input, position, byte,
                 );
             }
             if G::IN_RUNS && !MAY_STOP {
-                let end = looks.find_device_data_end(input, position + 1);
-                looks.tell_data(performer, input, position, end);
+                let end = reader.find_device_data_end(input, position + 1);
+                reader.tell_data(performer, input, position, end);
                 return end;
             }
-            performer.put_byte(looks, byte);
+            performer.put_byte(reader, byte);
             if MAY_STOP && performer.terminated() {
                 return position + 1;
             }
@@ -109,7 +109,7 @@ impl<B: Buffer> Machine<B> {
     #[inline(never)]
     pub(crate) fn read_other_in_data<P: CountedPerform<B, G>, G: Grain, const MAY_STOP: bool>(
         &mut self,
-        looks: &mut Looks<B>,
+        reader: &mut Reader<B>,
         performer: &mut P,
         input: Input<'_, B>,
         from: usize,
@@ -123,13 +123,13 @@ impl<B: Buffer> Machine<B> {
             (chunk_call MAY_STOP P.step P.is_terminated B.limit input.entry.bytes.now)
             (P.value_of performer.old) (P.value_of performer.new) from result self.old self.new }
         ensures moves { MovesWithin 5 1 input.entry.bytes.now from result self.old self.new
-            looks.old looks.new }
+            reader.old reader.new }
     {
         if ends_body(byte) {
-            return self.read_end::<P, G, MAY_STOP>(looks, performer, input, from, byte);
+            return self.read_end::<P, G, MAY_STOP>(reader, performer, input, from, byte);
         }
         if byte == STRING_TERMINATOR {
-            performer.unhook(looks);
+            performer.unhook(reader);
             self.state = State::Text(Unfinished::Nothing);
         }
         from + 1

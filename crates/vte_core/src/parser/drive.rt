@@ -4,14 +4,14 @@ ghost use Rattle.vte_core.specs.machine.Prelude.{Advances, Costs, HasReadWithLim
 
 use crate::buffer::Buffer;
 use crate::parser::{Machine, Refused, State};
-use crate::scan::{CountedPerform, Grain, Input, Looks};
+use crate::scan::{CountedPerform, Grain, Input, Reader};
 
 impl<B: Buffer> Machine<B> {
     /// Reads the bytes of a call, as many as there is memory for, and returns how many: all of
     /// them, or up to a stop if `MAY_STOP`.
     pub(crate) fn drive<P: CountedPerform<B, G>, G: Grain, const MAY_STOP: bool>(
         &mut self,
-        looks: &mut Looks<B>,
+        reader: &mut Reader<B>,
         performer: &mut P,
         input: Input<'_, B>,
     ) -> Result<usize, Refused>
@@ -26,14 +26,14 @@ impl<B: Buffer> Machine<B> {
             (chunk_call MAY_STOP P.step P.is_terminated B.limit input.entry.bytes.now)
             (P.value_of performer.old) (P.value_of performer.new) refused.read self.old self.new) }
         ensures costs { Costs 5 input.entry.bytes.now result
-            (read_count result) self.old self.new looks.old looks.new }
+            (read_count result) self.old self.new reader.old reader.new }
     {
-        let mut position = self.finish_character::<P, G, MAY_STOP>(looks, performer, input);
+        let mut position = self.finish_character::<P, G, MAY_STOP>(reader, performer, input);
         while position < input.len() {
             if MAY_STOP && performer.terminated() {
                 return Ok(position);
             }
-            position = self.read_by_state::<P, G, MAY_STOP>(looks, performer, input, position)?;
+            position = self.read_by_state::<P, G, MAY_STOP>(reader, performer, input, position)?;
         }
         Ok(position)
     }
@@ -41,7 +41,7 @@ impl<B: Buffer> Machine<B> {
     /// Completes the character that an earlier call began, if one is open.
     pub(crate) fn finish_character<P: CountedPerform<B, G>, G: Grain, const MAY_STOP: bool>(
         &mut self,
-        looks: &mut Looks<B>,
+        reader: &mut Reader<B>,
         performer: &mut P,
         input: Input<'_, B>,
     ) -> usize
@@ -50,7 +50,7 @@ impl<B: Buffer> Machine<B> {
             (P.value_of performer.old) (P.value_of performer.new) stream result self.new }
         ensures settled { result < length input.entry.bytes.now → IsSettled self.new.state }
         ensures spends { SpendsWithin 2 0 2 input.entry.bytes.now 0 result self.old self.new
-            looks.old looks.new }
+            reader.old reader.new }
         ensures outside_runs { (stream : List ℕ) → HasReadWithLimit B.limit self.old stream
             → TellsOutsideRuns B.limit stream input.entry.bytes.now result }
     {
@@ -59,7 +59,7 @@ impl<B: Buffer> Machine<B> {
                 if begun.is_nothing() {
                     return 0;
                 }
-                self.continue_character::<P, G, MAY_STOP>(looks, performer, begun, input, 0)
+                self.continue_character::<P, G, MAY_STOP>(reader, performer, begun, input, 0)
             }
             _ => 0,
         }
@@ -70,7 +70,7 @@ impl<B: Buffer> Machine<B> {
     #[inline]
     pub(crate) fn read_by_state<P: CountedPerform<B, G>, G: Grain, const MAY_STOP: bool>(
         &mut self,
-        looks: &mut Looks<B>,
+        reader: &mut Reader<B>,
         performer: &mut P,
         input: Input<'_, B>,
         from: usize,
@@ -87,39 +87,39 @@ impl<B: Buffer> Machine<B> {
             self.new }
         ensures moves { IfOk result
             (λ read.
-            MovesWithin 5 0 input.entry.bytes.now from read self.old self.new looks.old looks.new) }
+            MovesWithin 5 0 input.entry.bytes.now from read self.old self.new reader.old reader.new) }
         ensures refuses { IfErr result
             (λ refused.
             Refuses (chunk_call MAY_STOP P.step P.is_terminated B.limit input.entry.bytes.now)
-            (P.value_of performer.new) from refused.read self.old self.new looks.old looks.new) }
+            (P.value_of performer.new) from refused.read self.old self.new reader.old reader.new) }
     {
         // A comparison, because the match jumps by a table, which is hard to predict.
         if let State::Text(_) = self.state {
-            return Ok(self.read_text::<P, G, MAY_STOP>(looks, performer, input, from));
+            return Ok(self.read_text::<P, G, MAY_STOP>(reader, performer, input, from));
         }
         Ok(match self.state {
             // Never: this was tested above.
-            State::Text(_) => self.read_text::<P, G, MAY_STOP>(looks, performer, input, from),
-            State::Escape => self.read_escape::<P, G, MAY_STOP>(looks, performer, input, from),
+            State::Text(_) => self.read_text::<P, G, MAY_STOP>(reader, performer, input, from),
+            State::Escape => self.read_escape::<P, G, MAY_STOP>(reader, performer, input, from),
             State::EscapeIntermediate => {
-                self.read_intermediates::<P, G, MAY_STOP>(looks, performer, input, from)
+                self.read_intermediates::<P, G, MAY_STOP>(reader, performer, input, from)
             }
             State::ControlSequence(progress) => {
                 self.read_short_head::<P, G, MAY_STOP>(
-                    looks, performer, input, progress, true, from,
+                    reader, performer, input, progress, true, from,
                 )
             }
             State::DeviceControl(progress) => {
-                self.read_device_control::<P, G, MAY_STOP>(looks, performer, input, progress, from)
+                self.read_device_control::<P, G, MAY_STOP>(reader, performer, input, progress, from)
             }
             State::DeviceData => {
-                self.read_device_data::<P, G, MAY_STOP>(looks, performer, input, from)
+                self.read_device_data::<P, G, MAY_STOP>(reader, performer, input, from)
             }
             State::SystemCommand => {
-                self.read_system_command::<P, G, MAY_STOP>(looks, performer, input, from)?
+                self.read_system_command::<P, G, MAY_STOP>(reader, performer, input, from)?
             }
             State::IgnoredString => {
-                self.read_ignored_string::<P, G, MAY_STOP>(looks, performer, input, from)
+                self.read_ignored_string::<P, G, MAY_STOP>(reader, performer, input, from)
             }
         })
     }

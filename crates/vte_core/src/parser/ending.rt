@@ -5,14 +5,14 @@ ghost use Rattle.vte_core.specs.machine.Prelude.{Advances, Escape, HandlesByte, 
 use crate::buffer::Buffer;
 use crate::class::ESCAPE;
 use crate::parser::{Machine, State, Unfinished};
-use crate::scan::{CountedPerform, Grain, Input, Looks};
+use crate::scan::{CountedPerform, Grain, Input, Reader};
 
 impl<B: Buffer> Machine<B> {
     /// Closes what is open, and then begins an escape sequence, or executes CAN or SUB.
     #[inline(never)]
     pub(crate) fn end_body<P: CountedPerform<B, G>, G: Grain>(
         &mut self,
-        looks: &mut Looks<B>,
+        reader: &mut Reader<B>,
         performer: &mut P,
         byte: u8,
     )
@@ -22,22 +22,22 @@ impl<B: Buffer> Machine<B> {
             → TakesBytes P.step (P.value_of performer.old)
             (P.value_of performer.new) B.limit place (byte ∷ []) self.new }
         ensures escape { byte ≡ 0x1b → self.new.state ≡ Escape }
-        ensures handles { HandlesByte 2 self.old self.new looks.old looks.new }
+        ensures handles { HandlesByte 2 self.old self.new reader.old reader.new }
     {
-        self.report_end(looks, performer);
+        self.report_end(reader, performer);
         if byte == ESCAPE {
             self.collected.begin_escape();
             self.state = State::Escape;
             return;
         }
-        performer.execute_control(looks, byte);
+        performer.execute_control(reader, byte);
         self.state = State::Text(Unfinished::Nothing);
     }
 
     /// Reads a byte that ends what is open, which was looked at. After ESC it reads on.
     pub(crate) fn read_end<P: CountedPerform<B, G>, G: Grain, const MAY_STOP: bool>(
         &mut self,
-        looks: &mut Looks<B>,
+        reader: &mut Reader<B>,
         performer: &mut P,
         input: Input<'_, B>,
         from: usize,
@@ -52,25 +52,29 @@ impl<B: Buffer> Machine<B> {
             (chunk_call MAY_STOP P.step P.is_terminated B.limit input.entry.bytes.now)
             (P.value_of performer.old) (P.value_of performer.new) from result self.old self.new }
         ensures moves { MovesWithin 3 1 input.entry.bytes.now from result self.old self.new
-            looks.old looks.new }
+            reader.old reader.new }
     {
-        self.end_body(looks, performer, byte);
+        self.end_body(reader, performer, byte);
         if byte != ESCAPE || (MAY_STOP && performer.terminated()) {
             return from + 1;
         }
-        self.read_escape::<P, G, MAY_STOP>(looks, performer, input, from + 1)
+        self.read_escape::<P, G, MAY_STOP>(reader, performer, input, from + 1)
     }
 
     /// Reports the end of a string: `unhook`, or the operating system command.
-    fn report_end<P: CountedPerform<B, G>, G: Grain>(&self, looks: &mut Looks<B>, performer: &mut P)
+    fn report_end<P: CountedPerform<B, G>, G: Grain>(
+        &self,
+        reader: &mut Reader<B>,
+        performer: &mut P,
+    )
         ensures told { (place : Place) → StandsAtPlace B.limit self.now place → IsSettledPlace place
             → P.value_of performer.new
             ≡ after P.step (P.value_of performer.old) (closing_events_at B.limit place) }
-        ensures few { LooksAtMost 1 looks.old looks.new }
+        ensures few { LooksAtMost 1 reader.old reader.new }
     {
         match self.state {
-            State::DeviceData => performer.unhook(looks),
-            State::SystemCommand => self.command.dispatch(looks, performer, false),
+            State::DeviceData => performer.unhook(reader),
+            State::SystemCommand => self.command.dispatch(reader, performer, false),
             _ => {}
         }
     }

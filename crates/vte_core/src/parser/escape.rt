@@ -10,7 +10,7 @@ use crate::class::{
 };
 use crate::head::HeadProgress;
 use crate::parser::{Machine, State, Unfinished};
-use crate::scan::{CountedPerform, Grain, Input, Looks};
+use crate::scan::{CountedPerform, Grain, Input, Reader};
 
 impl<B: Buffer> Machine<B> {
     /// Begins an escape sequence at an ESC in a text, which was looked at, and reads the bytes
@@ -18,7 +18,7 @@ impl<B: Buffer> Machine<B> {
     #[inline(never)]
     pub(crate) fn read_sequence<P: CountedPerform<B, G>, G: Grain, const MAY_STOP: bool>(
         &mut self,
-        looks: &mut Looks<B>,
+        reader: &mut Reader<B>,
         performer: &mut P,
         input: Input<'_, B>,
         from: usize,
@@ -31,18 +31,18 @@ impl<B: Buffer> Machine<B> {
             (chunk_call MAY_STOP P.step P.is_terminated B.limit input.entry.bytes.now)
             (P.value_of performer.old) (P.value_of performer.new) from result self.old self.new }
         ensures moves { MovesWithin 5 1 input.entry.bytes.now from result self.old self.new
-            looks.old looks.new }
+            reader.old reader.new }
         // The caller took one look at ESC; the four others that a byte may cost are left for
         // `search_text`.
-        ensures count { looked looks.new + 5 * from + 5 ≤ looked looks.old + 5 * result }
+        ensures count { looked reader.new + 5 * from + 5 ≤ looked reader.old + 5 * result }
     {
         self.collected.begin_escape();
         let next = from + 1;
-        if next < input.len() && looks.at(input, next) == b'[' {
+        if next < input.len() && reader.at(input, next) == b'[' {
             self.collected.begin_head();
             self.state = State::ControlSequence(HeadProgress::Entry);
             return self.read_short_head::<P, G, MAY_STOP>(
-                looks,
+                reader,
                 performer,
                 input,
                 HeadProgress::Entry,
@@ -51,7 +51,7 @@ impl<B: Buffer> Machine<B> {
             );
         }
         self.state = State::Escape;
-        self.read_escape::<P, G, MAY_STOP>(looks, performer, input, next)
+        self.read_escape::<P, G, MAY_STOP>(reader, performer, input, next)
     }
 
     /// Reads bytes after ESC, up to the one that says what begins; after `[` the control sequence
@@ -59,7 +59,7 @@ impl<B: Buffer> Machine<B> {
     #[inline(never)]
     pub(crate) fn read_escape<P: CountedPerform<B, G>, G: Grain, const MAY_STOP: bool>(
         &mut self,
-        looks: &mut Looks<B>,
+        reader: &mut Reader<B>,
         performer: &mut P,
         input: Input<'_, B>,
         from: usize,
@@ -70,17 +70,17 @@ impl<B: Buffer> Machine<B> {
             (chunk_call MAY_STOP P.step P.is_terminated B.limit input.entry.bytes.now)
             (P.value_of performer.old) (P.value_of performer.new) from result self.old self.new }
         ensures moves { MovesWithin 3 0 input.entry.bytes.now from result self.old self.new
-            looks.old looks.new }
+            reader.old reader.new }
     {
         for position in from..input.len() {
-            let byte = looks.at(input, position);
+            let byte = reader.at(input, position);
             // Added before the branches, so that the loop over ESC is shorter.
             let next = position + 1;
             if byte == b'[' {
                 self.collected.begin_head();
                 self.state = State::ControlSequence(HeadProgress::Entry);
                 return self.read_control_sequence::<P, G, MAY_STOP>(
-                    looks,
+                    reader,
                     performer,
                     input,
                     HeadProgress::Entry,
@@ -89,7 +89,7 @@ impl<B: Buffer> Machine<B> {
             }
             // Another ESC changes nothing: nothing was collected since the one before.
             if byte != ESCAPE {
-                self.read_after_escape(looks, performer, byte);
+                self.read_after_escape(reader, performer, byte);
                 return next;
             }
         }
@@ -99,7 +99,7 @@ impl<B: Buffer> Machine<B> {
     /// Reads a byte after ESC, other than `[`.
     fn read_after_escape<P: CountedPerform<B, G>, G: Grain>(
         &mut self,
-        looks: &mut Looks<B>,
+        reader: &mut Reader<B>,
         performer: &mut P,
         byte: u8,
     )
@@ -110,19 +110,19 @@ impl<B: Buffer> Machine<B> {
             → TakesBytes P.step
             (P.value_of performer.old) (P.value_of performer.new) B.limit place
             (byte ∷ []) self.new }
-        ensures handles { HandlesByte 2 self.old self.new looks.old looks.new }
+        ensures handles { HandlesByte 2 self.old self.new reader.old reader.new }
     {
         if is_final(byte) {
-            self.begin_or_dispatch(looks, performer, byte);
+            self.begin_or_dispatch(reader, performer, byte);
         } else if is_intermediate(byte) {
             self.collected.collect(byte);
             self.state = State::EscapeIntermediate;
         } else if is_head_byte(byte) {
-            self.dispatch_escape(looks, performer, byte);
+            self.dispatch_escape(reader, performer, byte);
         } else if ends_body(byte) {
-            self.end_body(looks, performer, byte);
+            self.end_body(reader, performer, byte);
         } else if is_plain_control(byte) {
-            performer.execute_control(looks, byte);
+            performer.execute_control(reader, byte);
         }
         // DEL and 80..FF are dropped.
     }
@@ -132,7 +132,7 @@ impl<B: Buffer> Machine<B> {
     #[inline(never)]
     fn begin_or_dispatch<P: CountedPerform<B, G>, G: Grain>(
         &mut self,
-        looks: &mut Looks<B>,
+        reader: &mut Reader<B>,
         performer: &mut P,
         byte: u8,
     )
@@ -141,7 +141,7 @@ impl<B: Buffer> Machine<B> {
         ensures takes { StandsAtPlace B.limit self.old AtEscape
             → TakesByte P.step (P.value_of performer.old) (P.value_of performer.new)
             B.limit AtEscape byte self.new }
-        ensures handles { HandlesByte 1 self.old self.new looks.old looks.new }
+        ensures handles { HandlesByte 1 self.old self.new reader.old reader.new }
     {
         if byte == b'P' {
             self.collected.begin_head();
@@ -152,14 +152,14 @@ impl<B: Buffer> Machine<B> {
         } else if begins_ignored_string(byte) {
             self.state = State::IgnoredString;
         } else {
-            self.dispatch_escape(looks, performer, byte);
+            self.dispatch_escape(reader, performer, byte);
         }
     }
 
     /// Reads the intermediates of an escape sequence and its final byte.
     pub(crate) fn read_intermediates<P: CountedPerform<B, G>, G: Grain, const MAY_STOP: bool>(
         &mut self,
-        looks: &mut Looks<B>,
+        reader: &mut Reader<B>,
         performer: &mut P,
         input: Input<'_, B>,
         from: usize,
@@ -170,20 +170,20 @@ impl<B: Buffer> Machine<B> {
             (chunk_call MAY_STOP P.step P.is_terminated B.limit input.entry.bytes.now)
             (P.value_of performer.old) (P.value_of performer.new) from result self.old self.new }
         ensures moves { MovesWithin 5 0 input.entry.bytes.now from result self.old self.new
-            looks.old looks.new }
+            reader.old reader.new }
     {
         for position in from..input.len() {
-            let byte = looks.at(input, position);
+            let byte = reader.at(input, position);
             if is_intermediate(byte) {
                 self.collected.collect(byte);
             } else if dispatches_escape(byte) {
-                self.dispatch_escape(looks, performer, byte);
+                self.dispatch_escape(reader, performer, byte);
                 return position + 1;
             } else if ends_body(byte) {
-                self.end_body(looks, performer, byte);
+                self.end_body(reader, performer, byte);
                 return position + 1;
             } else if is_plain_control(byte) {
-                performer.execute_control(looks, byte);
+                performer.execute_control(reader, byte);
                 return position + 1;
             }
             // DEL and 80..FF are dropped.
@@ -194,15 +194,15 @@ impl<B: Buffer> Machine<B> {
     /// Dispatches an escape sequence at its final byte.
     fn dispatch_escape<P: CountedPerform<B, G>, G: Grain>(
         &mut self,
-        looks: &mut Looks<B>,
+        reader: &mut Reader<B>,
         performer: &mut P,
         byte: u8,
     )
         ensures { Dispatches P.step (P.value_of performer.old) (P.value_of performer.new)
             (EscDispatch self.old.collected.intermediates.items
-            self.old.collected.too_many_intermediates byte) self.old self.new looks.old looks.new }
+            self.old.collected.too_many_intermediates byte) self.old self.new reader.old reader.new }
     {
-        performer.esc_dispatch(looks, &self.collected, byte);
+        performer.esc_dispatch(reader, &self.collected, byte);
         self.state = State::Text(Unfinished::Nothing);
     }
 }

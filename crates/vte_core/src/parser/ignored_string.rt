@@ -4,13 +4,13 @@ ghost use Rattle.vte_core.specs.machine.Prelude.{Advances, IgnoredString, MayRea
 
 use crate::buffer::Buffer;
 use crate::parser::machine::Machine;
-use crate::scan::{CountedPerform, Grain, Input, Looks};
+use crate::scan::{CountedPerform, Grain, Input, Reader};
 
 impl<B: Buffer> Machine<B> {
     /// Reads a string that means nothing, and the byte that ends it.
     pub(crate) fn read_ignored_string<P: CountedPerform<B, G>, G: Grain, const MAY_STOP: bool>(
         &mut self,
-        looks: &mut Looks<B>,
+        reader: &mut Reader<B>,
         performer: &mut P,
         input: Input<'_, B>,
         from: usize,
@@ -21,11 +21,11 @@ impl<B: Buffer> Machine<B> {
             (chunk_call MAY_STOP P.step P.is_terminated B.limit input.entry.bytes.now)
             (P.value_of performer.old) (P.value_of performer.new) from result self.old self.new }
         ensures moves { MovesWithin 5 0 input.entry.bytes.now from result self.old self.new
-            looks.old looks.new }
+            reader.old reader.new }
     {
-        let end = looks.find_string_end(input, from);
-        match looks.get(input, end) {
-            Some(byte) => self.read_end::<P, G, MAY_STOP>(looks, performer, input, end, byte),
+        let end = reader.find_string_end(input, from);
+        match reader.get(input, end) {
+            Some(byte) => self.read_end::<P, G, MAY_STOP>(reader, performer, input, end, byte),
             None => end,
         }
     }

@@ -9,7 +9,7 @@ ghost use Rattle.vte_core.specs.Stream.{IsFinished, IsUnfinished, outcome};
 
 use crate::parser::{Machine, Refused, State};
 use crate::perform::{Perform, PerformText, PerformThroughText};
-use crate::scan::{InRuns, Input, Looks, Run, Singly};
+use crate::scan::{InRuns, Input, Reader, Run, Singly};
 use std::alloc::{AllocError, Allocator};
 
 /// A [`Parser`](crate::Parser) that keeps operating system commands of any length, and whose calls
@@ -31,7 +31,7 @@ use std::alloc::{AllocError, Allocator};
 #[derive(Drop)]
 pub struct LongParser<A: Allocator> {
     machine: Machine<Vec<u8, A>>,
-    looks: Looks<Vec<u8, A>>,
+    reader: Reader<Vec<u8, A>>,
 }
 
 /// A clone goes on as the parser would. Its looks are counted anew.
@@ -45,7 +45,7 @@ impl<A: Allocator + Clone> Clone for LongParser<A> {
                 collected: self.machine.collected.clone()?,
                 command: self.machine.command.clone()?,
             },
-            looks: Looks::for_unlimited(),
+            reader: Reader::for_long(),
         })
     }
 }
@@ -58,7 +58,7 @@ impl<A: Allocator> LongParser<A> {
     {
         LongParser {
             machine: Machine::new(Vec::new(alloc)),
-            looks: Looks::for_unlimited(),
+            reader: Reader::for_long(),
         }
     }
 
@@ -138,7 +138,7 @@ impl<A: Allocator> LongParser<A> {
             (P.value_of performer.new) bytes.now result self.old self.new }
     {
         self.machine
-            .drive::<P, Singly, false>(&mut self.looks, performer, Input::new(bytes))?;
+            .drive::<P, Singly, false>(&mut self.reader, performer, Input::new(bytes))?;
         Ok(())
     }
 
@@ -154,7 +154,7 @@ impl<A: Allocator> LongParser<A> {
             (P.value_of performer.new) bytes.now result self.old self.new }
     {
         self.machine
-            .drive::<P, InRuns, false>(&mut self.looks, performer, Input::new(bytes))?;
+            .drive::<P, InRuns, false>(&mut self.reader, performer, Input::new(bytes))?;
         Ok(())
     }
 
@@ -173,7 +173,7 @@ impl<A: Allocator> LongParser<A> {
             (P.value_of performer.new) bytes.now result self.old self.new }
     {
         self.machine
-            .drive::<P, Singly, true>(&mut self.looks, performer, Input::new(bytes))
+            .drive::<P, Singly, true>(&mut self.reader, performer, Input::new(bytes))
     }
 
     /// Reads bytes as [`advance_until_terminated`](Self::advance_until_terminated) does, and passes
@@ -188,7 +188,7 @@ impl<A: Allocator> LongParser<A> {
             (P.value_of performer.new) bytes.now result self.old self.new }
     {
         self.machine
-            .drive::<P, InRuns, true>(&mut self.looks, performer, Input::new(bytes))
+            .drive::<P, InRuns, true>(&mut self.reader, performer, Input::new(bytes))
     }
 
     /// Reads bytes up to a run of text, or of data of a device control string, and the run itself,
@@ -205,7 +205,7 @@ impl<A: Allocator> LongParser<A> {
         let input = Input::new(bytes);
         let range = self
             .machine
-            .drive_to_run(&mut self.looks, performer, input)?;
+            .drive_to_run(&mut self.reader, performer, input)?;
         Ok(input.take_run(range))
     }
 

@@ -7,7 +7,7 @@ use crate::head::Collected;
 use crate::parser::{State, Unfinished};
 use crate::store::Store;
 
-/// A parser without its count of looks, over any buffer for operating system commands. The state
+/// A parser without its reader, over any buffer for operating system commands. The state
 /// functions are its methods.
 #[derive(Drop)]
 pub(crate) struct Machine<B: Buffer> {

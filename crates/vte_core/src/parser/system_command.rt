@@ -5,7 +5,7 @@ ghost use Rattle.vte_core.specs.machine.Prelude.{Advances, MayReadAt, MovesWithi
 use crate::buffer::Buffer;
 use crate::class::ends_body;
 use crate::parser::{Machine, Refused, State, Unfinished};
-use crate::scan::{CountedPerform, Grain, Input, Looks};
+use crate::scan::{CountedPerform, Grain, Input, Reader};
 
 const BELL: u8 = 0x07;
 
@@ -14,7 +14,7 @@ impl<B: Buffer> Machine<B> {
     /// for the data, or else reads nothing.
     pub(crate) fn read_system_command<P: CountedPerform<B, G>, G: Grain, const MAY_STOP: bool>(
         &mut self,
-        looks: &mut Looks<B>,
+        reader: &mut Reader<B>,
         performer: &mut P,
         input: Input<'_, B>,
         from: usize,
@@ -27,28 +27,28 @@ impl<B: Buffer> Machine<B> {
             self.new }
         ensures moves { IfOk result
             (λ read.
-            MovesWithin 5 0 input.entry.bytes.now from read self.old self.new looks.old looks.new) }
+            MovesWithin 5 0 input.entry.bytes.now from read self.old self.new reader.old reader.new) }
         ensures refuses { IfErr result
             (λ refused.
             Refuses (chunk_call MAY_STOP P.step P.is_terminated B.limit input.entry.bytes.now)
-            (P.value_of performer.new) from refused.read self.old self.new looks.old looks.new) }
+            (P.value_of performer.new) from refused.read self.old self.new reader.old reader.new) }
     {
-        let end = looks.find_command_data_end(input, from);
+        let end = reader.find_command_data_end(input, from);
         if !self.command.take_memory(end - from) {
             return Err(Refused { read: from });
         }
-        self.command.push_data(looks, input, from, end);
-        let byte = match looks.get(input, end) {
+        self.command.push_data(reader, input, from, end);
+        let byte = match reader.get(input, end) {
             Some(byte) => byte,
             None => return Ok(end),
         };
         if ends_body(byte) {
-            return Ok(self.read_end::<P, G, MAY_STOP>(looks, performer, input, end, byte));
+            return Ok(self.read_end::<P, G, MAY_STOP>(reader, performer, input, end, byte));
         }
         if byte == b';' {
             self.command.end_piece();
         } else if byte == BELL {
-            self.command.dispatch(looks, performer, true);
+            self.command.dispatch(reader, performer, true);
             self.state = State::Text(Unfinished::Nothing);
         }
         Ok(end + 1)

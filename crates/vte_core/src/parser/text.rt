@@ -5,7 +5,7 @@ ghost use Rattle.vte_core.specs.machine.Prelude.{Advances, IsPrintedAscii, MayRe
 use crate::buffer::Buffer;
 use crate::class::ESCAPE;
 use crate::parser::Machine;
-use crate::scan::{CountedPerform, Grain, Input, Looks};
+use crate::scan::{CountedPerform, Grain, Input, Reader};
 use crate::utf8::{is_lead, is_printed_ascii};
 
 /// The bytes of a text that are read before it is searched for ESC. Shorter texts, and so most,
@@ -23,7 +23,7 @@ struct AsciiRun {
 /// short, that is the first byte alone.
 #[inline(always)]
 fn print_ascii<B, P: CountedPerform<B, G>, G: Grain>(
-    looks: &mut Looks<B>,
+    reader: &mut Reader<B>,
     performer: &mut P,
     input: Input<'_, B>,
     from: usize,
@@ -39,16 +39,16 @@ fn print_ascii<B, P: CountedPerform<B, G>, G: Grain>(
     ensures other { IfSome result.next (λ byte. IsPrintedAscii byte → ⊥) }
     ensures progress { from < result.end }
     ensures high { result.end ≤ length input.entry.bytes.now }
-    ensures count { looked looks.new + 5 * from + 1 ≤ looked looks.old + 5 * result.end }
-    ensures least { looked looks.old + result.end ≤ looked looks.new + from }
+    ensures count { looked reader.new + 5 * from + 1 ≤ looked reader.old + 5 * result.end }
+    ensures least { looked reader.old + result.end ≤ looked reader.new + from }
 {
-    let next = looks.get(input, from + 1);
-    if looks.begins_ascii_run(input, from, next) {
-        let end = looks.find_ascii_run_end(performer, input, from);
-        looks.tell_text(performer, input, from, end);
+    let next = reader.get(input, from + 1);
+    if reader.begins_ascii_run(input, from, next) {
+        let end = reader.find_ascii_run_end(performer, input, from);
+        reader.tell_text(performer, input, from, end);
         return AsciiRun { end, next: None };
     }
-    performer.print_char(looks, char::from(first));
+    performer.print_char(reader, char::from(first));
     let end = from + 1;
     match next {
         Some(byte) if !is_printed_ascii(byte) => AsciiRun { end, next },
@@ -60,7 +60,7 @@ impl<B: Buffer> Machine<B> {
     /// Reads text up to an ESC, and then the bytes after that.
     pub(crate) fn read_text<P: CountedPerform<B, G>, G: Grain, const MAY_STOP: bool>(
         &mut self,
-        looks: &mut Looks<B>,
+        reader: &mut Reader<B>,
         performer: &mut P,
         input: Input<'_, B>,
         from: usize,
@@ -74,7 +74,7 @@ impl<B: Buffer> Machine<B> {
             (chunk_call MAY_STOP P.step P.is_terminated B.limit input.entry.bytes.now)
             (P.value_of performer.old) (P.value_of performer.new) from result self.old self.new }
         ensures moves { MovesWithin 5 0 input.entry.bytes.now from result self.old self.new
-            looks.old looks.new }
+            reader.old reader.new }
     {
         let mut position = from;
         // The length of `front` bounds the position, so that the loop has no test of the index.
@@ -86,9 +86,9 @@ impl<B: Buffer> Machine<B> {
         };
         while position < input.len() {
             while position < front.len() {
-                let mut byte = looks.at(front, position);
+                let mut byte = reader.at(front, position);
                 if G::IN_RUNS && is_printed_ascii(byte) {
-                    let run = print_ascii(looks, performer, input, position, byte);
+                    let run = print_ascii(reader, performer, input, position, byte);
                     position = run.end;
                     match run.next {
                         Some(next) => byte = next,
@@ -98,25 +98,25 @@ impl<B: Buffer> Machine<B> {
                 // Here `position` is the last byte that was read; the `+= 1` below steps past it,
                 // for all branches without `continue`.
                 if is_printed_ascii(byte) {
-                    performer.print_char(looks, char::from(byte));
+                    performer.print_char(reader, char::from(byte));
                 } else if G::IN_RUNS && byte >= 0xa0 {
                     // One comparison tells lead bytes and malformed ones from ESC and controls. A
                     // lead byte may begin a control, which may stop the call; U+FFFD doesn't.
                     if is_lead(byte) {
                         position = self.read_at_lead::<P, G, MAY_STOP>(
-                            looks, performer, input, position, byte,
+                            reader, performer, input, position, byte,
                         );
                         if MAY_STOP && performer.terminated() {
                             return position;
                         }
                     } else {
-                        looks.tell_lone_byte(performer, byte);
+                        reader.tell_lone_byte(performer, byte);
                         position += 1;
                     }
                     continue;
                 } else if is_lead(byte) {
                     let next = self.read_character::<P, G, MAY_STOP>(
-                        looks, performer, input, position, byte,
+                        reader, performer, input, position, byte,
                     );
                     // A path of its own takes fewer instructions if the call may stop after a
                     // character, and more otherwise.
@@ -129,9 +129,9 @@ impl<B: Buffer> Machine<B> {
                     }
                     position = next - 1;
                 } else if byte == ESCAPE {
-                    return self.read_sequence::<P, G, MAY_STOP>(looks, performer, input, position);
+                    return self.read_sequence::<P, G, MAY_STOP>(reader, performer, input, position);
                 } else {
-                    looks.tell_lone_byte(performer, byte);
+                    reader.tell_lone_byte(performer, byte);
                 }
                 position += 1;
                 if MAY_STOP && performer.terminated() {
@@ -139,7 +139,7 @@ impl<B: Buffer> Machine<B> {
                 }
             }
             if !G::IN_RUNS && position < input.len() {
-                front = input.up_to(looks.search_text::<MAY_STOP>(input, from, position));
+                front = input.up_to(reader.search_text::<MAY_STOP>(input, from, position));
             }
         }
         position
@@ -150,7 +150,7 @@ impl<B: Buffer> Machine<B> {
     #[inline(always)]
     fn read_at_lead<P: CountedPerform<B, G>, G: Grain, const MAY_STOP: bool>(
         &mut self,
-        looks: &mut Looks<B>,
+        reader: &mut Reader<B>,
         performer: &mut P,
         input: Input<'_, B>,
         from: usize,
@@ -168,13 +168,13 @@ impl<B: Buffer> Machine<B> {
             (P.value_of performer.old) (P.value_of performer.new) from result self.old self.new }
         ensures text { result < length input.entry.bytes.now → self.new.state ≡ Text Nothing }
         ensures moves { MovesWithin 5 1 input.entry.bytes.now from result self.old self.new
-            looks.old looks.new }
+            reader.old reader.new }
     {
-        let end = looks.find_run_end_at_lead(performer, input, from, first);
+        let end = reader.find_run_end_at_lead(performer, input, from, first);
         if end > from {
-            looks.tell_text(performer, input, from, end);
+            reader.tell_text(performer, input, from, end);
             return end;
         }
-        self.read_character::<P, G, MAY_STOP>(looks, performer, input, from, first)
+        self.read_character::<P, G, MAY_STOP>(reader, performer, input, from, first)
     }
 }

@@ -7,7 +7,7 @@ use crate::buffer::Buffer;
 use crate::class::ESCAPE;
 use crate::parser::{Machine, Parser, Refused, State};
 use crate::perform::Perform;
-use crate::scan::{CountedPerform, Input, Looks, Run, RunKind, RunRange, Singly};
+use crate::scan::{CountedPerform, Input, Reader, Run, RunKind, RunRange, Singly};
 use crate::utf8::{is_lead, is_printed_ascii};
 
 impl<const OSC_RAW_BUF_SIZE: usize> Parser<OSC_RAW_BUF_SIZE> {
@@ -34,7 +34,10 @@ impl<const OSC_RAW_BUF_SIZE: usize> Parser<OSC_RAW_BUF_SIZE> {
             (P.value_of performer.new) bytes.now result self.old self.new }
     {
         let input = Input::new(bytes);
-        match self.machine.drive_to_run(&mut self.looks, performer, input) {
+        match self
+            .machine
+            .drive_to_run(&mut self.reader, performer, input)
+        {
             Ok(range) => input.take_run(range),
             // Never: with a limit no memory is refused.
             Err(refused) => input.take_run(RunRange::empty(refused.read)),
@@ -47,7 +50,7 @@ impl<B: Buffer> Machine<B> {
     /// lead back to it.
     pub(crate) fn drive_to_run<P: CountedPerform<B, Singly>>(
         &mut self,
-        looks: &mut Looks<B>,
+        reader: &mut Reader<B>,
         performer: &mut P,
         input: Input<'_, B>,
     ) -> Result<RunRange, Refused>
@@ -60,15 +63,15 @@ impl<B: Buffer> Machine<B> {
             (chunk_call true P.step P.is_terminated B.limit input.entry.bytes.now)
             (P.value_of performer.old) (P.value_of performer.new) refused.read self.old self.new) }
         ensures costs { Costs 7 input.entry.bytes.now result
-            (read_through_range result) self.old self.new looks.old looks.new }
+            (read_through_range result) self.old self.new reader.old reader.new }
         ensures outside_runs { (stream : List ℕ) → HasReadWithLimit B.limit self.old stream
             → TellsOutsideRuns B.limit stream input.entry.bytes.now (read_before_range result) }
     {
-        let mut position = self.finish_character::<P, Singly, true>(looks, performer, input);
+        let mut position = self.finish_character::<P, Singly, true>(reader, performer, input);
         while position < input.len() && !performer.terminated() {
             position = match self.state {
                 State::Text(_) => {
-                    let end = looks.find_run_end(input, position, false);
+                    let end = reader.find_run_end(input, position, false);
                     if end > position {
                         return Ok(RunRange {
                             start: position,
@@ -76,10 +79,10 @@ impl<B: Buffer> Machine<B> {
                             kind: RunKind::OfText,
                         });
                     }
-                    self.read_unprinted(looks, performer, input, position)
+                    self.read_unprinted(reader, performer, input, position)
                 }
                 State::DeviceData => {
-                    let end = looks.find_device_data_end(input, position);
+                    let end = reader.find_device_data_end(input, position);
                     if end > position {
                         return Ok(RunRange {
                             start: position,
@@ -87,12 +90,12 @@ impl<B: Buffer> Machine<B> {
                             kind: RunKind::OfData,
                         });
                     }
-                    let byte = looks.at(input, position);
+                    let byte = reader.at(input, position);
                     self.read_other_in_data::<P, Singly, true>(
-                        looks, performer, input, position, byte,
+                        reader, performer, input, position, byte,
                     )
                 }
-                _ => self.read_by_state::<P, Singly, true>(looks, performer, input, position)?,
+                _ => self.read_by_state::<P, Singly, true>(reader, performer, input, position)?,
             };
         }
         Ok(RunRange::empty(position))
@@ -102,7 +105,7 @@ impl<B: Buffer> Machine<B> {
     /// malformed up to where a run may begin, or an escape sequence.
     fn read_unprinted<P: CountedPerform<B, Singly>>(
         &mut self,
-        looks: &mut Looks<B>,
+        reader: &mut Reader<B>,
         performer: &mut P,
         input: Input<'_, B>,
         from: usize,
@@ -115,26 +118,26 @@ impl<B: Buffer> Machine<B> {
             (chunk_call true P.step P.is_terminated B.limit input.entry.bytes.now)
             (P.value_of performer.old) (P.value_of performer.new) from result self.old self.new }
         ensures moves { MovesWithin 7 0 input.entry.bytes.now from result self.old self.new
-            looks.old looks.new }
+            reader.old reader.new }
         // Four are left of 7 per byte, for a search that found no run.
-        ensures spare { looked looks.new + 7 * from + 4 ≤ looked looks.old + 7 * result }
+        ensures spare { looked reader.new + 7 * from + 4 ≤ looked reader.old + 7 * result }
     {
         let mut position = from;
-        let mut byte = looks.at(input, from);
+        let mut byte = reader.at(input, from);
         if is_lead(byte) {
-            return self.read_character::<P, Singly, true>(looks, performer, input, from, byte);
+            return self.read_character::<P, Singly, true>(reader, performer, input, from, byte);
         }
         while byte != ESCAPE {
-            looks.tell_lone_byte(performer, byte);
+            reader.tell_lone_byte(performer, byte);
             position += 1;
             if position == input.len() || performer.terminated() {
                 return position;
             }
-            byte = looks.at(input, position);
+            byte = reader.at(input, position);
             if is_printed_ascii(byte) || is_lead(byte) {
                 return position;
             }
         }
-        self.read_sequence::<P, Singly, true>(looks, performer, input, position)
+        self.read_sequence::<P, Singly, true>(reader, performer, input, position)
     }
 }

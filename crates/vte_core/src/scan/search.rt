@@ -6,10 +6,10 @@ ghost use Rattle.std.specs.Prelude.{◌≡◌, ◌≢◌, ◌+◌, ◌*◌, ◌<
 ghost use Rattle.vte_core.specs.machine.Prelude.{AreIgnored, FindsEnd, IsCommandData, IsDeviceData, IsRange, Scans, class_of, ends_body, looked};
 
 use crate::class::{ESCAPE, cannot_end, ends_body, is_device_data};
-use crate::scan::{Input, Looks};
+use crate::scan::{Input, Reader};
 use memchr::memchr;
 
-impl<B> Looks<B> {
+impl<B> Reader<B> {
     /// Finds where the data bytes of an operating system command end that start at a position:
     /// before `;` or a control, or with the input.
     pub(crate) fn find_command_data_end(&mut self, input: Input<'_, B>, from: usize) -> usize

@@ -7,7 +7,7 @@
 //! here.
 
 use crate::proved::vte_core::class::is_layout;
-use crate::proved::vte_core::scan::Looks;
+use crate::proved::vte_core::scan::Reader;
 use crate::proved::vte_core::utf8::is_printed_ascii;
 
 // States: between two characters; before one, two or three more bytes 80..BF; after a first byte
@@ -115,16 +115,16 @@ fn step(state: u64, byte: u8) -> u64 {
     TABLE[byte as usize] >> (state % 64)
 }
 
-impl Looks {
-    /// Skips blocks of a run, and returns where the last character ended. If it `keeps` them, the
-    /// run may hold HT, LF and CR. A block with a byte that fits nowhere, or with a control that
-    /// isn't kept, is read in vain.
+impl Reader {
+    /// Skips blocks of a run, and returns where the last character ended. With `layout`, the run
+    /// may hold HT, LF and CR. A block with a byte that fits nowhere, or with another control, is
+    /// read in vain.
     #[inline(never)]
-    pub(crate) fn skip_run_blocks(self, input: &[u8], from: usize, keeps: bool) -> usize {
+    pub(crate) fn skip_run_blocks(self, input: &[u8], from: usize, layout: bool) -> usize {
         let mut at = 0;
         let mut state = BETWEEN;
         while let Some(block) = self.get_block::<16>(input, from + at) {
-            if !keeps && has_control(&block) {
+            if !layout && has_control(&block) {
                 break;
             }
             let next = state_after_block(state, &block);

@@ -4,7 +4,7 @@
 use crate::adapter::array_vec::ArrayVec;
 #[cfg(any(feature = "std", feature = "ansi"))]
 use crate::prelude::Vec;
-use crate::proved::vte_core::scan::Looks;
+use crate::proved::vte_core::scan::Reader;
 
 /// Holds bytes, up to a limit or as many as there is memory for.
 pub(crate) trait Buffer {
@@ -22,7 +22,7 @@ pub(crate) trait Buffer {
     fn reserve(&mut self, more: usize) -> bool;
 
     /// Adds the bytes of an input from one position to another, up to the limit.
-    fn append(&mut self, looks: Looks, input: &[u8], from: usize, to: usize);
+    fn append(&mut self, reader: Reader, input: &[u8], from: usize, to: usize);
 }
 
 impl<const N: usize> Buffer for ArrayVec<u8, N> {
@@ -42,10 +42,10 @@ impl<const N: usize> Buffer for ArrayVec<u8, N> {
         true
     }
 
-    fn append(&mut self, looks: Looks, input: &[u8], from: usize, to: usize) {
+    fn append(&mut self, reader: Reader, input: &[u8], from: usize, to: usize) {
         let kept = (to - from).min(self.remaining_capacity());
         // It fits.
-        let _ = looks.copy_to_array(input, from, from + kept, self);
+        let _ = reader.copy_to_array(input, from, from + kept, self);
     }
 }
 
@@ -71,8 +71,8 @@ impl Buffer for Vec<u8> {
         self.reserve(more).is_ok()
     }
 
-    fn append(&mut self, looks: Looks, input: &[u8], from: usize, to: usize) {
+    fn append(&mut self, reader: Reader, input: &[u8], from: usize, to: usize) {
         // There is room.
-        let _ = looks.copy_to_vec(input, from, to, self);
+        let _ = reader.copy_to_vec(input, from, to, self);
     }
 }

@@ -7,7 +7,7 @@ use crate::proved::vte_core::class::{
     digit_of, is_head_byte, is_intermediate, is_parameter_text, is_separator,
 };
 use crate::proved::vte_core::params::Params;
-use crate::proved::vte_core::scan::Looks;
+use crate::proved::vte_core::scan::Reader;
 
 /// How far a head has been read.
 #[derive(Clone, Copy)]
@@ -32,7 +32,7 @@ impl HeadProgress {
 /// How far a head has been read, and up to which position. The byte there was looked at.
 #[derive(Clone, Copy)]
 pub(crate) struct HeadEnd {
-    pub(crate) part: HeadProgress,
+    pub(crate) progress: HeadProgress,
     pub(crate) position: usize,
     pub(crate) next: Option<u8>,
 }
@@ -93,11 +93,11 @@ impl Collected {
         false
     }
 
-    /// Collects an intermediate or a marker, or finds the head malformed. Returns how far the head
+    /// Collects an intermediate or a marker, or finds the head ill-shaped. Returns how far the head
     /// has been read then.
     #[inline(always)]
-    fn collect_head_byte(&mut self, part: HeadProgress, byte: u8) -> HeadProgress {
-        if let HeadProgress::IllShaped = part {
+    fn collect_head_byte(&mut self, progress: HeadProgress, byte: u8) -> HeadProgress {
+        if let HeadProgress::IllShaped = progress {
             return HeadProgress::IllShaped;
         }
         if is_intermediate(byte) {
@@ -105,7 +105,7 @@ impl Collected {
             return HeadProgress::Intermediates;
         }
         // A marker stands only at the beginning.
-        if let HeadProgress::Entry = part {
+        if let HeadProgress::Entry = progress {
             self.collect(byte);
             return HeadProgress::Parameters;
         }
@@ -117,7 +117,7 @@ impl Collected {
     #[inline(always)]
     pub(crate) fn read_numbers(
         &mut self,
-        looks: Looks,
+        reader: Reader,
         reached: HeadProgress,
         several: bool,
         input: &[u8],
@@ -129,7 +129,7 @@ impl Collected {
         let mut position = from;
         let mut next = None;
         while position < input.len() {
-            let byte = looks.at(input, position);
+            let byte = reader.at(input, position);
             if let Some(digit) = digit_of(byte) {
                 // 65,535 stands for all greater numbers.
                 number = (number * 10 + digit).min(u32::from(u16::MAX));
@@ -144,48 +144,49 @@ impl Collected {
             position += 1;
         }
         self.number = number as u16;
-        let part = if from == position {
+        let progress = if from == position {
             reached
         } else {
             HeadProgress::Parameters
         };
         HeadEnd {
-            part,
+            progress,
             position,
             next,
         }
     }
 
-    /// Reads a head, which has come so far, up to the first byte that isn't part of it.
+    /// Reads the rest of a head that has come to `reached`, up to the first byte that isn't part
+    /// of it.
     #[inline(always)]
     pub(crate) fn read_head(
         &mut self,
-        looks: Looks,
+        reader: Reader,
         reached: HeadProgress,
         input: &[u8],
         from: usize,
     ) -> HeadEnd {
-        let mut part = reached;
+        let mut progress = reached;
         let mut position = from;
         let mut next = None;
         while position < input.len() {
-            let byte = looks.at(input, position);
+            let byte = reader.at(input, position);
             if !is_head_byte(byte) {
                 next = Some(byte);
                 break;
             }
-            if is_parameter_text(byte) && part.may_have_parameters() {
-                let numbers = self.read_numbers(looks, part, true, input, position);
-                // As a constant, because the loop over numbers is longer with `numbers.part`.
-                part = HeadProgress::Parameters;
+            if is_parameter_text(byte) && progress.may_have_parameters() {
+                let numbers = self.read_numbers(reader, progress, true, input, position);
+                // As a constant, because the loop over numbers is longer with `numbers.progress`.
+                progress = HeadProgress::Parameters;
                 position = numbers.position;
             } else {
-                part = self.collect_head_byte(part, byte);
+                progress = self.collect_head_byte(progress, byte);
                 position += 1;
             }
         }
         HeadEnd {
-            part,
+            progress,
             position,
             next,
         }

@@ -21,7 +21,7 @@ mod to_run;
 use crate::adapter::array_vec::ArrayVec;
 use crate::proved::vte_core::head::HeadProgress;
 use crate::proved::vte_core::perform::{Perform, PerformText};
-use crate::proved::vte_core::scan::{CountedPerform, Grain, InRuns, Looks, Singly};
+use crate::proved::vte_core::scan::{CountedPerform, Grain, InRuns, Reader, Singly};
 use crate::proved::vte_core::utf8::Unfinished;
 #[cfg(any(feature = "std", feature = "ansi"))]
 pub use long::LongParser;
@@ -80,7 +80,7 @@ pub(crate) enum State {
 #[derive(Clone)]
 pub struct Parser<const OSC_RAW_BUF_SIZE: usize = MAX_OSC_RAW> {
     machine: Machine<ArrayVec<u8, OSC_RAW_BUF_SIZE>>,
-    looks: Looks,
+    reader: Reader,
 }
 
 impl Parser<MAX_OSC_RAW> {
@@ -103,7 +103,7 @@ impl<const OSC_RAW_BUF_SIZE: usize> Parser<OSC_RAW_BUF_SIZE> {
     pub fn new_with_size() -> Self {
         Parser {
             machine: Machine::new(ArrayVec::new()),
-            looks: Looks::for_limited(),
+            reader: Reader::for_limited(),
         }
     }
 
@@ -169,7 +169,7 @@ impl<const OSC_RAW_BUF_SIZE: usize> Parser<OSC_RAW_BUF_SIZE> {
     ) -> usize {
         match self
             .machine
-            .drive::<P, G, MAY_STOP>(self.looks, performer, bytes)
+            .drive::<P, G, MAY_STOP>(self.reader, performer, bytes)
         {
             Ok(read) => read,
             // Never: with a limit no memory is refused.

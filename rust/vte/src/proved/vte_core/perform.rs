@@ -62,7 +62,7 @@ pub trait PerformText: Perform {
     }
 
     /// Called for characters to print, at least one, in order. None is a control, except HT, LF and
-    /// CR if the performer [layout](Self::keeps_layout) these.
+    /// CR if the performer [keeps](Self::keeps_layout) these.
     fn print_text(&mut self, text: &str);
 
     /// Called for data bytes of the device control string, at least one, in order. By default each

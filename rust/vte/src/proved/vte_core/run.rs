@@ -5,7 +5,7 @@
 //! byte is read often.
 
 use crate::proved::vte_core::class::is_layout;
-use crate::proved::vte_core::scan::{CountedPerform, Grain, Looks};
+use crate::proved::vte_core::scan::{CountedPerform, Grain, Reader};
 use crate::proved::vte_core::utf8::{
     is_continuation, is_lead, is_printed_ascii, may_begin_four, may_begin_three,
 };
@@ -13,11 +13,11 @@ use crate::proved::vte_core::utf8::{
 /// Longer runs go on in blocks.
 const SHORT_RUN: usize = 48;
 
-impl Looks {
+impl Reader {
     /// Returns whether printed ASCII begins a run at a position: four bytes of it, of which the
     /// first was looked at, and `next` too.
     #[inline(always)]
-    pub(crate) fn begins_ascii(self, input: &[u8], at: usize, next: Option<u8>) -> bool {
+    pub(crate) fn begins_ascii_run(self, input: &[u8], at: usize, next: Option<u8>) -> bool {
         matches!(next, Some(second) if is_printed_ascii(second))
             && matches!(self.get(input, at + 2), Some(third) if is_printed_ascii(third))
             && matches!(self.get(input, at + 3), Some(fourth) if is_printed_ascii(fourth))
@@ -53,7 +53,7 @@ impl Looks {
             Some(second) if is_continuation(second) => match self.get(input, from + 2) {
                 Some(third) if first < 0xe0 => {
                     if is_lead(third) && is_printed_pair(first, second) {
-                        self.find_run_end_of(performer, input, from + 2)
+                        self.find_run_end_for(performer, input, from + 2)
                     } else {
                         from
                     }
@@ -61,7 +61,7 @@ impl Looks {
                 Some(third)
                     if first < 0xf0 && is_continuation(third) && may_begin_three(first, second) =>
                 {
-                    self.find_run_end_of(performer, input, from + 3)
+                    self.find_run_end_for(performer, input, from + 3)
                 }
                 _ => from,
             },
@@ -71,7 +71,7 @@ impl Looks {
 
     /// Finds where the run ends that has come to a position, for a performer.
     #[inline(never)]
-    pub(crate) fn find_run_end_of<P: CountedPerform<G>, G: Grain>(
+    pub(crate) fn find_run_end_for<P: CountedPerform<G>, G: Grain>(
         self,
         performer: &P,
         input: &[u8],
@@ -80,29 +80,29 @@ impl Looks {
         self.find_run_end(input, from, performer.keeps_layout())
     }
 
-    /// Finds where the run ends that has come to a position. If it `keeps` them, HT, LF and CR
-    /// don't end it.
+    /// Finds where the run ends that has come to a position. With `layout`, HT, LF and CR don't
+    /// end it.
     #[inline(always)]
-    pub(crate) fn find_run_end(self, input: &[u8], from: usize, keeps: bool) -> usize {
+    pub(crate) fn find_run_end(self, input: &[u8], from: usize, layout: bool) -> usize {
         let to = input.len().min(from + SHORT_RUN);
-        let end = self.find_end_up_to(input, from, to, keeps);
+        let end = self.find_end_up_to(input, from, to, layout);
         if end < to || end == input.len() {
             end
         } else {
-            self.find_run_end_by_blocks(input, end, keeps)
+            self.find_run_end_by_blocks(input, end, layout)
         }
     }
 
     /// Finds where the run ends that has come to a position, or where it comes to or past another.
     #[inline(always)]
-    fn find_end_up_to(self, input: &[u8], from: usize, to: usize, keeps: bool) -> usize {
+    fn find_end_up_to(self, input: &[u8], from: usize, to: usize, layout: bool) -> usize {
         let mut end = from;
         while end < to {
             let byte = self.at(input, end);
             if is_printed_ascii(byte) {
                 end = self.find_ascii_end(input, end + 1);
             } else {
-                match self.find_other_character_end(input, end, byte, keeps) {
+                match self.find_other_character_end(input, end, byte, layout) {
                     Some(next) => end = next,
                     None => return end,
                 }
@@ -113,9 +113,9 @@ impl Looks {
 
     /// Finds where a long run ends that has come to a position.
     #[inline(never)]
-    fn find_run_end_by_blocks(self, input: &[u8], from: usize, keeps: bool) -> usize {
-        let end = self.skip_run_blocks(input, from, keeps);
-        self.find_end_up_to(input, end, input.len(), keeps)
+    fn find_run_end_by_blocks(self, input: &[u8], from: usize, layout: bool) -> usize {
+        let end = self.skip_run_blocks(input, from, layout);
+        self.find_end_up_to(input, end, input.len(), layout)
     }
 
     /// Finds where the character ends that stands at a position and is no printed ASCII, if a run
@@ -126,10 +126,10 @@ impl Looks {
         input: &[u8],
         from: usize,
         first: u8,
-        keeps: bool,
+        layout: bool,
     ) -> Option<usize> {
         if !is_lead(first) {
-            if keeps && is_layout(first) {
+            if layout && is_layout(first) {
                 return Some(from + 1);
             }
             return None;

@@ -1,5 +1,6 @@
 // Written by tools/erase from crates/vte_core/src/scan.rt: edit that one.
-//! The only module that reads input bytes and reports events. It counts both, for contracts alone.
+//! The only module that reads input bytes, and the only way to report events. It counts both, for
+//! contracts alone.
 
 mod counted_perform;
 mod grain;
@@ -19,10 +20,9 @@ pub use grain::{InRuns, Singly};
 pub use taken::{Run, Taken};
 pub(crate) use taken::{RunKind, RunRange};
 
-/// How many looks a parser took at input bytes, and how many events it told. It has no bytes at run
-/// time.
+/// Reads input bytes and reports events, and counts both as looks. It has no bytes at run time.
 #[derive(Clone, Copy)]
-pub(crate) struct Looks {}
+pub(crate) struct Reader {}
 
 /// Returns the bytes up to a position.
 #[inline(always)]
@@ -63,25 +63,25 @@ pub(crate) fn take_run(input: &[u8], range: RunRange) -> Run<'_> {
     }
 }
 
-impl Looks {
-    /// Creates a count of no looks, for a parser with a limit.
+impl Reader {
+    /// Creates a reader that has taken no looks, for a parser with a limit.
     pub(crate) fn for_limited() -> Self {
-        Looks::none()
+        Reader::none()
     }
 }
 
 #[cfg(any(feature = "std", feature = "ansi"))]
-impl Looks {
-    /// Creates a count of no looks, for a parser without a limit.
+impl Reader {
+    /// Creates a reader that has taken no looks, for a parser without a limit.
     #[inline]
-    pub(crate) fn for_unlimited() -> Self {
-        Looks::none()
+    pub(crate) fn for_long() -> Self {
+        Reader::none()
     }
 }
 
-impl Looks {
+impl Reader {
     fn none() -> Self {
-        Looks {}
+        Reader {}
     }
 
     /// Counts looks.
@@ -123,7 +123,7 @@ impl Looks {
     /// Tells a byte that is neither printed nor a lead byte: a control, or a malformed sequence
     /// alone.
     #[inline(always)]
-    pub(crate) fn tell_single<P: CountedPerform<G>, G>(self, performer: &mut P, byte: u8) {
+    pub(crate) fn tell_lone_byte<P: CountedPerform<G>, G>(self, performer: &mut P, byte: u8) {
         match byte {
             0x00..=0x1f | 0x80..=0x9f => performer.execute_control(self, byte),
             _ => performer.print_char(self, char::REPLACEMENT_CHARACTER),
@@ -156,7 +156,7 @@ impl Looks {
 }
 
 #[cfg(any(feature = "std", feature = "ansi"))]
-impl Looks {
+impl Reader {
     /// Appends the bytes from one position to another to a vector that has memory for them.
     pub(crate) fn copy_to_vec(
         self,

@@ -5,7 +5,7 @@ use crate::adapter::array_vec::ArrayVec;
 #[cfg(any(feature = "std", feature = "ansi"))]
 use crate::prelude::Vec;
 use crate::proved::vte_core::buffer::Buffer;
-use crate::proved::vte_core::scan::{CountedPerform, Grain, Looks};
+use crate::proved::vte_core::scan::{CountedPerform, Grain, Reader};
 
 /// The most pieces of a command.
 const MOST_PIECES: usize = 16;
@@ -61,10 +61,10 @@ impl<B: Buffer> Store<B> {
 
     /// Adds the data bytes of an input from one position to another, as many as there is room for;
     /// none after 16 pieces.
-    pub(crate) fn push_data(&mut self, looks: Looks, input: &[u8], from: usize, to: usize) {
+    pub(crate) fn push_data(&mut self, reader: Reader, input: &[u8], from: usize, to: usize) {
         let before = self.bytes.bytes().len();
         if !self.ends.is_full() {
-            self.bytes.append(looks, input, from, to);
+            self.bytes.append(reader, input, from, to);
         }
         self.lost |= self.bytes.bytes().len() - before < to - from;
     }
@@ -72,17 +72,17 @@ impl<B: Buffer> Store<B> {
     /// Dispatches the command with its pieces.
     pub(crate) fn dispatch<P: CountedPerform<G>, G: Grain>(
         &self,
-        looks: Looks,
+        reader: Reader,
         performer: &mut P,
         bell_terminated: bool,
     ) {
         let (bytes, ends) = (self.bytes.bytes(), self.ends.as_slice());
         // most commands have one piece or two
         match ends {
-            [] => return performer.osc_dispatch(looks, &[bytes], bell_terminated),
+            [] => return performer.osc_dispatch(reader, &[bytes], bell_terminated),
             [end] => {
                 let pieces = [&bytes[..*end], &bytes[*end..]];
-                return performer.osc_dispatch(looks, &pieces, bell_terminated);
+                return performer.osc_dispatch(reader, &pieces, bell_terminated);
             }
             _ => {}
         }
@@ -97,7 +97,7 @@ impl<B: Buffer> Store<B> {
             pieces[count] = &bytes[start..];
             count += 1;
         }
-        performer.osc_dispatch(looks, &pieces[..count], bell_terminated);
+        performer.osc_dispatch(reader, &pieces[..count], bell_terminated);
     }
 }
 

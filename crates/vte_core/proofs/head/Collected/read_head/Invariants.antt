@@ -5,8 +5,8 @@ use Rattle.vte_core.proofs.head.Collected.read_head.Given as goal
 abbrev pub invariant-loop-position : goal.invariant-loop-position
 invariant-loop-position g l = record {
   reads : ReadsHead l.input.bytes.now l.from l.position l.fn.reached l.progress l.initial.self l.self;
-  count : looked l.looks + 3 * l.from ≤ looked l.initial.looks + 3 * l.position;
-  least : looked l.initial.looks + l.position ≤ looked l.looks + l.from;
+  count : looked l.reader + 3 * l.from ≤ looked l.initial.reader + 3 * l.position;
+  least : looked l.initial.reader + l.position ≤ looked l.reader + l.from;
   none : l.next ≡ None;
 }
 

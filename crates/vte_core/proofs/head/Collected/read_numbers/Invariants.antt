@@ -8,7 +8,7 @@ abbrev pub invariant-loop-position : goal.invariant-loop-position
 invariant-loop-position g l = record {
   reads : ReadsHead l.input.bytes.now l.from l.position l.reached
       (progress_after l.reached l.from l.position) l.initial.self (with_open_number l.self l.number);
-  count : looked l.looks + l.from ≡ looked l.initial.looks + l.position;
+  count : looked l.reader + l.from ≡ looked l.initial.reader + l.position;
   none : l.next ≡ None;
   small : l.number ≤ greatest_number;
 }

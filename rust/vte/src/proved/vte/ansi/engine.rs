@@ -25,7 +25,7 @@ pub(crate) struct Engine<P, B, T> {
 }
 
 impl<P: EventParser, B: TextBuffer, T: Timeout> Engine<P, B, T> {
-    /// Creates one with a parser that has read nothing, with the memory for a hold. Returns the
+    /// Creates an engine of a parser that has read nothing, with memory for a hold. Returns the
     /// timeout if memory runs out.
     pub(crate) fn new(parser: P, text: B, timeout: T) -> Result<Self, T> {
         match Hold::new() {

@@ -3,7 +3,7 @@
 
 use crate::proved::vte_core::buffer::Buffer;
 use crate::proved::vte_core::parser::{Machine, State};
-use crate::proved::vte_core::scan::{text, CountedPerform, Grain, Looks};
+use crate::proved::vte_core::scan::{text, CountedPerform, Grain, Reader};
 use crate::proved::vte_core::utf8::{
     character_of_four, character_of_three, character_of_two, is_continuation, may_begin_four,
     may_begin_three, Carried, Unfinished,
@@ -16,7 +16,7 @@ impl<B: Buffer> Machine<B> {
     #[inline(always)]
     pub(crate) fn read_character<P: CountedPerform<G>, G: Grain, const MAY_STOP: bool>(
         &mut self,
-        looks: Looks,
+        reader: Reader,
         performer: &mut P,
         input: &[u8],
         from: usize,
@@ -27,19 +27,19 @@ impl<B: Buffer> Machine<B> {
             self.state = State::Text(Unfinished::One(first));
             return next;
         }
-        let second = looks.at(input, next);
+        let second = reader.at(input, next);
         if !is_continuation(second) {
-            performer.print_char(looks, char::REPLACEMENT_CHARACTER);
+            performer.print_char(reader, char::REPLACEMENT_CHARACTER);
             return next;
         }
         if first < 0xe0 {
-            looks.tell_character(performer, character_of_two(first, second));
+            reader.tell_character(performer, character_of_two(first, second));
             return next + 1;
         }
         if first < 0xf0 {
-            self.complete_three::<P, G, MAY_STOP>(looks, performer, first, second, input, next)
+            self.complete_three::<P, G, MAY_STOP>(reader, performer, first, second, input, next)
         } else {
-            self.complete_four::<P, G, MAY_STOP>(looks, performer, first, second, input, from)
+            self.complete_four::<P, G, MAY_STOP>(reader, performer, first, second, input, from)
         }
     }
 
@@ -47,7 +47,7 @@ impl<B: Buffer> Machine<B> {
     #[inline(always)]
     pub(crate) fn complete_three<P: CountedPerform<G>, G: Grain, const MAY_STOP: bool>(
         &mut self,
-        looks: Looks,
+        reader: Reader,
         performer: &mut P,
         first: u8,
         second: u8,
@@ -55,19 +55,19 @@ impl<B: Buffer> Machine<B> {
         from: usize,
     ) -> usize {
         if !may_begin_three(first, second) {
-            performer.print_char(looks, char::REPLACEMENT_CHARACTER);
+            performer.print_char(reader, char::REPLACEMENT_CHARACTER);
             return from;
         }
         if from + 1 >= input.len() {
             self.state = State::Text(Unfinished::Two(first, second));
             return from + 1;
         }
-        let third = looks.at(input, from + 1);
+        let third = reader.at(input, from + 1);
         if !is_continuation(third) {
-            performer.print_char(looks, char::REPLACEMENT_CHARACTER);
+            performer.print_char(reader, char::REPLACEMENT_CHARACTER);
             return from + 1;
         }
-        looks.tell_character(performer, character_of_three(first, second, third));
+        reader.tell_character(performer, character_of_three(first, second, third));
         from + 2
     }
 
@@ -76,7 +76,7 @@ impl<B: Buffer> Machine<B> {
     #[inline(always)]
     pub(crate) fn complete_four<P: CountedPerform<G>, G: Grain, const MAY_STOP: bool>(
         &mut self,
-        looks: Looks,
+        reader: Reader,
         performer: &mut P,
         first: u8,
         second: u8,
@@ -85,34 +85,34 @@ impl<B: Buffer> Machine<B> {
     ) -> usize {
         let next = from + 1;
         if !may_begin_four(first, second) {
-            performer.print_char(looks, char::REPLACEMENT_CHARACTER);
+            performer.print_char(reader, char::REPLACEMENT_CHARACTER);
             return next;
         }
         if next + 2 >= input.len() {
             return self.continue_character::<P, G, MAY_STOP>(
-                looks,
+                reader,
                 performer,
                 Unfinished::Two(first, second),
                 input,
                 next + 1,
             );
         }
-        let third = looks.at(input, next + 1);
+        let third = reader.at(input, next + 1);
         if !is_continuation(third) {
-            performer.print_char(looks, char::REPLACEMENT_CHARACTER);
+            performer.print_char(reader, char::REPLACEMENT_CHARACTER);
             return next + 1;
         }
-        let fourth = looks.at(input, next + 2);
+        let fourth = reader.at(input, next + 2);
         if !is_continuation(fourth) {
-            performer.print_char(looks, char::REPLACEMENT_CHARACTER);
+            performer.print_char(reader, char::REPLACEMENT_CHARACTER);
             return next + 2;
         }
         if G::IN_RUNS {
-            let end = looks.find_run_end_of(performer, input, next + 3);
-            performer.print_text(looks, text(input, from, end));
+            let end = reader.find_run_end_for(performer, input, next + 3);
+            performer.print_text(reader, text(input, from, end));
             return end;
         }
-        looks.tell_character(performer, character_of_four(first, second, third, fourth));
+        reader.tell_character(performer, character_of_four(first, second, third, fourth));
         next + 3
     }
 
@@ -121,7 +121,7 @@ impl<B: Buffer> Machine<B> {
     #[inline(always)]
     pub(crate) fn continue_character<P: CountedPerform<G>, G: Grain, const MAY_STOP: bool>(
         &mut self,
-        looks: Looks,
+        reader: Reader,
         performer: &mut P,
         begun: Unfinished,
         input: &[u8],
@@ -129,15 +129,15 @@ impl<B: Buffer> Machine<B> {
     ) -> usize {
         let mut unfinished = begun;
         for position in from..input.len() {
-            match unfinished.carried_on(looks.at(input, position)) {
+            match unfinished.carried_on(reader.at(input, position)) {
                 Carried::Unfinished(more) => unfinished = more,
                 Carried::Whole(c) => {
-                    looks.tell_character(performer, c);
+                    reader.tell_character(performer, c);
                     self.state = State::Text(Unfinished::Nothing);
                     return position + 1;
                 }
                 Carried::Broken => {
-                    performer.print_char(looks, char::REPLACEMENT_CHARACTER);
+                    performer.print_char(reader, char::REPLACEMENT_CHARACTER);
                     self.state = State::Text(Unfinished::Nothing);
                     return position;
                 }

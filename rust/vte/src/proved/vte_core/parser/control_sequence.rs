@@ -5,7 +5,7 @@ use crate::proved::vte_core::buffer::Buffer;
 use crate::proved::vte_core::class::{ends_body, is_final, is_plain_control};
 use crate::proved::vte_core::head::HeadProgress;
 use crate::proved::vte_core::parser::{Machine, State, Unfinished};
-use crate::proved::vte_core::scan::{CountedPerform, Grain, Looks};
+use crate::proved::vte_core::scan::{CountedPerform, Grain, Reader};
 
 impl<B: Buffer> Machine<B> {
     /// Goes on with a control sequence whose head has come so far: by digits, by separators too if
@@ -13,13 +13,9 @@ impl<B: Buffer> Machine<B> {
     /// most one number: for them this calls nothing before the dispatch. If calls have one byte
     /// each, most bytes of long sequences come this way.
     #[inline(always)]
-    pub(crate) fn continue_control_sequence<
-        P: CountedPerform<G>,
-        G: Grain,
-        const MAY_STOP: bool,
-    >(
+    pub(crate) fn read_short_head<P: CountedPerform<G>, G: Grain, const MAY_STOP: bool>(
         &mut self,
-        looks: Looks,
+        reader: Reader,
         performer: &mut P,
         input: &[u8],
         reached: HeadProgress,
@@ -28,25 +24,31 @@ impl<B: Buffer> Machine<B> {
     ) -> usize {
         if !reached.may_have_parameters() {
             return self
-                .read_control_sequence::<P, G, MAY_STOP>(looks, performer, input, reached, from);
+                .read_control_sequence::<P, G, MAY_STOP>(reader, performer, input, reached, from);
         }
         let head = self
             .collected
-            .read_numbers(looks, reached, several, input, from);
+            .read_numbers(reader, reached, several, input, from);
         if let Some(byte) = head.next {
             if is_final(byte) {
-                return self.end_control_sequence(looks, performer, head.part, byte, head.position);
+                return self.end_control_sequence(
+                    reader,
+                    performer,
+                    head.progress,
+                    byte,
+                    head.position,
+                );
             }
         }
-        self.state = State::ControlSequence(head.part);
+        self.state = State::ControlSequence(head.progress);
         if head.next.is_none() {
             return head.position;
         }
         self.read_control_sequence::<P, G, MAY_STOP>(
-            looks,
+            reader,
             performer,
             input,
-            head.part,
+            head.progress,
             head.position,
         )
     }
@@ -55,22 +57,28 @@ impl<B: Buffer> Machine<B> {
     #[inline(never)]
     pub(crate) fn read_control_sequence<P: CountedPerform<G>, G: Grain, const MAY_STOP: bool>(
         &mut self,
-        looks: Looks,
+        reader: Reader,
         performer: &mut P,
         input: &[u8],
         reached: HeadProgress,
         from: usize,
     ) -> usize {
-        let head = self.collected.read_head(looks, reached, input, from);
-        self.state = State::ControlSequence(head.part);
+        let head = self.collected.read_head(reader, reached, input, from);
+        self.state = State::ControlSequence(head.progress);
         if let Some(byte) = head.next {
             if is_final(byte) {
-                return self.end_control_sequence(looks, performer, head.part, byte, head.position);
+                return self.end_control_sequence(
+                    reader,
+                    performer,
+                    head.progress,
+                    byte,
+                    head.position,
+                );
             }
             if ends_body(byte) {
-                self.end_body(looks, performer, byte);
+                self.end_body(reader, performer, byte);
             } else if is_plain_control(byte) {
-                performer.execute_control(looks, byte);
+                performer.execute_control(reader, byte);
             }
             // DEL and 80..FF are dropped.
             return head.position + 1;
@@ -78,23 +86,23 @@ impl<B: Buffer> Machine<B> {
         head.position
     }
 
-    /// Ends a control sequence at its final byte: dispatches it, unless its head is malformed.
+    /// Ends a control sequence at its final byte: dispatches it, unless its head is ill-shaped.
     /// Returns the next position.
     #[inline(always)]
     fn end_control_sequence<P: CountedPerform<G>, G: Grain>(
         &mut self,
-        looks: Looks,
+        reader: Reader,
         performer: &mut P,
-        part: HeadProgress,
+        progress: HeadProgress,
         byte: u8,
         position: usize,
     ) -> usize {
-        if let HeadProgress::IllShaped = part {
+        if let HeadProgress::IllShaped = progress {
             self.state = State::Text(Unfinished::Nothing);
             return position + 1;
         }
         let ignore = self.collected.end_head();
-        self.dispatch_control_sequence(looks, performer, ignore, byte, position)
+        self.dispatch_control_sequence(reader, performer, ignore, byte, position)
     }
 
     /// Dispatches a control sequence at its final byte, and returns the next position, so that
@@ -102,14 +110,14 @@ impl<B: Buffer> Machine<B> {
     #[inline(never)]
     fn dispatch_control_sequence<P: CountedPerform<G>, G: Grain>(
         &mut self,
-        looks: Looks,
+        reader: Reader,
         performer: &mut P,
         ignore: bool,
         byte: u8,
         position: usize,
     ) -> usize {
         self.state = State::Text(Unfinished::Nothing);
-        performer.csi_dispatch(looks, &self.collected, ignore, byte);
+        performer.csi_dispatch(reader, &self.collected, ignore, byte);
         position + 1
     }
 }

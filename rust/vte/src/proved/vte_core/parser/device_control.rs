@@ -5,7 +5,7 @@ use crate::proved::vte_core::buffer::Buffer;
 use crate::proved::vte_core::class::{ends_body, is_device_data, is_final};
 use crate::proved::vte_core::head::HeadProgress;
 use crate::proved::vte_core::parser::{Machine, State, Unfinished};
-use crate::proved::vte_core::scan::{CountedPerform, Grain, Looks};
+use crate::proved::vte_core::scan::{CountedPerform, Grain, Reader};
 
 /// The one 8-bit control that is read: ST, the end of the data.
 const STRING_TERMINATOR: u8 = 0x9c;
@@ -16,40 +16,40 @@ impl<B: Buffer> Machine<B> {
     #[inline(never)]
     pub(crate) fn read_device_control<P: CountedPerform<G>, G: Grain, const MAY_STOP: bool>(
         &mut self,
-        looks: Looks,
+        reader: Reader,
         performer: &mut P,
         input: &[u8],
         reached: HeadProgress,
         from: usize,
     ) -> usize {
-        let head = self.collected.read_head(looks, reached, input, from);
-        self.state = State::DeviceControl(head.part);
+        let head = self.collected.read_head(reader, reached, input, from);
+        self.state = State::DeviceControl(head.progress);
         if let Some(byte) = head.next {
             if is_final(byte) {
-                self.hook(looks, performer, head.part, byte);
+                self.hook(reader, performer, head.progress, byte);
             } else if ends_body(byte) {
-                self.end_body(looks, performer, byte);
+                self.end_body(reader, performer, byte);
             }
-            // C0, DEL and 80..FF are dropped.
+            // Plain controls, DEL and 80..FF are dropped.
             return head.position + 1;
         }
         head.position
     }
 
-    /// Hooks the string at the final byte of its head, or ignores it if the head is malformed.
+    /// Hooks the string at the final byte of its head, or ignores it if the head is ill-shaped.
     fn hook<P: CountedPerform<G>, G: Grain>(
         &mut self,
-        looks: Looks,
+        reader: Reader,
         performer: &mut P,
-        part: HeadProgress,
+        progress: HeadProgress,
         byte: u8,
     ) {
-        if let HeadProgress::IllShaped = part {
+        if let HeadProgress::IllShaped = progress {
             self.state = State::IgnoredString;
             return;
         }
         let ignore = self.collected.end_head();
-        performer.hook(looks, &self.collected, ignore, byte);
+        performer.hook(reader, &self.collected, ignore, byte);
         self.state = State::DeviceData;
     }
 
@@ -58,23 +58,24 @@ impl<B: Buffer> Machine<B> {
     /// byte.
     pub(crate) fn read_device_data<P: CountedPerform<G>, G: Grain, const MAY_STOP: bool>(
         &mut self,
-        looks: Looks,
+        reader: Reader,
         performer: &mut P,
         input: &[u8],
         from: usize,
     ) -> usize {
         for position in from..input.len() {
-            let byte = looks.at(input, position);
+            let byte = reader.at(input, position);
             if !is_device_data(byte) {
-                return self
-                    .end_device_data::<P, G, MAY_STOP>(looks, performer, input, position, byte);
+                return self.read_other_in_data::<P, G, MAY_STOP>(
+                    reader, performer, input, position, byte,
+                );
             }
             if G::IN_RUNS && !MAY_STOP {
-                let end = looks.find_device_data_end(input, position + 1);
-                looks.tell_data(performer, input, position, end);
+                let end = reader.find_device_data_end(input, position + 1);
+                reader.tell_data(performer, input, position, end);
                 return end;
             }
-            performer.put_byte(looks, byte);
+            performer.put_byte(reader, byte);
             if MAY_STOP && performer.terminated() {
                 return position + 1;
             }
@@ -84,19 +85,19 @@ impl<B: Buffer> Machine<B> {
 
     /// Reads a byte among the data that isn't put: it ends them, or is dropped.
     #[inline(never)]
-    pub(crate) fn end_device_data<P: CountedPerform<G>, G: Grain, const MAY_STOP: bool>(
+    pub(crate) fn read_other_in_data<P: CountedPerform<G>, G: Grain, const MAY_STOP: bool>(
         &mut self,
-        looks: Looks,
+        reader: Reader,
         performer: &mut P,
         input: &[u8],
         from: usize,
         byte: u8,
     ) -> usize {
         if ends_body(byte) {
-            return self.read_end::<P, G, MAY_STOP>(looks, performer, input, from, byte);
+            return self.read_end::<P, G, MAY_STOP>(reader, performer, input, from, byte);
         }
         if byte == STRING_TERMINATOR {
-            performer.unhook(looks);
+            performer.unhook(reader);
             self.state = State::Text(Unfinished::Nothing);
         }
         from + 1

@@ -3,7 +3,7 @@
 
 use crate::proved::vte_core::buffer::Buffer;
 use crate::proved::vte_core::parser::{Machine, Refused, State};
-use crate::proved::vte_core::scan::{CountedPerform, Grain, Looks};
+use crate::proved::vte_core::scan::{CountedPerform, Grain, Reader};
 
 impl<B: Buffer> Machine<B> {
     /// Reads the bytes of a call, as many as there is memory for, and returns how many: all of
@@ -11,16 +11,16 @@ impl<B: Buffer> Machine<B> {
     #[inline(never)]
     pub(crate) fn drive<P: CountedPerform<G>, G: Grain, const MAY_STOP: bool>(
         &mut self,
-        looks: Looks,
+        reader: Reader,
         performer: &mut P,
         input: &[u8],
     ) -> Result<usize, Refused> {
-        let mut position = self.finish_character::<P, G, MAY_STOP>(looks, performer, input);
+        let mut position = self.finish_character::<P, G, MAY_STOP>(reader, performer, input);
         while position < input.len() {
             if MAY_STOP && performer.terminated() {
                 return Ok(position);
             }
-            position = self.read_by_state::<P, G, MAY_STOP>(looks, performer, input, position)?;
+            position = self.read_by_state::<P, G, MAY_STOP>(reader, performer, input, position)?;
         }
         Ok(position)
     }
@@ -28,7 +28,7 @@ impl<B: Buffer> Machine<B> {
     /// Completes the character that an earlier call began, if one is open.
     pub(crate) fn finish_character<P: CountedPerform<G>, G: Grain, const MAY_STOP: bool>(
         &mut self,
-        looks: Looks,
+        reader: Reader,
         performer: &mut P,
         input: &[u8],
     ) -> usize {
@@ -37,7 +37,7 @@ impl<B: Buffer> Machine<B> {
                 if begun.is_nothing() {
                     return 0;
                 }
-                self.continue_character::<P, G, MAY_STOP>(looks, performer, begun, input, 0)
+                self.continue_character::<P, G, MAY_STOP>(reader, performer, begun, input, 0)
             }
             _ => 0,
         }
@@ -48,36 +48,35 @@ impl<B: Buffer> Machine<B> {
     #[inline]
     pub(crate) fn read_by_state<P: CountedPerform<G>, G: Grain, const MAY_STOP: bool>(
         &mut self,
-        looks: Looks,
+        reader: Reader,
         performer: &mut P,
         input: &[u8],
         from: usize,
     ) -> Result<usize, Refused> {
         // A comparison, because the match jumps by a table, which is hard to predict.
         if let State::Text(_) = self.state {
-            return Ok(self.read_text::<P, G, MAY_STOP>(looks, performer, input, from));
+            return Ok(self.read_text::<P, G, MAY_STOP>(reader, performer, input, from));
         }
         Ok(match self.state {
             // Never: this was tested above.
-            State::Text(_) => self.read_text::<P, G, MAY_STOP>(looks, performer, input, from),
-            State::Escape => self.read_escape::<P, G, MAY_STOP>(looks, performer, input, from),
+            State::Text(_) => self.read_text::<P, G, MAY_STOP>(reader, performer, input, from),
+            State::Escape => self.read_escape::<P, G, MAY_STOP>(reader, performer, input, from),
             State::EscapeIntermediate => {
-                self.read_intermediates::<P, G, MAY_STOP>(looks, performer, input, from)
+                self.read_intermediates::<P, G, MAY_STOP>(reader, performer, input, from)
             }
-            State::ControlSequence(part) => self.continue_control_sequence::<P, G, MAY_STOP>(
-                looks, performer, input, part, true, from,
-            ),
-            State::DeviceControl(part) => {
-                self.read_device_control::<P, G, MAY_STOP>(looks, performer, input, part, from)
+            State::ControlSequence(progress) => self
+                .read_short_head::<P, G, MAY_STOP>(reader, performer, input, progress, true, from),
+            State::DeviceControl(progress) => {
+                self.read_device_control::<P, G, MAY_STOP>(reader, performer, input, progress, from)
             }
             State::DeviceData => {
-                self.read_device_data::<P, G, MAY_STOP>(looks, performer, input, from)
+                self.read_device_data::<P, G, MAY_STOP>(reader, performer, input, from)
             }
             State::SystemCommand => {
-                self.read_system_command::<P, G, MAY_STOP>(looks, performer, input, from)?
+                self.read_system_command::<P, G, MAY_STOP>(reader, performer, input, from)?
             }
             State::IgnoredString => {
-                self.read_ignored_string::<P, G, MAY_STOP>(looks, performer, input, from)
+                self.read_ignored_string::<P, G, MAY_STOP>(reader, performer, input, from)
             }
         })
     }

@@ -4,48 +4,48 @@
 use crate::proved::vte_core::buffer::Buffer;
 use crate::proved::vte_core::class::ESCAPE;
 use crate::proved::vte_core::parser::{Machine, State, Unfinished};
-use crate::proved::vte_core::scan::{CountedPerform, Grain, Looks};
+use crate::proved::vte_core::scan::{CountedPerform, Grain, Reader};
 
 impl<B: Buffer> Machine<B> {
     /// Closes what is open, and then begins an escape sequence, or executes CAN or SUB.
     #[inline(never)]
     pub(crate) fn end_body<P: CountedPerform<G>, G: Grain>(
         &mut self,
-        looks: Looks,
+        reader: Reader,
         performer: &mut P,
         byte: u8,
     ) {
-        self.report_end(looks, performer);
+        self.report_end(reader, performer);
         if byte == ESCAPE {
             self.collected.begin_escape();
             self.state = State::Escape;
             return;
         }
-        performer.execute_control(looks, byte);
+        performer.execute_control(reader, byte);
         self.state = State::Text(Unfinished::Nothing);
     }
 
     /// Reads a byte that ends what is open, which was looked at. After ESC it reads on.
     pub(crate) fn read_end<P: CountedPerform<G>, G: Grain, const MAY_STOP: bool>(
         &mut self,
-        looks: Looks,
+        reader: Reader,
         performer: &mut P,
         input: &[u8],
         from: usize,
         byte: u8,
     ) -> usize {
-        self.end_body(looks, performer, byte);
+        self.end_body(reader, performer, byte);
         if byte != ESCAPE || (MAY_STOP && performer.terminated()) {
             return from + 1;
         }
-        self.read_escape::<P, G, MAY_STOP>(looks, performer, input, from + 1)
+        self.read_escape::<P, G, MAY_STOP>(reader, performer, input, from + 1)
     }
 
     /// Reports the end of a string: `unhook`, or the operating system command.
-    fn report_end<P: CountedPerform<G>, G: Grain>(&self, looks: Looks, performer: &mut P) {
+    fn report_end<P: CountedPerform<G>, G: Grain>(&self, reader: Reader, performer: &mut P) {
         match self.state {
-            State::DeviceData => performer.unhook(looks),
-            State::SystemCommand => self.command.dispatch(looks, performer, false),
+            State::DeviceData => performer.unhook(reader),
+            State::SystemCommand => self.command.dispatch(reader, performer, false),
             _ => {}
         }
     }

@@ -8,7 +8,7 @@ use crate::proved::vte_core::class::{
 };
 use crate::proved::vte_core::head::HeadProgress;
 use crate::proved::vte_core::parser::{Machine, State, Unfinished};
-use crate::proved::vte_core::scan::{CountedPerform, Grain, Looks};
+use crate::proved::vte_core::scan::{CountedPerform, Grain, Reader};
 
 impl<B: Buffer> Machine<B> {
     /// Begins an escape sequence at an ESC in a text, which was looked at, and reads the bytes
@@ -16,18 +16,18 @@ impl<B: Buffer> Machine<B> {
     #[inline(never)]
     pub(crate) fn read_sequence<P: CountedPerform<G>, G: Grain, const MAY_STOP: bool>(
         &mut self,
-        looks: Looks,
+        reader: Reader,
         performer: &mut P,
         input: &[u8],
         from: usize,
     ) -> usize {
         self.collected.begin_escape();
         let next = from + 1;
-        if next < input.len() && looks.at(input, next) == b'[' {
+        if next < input.len() && reader.at(input, next) == b'[' {
             self.collected.begin_head();
             self.state = State::ControlSequence(HeadProgress::Entry);
-            return self.continue_control_sequence::<P, G, MAY_STOP>(
-                looks,
+            return self.read_short_head::<P, G, MAY_STOP>(
+                reader,
                 performer,
                 input,
                 HeadProgress::Entry,
@@ -36,7 +36,7 @@ impl<B: Buffer> Machine<B> {
             );
         }
         self.state = State::Escape;
-        self.read_escape::<P, G, MAY_STOP>(looks, performer, input, next)
+        self.read_escape::<P, G, MAY_STOP>(reader, performer, input, next)
     }
 
     /// Reads bytes after ESC, up to the one that says what begins; after `[` the control sequence
@@ -44,20 +44,20 @@ impl<B: Buffer> Machine<B> {
     #[inline(never)]
     pub(crate) fn read_escape<P: CountedPerform<G>, G: Grain, const MAY_STOP: bool>(
         &mut self,
-        looks: Looks,
+        reader: Reader,
         performer: &mut P,
         input: &[u8],
         from: usize,
     ) -> usize {
         for position in from..input.len() {
-            let byte = looks.at(input, position);
+            let byte = reader.at(input, position);
             // Added before the branches, so that the loop over ESC is shorter.
             let next = position + 1;
             if byte == b'[' {
                 self.collected.begin_head();
                 self.state = State::ControlSequence(HeadProgress::Entry);
                 return self.read_control_sequence::<P, G, MAY_STOP>(
-                    looks,
+                    reader,
                     performer,
                     input,
                     HeadProgress::Entry,
@@ -66,7 +66,7 @@ impl<B: Buffer> Machine<B> {
             }
             // Another ESC changes nothing: nothing was collected since the one before.
             if byte != ESCAPE {
-                self.read_after_escape(looks, performer, byte);
+                self.read_after_escape(reader, performer, byte);
                 return next;
             }
         }
@@ -76,21 +76,21 @@ impl<B: Buffer> Machine<B> {
     /// Reads a byte after ESC, other than `[`.
     fn read_after_escape<P: CountedPerform<G>, G: Grain>(
         &mut self,
-        looks: Looks,
+        reader: Reader,
         performer: &mut P,
         byte: u8,
     ) {
         if is_final(byte) {
-            self.read_key(looks, performer, byte);
+            self.begin_or_dispatch(reader, performer, byte);
         } else if is_intermediate(byte) {
             self.collected.collect(byte);
             self.state = State::EscapeIntermediate;
         } else if is_head_byte(byte) {
-            self.dispatch_escape(looks, performer, byte);
+            self.dispatch_escape(reader, performer, byte);
         } else if ends_body(byte) {
-            self.end_body(looks, performer, byte);
+            self.end_body(reader, performer, byte);
         } else if is_plain_control(byte) {
-            performer.execute_control(looks, byte);
+            performer.execute_control(reader, byte);
         }
         // DEL and 80..FF are dropped.
     }
@@ -98,9 +98,9 @@ impl<B: Buffer> Machine<B> {
     /// Begins the string that a byte 40..7E other than `[` begins after ESC, or dispatches an
     /// escape sequence that ends with it.
     #[inline(never)]
-    fn read_key<P: CountedPerform<G>, G: Grain>(
+    fn begin_or_dispatch<P: CountedPerform<G>, G: Grain>(
         &mut self,
-        looks: Looks,
+        reader: Reader,
         performer: &mut P,
         byte: u8,
     ) {
@@ -113,7 +113,7 @@ impl<B: Buffer> Machine<B> {
         } else if begins_ignored_string(byte) {
             self.state = State::IgnoredString;
         } else {
-            self.dispatch_escape(looks, performer, byte);
+            self.dispatch_escape(reader, performer, byte);
         }
     }
 
@@ -121,23 +121,23 @@ impl<B: Buffer> Machine<B> {
     #[inline(never)]
     pub(crate) fn read_intermediates<P: CountedPerform<G>, G: Grain, const MAY_STOP: bool>(
         &mut self,
-        looks: Looks,
+        reader: Reader,
         performer: &mut P,
         input: &[u8],
         from: usize,
     ) -> usize {
         for position in from..input.len() {
-            let byte = looks.at(input, position);
+            let byte = reader.at(input, position);
             if is_intermediate(byte) {
                 self.collected.collect(byte);
             } else if dispatches_escape(byte) {
-                self.dispatch_escape(looks, performer, byte);
+                self.dispatch_escape(reader, performer, byte);
                 return position + 1;
             } else if ends_body(byte) {
-                self.end_body(looks, performer, byte);
+                self.end_body(reader, performer, byte);
                 return position + 1;
             } else if is_plain_control(byte) {
-                performer.execute_control(looks, byte);
+                performer.execute_control(reader, byte);
                 return position + 1;
             }
             // DEL and 80..FF are dropped.
@@ -148,11 +148,11 @@ impl<B: Buffer> Machine<B> {
     /// Dispatches an escape sequence at its final byte.
     fn dispatch_escape<P: CountedPerform<G>, G: Grain>(
         &mut self,
-        looks: Looks,
+        reader: Reader,
         performer: &mut P,
         byte: u8,
     ) {
-        performer.esc_dispatch(looks, &self.collected, byte);
+        performer.esc_dispatch(reader, &self.collected, byte);
         self.state = State::Text(Unfinished::Nothing);
     }
 }

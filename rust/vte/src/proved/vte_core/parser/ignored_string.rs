@@ -3,20 +3,20 @@
 
 use crate::proved::vte_core::buffer::Buffer;
 use crate::proved::vte_core::parser::machine::Machine;
-use crate::proved::vte_core::scan::{CountedPerform, Grain, Looks};
+use crate::proved::vte_core::scan::{CountedPerform, Grain, Reader};
 
 impl<B: Buffer> Machine<B> {
     /// Reads a string that means nothing, and the byte that ends it.
     pub(crate) fn read_ignored_string<P: CountedPerform<G>, G: Grain, const MAY_STOP: bool>(
         &mut self,
-        looks: Looks,
+        reader: Reader,
         performer: &mut P,
         input: &[u8],
         from: usize,
     ) -> usize {
-        let end = looks.find_string_end(input, from);
-        match looks.get(input, end) {
-            Some(byte) => self.read_end::<P, G, MAY_STOP>(looks, performer, input, end, byte),
+        let end = reader.find_string_end(input, from);
+        match reader.get(input, end) {
+            Some(byte) => self.read_end::<P, G, MAY_STOP>(reader, performer, input, end, byte),
             None => end,
         }
     }

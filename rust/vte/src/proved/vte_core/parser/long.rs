@@ -4,7 +4,7 @@
 use crate::prelude::Vec;
 use crate::proved::vte_core::parser::{Machine, Refused, State};
 use crate::proved::vte_core::perform::{Perform, PerformText};
-use crate::proved::vte_core::scan::{take_run, InRuns, Looks, Run, Singly};
+use crate::proved::vte_core::scan::{take_run, InRuns, Reader, Run, Singly};
 
 /// A parser whose calls return an error if they are refused memory.
 ///
@@ -34,7 +34,7 @@ use crate::proved::vte_core::scan::{take_run, InRuns, Looks, Run, Singly};
 #[derive(Clone)]
 pub struct LongParser {
     machine: Machine<Vec<u8>>,
-    looks: Looks,
+    reader: Reader,
 }
 
 impl LongParser {
@@ -43,7 +43,7 @@ impl LongParser {
     pub fn new() -> Self {
         LongParser {
             machine: Machine::new(Vec::new()),
-            looks: Looks::for_unlimited(),
+            reader: Reader::for_long(),
         }
     }
 
@@ -92,7 +92,7 @@ impl LongParser {
     /// them, or as many as there is memory for.
     pub fn advance<P: Perform>(&mut self, performer: &mut P, bytes: &[u8]) -> Result<(), Refused> {
         self.machine
-            .drive::<P, Singly, false>(self.looks, performer, bytes)?;
+            .drive::<P, Singly, false>(self.reader, performer, bytes)?;
         Ok(())
     }
 
@@ -105,7 +105,7 @@ impl LongParser {
         bytes: &[u8],
     ) -> Result<(), Refused> {
         self.machine
-            .drive::<P, InRuns, false>(self.looks, performer, bytes)?;
+            .drive::<P, InRuns, false>(self.reader, performer, bytes)?;
         Ok(())
     }
 
@@ -121,7 +121,7 @@ impl LongParser {
         bytes: &[u8],
     ) -> Result<usize, Refused> {
         self.machine
-            .drive::<P, Singly, true>(self.looks, performer, bytes)
+            .drive::<P, Singly, true>(self.reader, performer, bytes)
     }
 
     /// Reads bytes as [`advance_until_terminated`](Self::advance_until_terminated) does, and passes
@@ -134,7 +134,7 @@ impl LongParser {
         bytes: &[u8],
     ) -> Result<usize, Refused> {
         self.machine
-            .drive::<P, InRuns, true>(self.looks, performer, bytes)
+            .drive::<P, InRuns, true>(self.reader, performer, bytes)
     }
 
     /// Reads bytes up to a run of text, or of data of a device control string, and the run itself,
@@ -146,7 +146,7 @@ impl LongParser {
         bytes: &'a [u8],
     ) -> Result<Run<'a>, Refused> {
         let input = bytes;
-        let range = self.machine.drive_to_run(self.looks, performer, input)?;
+        let range = self.machine.drive_to_run(self.reader, performer, input)?;
         Ok(take_run(input, range))
     }
 

@@ -4,7 +4,7 @@
 use crate::proved::vte_core::buffer::Buffer;
 use crate::proved::vte_core::class::ends_body;
 use crate::proved::vte_core::parser::{Machine, Refused, State, Unfinished};
-use crate::proved::vte_core::scan::{CountedPerform, Grain, Looks};
+use crate::proved::vte_core::scan::{CountedPerform, Grain, Reader};
 
 const BELL: u8 = 0x07;
 
@@ -14,27 +14,27 @@ impl<B: Buffer> Machine<B> {
     #[inline(never)]
     pub(crate) fn read_system_command<P: CountedPerform<G>, G: Grain, const MAY_STOP: bool>(
         &mut self,
-        looks: Looks,
+        reader: Reader,
         performer: &mut P,
         input: &[u8],
         from: usize,
     ) -> Result<usize, Refused> {
-        let end = looks.find_command_data_end(input, from);
+        let end = reader.find_command_data_end(input, from);
         if !self.command.take_memory(end - from) {
             return Err(Refused { read: from });
         }
-        self.command.push_data(looks, input, from, end);
-        let byte = match looks.get(input, end) {
+        self.command.push_data(reader, input, from, end);
+        let byte = match reader.get(input, end) {
             Some(byte) => byte,
             None => return Ok(end),
         };
         if ends_body(byte) {
-            return Ok(self.read_end::<P, G, MAY_STOP>(looks, performer, input, end, byte));
+            return Ok(self.read_end::<P, G, MAY_STOP>(reader, performer, input, end, byte));
         }
         if byte == b';' {
             self.command.end_piece();
         } else if byte == BELL {
-            self.command.dispatch(looks, performer, true);
+            self.command.dispatch(reader, performer, true);
             self.state = State::Text(Unfinished::Nothing);
         }
         Ok(end + 1)

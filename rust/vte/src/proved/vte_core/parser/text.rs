@@ -4,7 +4,7 @@
 use crate::proved::vte_core::buffer::Buffer;
 use crate::proved::vte_core::class::ESCAPE;
 use crate::proved::vte_core::parser::Machine;
-use crate::proved::vte_core::scan::{text, up_to, CountedPerform, Grain, Looks};
+use crate::proved::vte_core::scan::{text, up_to, CountedPerform, Grain, Reader};
 use crate::proved::vte_core::utf8::{is_lead, is_printed_ascii};
 
 /// The bytes of a text that are read before it is searched for ESC. Shorter texts, and so most,
@@ -22,19 +22,19 @@ struct AsciiRun {
 /// short, that is the first byte alone.
 #[inline(always)]
 fn print_ascii<P: CountedPerform<G>, G: Grain>(
-    looks: Looks,
+    reader: Reader,
     performer: &mut P,
     input: &[u8],
     from: usize,
     first: u8,
 ) -> AsciiRun {
-    let next = looks.get(input, from + 1);
-    if looks.begins_ascii(input, from, next) {
-        let end = looks.find_ascii_run_end(performer, input, from);
-        performer.print_text(looks, text(input, from, end));
+    let next = reader.get(input, from + 1);
+    if reader.begins_ascii_run(input, from, next) {
+        let end = reader.find_ascii_run_end(performer, input, from);
+        performer.print_text(reader, text(input, from, end));
         return AsciiRun { end, next: None };
     }
-    performer.print_char(looks, char::from(first));
+    performer.print_char(reader, char::from(first));
     let end = from + 1;
     match next {
         Some(byte) if !is_printed_ascii(byte) => AsciiRun { end, next },
@@ -47,7 +47,7 @@ impl<B: Buffer> Machine<B> {
     #[inline]
     pub(crate) fn read_text<P: CountedPerform<G>, G: Grain, const MAY_STOP: bool>(
         &mut self,
-        looks: Looks,
+        reader: Reader,
         performer: &mut P,
         input: &[u8],
         from: usize,
@@ -62,9 +62,9 @@ impl<B: Buffer> Machine<B> {
         };
         while position < input.len() {
             while position < front.len() {
-                let mut byte = looks.at(front, position);
+                let mut byte = reader.at(front, position);
                 if G::IN_RUNS && is_printed_ascii(byte) {
-                    let run = print_ascii(looks, performer, input, position, byte);
+                    let run = print_ascii(reader, performer, input, position, byte);
                     position = run.end;
                     match run.next {
                         Some(next) => byte = next,
@@ -74,25 +74,25 @@ impl<B: Buffer> Machine<B> {
                 // Here `position` is the last byte that was read; the `+= 1` below steps past it,
                 // for all branches without `continue`.
                 if is_printed_ascii(byte) {
-                    performer.print_char(looks, char::from(byte));
+                    performer.print_char(reader, char::from(byte));
                 } else if G::IN_RUNS && byte >= 0xa0 {
                     // One comparison tells lead bytes and malformed ones from ESC and controls. A
                     // lead byte may begin a control, which may stop the call; U+FFFD doesn't.
                     if is_lead(byte) {
                         position = self.read_at_lead::<P, G, MAY_STOP>(
-                            looks, performer, input, position, byte,
+                            reader, performer, input, position, byte,
                         );
                         if MAY_STOP && performer.terminated() {
                             return position;
                         }
                     } else {
-                        looks.tell_single(performer, byte);
+                        reader.tell_lone_byte(performer, byte);
                         position += 1;
                     }
                     continue;
                 } else if is_lead(byte) {
                     let next = self
-                        .read_character::<P, G, MAY_STOP>(looks, performer, input, position, byte);
+                        .read_character::<P, G, MAY_STOP>(reader, performer, input, position, byte);
                     // A path of its own takes fewer instructions if the call may stop after a
                     // character, and more otherwise.
                     if MAY_STOP {
@@ -104,9 +104,10 @@ impl<B: Buffer> Machine<B> {
                     }
                     position = next - 1;
                 } else if byte == ESCAPE {
-                    return self.read_sequence::<P, G, MAY_STOP>(looks, performer, input, position);
+                    return self
+                        .read_sequence::<P, G, MAY_STOP>(reader, performer, input, position);
                 } else {
-                    looks.tell_single(performer, byte);
+                    reader.tell_lone_byte(performer, byte);
                 }
                 position += 1;
                 if MAY_STOP && performer.terminated() {
@@ -114,7 +115,7 @@ impl<B: Buffer> Machine<B> {
                 }
             }
             if !G::IN_RUNS && position < input.len() {
-                front = up_to(input, looks.search_text::<MAY_STOP>(input, from, position));
+                front = up_to(input, reader.search_text::<MAY_STOP>(input, from, position));
             }
         }
         position
@@ -125,17 +126,17 @@ impl<B: Buffer> Machine<B> {
     #[inline(always)]
     fn read_at_lead<P: CountedPerform<G>, G: Grain, const MAY_STOP: bool>(
         &mut self,
-        looks: Looks,
+        reader: Reader,
         performer: &mut P,
         input: &[u8],
         from: usize,
         first: u8,
     ) -> usize {
-        let end = looks.find_run_end_at_lead(performer, input, from, first);
+        let end = reader.find_run_end_at_lead(performer, input, from, first);
         if end > from {
-            performer.print_text(looks, text(input, from, end));
+            performer.print_text(reader, text(input, from, end));
             return end;
         }
-        self.read_character::<P, G, MAY_STOP>(looks, performer, input, from, first)
+        self.read_character::<P, G, MAY_STOP>(reader, performer, input, from, first)
     }
 }

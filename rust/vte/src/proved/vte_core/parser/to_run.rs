@@ -6,7 +6,7 @@ use crate::proved::vte_core::class::ESCAPE;
 use crate::proved::vte_core::parser::{Machine, Parser, Refused, State};
 use crate::proved::vte_core::perform::Perform;
 use crate::proved::vte_core::scan::{
-    take_run, CountedPerform, Looks, Run, RunKind, RunRange, Singly,
+    take_run, CountedPerform, Reader, Run, RunKind, RunRange, Singly,
 };
 use crate::proved::vte_core::utf8::{is_lead, is_printed_ascii};
 
@@ -40,7 +40,7 @@ impl<const OSC_RAW_BUF_SIZE: usize> Parser<OSC_RAW_BUF_SIZE> {
         bytes: &'a [u8],
     ) -> Run<'a> {
         let input = bytes;
-        match self.machine.drive_to_run(self.looks, performer, input) {
+        match self.machine.drive_to_run(self.reader, performer, input) {
             Ok(range) => take_run(input, range),
             // Never: with a limit no memory is refused.
             Err(refused) => take_run(input, RunRange::empty(refused.read)),
@@ -49,19 +49,19 @@ impl<const OSC_RAW_BUF_SIZE: usize> Parser<OSC_RAW_BUF_SIZE> {
 }
 
 impl<B: Buffer> Machine<B> {
-    /// Reads bytes up to a run, and finds the run. It stays in the state of the run, which changes
-    /// nothing.
+    /// Reads bytes up to a run, and finds the run. The state stays that of the run: its bytes
+    /// lead back to it.
     pub(crate) fn drive_to_run<P: CountedPerform<Singly>>(
         &mut self,
-        looks: Looks,
+        reader: Reader,
         performer: &mut P,
         input: &[u8],
     ) -> Result<RunRange, Refused> {
-        let mut position = self.finish_character::<P, Singly, true>(looks, performer, input);
+        let mut position = self.finish_character::<P, Singly, true>(reader, performer, input);
         while position < input.len() && !performer.terminated() {
             position = match self.state {
                 State::Text(_) => {
-                    let end = looks.find_run_end(input, position, false);
+                    let end = reader.find_run_end(input, position, false);
                     if end > position {
                         return Ok(RunRange {
                             start: position,
@@ -69,10 +69,10 @@ impl<B: Buffer> Machine<B> {
                             kind: RunKind::OfText,
                         });
                     }
-                    self.read_unprinted(looks, performer, input, position)
+                    self.read_unprinted(reader, performer, input, position)
                 }
                 State::DeviceData => {
-                    let end = looks.find_device_data_end(input, position);
+                    let end = reader.find_device_data_end(input, position);
                     if end > position {
                         return Ok(RunRange {
                             start: position,
@@ -80,10 +80,12 @@ impl<B: Buffer> Machine<B> {
                             kind: RunKind::OfData,
                         });
                     }
-                    let byte = looks.at(input, position);
-                    self.end_device_data::<P, Singly, true>(looks, performer, input, position, byte)
+                    let byte = reader.at(input, position);
+                    self.read_other_in_data::<P, Singly, true>(
+                        reader, performer, input, position, byte,
+                    )
                 }
-                _ => self.read_by_state::<P, Singly, true>(looks, performer, input, position)?,
+                _ => self.read_by_state::<P, Singly, true>(reader, performer, input, position)?,
             };
         }
         Ok(RunRange::empty(position))
@@ -93,27 +95,27 @@ impl<B: Buffer> Machine<B> {
     /// malformed up to where a run may begin, or an escape sequence.
     fn read_unprinted<P: CountedPerform<Singly>>(
         &mut self,
-        looks: Looks,
+        reader: Reader,
         performer: &mut P,
         input: &[u8],
         from: usize,
     ) -> usize {
         let mut position = from;
-        let mut byte = looks.at(input, from);
+        let mut byte = reader.at(input, from);
         if is_lead(byte) {
-            return self.read_character::<P, Singly, true>(looks, performer, input, from, byte);
+            return self.read_character::<P, Singly, true>(reader, performer, input, from, byte);
         }
         while byte != ESCAPE {
-            looks.tell_single(performer, byte);
+            reader.tell_lone_byte(performer, byte);
             position += 1;
             if position == input.len() || performer.terminated() {
                 return position;
             }
-            byte = looks.at(input, position);
+            byte = reader.at(input, position);
             if is_printed_ascii(byte) || is_lead(byte) {
                 return position;
             }
         }
-        self.read_sequence::<P, Singly, true>(looks, performer, input, position)
+        self.read_sequence::<P, Singly, true>(reader, performer, input, position)
     }
 }

@@ -4,34 +4,34 @@
 use crate::proved::vte_core::head::Collected;
 use crate::proved::vte_core::perform::Perform;
 use crate::proved::vte_core::scan::grain::PerformAs;
-use crate::proved::vte_core::scan::Looks;
+use crate::proved::vte_core::scan::Reader;
 
 /// A performer, as the functions of a parser see it. Each event counts one.
 pub(crate) trait CountedPerform<G> {
     /// Returns whether HT, LF and CR come as text.
     fn keeps_layout(&self) -> bool;
 
-    fn print_char(&mut self, looks: Looks, c: char);
+    fn print_char(&mut self, reader: Reader, c: char);
 
     /// Counts a text's bytes, which are no fewer than its characters.
-    fn print_text(&mut self, looks: Looks, text: &str);
+    fn print_text(&mut self, reader: Reader, text: &str);
 
-    fn execute_control(&mut self, looks: Looks, byte: u8);
+    fn execute_control(&mut self, reader: Reader, byte: u8);
 
-    fn hook(&mut self, looks: Looks, held: &Collected, ignore: bool, byte: u8);
+    fn hook(&mut self, reader: Reader, collected: &Collected, ignore: bool, byte: u8);
 
-    fn put_byte(&mut self, looks: Looks, byte: u8);
+    fn put_byte(&mut self, reader: Reader, byte: u8);
 
     /// Counts each byte.
-    fn put_slice(&mut self, looks: Looks, bytes: &[u8]);
+    fn put_slice(&mut self, reader: Reader, bytes: &[u8]);
 
-    fn unhook(&mut self, looks: Looks);
+    fn unhook(&mut self, reader: Reader);
 
-    fn osc_dispatch(&mut self, looks: Looks, pieces: &[&[u8]], bell: bool);
+    fn osc_dispatch(&mut self, reader: Reader, pieces: &[&[u8]], bell: bool);
 
-    fn csi_dispatch(&mut self, looks: Looks, held: &Collected, ignore: bool, byte: u8);
+    fn csi_dispatch(&mut self, reader: Reader, collected: &Collected, ignore: bool, byte: u8);
 
-    fn esc_dispatch(&mut self, looks: Looks, held: &Collected, byte: u8);
+    fn esc_dispatch(&mut self, reader: Reader, collected: &Collected, byte: u8);
 
     fn terminated(&self) -> bool;
 }
@@ -43,66 +43,66 @@ impl<P: PerformAs<G>, G> CountedPerform<G> for P {
     }
 
     #[inline(always)]
-    fn print_char(&mut self, looks: Looks, c: char) {
-        looks.add(1);
+    fn print_char(&mut self, reader: Reader, c: char) {
+        reader.add(1);
         PerformAs::<G>::print_char(self, c);
     }
 
     #[inline(always)]
-    fn print_text(&mut self, looks: Looks, text: &str) {
-        looks.add(text.len());
+    fn print_text(&mut self, reader: Reader, text: &str) {
+        reader.add(text.len());
         PerformAs::<G>::print_text(self, text);
     }
 
     #[inline(always)]
-    fn execute_control(&mut self, looks: Looks, byte: u8) {
-        looks.add(1);
+    fn execute_control(&mut self, reader: Reader, byte: u8) {
+        reader.add(1);
         PerformAs::<G>::execute_control(self, byte);
     }
 
     #[inline(always)]
-    fn hook(&mut self, looks: Looks, held: &Collected, ignore: bool, byte: u8) {
-        looks.add(1);
-        let (intermediates, action) = (held.intermediates.as_slice(), char::from(byte));
-        Perform::hook(self, &held.params, intermediates, ignore, action);
+    fn hook(&mut self, reader: Reader, collected: &Collected, ignore: bool, byte: u8) {
+        reader.add(1);
+        let (intermediates, action) = (collected.intermediates.as_slice(), char::from(byte));
+        Perform::hook(self, &collected.params, intermediates, ignore, action);
     }
 
     #[inline(always)]
-    fn put_byte(&mut self, looks: Looks, byte: u8) {
-        looks.add(1);
+    fn put_byte(&mut self, reader: Reader, byte: u8) {
+        reader.add(1);
         PerformAs::<G>::put_byte(self, byte);
     }
 
     #[inline(always)]
-    fn put_slice(&mut self, looks: Looks, bytes: &[u8]) {
-        looks.add(bytes.len());
+    fn put_slice(&mut self, reader: Reader, bytes: &[u8]) {
+        reader.add(bytes.len());
         PerformAs::<G>::put_slice(self, bytes);
     }
 
     #[inline(always)]
-    fn unhook(&mut self, looks: Looks) {
-        looks.add(1);
+    fn unhook(&mut self, reader: Reader) {
+        reader.add(1);
         Perform::unhook(self);
     }
 
     #[inline(always)]
-    fn osc_dispatch(&mut self, looks: Looks, pieces: &[&[u8]], bell: bool) {
-        looks.add(1);
+    fn osc_dispatch(&mut self, reader: Reader, pieces: &[&[u8]], bell: bool) {
+        reader.add(1);
         Perform::osc_dispatch(self, pieces, bell);
     }
 
     #[inline(always)]
-    fn csi_dispatch(&mut self, looks: Looks, held: &Collected, ignore: bool, byte: u8) {
-        looks.add(1);
-        let (intermediates, action) = (held.intermediates.as_slice(), char::from(byte));
-        Perform::csi_dispatch(self, &held.params, intermediates, ignore, action);
+    fn csi_dispatch(&mut self, reader: Reader, collected: &Collected, ignore: bool, byte: u8) {
+        reader.add(1);
+        let (intermediates, action) = (collected.intermediates.as_slice(), char::from(byte));
+        Perform::csi_dispatch(self, &collected.params, intermediates, ignore, action);
     }
 
     #[inline(always)]
-    fn esc_dispatch(&mut self, looks: Looks, held: &Collected, byte: u8) {
-        looks.add(1);
-        let intermediates = held.intermediates.as_slice();
-        Perform::esc_dispatch(self, intermediates, held.too_many_intermediates, byte);
+    fn esc_dispatch(&mut self, reader: Reader, collected: &Collected, byte: u8) {
+        reader.add(1);
+        let intermediates = collected.intermediates.as_slice();
+        Perform::esc_dispatch(self, intermediates, collected.too_many_intermediates, byte);
     }
 
     #[inline(always)]

@@ -6,9 +6,9 @@
 
 use crate::prelude::memchr;
 use crate::proved::vte_core::class::{cannot_end, ends_body, is_device_data, ESCAPE};
-use crate::proved::vte_core::scan::{up_to, Looks};
+use crate::proved::vte_core::scan::{up_to, Reader};
 
-impl Looks {
+impl Reader {
     /// Finds where the data bytes of an operating system command end that start at a position:
     /// before `;` or a control, or with the input.
     pub(crate) fn find_command_data_end(self, input: &[u8], from: usize) -> usize {

@@ -9,5 +9,5 @@ invariant-loop-position g l = record {
       g.B.Buffer.limit l.input.bytes.now) (g.P.CountedPerform.value_of l.initial.performer) l.from l.position l.fn.begun
       l.unfinished l.self;
   same : g.P.CountedPerform.value_of l.performer ≡ g.P.CountedPerform.value_of l.initial.performer;
-  spends : SpendsWithin 1 0 0 l.input.bytes.now l.from l.position l.initial.self l.self l.initial.looks l.looks;
+  spends : SpendsWithin 1 0 0 l.input.bytes.now l.from l.position l.initial.self l.self l.initial.reader l.reader;
 }

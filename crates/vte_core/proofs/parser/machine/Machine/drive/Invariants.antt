@@ -9,7 +9,7 @@ invariant-loop-position g l = record {
       g.B.Buffer.limit l.input.bytes.now) (g.P.CountedPerform.value_of l.fn.performer)
       (g.P.CountedPerform.value_of l.performer) stream l.position l.self;
   settled : l.position < length l.input.bytes.now → IsSettled l.self.state;
-  spends : SpendsWithin 5 0 2 l.input.bytes.now 0 l.position l.fn.self l.self l.fn.looks l.looks;
+  spends : SpendsWithin 5 0 2 l.input.bytes.now 0 l.position l.fn.self l.self l.fn.reader l.reader;
 }
 
 abbrev pub decreases-loop-position : goal.decreases-loop-position

@@ -11,7 +11,7 @@ invariant-loop-position g l = record {
   settled : l.position < length l.input.bytes.now → IsSettled l.self.state;
   outside_runs : (stream : List ℕ) → HasReadWithLimit g.B.Buffer.limit l.fn.self stream
       → TellsOutsideRuns g.B.Buffer.limit stream l.input.bytes.now l.position;
-  spends : SpendsWithin 7 0 2 l.input.bytes.now 0 l.position l.fn.self l.self l.fn.looks l.looks;
+  spends : SpendsWithin 7 0 2 l.input.bytes.now 0 l.position l.fn.self l.self l.fn.reader l.reader;
 }
 
 abbrev pub decreases-loop-position : goal.decreases-loop-position

@@ -11,5 +11,5 @@ invariant-loop-position g l = record {
   may_go_on : MayGoOn (chunk_call (not (eqb g.row.MAY_STOP 0)) g.P.CountedPerform.step g.P.CountedPerform.is_terminated
       g.B.Buffer.limit l.input.bytes.now) (g.P.CountedPerform.value_of l.performer);
   begun : l.self.state ≡ EscapeIntermediate;
-  spends : SpendsWithin 1 0 0 l.input.bytes.now l.from l.position l.initial.self l.self l.initial.looks l.looks;
+  spends : SpendsWithin 1 0 0 l.input.bytes.now l.from l.position l.initial.self l.self l.initial.reader l.reader;
 }

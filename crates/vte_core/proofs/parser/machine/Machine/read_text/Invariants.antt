@@ -37,8 +37,8 @@ abbrev pub invariant-loop-position-2 : goal.invariant-loop-position-2
 invariant-loop-position-2 g l = record {
   stands : StandsInText g l.input.bytes.now (g.P.CountedPerform.value_of l.fn.performer)
       (g.P.CountedPerform.value_of l.performer) l.from l.position l.fn.self l.self;
-  spends : SpendsInText g l.input.bytes.now l.front.bytes.now l.from l.position l.fn.self l.self (looked l.fn.looks)
-      (looked l.looks);
+  spends : SpendsInText g l.input.bytes.now l.front.bytes.now l.from l.position l.fn.self l.self (looked l.fn.reader)
+      (looked l.reader);
   moves : l.initial.position ≤ l.position;
   progress : l.initial.position ≡ l.position → l.position < length l.front.bytes.now;
 }
@@ -50,8 +50,8 @@ abbrev pub invariant-loop-position : goal.invariant-loop-position
 invariant-loop-position g l = record {
   stands : StandsInText g l.input.bytes.now (g.P.CountedPerform.value_of l.fn.performer)
       (g.P.CountedPerform.value_of l.performer) l.from l.position l.fn.self l.self;
-  spends : SpendsInText g l.input.bytes.now l.front.bytes.now l.from l.position l.fn.self l.self (looked l.fn.looks)
-      (looked l.looks);
+  spends : SpendsInText g l.input.bytes.now l.front.bytes.now l.from l.position l.fn.self l.self (looked l.fn.reader)
+      (looked l.reader);
   front : length l.front.bytes.now ≤ length l.input.bytes.now;
   all : g.G.Grain.IN_RUNS ≡ true → length l.front.bytes.now ≡ length l.input.bytes.now;
   same : (k : ℕ) → k < length l.front.bytes.now → slice_index l.front.bytes.now k ≡ slice_index l.input.bytes.now k;

@@ -14,8 +14,8 @@ invariant-loop-byte g l = record {
       (g.P.CountedPerform.value_of l.performer) (Text Nothing) l.self l.position l.byte;
   other : is_in (from_to 0x20 0x7f) l.byte ≡ false;
   lone : is_in (from_to 0xc2 0xf4) l.byte ≡ false;
-  spends : SpendsWithin 3 0 1 l.input.bytes.now l.from l.position l.fn.self l.self l.fn.looks l.looks;
-  seen : looked l.fn.looks + l.position + 1 ≤ looked l.looks + l.from;
+  spends : SpendsWithin 3 0 1 l.input.bytes.now l.from l.position l.fn.self l.self l.fn.reader l.reader;
+  seen : looked l.fn.reader + l.position + 1 ≤ looked l.reader + l.from;
 }
 
 abbrev pub decreases-loop-byte : goal.decreases-loop-byte

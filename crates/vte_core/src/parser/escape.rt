@@ -200,7 +200,8 @@ impl<B: Buffer> Machine<B> {
     )
         ensures { Dispatches P.step (P.value_of performer.old) (P.value_of performer.new)
             (EscDispatch self.old.collected.intermediates.items
-            self.old.collected.too_many_intermediates byte) self.old self.new reader.old reader.new }
+            self.old.collected.too_many_intermediates byte)
+            self.old self.new reader.old reader.new }
     {
         performer.esc_dispatch(reader, &self.collected, byte);
         self.state = State::Text(Unfinished::Nothing);

@@ -26,8 +26,8 @@ impl<B: Buffer> Machine<B> {
             (P.value_of performer.old) (P.value_of performer.new) from (read_count result) self.old
             self.new }
         ensures moves { IfOk result
-            (λ read.
-            MovesWithin 5 0 input.entry.bytes.now from read self.old self.new reader.old reader.new) }
+            (λ read. MovesWithin 5 0 input.entry.bytes.now from read self.old self.new
+            reader.old reader.new) }
         ensures refuses { IfErr result
             (λ refused.
             Refuses (chunk_call MAY_STOP P.step P.is_terminated B.limit input.entry.bytes.now)

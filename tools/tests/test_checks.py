@@ -190,8 +190,8 @@ def differences(source, written, place="c/mod.rs", **given):
     write("crates/c/src/lib.rt", source)
     rules = {"c/lib": [("one()", "two()")]}
     plan = Plan(folder="w", modules={"c": "crate::c"}, rules=rules, **given)
-    made = {"mod.rs": "", place: written}
-    status, said = Tool("check_erased", PLANS=(plan,), write_crate=lambda *_: made).run()
+    write(f"w/{place}", written)
+    status, said = Tool("check_erased", PLANS=(plan,)).run()
     *found, last = said.splitlines()
     assert status == (1 if found else 0)
     assert last == f"{len(found)} differences between the proved sources and rust/"
@@ -213,6 +213,7 @@ def differences(source, written, place="c/mod.rs", **given):
     ("fn f<const N: u8>() -> *const u8 { N }", "fn f<const N: u8>() -> *const u8 { N }", []),
     ("fn f() { one(); g(&mut self.reader, Input::new(a), input.up_to(b)); }",
      "fn f() { two(); g(self.reader, a, up_to(input, b)); }", []),
+    ("fn f() { match a { A => b(1), _ => c } }", "fn f() { match a { A => { b(1) } _ => c, } }", []),
     ("fn f() { input.up_to(a); }", "fn f() { up_to(input, b); }",
      ["fn f: { up_to ( input , b ) ; }", "fn f"]),
 ])
@@ -227,7 +228,8 @@ def test_all_files_are_compared():
     for place in "a/b", "laws/a", "tests":
         write(f"crates/c/src/{place}.rt", "fn f() {}")
     assert differences("", "") == ["c/a/b fn f: it isn't written"]
-    assert differences("", "", "c/d.rs", dropped_files={"c/a"}) == ["w/c/d.rs: it has no source"]
+    found = differences("", "", "c/d.rs", dropped_files={"c/a"})
+    assert found == ["w/c/d.rs: it has no source"]
 
 
 def test_what_the_plan_drops_may_be_left_out():

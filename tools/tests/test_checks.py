@@ -213,7 +213,8 @@ def differences(source, written, place="c/mod.rs", **given):
     ("fn f<const N: u8>() -> *const u8 { N }", "fn f<const N: u8>() -> *const u8 { N }", []),
     ("fn f() { one(); g(&mut self.reader, Input::new(a), input.up_to(b)); }",
      "fn f() { two(); g(self.reader, a, up_to(input, b)); }", []),
-    ("fn f() { match a { A => b(1), _ => c } }", "fn f() { match a { A => { b(1) } _ => c, } }", []),
+    ("fn f() { match a { A => b(1), _ => c } }",
+     "fn f() { match a { A => { b(1) } _ => c, } }", []),
     ("fn f() { input.up_to(a); }", "fn f() { up_to(input, b); }",
      ["fn f: { up_to ( input , b ) ; }", "fn f"]),
 ])

@@ -30,7 +30,7 @@ color_calls prefix index terminator text =
     if bytes_eq text (codes "?") then call.DynamicColorSequence prefix index terminator ∷ []
     else for_some (λ color. call.SetColor index color) (xparse_color_of text)
 
--- 4: an index and a colour
+-- 4: colours of the palette, each an index and a text
 abbrev pub palette_entry_calls : List ℕ → Option ℕ → List ℕ → List Call
 palette_entry_calls terminator None text = []
 palette_entry_calls terminator (Some index) text =
@@ -47,7 +47,7 @@ abbrev pub palette_calls : List ℕ → List (List ℕ) → List Call
 palette_calls terminator texts =
     if length texts % 2 == 0 then palette_entries_calls terminator texts else []
 
--- 8: the text after `id=` in the first part that starts with it
+-- 8: a link. Its identity is the text after `id=` in the first part that starts with it.
 abbrev pub id_of : List ℕ → Option (List ℕ)
 id_of parameters =
     option_and_then (text_in false) (first_after (codes "id=") (parts_of 0x3a parameters))
@@ -62,7 +62,7 @@ link_calls (parameters ∷ []) = []
 link_calls (parameters ∷ text ∷ texts) =
     call.SetHyperlink (link_to parameters (joined_texts true (text ∷ texts))) ∷ []
 
--- 10, 11, 12: further colours are for the next ones
+-- 10, 11, 12: the dynamic colours. Further texts are for the next ones.
 abbrev pub dynamic_colors : List (Row NamedColor)
 dynamic_colors = (10, Foreground) ∷ (11, Background) ∷ (12, Cursor) ∷ []
 
@@ -77,12 +77,12 @@ dynamic_calls code terminator (text ∷ texts) =
     dynamic_color_calls code terminator text (entry_of dynamic_colors code)
     ++ dynamic_calls (code + 1) terminator texts
 
--- 22
+-- 22: the pointer's icon, by its keyword
 abbrev pub pointer_calls : List (List ℕ) → List Call
 pointer_calls (name ∷ []) = for_some (λ icon. call.SetMouseCursorIcon icon) (icon_of name)
 pointer_calls _ = []
 
--- 50: anything after the number is ignored
+-- 50: the cursor's shape, by the first byte after `CursorShape=`
 abbrev pub shapes : List (Row CursorShape)
 shapes = (0x30, shape.Block) ∷ (0x31, shape.Beam) ∷ (0x32, shape.Underline) ∷ []
 
@@ -97,7 +97,7 @@ shape_calls (text ∷ texts) =
     for_some (λ shape. call.SetCursorShape shape)
     (shape_after (after_word (codes "CursorShape=") text))
 
--- 52: the first byte selects the clipboard, `c` if there is none
+-- 52: the clipboard. The first byte selects it, `c` if there is none.
 abbrev pub clipboard_of : List ℕ → ℕ
 clipboard_of [] = 0x63
 clipboard_of (byte ∷ bytes) = byte
@@ -109,7 +109,7 @@ clipboard_calls terminator (name ∷ stored ∷ more) =
     (if bytes_eq stored (codes "?") then call.ClipboardLoad (clipboard_of name) terminator
     else call.ClipboardStore (clipboard_of name) stored) ∷ []
 
--- 104: without an index all colours are reset
+-- 104: colours of the palette are reset, all of them without an index
 unfoldable pub all_reset : List Call
 all_reset = map (λ index. call.ResetColor index) (range_with_len 0 256)
 

@@ -52,6 +52,7 @@ abbrev pub charset_calls : Option CharsetIndex → Option StandardCharset → Li
 charset_calls (Some index) (Some charset) = call.ConfigureCharset index charset ∷ []
 charset_calls _ _ = []
 
+-- `ESC # 8` is DECALN.
 abbrev pub escape_calls : List ℕ → ℕ → List Call
 escape_calls [] byte = unwrap_or (entry_of escape_rows byte) []
 escape_calls (intermediate ∷ []) byte =

@@ -69,7 +69,7 @@ module _ {V : Type 0} (step : V → Event → V) (is_terminated : V → Bool) (o
   pub record StopsExactly (new : V) (n : ℕ) : Type 0 where
     pub comes : ComesTo new n
     pub stops : n < length bytes → is_terminated new ≡ true
-    -- as `comes` says, too
+    -- What `comes` says of the end of the bytes, for callers that need no more.
     pub all : n ≡ length bytes → new ≡ after step old (added limit stream bytes)
 
 -- No character of a run terminates a performer.

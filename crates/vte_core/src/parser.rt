@@ -177,7 +177,7 @@ impl<const OSC_RAW_BUF_SIZE: usize> Parser<OSC_RAW_BUF_SIZE> {
         // If not, it goes on as a new parser, and more bytes give what they give on their own.
         ensures closed { result ≡ false → (stream : List ℕ) → HasRead self.now stream
             → HasRead self.now [] × IsFinished (Some OSC_RAW_BUF_SIZE) stream }
-        // If so, more bytes give something else than on their own.
+        // If so, some bytes give something else than on their own: a `0`.
         ensures opens { result ≡ true → (stream : List ℕ) → HasRead self.now stream
             → IsUnfinished (Some OSC_RAW_BUF_SIZE) stream }
     {

@@ -73,7 +73,8 @@ impl<P: EventParser + Drop, B: TextBuffer + Drop, T: Timeout + Drop, A: Allocato
             self.old self.new (H.value_of handler.old) (H.value_of handler.new) bytes.now result }
     {
         let mut read = 0;
-        // Each turn reads at least one byte.
+        // A `for`: each turn reads at least one byte, but that is known only at a state. So a
+        // `while` would have no measure.
         for _turn in 0..bytes.len() {
             match self.turn::<H, G>(handler, &bytes[read..]) {
                 Ok(count) => read += count,

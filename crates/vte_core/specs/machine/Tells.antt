@@ -7,9 +7,9 @@ use Rattle.vte_core.specs.Perform.{after}
 
 -- The performer received the event, which counts one look.
 pub record Tells {V B : Type 0} (step : V → Event → V) (old new : V) (event : Event)
-    (before after : Reader B) : Type 0 where
+    (earlier later : Reader B) : Type 0 where
   pub value : new ≡ step old event
-  pub count : looked after ≡ looked before + 1
+  pub count : looked later ≡ looked earlier + 1
 
 -- The performer received the events, which count `many` looks.
 pub record TellsAll {V B : Type 0} (step : V → Event → V) (old new : V) (events : List Event)

@@ -214,7 +214,7 @@ impl<A: Allocator> LongParser<A> {
         // If not, it goes on as a new parser, and more bytes give what they give on their own.
         ensures closed { result ≡ false → (stream : List ℕ) → HasReadLong self.now stream
             → HasReadLong self.now [] × IsFinished None stream }
-        // If so, more bytes give something else than on their own.
+        // If so, some bytes give something else than on their own: a `0`.
         ensures opens { result ≡ true → (stream : List ℕ) → HasReadLong self.now stream
             → IsUnfinished None stream }
     {

@@ -19,7 +19,8 @@ pub(crate) fn ends_body(byte: u8) -> bool {
     byte == 0x18 || byte == 0x1a || byte == ESCAPE
 }
 
-/// Returns whether a byte is surely none of CAN, SUB and ESC, by one comparison: not one of 18..1B.
+/// Returns whether a byte is surely none of CAN, SUB and ESC, because it isn't one of 18..1B, which
+/// compilers test by one comparison.
 pub(crate) fn cannot_end(byte: u8) -> bool {
     byte < 0x18 || byte > ESCAPE
 }

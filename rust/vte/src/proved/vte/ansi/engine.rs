@@ -51,7 +51,8 @@ impl<P: EventParser, B: TextBuffer, T: Timeout> Engine<P, B, T> {
         bytes: &[u8],
     ) -> Result<(), Refused> {
         let mut read = 0;
-        // Each turn reads at least one byte.
+        // A `for`: each turn reads at least one byte, but that is known only at a state. So a
+        // `while` would have no measure.
         for _turn in 0..bytes.len() {
             match self.turn::<H, G>(handler, &bytes[read..]) {
                 Ok(count) => read += count,

@@ -1,8 +1,12 @@
 -- From a text or a body to a whole stream: laws of streams.
+
+-- What is unfinished, whatever the limit, and which events no run tells.
 pub mod OpenEnds
-pub mod QuietEvents
+pub mod OutsideRuns
+-- From a byte to bytes, and from the place after a stream to that after more of it.
 pub mod Performing
 pub mod After
 pub mod StreamSteps
+-- The data of commands, and streams that go on after a broken character.
 pub mod CommandSizes
 pub mod Resuming

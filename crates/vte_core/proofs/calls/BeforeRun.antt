@@ -5,7 +5,7 @@ use Rattle.vte_core.specs.machine.Completes.{AddsCharacter}
 use Rattle.vte_core.proofs.calls.CallEnds.{starts-at}
 use Rattle.vte_core.proofs.calls.AddedEvents.{keeping, told-at}
 use Rattle.vte_core.proofs.streams.After.{added-nothing}
-use Rattle.vte_core.proofs.streams.QuietEvents.{prints_no_ascii, prints_no_ascii-all, prints_no_ascii-character}
+use Rattle.vte_core.proofs.streams.OutsideRuns.{prints_no_ascii, prints_no_ascii-all, prints_no_ascii-character}
 
 -- nothing, at its start
 pub tells-nothing : {B : Type 0} {limit : Option ℕ} {stream bytes : List ℕ} {parser : Machine B}

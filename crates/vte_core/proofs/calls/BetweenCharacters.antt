@@ -11,7 +11,7 @@ use Rattle.vte_core.proofs.calls.Stretches.{advances-byte, advances-telling, not
 use Rattle.vte_core.specs.machine.Prelude.{MayReadByte}
 use Rattle.vte_core.proofs.calls.States.{place-settled_text}
 use Rattle.vte_core.proofs.places.PlaceLeads.{text-lone, text-unfinished, text-whole}
-use Rattle.vte_core.proofs.streams.QuietEvents.{quiet-control}
+use Rattle.vte_core.proofs.streams.OutsideRuns.{quiet-control}
 use Rattle.vte_core.proofs.calls.AddedEvents.{adds-reads}
 use Rattle.vte_core.proofs.places.StreamLemmas.{reads-byte}
 

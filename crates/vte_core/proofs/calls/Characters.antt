@@ -7,7 +7,7 @@ use Rattle.vte_core.proofs.bytes.CarriedLemmas.{second-open, third-open}
 use Rattle.vte_core.specs.machine.Completes.{Completes}
 use Rattle.vte_core.proofs.calls.InsideCharacters.{carried-broken, carried-more, carried-whole, in_text, inside-open, inside-same, unfinished-some, truncated-some}
 use Rattle.vte_core.proofs.calls.CallEnds.{inside-all, inside-moved}
-use Rattle.vte_core.proofs.streams.QuietEvents.{length-longer}
+use Rattle.vte_core.proofs.streams.OutsideRuns.{length-longer}
 use Rattle.vte_core.proofs.calls.AddedEvents.{added-inside, keeps-inside, told-at, keeping}
 use Rattle.vte_core.proofs.streams.Performing.{open_truncated}
 use Rattle.std.proofs.lemmas.List.{drop-drop}

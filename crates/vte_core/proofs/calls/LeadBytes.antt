@@ -5,7 +5,7 @@ use Rattle.vte_core.specs.machine.Prelude.{Completes, MayReadByte}
 use Rattle.vte_core.proofs.bytes.CarriedLemmas.{first_truncated}
 use Rattle.vte_core.proofs.calls.CallEnds.{settled-by}
 use Rattle.vte_core.proofs.calls.Stretches.{reads-byte_at}
-use Rattle.vte_core.proofs.streams.QuietEvents.{quiet-control}
+use Rattle.vte_core.proofs.streams.OutsideRuns.{quiet-control}
 use Rattle.vte_core.proofs.calls.AddedEvents.{added-inside, adds-character, keep, keeps-at, keeping}
 use Rattle.vte_core.proofs.calls.BetweenCharacters.{performs-opened}
 use Rattle.vte_core.proofs.calls.InsideCharacters.{in_text}

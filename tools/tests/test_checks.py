@@ -294,13 +294,26 @@ def test_mutants_stand_once(crate):
 ])
 def test_verdicts(crate, tmp_path_factory, said, status, line):
     mutant = write("tools/mutants/c/m.edit", MUTANT.replace("abc1234 by goal", "abc1200 by old"))
-    told = SimpleNamespace(stdout=f"rt: must-fail c/m.edit: {said}\n")
-    ran = SimpleNamespace(run=lambda *_, **__: told, check_output=lambda *_, **__: "abc1234\n",
-                          DEVNULL=None, PIPE=None)
     copy = tmp_path_factory.mktemp("copy")
-    assert Tool("mutate", subprocess=ran).run(str(copy))[0] == status
+    assert mutate(f"rt: must-fail c/m.edit: {said}\n", str(copy)) == status
     assert [file.name for file in copy.rglob("*.edit")] == ["m.edit"]
     assert mutant.read_text().splitlines()[-1] == line
+
+
+def mutate(said, *words):
+    told = SimpleNamespace(stdout=said)
+    ran = SimpleNamespace(run=lambda *_, **__: told, check_output=lambda *_, **__: "abc1234\n",
+                          DEVNULL=None, PIPE=None)
+    return Tool("mutate", subprocess=ran).run(*words)[0]
+
+
+def test_mutants_are_chosen_by_name(crate, tmp_path_factory):
+    for name in "mn":
+        write(f"tools/mutants/c/{name}.edit", MUTANT)
+    copy = tmp_path_factory.mktemp("copy")
+    said = "rt: must-fail c/n.edit: refused, as it must be: `x-y`: why (`x`)\n"
+    assert mutate(said, str(copy), "c/n", "c/n") == 0
+    assert [file.name for file in copy.rglob("*.edit")] == ["n.edit"]
 
 
 # ---- erase
@@ -377,6 +390,7 @@ PROGRAMS = {
     ("unknown", "", "", 2, "test: no part is named unknown"),
     ("first unknown", "", "", 2, "test: no part is named unknown"),
     ("fir.t", "", "", 2, "test: no part is named fir.t"),
+    ("bash", "", "", 2, "test: no part is named bash"),
 ])
 def test_what_is_run_and_listed(folder, words, fails, ran, status, last):
     text = (TOOLS / "test").read_text()

@@ -1,6 +1,5 @@
 // Written by tools/erase from crates/vte_core/src/scan.rt: edit that one.
-//! The only module that reads input bytes, and the only way to report events. It counts both, for
-//! contracts alone.
+//! The only module that reads input bytes, and the only way to report events.
 
 mod counted_perform;
 mod grain;
@@ -20,7 +19,8 @@ pub use grain::{InRuns, Singly};
 pub use taken::{Run, Taken};
 pub(crate) use taken::{RunKind, RunRange};
 
-/// Reads input bytes and reports events, and counts both as looks. It has no bytes at run time.
+/// Reads input bytes and reports events. It has no bytes: only Rattle's contracts need its
+/// count.
 #[derive(Clone, Copy)]
 pub(crate) struct Reader {}
 
@@ -64,7 +64,7 @@ pub(crate) fn take_run(input: &[u8], range: RunRange) -> Run<'_> {
 }
 
 impl Reader {
-    /// Creates a reader that has taken no looks, for a parser with a limit.
+    /// Creates a reader for a parser with a limit.
     pub(crate) fn for_limited() -> Self {
         Reader::none()
     }
@@ -72,7 +72,7 @@ impl Reader {
 
 #[cfg(any(feature = "std", feature = "ansi"))]
 impl Reader {
-    /// Creates a reader that has taken no looks, for a parser without a limit.
+    /// Creates a reader for a parser without a limit.
     #[inline]
     pub(crate) fn for_long() -> Self {
         Reader::none()
@@ -84,7 +84,7 @@ impl Reader {
         Reader {}
     }
 
-    /// Counts looks.
+    /// Only Rattle's contracts count.
     fn add(self, count: usize) {
         let _ = count;
     }
@@ -130,7 +130,7 @@ impl Reader {
         }
     }
 
-    /// Tells the data that stand from one position to another, which counts them.
+    /// Tells the data that stand from one position to another.
     #[inline(always)]
     pub(crate) fn tell_data<P: CountedPerform<G>, G>(
         self,

@@ -51,8 +51,7 @@ impl<P: EventParser, B: TextBuffer, T: Timeout> Engine<P, B, T> {
         bytes: &[u8],
     ) -> Result<(), Refused> {
         let mut read = 0;
-        // A `for`: each turn reads at least one byte, but that is known only at a state. So a
-        // `while` would have no measure.
+        // Each turn reads at least one byte.
         for _turn in 0..bytes.len() {
             match self.turn::<H, G>(handler, &bytes[read..]) {
                 Ok(count) => read += count,

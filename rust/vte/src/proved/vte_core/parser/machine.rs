@@ -6,8 +6,7 @@ use crate::proved::vte_core::head::Collected;
 use crate::proved::vte_core::parser::{State, Unfinished};
 use crate::proved::vte_core::store::Store;
 
-/// A parser without its reader, over any buffer for operating system commands. The state
-/// functions are its methods.
+/// A parser over any buffer for operating system commands. The state functions are its methods.
 #[derive(Clone)]
 pub(crate) struct Machine<B: Buffer> {
     pub(crate) state: State,

@@ -1,12 +1,12 @@
 // Written by tools/erase from crates/vte_core/src/scan/counted_perform.rt: edit that one.
-//! Performers that count each event as it is reported.
+//! Performers, as the functions of a parser see them.
 
 use crate::proved::vte_core::head::Collected;
 use crate::proved::vte_core::perform::Perform;
 use crate::proved::vte_core::scan::grain::PerformAs;
 use crate::proved::vte_core::scan::Reader;
 
-/// A performer, as the functions of a parser see it. Each event counts one.
+/// A performer, as the functions of a parser see it.
 pub(crate) trait CountedPerform<G> {
     /// Returns whether HT, LF and CR come as text.
     fn keeps_layout(&self) -> bool;

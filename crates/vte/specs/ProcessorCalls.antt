@@ -148,7 +148,7 @@ pub record ReadsInTurns {V W : Type 0} (meaning : Meaning V W) (Before After : S
     (old new : V) (bytes : List ℕ) : Type 0 where
   pub advances : (state : State V W) → IsAt Before old state
       → HasAdvanced meaning state bytes (IsAt After new)
-  -- With a timeout that is never pending, nothing is held.
+  -- With a timeout that is never pending, all bytes are parsed if nothing was held.
   pub plain : IsNeverPending meaning.timeout.allows → ParsesAll meaning Before After old new bytes
 
 -- `replay`

@@ -7,7 +7,7 @@ use Rattle.vte_core.specs.machine.ToRun.{IsReadOutsideRuns}
 use Rattle.vte_core.proofs.calls.Progress.{stretch-added}
 use Rattle.vte_core.proofs.fields.PlaceOfState.{IsPlace}
 use Rattle.vte_core.proofs.places.PlaceSteps.{steps}
-use Rattle.vte_core.proofs.places.TextSteps.{AreQuietEvents, IsQuietAt}
+use Rattle.vte_core.proofs.places.TextSteps.{AreOutsideRuns, IsOutsideRunsAt}
 use Rattle.vte_core.proofs.shapes.Told.{told-settled, told-broken}
 use Rattle.vte_core.proofs.bytes.EachLemmas.{one_byte}
 use Rattle.vte_core.proofs.streams.After.{added-reads}
@@ -54,14 +54,14 @@ added-inside s = kept-is s.has_come
 
 -- ---- a byte outside of text and data
 
-quiet-all : (events : List Event) → AreQuietEvents events → All IsOutsideRuns events
-quiet-all [] are = All-nil IsOutsideRuns
-quiet-all (event ∷ []) are = All-cons IsOutsideRuns event [] are (All-nil IsOutsideRuns)
-quiet-all (event ∷ next ∷ events) are = All-cons IsOutsideRuns event (next ∷ events) are.0
-    (quiet-all (next ∷ events) are.1)
+outside_runs-all : (events : List Event) → AreOutsideRuns events → All IsOutsideRuns events
+outside_runs-all [] are = All-nil IsOutsideRuns
+outside_runs-all (event ∷ []) are = All-cons IsOutsideRuns event [] are (All-nil IsOutsideRuns)
+outside_runs-all (event ∷ next ∷ events) are = All-cons IsOutsideRuns event (next ∷ events) are.0
+    (outside_runs-all (next ∷ events) are.1)
 
 pub outside_runs-place : {B : Type 0} (limit : Option ℕ) (state : State) (parser : Machine B) (place : Place) (b : ℕ)
-    → IsReadOutsideRuns state b → StandsBy limit state parser place → IsQuietAt place b
+    → IsReadOutsideRuns state b → StandsBy limit state parser place → IsOutsideRunsAt place b
 outside_runs-place limit (Text u) parser place b outside s = absurd outside
 outside_runs-place limit DeviceData parser InDeviceData b outside s = outside
 outside_runs-place limit _ parser (InText u) b outside s = absurd s
@@ -123,10 +123,10 @@ module _ {limit : Option ℕ} {stream bytes : List ℕ} {i : ℕ} where
 
   pub adds-outside_runs : {b : ℕ} {place : Place} → i < length bytes
       → b ≡ slice_index bytes i → IsAfter limit (resumed_stream stream bytes i) place
-      → IsPlace place → IsQuietAt place b → AddsOutsideRuns limit stream bytes i (i + 1)
+      → IsPlace place → IsOutsideRunsAt place b → AddsOutsideRuns limit stream bytes i (i + 1)
   adds-outside_runs {b} {place} within is a is_place outside =
       let s = steps is_place in
-      adds-reads within is a s.reads s.is_place (quiet-all s.told (s.outside_runs outside))
+      adds-reads within is a s.reads s.is_place (outside_runs-all s.told (s.outside_runs outside))
 
   -- what is told of a character whose first byte told nothing
   pub adds-character : {begun : List ℕ} {j : ℕ} (a : AddsCharacter limit stream begun bytes (i + 1) j)

@@ -11,7 +11,7 @@ use Rattle.vte_core.proofs.calls.Stretches.{advances-byte, advances-telling, not
 use Rattle.vte_core.specs.machine.Prelude.{MayReadByte}
 use Rattle.vte_core.proofs.calls.States.{place-settled_text}
 use Rattle.vte_core.proofs.places.PlaceLeads.{text-lone, text-unfinished, text-whole}
-use Rattle.vte_core.proofs.streams.OutsideRuns.{quiet-control}
+use Rattle.vte_core.proofs.streams.OutsideRuns.{outside_runs-control}
 use Rattle.vte_core.proofs.calls.AddedEvents.{adds-reads}
 use Rattle.vte_core.proofs.places.StreamLemmas.{reads-byte}
 
@@ -95,9 +95,9 @@ record Single (limit : Option ℕ) (b : ℕ) : Type 0 where
   reads : BytesLead limit (InText []) (b ∷ []) told (InText [])
   events_are : All IsOutsideRuns told
 
-quiet-malformed : (b : ℕ) → All IsOutsideRuns (malformed_event (b ∷ []) ∷ [])
+outside_runs-malformed : (b : ℕ) → All IsOutsideRuns (malformed_event (b ∷ []) ∷ [])
 unfolding malformed_event
-quiet-malformed b = elim (cases_Bool (is_control_character b)) [
+outside_runs-malformed b = elim (cases_Bool (is_control_character b)) [
   | inl is ↦ rw is (All-cons IsOutsideRuns (Execute b) [] tt (All-nil IsOutsideRuns))
   | inr is ↦ rw is (All-cons IsOutsideRuns (Print replacement) [] refl (All-nil IsOutsideRuns))
 ]
@@ -111,7 +111,7 @@ byte-single limit b n other no_lead = elim (cases_lt b 0x80) [
     reads =
         reads-byte (not_escape b n)
         (text-whole (ascii-alone b low).is_whole);
-    events_are = quiet-control b (grind (arith, nat_tests));
+    events_are = outside_runs-control b (grind (arith, nat_tests));
   }
   | inr high ↦
       let lone = begins_none b high no_lead in
@@ -120,7 +120,7 @@ byte-single limit b n other no_lead = elim (cases_lt b 0x80) [
         reads =
             reads-byte (not_escape b n)
             (text-lone lone.is_whole lone.is_open);
-        events_are = quiet-malformed b;
+        events_are = outside_runs-malformed b;
       }
 ]
 

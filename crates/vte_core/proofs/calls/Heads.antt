@@ -148,9 +148,9 @@ head-settled_place : (shape : Shape) (head : List ℕ) → IsSettledPlace (in_he
 head-settled_place ControlHead head = tt
 head-settled_place DeviceHead head = tt
 
-head-quiet : (shape : Shape) (progress : HeadProgress) (b : ℕ) → IsReadOutsideRuns (state_of shape progress) b
-head-quiet ControlHead progress b = tt
-head-quiet DeviceHead progress b = tt
+head-outside_runs : (shape : Shape) (progress : HeadProgress) (b : ℕ) → IsReadOutsideRuns (state_of shape progress) b
+head-outside_runs ControlHead progress b = tt
+head-outside_runs DeviceHead progress b = tt
 
 head-settled : (shape : Shape) (progress : HeadProgress) → IsSettled (state_of shape progress)
 head-settled ControlHead progress = tt
@@ -229,7 +229,7 @@ module _ {V : Type 0} {call : ChunkCall V} where
   advances-past_head {B} {progress} {parser} {held} shape begun reads at may_go_on performs settled =
       let head : Machine B = record { state = state_of shape progress; collected = held; command = parser.command } in
       advances-then (advances-head {next = head} shape begun reads may_go_on refl)
-      (advances-when (head-quiet shape progress _) (advances-byte at.0 at.1 may_go_on performs settled))
+      (advances-when (head-outside_runs shape progress _) (advances-byte at.0 at.1 may_go_on performs settled))
 
 -- a byte other than CAN, SUB and ESC there
 pub performs-head : {V B : Type 0} {step : V → Event → V} {old new : V} {limit : Option ℕ} {b : ℕ}

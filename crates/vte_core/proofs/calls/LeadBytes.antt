@@ -5,7 +5,7 @@ use Rattle.vte_core.specs.machine.Prelude.{Completes, MayReadByte}
 use Rattle.vte_core.proofs.bytes.CarriedLemmas.{first_truncated}
 use Rattle.vte_core.proofs.calls.CallEnds.{settled-by}
 use Rattle.vte_core.proofs.calls.Stretches.{reads-byte_at}
-use Rattle.vte_core.proofs.streams.OutsideRuns.{quiet-control}
+use Rattle.vte_core.proofs.streams.OutsideRuns.{outside_runs-control}
 use Rattle.vte_core.proofs.calls.AddedEvents.{added-inside, adds-character, keep, keeps-at, keeping}
 use Rattle.vte_core.proofs.calls.BetweenCharacters.{performs-opened}
 use Rattle.vte_core.proofs.calls.InsideCharacters.{in_text}
@@ -38,6 +38,6 @@ advances-first {call} {i} {first} {parser} r lead fits completes = record {
             ∙ ap (take (suc whole.n)) (drop_more call.bytes i 0 r.within)
             ∙ ap (λ x. x ∷ take whole.n (drop (i + 1) call.bytes)) (sym r.looked_at) in
             let control = rw cut at (given.1 (whole.n + 1) (omega (arith, whole.far)) (rw cut whole.well)) in
-            subst (All IsOutsideRuns) (sym whole.same) (quiet-control _ control)
+            subst (All IsOutsideRuns) (sym whole.same) (outside_runs-control _ control)
       ]);
 }

@@ -13,7 +13,7 @@ use Rattle.vte_core.proofs.places.PlaceLeads.{escape-key, escape-intermediate, e
 use Rattle.vte_core.proofs.fields.PlaceOfState.{IsPlace}
 use Rattle.vte_core.proofs.fields.KeptItems.{few_pieces, pieces_push, some_pieces}
 use Rattle.vte_core.proofs.places.StreamLemmas.{reads-byte, reads-escape, no_escape, cancel_is_no_escape}
-use Rattle.vte_core.proofs.places.TextSteps.{AreQuietEvents, FitsLeft, IsLittle, IsQuietAt, IsText, Steps, step-text}
+use Rattle.vte_core.proofs.places.TextSteps.{AreOutsideRuns, FitsLeft, IsLittle, IsOutsideRunsAt, IsText, Steps, step-text}
 
 abbrev IsOutsideText : Place → Type 0
 IsOutsideText (InText u) = ⊥
@@ -49,7 +49,7 @@ no_escape-class b is no_end = no_escape b (rw is no_end)
 module _ {limit : Option ℕ} {place next : Place} {b : ℕ} where
   step-sequenced_by : {told : List Event} → eqb b escape ≡ false → Sequenced place next → Leads limit place b told next
       → ((size : Option ℕ) → FitsLeft size (left_at limit place) → AreFromOneByte size told)
-      → (IsQuietAt place b → AreQuietEvents told) → Steps limit place b
+      → (IsOutsideRunsAt place b → AreOutsideRuns told) → Steps limit place b
   step-sequenced_by {told} other known leads brief outside_runs =
       let none = nothing_open limit next known.1 in
       record {
@@ -68,7 +68,7 @@ module _ {limit : Option ℕ} {place next : Place} {b : ℕ} where
   step-sequenced : {told : List Event} {k : Class} → class_of b ≡ k → ends_body k ≡ false → Sequenced place next
       → Leads limit place b told next
       → ((size : Option ℕ) → FitsLeft size (left_at limit place) → AreFromOneByte size told)
-      → (IsQuietAt place b → AreQuietEvents told) → Steps limit place b
+      → (IsOutsideRunsAt place b → AreOutsideRuns told) → Steps limit place b
   step-sequenced is no_end = step-sequenced_by (no_escape-class _ is no_end)
 
   -- a byte that tells nothing
@@ -243,19 +243,19 @@ little-escape limit (InText (a ∷ u)) is text unbroken =
     absurd (false≢true (sym unbroken ∙ breaks-broken (a ∷ u) escape is tests.is_whole tests.is_open))
 little-escape limit _ is text unbroken = absurd text
 
-quiet-closing : (limit : Option ℕ) (place : Place) (b : ℕ) → IsQuietAt place b
-    → AreQuietEvents (closing_events_at limit place)
-quiet-closing limit (InText u) b outside = absurd outside
-quiet-closing limit InDeviceData b outside = tt
-quiet-closing limit (InSystemCommand items) b outside = tt
-quiet-closing limit _ b outside = tt
+outside_runs-closing : (limit : Option ℕ) (place : Place) (b : ℕ) → IsOutsideRunsAt place b
+    → AreOutsideRuns (closing_events_at limit place)
+outside_runs-closing limit (InText u) b outside = absurd outside
+outside_runs-closing limit InDeviceData b outside = tt
+outside_runs-closing limit (InSystemCommand items) b outside = tt
+outside_runs-closing limit _ b outside = tt
 
-quiet-cancel : (limit : Option ℕ) (place : Place) (b : ℕ) → IsQuietAt place b
-    → AreQuietEvents (closing_events_at limit place ++ Execute b ∷ [])
-quiet-cancel limit (InText u) b outside = absurd outside
-quiet-cancel limit InDeviceData b outside = (tt, tt)
-quiet-cancel limit (InSystemCommand items) b outside = (tt, tt)
-quiet-cancel limit _ b outside = tt
+outside_runs-cancel : (limit : Option ℕ) (place : Place) (b : ℕ) → IsOutsideRunsAt place b
+    → AreOutsideRuns (closing_events_at limit place ++ Execute b ∷ [])
+outside_runs-cancel limit (InText u) b outside = absurd outside
+outside_runs-cancel limit InDeviceData b outside = (tt, tt)
+outside_runs-cancel limit (InSystemCommand items) b outside = (tt, tt)
+outside_runs-cancel limit _ b outside = tt
 
 step-by_class : (limit : Option ℕ) (place : Place) (b : ℕ) (k : Class) → IsPlace place → class_of b ≡ k
     → Steps limit place b
@@ -270,12 +270,12 @@ step-by_class limit place b Escape placed is =
       grows = λ _. omega arith;
       leaves = inl refl;
       little = little-escape limit place placed;
-      outside_runs = quiet-closing limit place _;
+      outside_runs = outside_runs-closing limit place _;
     })
 step-by_class limit (InText u) b Cancel placed is = step-text limit u b (cancel_is_no_escape b is) placed
 step-by_class limit place b Cancel placed is =
     step-sequenced_by (cancel_is_no_escape b is) (tt, tt) (byte-cancels placed is)
-    (λ size fits. closing_brief limit size place b fits (spans b is)) (quiet-cancel limit place b)
+    (λ size fits. closing_brief limit size place b fits (spans b is)) (outside_runs-cancel limit place b)
 step-by_class limit place b k placed is = step-ordinary limit place b k placed is refl
 
 -- Each byte reports at most two events after each place, and leads to a next place.

@@ -33,15 +33,15 @@ text_left limit [] = refl
 text_left limit (a ∷ begun) = refl
 
 -- outside of a text, and of data that are put
-abbrev pub IsQuietAt : Place → ℕ → Type 0
-IsQuietAt (InText begun) byte = ⊥
-IsQuietAt InDeviceData byte = is_device_data (class_of byte) ≡ false
-IsQuietAt _ byte = Unit {0}
+abbrev pub IsOutsideRunsAt : Place → ℕ → Type 0
+IsOutsideRunsAt (InText begun) byte = ⊥
+IsOutsideRunsAt InDeviceData byte = is_device_data (class_of byte) ≡ false
+IsOutsideRunsAt _ byte = Unit {0}
 
-abbrev pub AreQuietEvents : List Event → Type 0
-AreQuietEvents [] = Unit {0}
-AreQuietEvents (event ∷ []) = IsOutsideRuns event
-AreQuietEvents (event ∷ events) = IsOutsideRuns event × AreQuietEvents events
+abbrev pub AreOutsideRuns : List Event → Type 0
+AreOutsideRuns [] = Unit {0}
+AreOutsideRuns (event ∷ []) = IsOutsideRuns event
+AreOutsideRuns (event ∷ events) = IsOutsideRuns event × AreOutsideRuns events
 
 -- what the byte tells after the place, and where it leads
 pub record Steps (limit : Option ℕ) (place : Place) (byte : ℕ) : Type 0 where
@@ -58,7 +58,7 @@ pub record Steps (limit : Option ℕ) (place : Place) (byte : ℕ) : Type 0 wher
   pub leaves : LeavesOpen next told
   pub little : IsText place → breaks (open_at place) (byte ∷ []) ≡ false → IsLittle next told
   -- for `advance_to_run`
-  pub outside_runs : IsQuietAt place byte → AreQuietEvents told
+  pub outside_runs : IsOutsideRunsAt place byte → AreOutsideRuns told
 
 little-is_short : (next : Place) (told : List Event) → IsLittle next told → IsAtMostOneShort told
 little-is_short next told little =

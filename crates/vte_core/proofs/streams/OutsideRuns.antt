@@ -24,9 +24,9 @@ prints_no_ascii-character c high = elim (cases_Bool (is_control_character c)) [
   | inr is ↦ rw is (All-cons PrintsNoAscii (Print c) [] high (All-nil PrintsNoAscii))
 ]
 
-pub quiet-control : (c : ℕ) → is_control_character c ≡ true → All IsOutsideRuns (character_event c ∷ [])
+pub outside_runs-control : (c : ℕ) → is_control_character c ≡ true → All IsOutsideRuns (character_event c ∷ [])
 unfolding character_event
-quiet-control c is = rw is (All-cons IsOutsideRuns (Execute c) [] tt (All-nil IsOutsideRuns))
+outside_runs-control c is = rw is (All-cons IsOutsideRuns (Execute c) [] tt (All-nil IsOutsideRuns))
 
 -- U+FFFD isn't ASCII
 prints_no_ascii-event : (event : Event) → IsOutsideRuns event → PrintsNoAscii event

@@ -24,7 +24,7 @@ loop-position-preserved-then-may_have_parameters g c =
       none = v.none;
     }
 
--- A marker, an intermediate, or a byte that makes the head malformed.
+-- A marker, an intermediate, or a byte that makes the head ill-shaped.
 pub loop-position-preserved : goal.loop-position-preserved
 loop-position-preserved g c =
     let v = c.loop-position.invariant in

@@ -1,4 +1,4 @@
--- A malformed head tells nothing. Any other is whole once the last number is settled, and is dispatched.
+-- An ill-shaped head tells nothing. Any other is whole once the last number is settled, and is dispatched.
 use Rattle.vte_core.proofs.Common.{[], ◌∷◌, refl, ap, ◌∙◌, arith, CsiDispatch, head_of, sequence_event, InText}
 use Rattle.vte_core.proofs.bytes.ClassCases.{class-final}
 use Rattle.vte_core.proofs.calls.CallEnds.{settled-by}
@@ -7,7 +7,7 @@ use Rattle.vte_core.proofs.places.PlaceLeads.{control-dispatched, control-silent
 use Rattle.vte_core.proofs.fields.PlaceOfState.{stands-text_begun}
 use Rattle.vte_core.proofs.parser.machine.Machine.end_control_sequence.Goals as goal
 
--- A malformed head.
+-- An ill-shaped head.
 pub returns-in-IllShaped-clause-takes : goal.returns-in-IllShaped-clause-takes
 returns-in-IllShaped-clause-takes g c = λ head s.
     let ill = ill_shaped-now (rw c.in-IllShaped.is at s) in

@@ -1,11 +1,11 @@
--- A malformed head leads to an ignored string. Any other is whole once the last number is settled, and hooks.
+-- An ill-shaped head leads to an ignored string. Any other is whole once the last number is settled, and hooks.
 use Rattle.vte_core.proofs.Common.{[], ◌∷◌, refl, ap, ◌∙◌, rules, Hook, head_of, sequence_event, InDeviceData, InIgnoredString}
 use Rattle.vte_core.proofs.bytes.ClassCases.{class-final}
 use Rattle.vte_core.proofs.fields.HeadSteps.{dispatched-ready, head-holds, ill_shaped-now}
 use Rattle.vte_core.proofs.places.PlaceLeads.{device-well_shaped, device-ill_shaped}
 use Rattle.vte_core.proofs.parser.machine.Machine.hook.Goals as goal
 
--- A malformed head.
+-- An ill-shaped head.
 pub returns-in-IllShaped-clause-takes : goal.returns-in-IllShaped-clause-takes
 returns-in-IllShaped-clause-takes g c = λ head s.
     let ill = ill_shaped-now (rw c.in-IllShaped.is at s) in

@@ -1,14 +1,12 @@
 -- A body: the bytes between one ESC and the next.
 use Rattle.std.specs.Prelude.{ℕ, List, [], ◌∷◌, Option, if◌then◌else◌}
-use Rattle.vte_core.specs.SequenceKind.{SequenceKind}
-use Rattle.vte_core.specs.SequenceKind.{ControlSequence, DeviceControl, SystemCommand, IgnoredString, EscapeSequence}
+use Rattle.vte_core.specs.SequenceKind.{SequenceKind, ControlSequence, DeviceControl, SystemCommand, IgnoredString, EscapeSequence, sequence_kind}
 use Rattle.vte_core.specs.Class.{class_of, is_cancel, is_key}
 use Rattle.vte_core.specs.ControlSequence.{control_sequence_outcome}
 use Rattle.vte_core.specs.DeviceControl.{device_control_outcome}
 use Rattle.vte_core.specs.Escape.{escape_outcome}
 use Rattle.vte_core.specs.Event.{Execute}
 use Rattle.vte_core.specs.IgnoredString.{ignored_string_outcome}
-use Rattle.vte_core.specs.SequenceKind.{sequence_kind}
 use Rattle.vte_core.specs.Outcome.{Outcome, NothingToClose, leaves, tell}
 use Rattle.vte_core.specs.CutBefore.{cut_before}
 use Rattle.vte_core.specs.SystemCommand.{system_command_outcome}

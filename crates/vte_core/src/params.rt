@@ -51,6 +51,7 @@ impl<'a> Model for ParamsIter<'a> {
 }
 
 impl Params {
+    /// Creates parameters without numbers.
     pub(crate) fn new() -> Self
         ensures { result ≡ [] }
     {
@@ -60,6 +61,7 @@ impl Params {
         }
     }
 
+    /// Removes all numbers.
     pub(crate) fn clear(&mut self)
         ensures { self.new ≡ [] }
     {
@@ -130,7 +132,7 @@ impl Params {
     }
 }
 
-// Removes the length of the last group if the next number joins it.
+/// Removes the length of the last group if the next number joins it.
 fn take_joined(lengths: &mut ArrayVec<u8, 32>, joined: bool) -> Option<u8>
     ensures { IsTakenOff joined lengths.old.items lengths.new.items result }
 {
@@ -200,7 +202,7 @@ impl<'a> Iterator for ParamsIter<'a> {
 
 impl<'a> FusedIterator for ParamsIter<'a> {}
 
-// The numbers of one group, with `:` between them.
+/// The numbers of one group, with `:` between them.
 #[derive(Drop)]
 struct Group<'a>(&'a [u16]);
 
@@ -219,7 +221,7 @@ impl fmt::Display for Group<'_> {
     }
 }
 
-// Writes groups with `;` between them.
+/// Writes groups with `;` between them.
 fn write_groups<W: fmt::Write>(mut groups: ParamsIter<'_>, f: &mut fmt::Formatter<W>) -> fmt::Result
     ensures { WritesOnOk W.write_str_gives f.old result (shown groups.entry) f.new }
 {

@@ -1,7 +1,7 @@
 //! Where a run of printed text ends. `scan/taken.rt` has the runs that callers take.
 //!
 //! A word is eight bytes. No word is tried before a run has begun with single bytes, so that no
-//! byte is read often.
+//! byte is read often. Outside `scan`, a reader has only `at`, `get` and `get_block` for that.
 ghost use Rattle.std.specs.Prelude.{◌≡◌, ◌+◌, ◌*◌, ◌<◌, ◌≤◌, ◌↔◌, true, false, None, MatchOption, IfSome, IsTrue, length, slice_index};
 ghost use Rattle.vte_core.specs.machine.Prelude.{ArePrintedAscii, HasNoRunAt, IsPrintedAscii, IsRange, IsRun, Scans, LooksAtMost, is_in, looked, from_to};
 

@@ -42,6 +42,7 @@ impl<B: Buffer> Model for Store<B> {
 }
 
 impl<B: Buffer> Store<B> {
+    /// Creates a store without items, over a buffer.
     pub(crate) fn new(bytes: B) -> Self
         requires { B.held bytes ≡ [] }
         ensures holds { HoldsItems B.limit result [] }
@@ -54,6 +55,7 @@ impl<B: Buffer> Store<B> {
         }
     }
 
+    /// Removes all items. Their memory stays.
     pub(crate) fn clear(&mut self)
         ensures holds { HoldsItems B.limit self.new [] }
         ensures memory { self.new.capacity ≡ self.old.capacity }

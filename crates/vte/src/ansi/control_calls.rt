@@ -147,6 +147,7 @@ fn repeat<H: InputAs<G>, G>(handler: &mut H, last: Option<char>, count: u16)
     }
 }
 
+/// Makes the call of a window operation (XTWINOPS), by its number.
 fn operate_window<H: Handler>(handler: &mut H, number: u16)
     ensures { H.value_of handler.new ≡ after H.step (H.value_of handler.old)
         (unwrap_or (entry_of window_rows number) []) }
@@ -231,9 +232,13 @@ fn set_cursor_style<H: Handler>(handler: &mut H, number: u16)
 /// What happens to modes.
 #[derive(Clone, Copy)]
 pub(crate) enum ModeChange {
+    /// SM
     Set,
+    /// RM
     Reset,
+    /// DECSET
     SetPrivate,
+    /// DECRST
     ResetPrivate,
 }
 

@@ -23,6 +23,7 @@ pub struct ParamsIter<'a> {
 }
 
 impl Params {
+    /// Creates parameters without numbers.
     pub(crate) fn new() -> Self {
         Params {
             numbers: ArrayVec::new(),
@@ -30,6 +31,7 @@ impl Params {
         }
     }
 
+    /// Removes all numbers.
     pub(crate) fn clear(&mut self) {
         self.numbers.clear();
         self.lengths.clear();
@@ -84,7 +86,7 @@ impl Params {
     }
 }
 
-// Removes the length of the last group if the next number joins it.
+/// Removes the length of the last group if the next number joins it.
 #[inline]
 fn take_joined(lengths: &mut ArrayVec<u8, 32>, joined: bool) -> Option<u8> {
     if joined {
@@ -145,7 +147,7 @@ impl<'a> Iterator for ParamsIter<'a> {
 
 impl<'a> FusedIterator for ParamsIter<'a> {}
 
-// The numbers of one group, with `:` between them.
+/// The numbers of one group, with `:` between them.
 struct Group<'a>(&'a [u16]);
 
 impl fmt::Display for Group<'_> {
@@ -160,7 +162,7 @@ impl fmt::Display for Group<'_> {
     }
 }
 
-// Writes groups with `;` between them.
+/// Writes groups with `;` between them.
 fn write_groups(mut groups: ParamsIter<'_>, f: &mut fmt::Formatter<'_>) -> fmt::Result {
     if let Some(first) = groups.next() {
         write!(f, "{}", Group(first))?;

@@ -2,7 +2,7 @@
 //! Where a run of printed text ends. `scan/taken.rt` has the runs that callers take.
 //!
 //! A word is eight bytes. No word is tried before a run has begun with single bytes, so that no
-//! byte is read often.
+//! byte is read often. Outside `scan`, a reader has only `at`, `get` and `get_block` for that.
 
 use crate::proved::vte_core::class::is_layout;
 use crate::proved::vte_core::scan::{CountedPerform, Grain, Reader};

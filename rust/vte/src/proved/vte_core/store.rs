@@ -22,6 +22,7 @@ pub(crate) struct Store<B: Buffer> {
 }
 
 impl<B: Buffer> Store<B> {
+    /// Creates a store without items, over a buffer.
     pub(crate) fn new(bytes: B) -> Self {
         Store {
             bytes,
@@ -30,6 +31,7 @@ impl<B: Buffer> Store<B> {
         }
     }
 
+    /// Removes all items. Their memory stays.
     pub(crate) fn clear(&mut self) {
         self.ends = ArrayVec::new();
         self.bytes.clear();

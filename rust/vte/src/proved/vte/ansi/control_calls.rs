@@ -129,6 +129,7 @@ fn repeat<H: InputAs<G>, G>(handler: &mut H, last: Option<char>, count: u16) {
     }
 }
 
+/// Makes the call of a window operation (XTWINOPS), by its number.
 fn operate_window<H: Handler>(handler: &mut H, number: u16) {
     match number {
         14 => handler.text_area_size_pixels(),
@@ -195,9 +196,13 @@ fn set_cursor_style<H: Handler>(handler: &mut H, number: u16) {
 /// What happens to modes.
 #[derive(Clone, Copy)]
 pub(crate) enum ModeChange {
+    /// SM
     Set,
+    /// RM
     Reset,
+    /// DECSET
     SetPrivate,
+    /// DECRST
     ResetPrivate,
 }
 

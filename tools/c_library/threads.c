@@ -80,7 +80,10 @@ int main(void) {
     const vte_handler calls = {.input = input};
     pthread_barrier_init(&start, NULL, 2);
     processor = vte_processor_new(&calls, sizeof calls, &inputs);
-    if (processor == NULL || in_two_threads(parse) || in_two_threads(process)) return 1;
+    if (processor == NULL || in_two_threads(parse)) return 1;
+    /* on a busy machine one thread may have ended before the other begins */
+    for (int i = 0; i < 100 && busy[0] + busy[1] == 0; i++)
+        if (in_two_threads(process)) return 1;
     if (vte_processor_free(processor) != VTE_OK || inputs != done[0] + done[1]) return 2;
     printf("%s\n", busy[0] + busy[1] > 0 ? "busy" : "never busy");
     return 0;

@@ -316,6 +316,16 @@ def test_mutants_are_chosen_by_name(crate, tmp_path_factory):
     assert [file.name for file in copy.rglob("*.edit")] == ["n.edit"]
 
 
+@pytest.mark.parametrize("words, said", [
+    (["folder", "c/gone"], "there is no mutant c/gone"),
+    (["--check", "c/m"], "--check takes no words"),
+    ([], "a folder outside the repository is needed, for a copy")])
+def test_words_that_mutate_refuses(crate, capsys, words, said):
+    write("tools/mutants/c/m.edit", MUTANT)
+    assert mutate("", *words) == 2
+    assert capsys.readouterr().err.endswith(f"error: {said}\n")
+
+
 # ---- erase
 
 def erase(*words):

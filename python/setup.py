@@ -1,4 +1,4 @@
-"""What pyproject.toml can't say: an sdist also has the crate and the licence, which stand beside
+"""What pyproject.toml can't say: an sdist also has the crate and the licences, which stand beside
 this folder in the repository."""
 import shutil
 from pathlib import Path
@@ -25,6 +25,6 @@ class WithCrate(sdist):
 
 # not in an sdist
 if CRATE.is_dir():
-    for name in "LICENSE", "NOTICE":
+    for name in "LICENSE-APACHE", "LICENSE-MIT", "NOTICE":
         shutil.copy(CRATE / name, HERE)
 setup(cmdclass={"sdist": WithCrate})

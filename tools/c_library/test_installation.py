@@ -17,7 +17,7 @@ OF_LIBRARY = {
     *(f"include/{name}" for name in HEADERS), "lib/libvte_c.a", "lib/libvte_c.so",
     "lib/libvte_c.so.6", "lib/pkgconfig/libvte_c.pc", "lib/cmake/vte_c/vte_c-config.cmake",
     "lib/cmake/vte_c/vte_c-config-version.cmake", "share/man/man3/vte.3",
-    "share/doc/libvte_c/LICENSE", "share/doc/libvte_c/NOTICE"}
+    *(f"share/doc/libvte_c/{name}" for name in ("LICENSE-APACHE", "LICENSE-MIT", "NOTICE"))}
 OF_VTLOG = {"bin/vtlog", "share/man/man1/vtlog.1"}
 
 

@@ -21,6 +21,5 @@ installed_files=(
     "${headers[@]/#/$PREFIX/include/}"
     "$PREFIX/share/man/man1/vtlog.1"
     "$PREFIX/share/man/man3/vte.3"
-    "$PREFIX/share/doc/libvte_c/LICENSE"
-    "$PREFIX/share/doc/libvte_c/NOTICE"
+    "$PREFIX/share/doc/libvte_c/"{LICENSE-APACHE,LICENSE-MIT,NOTICE}
 )

@@ -1,3 +1,4 @@
+/* SPDX-License-Identifier: Apache-2.0 OR MIT */
 /* vte.h: a parser of the bytes that programs send to a terminal.
  *
  * Link with libvte_c.a or libvte_c.so. These functions allocate no memory, keep no pointer and have

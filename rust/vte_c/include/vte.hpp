@@ -1,3 +1,4 @@
+// SPDX-License-Identifier: Apache-2.0 OR MIT
 // vte.hpp: the processor of vte_handler.h for C++17. Derive from vte::Handler, and override what
 // matters:
 //

@@ -1,3 +1,4 @@
+/* SPDX-License-Identifier: Apache-2.0 OR MIT */
 /* vte_handler.h: a processor, which calls functions for what a stream asks of a terminal.
  *
  * A processor reads the same bytes as a parser, and knows what they mean: move the cursor, set a

@@ -1,3 +1,4 @@
+/* SPDX-License-Identifier: Apache-2.0 OR MIT */
 /* vte_long.h: a parser that keeps operating system commands of any length.
  *
  * It reports the events of vte.h in the same records, with VTE_TRUNCATED only if a command has data

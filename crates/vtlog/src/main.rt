@@ -14,7 +14,7 @@ use event_log::{Device, Fault, Sink, Source, run, run_text};
 use std::process::ExitCode;
 use std::{env, io};
 
-const VERSION: &str = "vtlog 0.15.0\n";
+const VERSION: &str = "vtlog 0.1.0\n";
 
 const HELP: &str = "\
 usage: vtlog [text]

@@ -10,7 +10,7 @@ use crate::proved::vtlog::output::Output;
 use std::io;
 use std::process::ExitCode;
 
-const VERSION: &str = "vtlog 0.15.0\n";
+const VERSION: &str = "vtlog 0.1.0\n";
 
 const HELP: &str = "\
 usage: vtlog [text]

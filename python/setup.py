@@ -4,6 +4,7 @@ import shutil
 from pathlib import Path
 
 from setuptools import setup
+from setuptools.command.install import install
 from setuptools.command.sdist import sdist
 
 HERE = Path(__file__).resolve().parent
@@ -23,6 +24,9 @@ class WithCrate(sdist):
             manifest.write_text(text.replace('"../rust/vte"', '"vte"'), encoding="utf-8")
 
 
+# Debian's setuptools reads these, and only Debian's Python has them
+for name in "install_layout", "prefix_option":
+    setattr(install, name, getattr(install, name, None))
 # not in an sdist
 if CRATE.is_dir():
     for name in "LICENSE-APACHE", "LICENSE-MIT", "NOTICE":

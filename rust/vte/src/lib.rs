@@ -10,7 +10,6 @@
 //! ```
 //! use vte::{Parser, Perform};
 //!
-//! #[derive(Default)]
 //! struct Text(String);
 //!
 //! impl Perform for Text {
@@ -20,12 +19,11 @@
 //! }
 //!
 //! fn main() {
-//!     let mut text = Text::default();
-//!     let mut parser = Parser::new();
+//!     let (mut parser, mut text) = (Parser::new(), Text(String::new()));
 //!     // The events are the same, however the stream is split.
-//!     parser.advance(&mut text, b"\x1b[3");
-//!     parser.advance(&mut text, b"1mred\x1b[m");
-//!     assert_eq!(text.0, "red");
+//!     parser.advance(&mut text, b"a \x1b[1;3");
+//!     parser.advance(&mut text, b"1mcoloured\x1b[0m line");
+//!     assert_eq!(text.0, "a coloured line");
 //! }
 //! ```
 //!

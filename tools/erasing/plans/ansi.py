@@ -80,6 +80,8 @@ PROCESSOR = dict(
         "vte/ansi": ("use vte_handler", "use vte_types"),
     },
     imports={"vte/ansi": {"arrayvec::ArrayString": "crate::adapter::array_string::ArrayString"}},
+    rules={"vte/ansi/release": [
+        ("text[unread - 32..].first_chunk::<34>()", "first_chunk::<34>(&text[unread - 32..])")]},
     attributes={
         # what a processor does per event, between the parser's loops and the handler
         "vte/ansi/performer": {

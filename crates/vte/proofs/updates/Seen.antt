@@ -1,14 +1,10 @@
 -- What the search from the end of a hold has seen, position by position: how many updates begin, and where what is
 -- unread starts. Only a position with ESC can change it, and the older bytes matter only by their last seven.
-use Rattle.vte.proofs.Common.{◌≡◌, ℕ, zero, suc, ◌+◌, ◌-◌, ◌<◌, ◌≤◌, inl, inr, true, false, eqb, Some, None, List, [], ◌∷◌, length, drop, take, get_or, refl, ap, ◌∙◌, add-zero, length-drop, arith, cases_Bool, nat_tests, drop_all, drop_more, get_or-drop, get_or-take, length-take-le, take_all, ◌++◌, IsHeldTail, drop-drop, length-append, Adds, after_word, begin_update, end_update, begins_ending_in_last, begins_with, after_last_end, from_begin_update}
-use Rattle.std.specs.Prelude.{nat_lt}
+use Rattle.vte.proofs.Common.{◌≡◌, ℕ, zero, suc, ◌+◌, ◌-◌, ◌<◌, ◌≤◌, inl, inr, true, false, eqb, Some, None, List, [], ◌∷◌, length, drop, take, get_or, refl, ap, subst, ◌∙◌, add-zero, length-drop, arith, cases_Bool, nat_tests, drop_all, drop_more, get_or-drop, get_or-take, length-take-le, take_all, ◌++◌, IsHeldTail, drop-drop, length-append, Adds, after_word, begin_update, end_update, begins_ending_in_last, begins_with, after_last_end, from_begin_update}
+use Rattle.std.specs.Prelude.{◌&&◌, nat_lt}
 use Rattle.memchr.specs.Find.{NoneAfter, Nowhere, Passes, is_byte}
+use Rattle.vte.specs.machine.Hold.{IsNeither, IsPlainBlock, NoneBetween}
 use Rattle.vte.proofs.updates.Sequences.{after_word-whole, begins_ending_in_last-tail, begins_with-is, begins_with-length, after_last_end-tail, from_begin-end_skipped, begins_with-further, not_some}
-
--- no update begins or ends with the sequence at this position
-record IsNeither (text : List ℕ) (position : ℕ) : Type 0 where
-  pub no_begin : begins_with begin_update (drop position text) ≡ false
-  pub no_end : begins_with end_update (drop position text) ≡ false
 
 -- without ESC, or with fewer than eight bytes
 neither-plain : (text : List ℕ) (position : ℕ) → position < length text → eqb (get_or text position 0) 0x1b ≡ false
@@ -30,6 +26,40 @@ neither-short text position short =
     record {
       no_begin = begins_with-short begin_update (drop position text) few;
       no_end = begins_with-short end_update (drop position text) few;
+    }
+
+-- without ESC, or without `?` as the third byte
+neither-pair : (a : ℕ) (rest text : List ℕ) (position : ℕ)
+    → (eqb (get_or text position 0) 0x1b && eqb (get_or text (position + 2) 0) 0x3f) ≡ false
+    → begins_with (0x1b ∷ a ∷ 0x3f ∷ rest) (drop position text) ≡ false
+neither-pair a rest text position none =
+    let sequence = 0x1b ∷ a ∷ 0x3f ∷ rest in elim (cases_Bool (begins_with sequence (drop position text))) [
+      | inl is ↦
+          let whole = begins_with-is sequence (drop position text) is in
+          let first : get_or (drop position text) 0 0 ≡ 0x1b = ap {B = ℕ} (λ bytes. get_or bytes 0 0) whole in
+          let third : get_or (drop position text) 2 0 ≡ 0x3f = ap {B = ℕ} (λ bytes. get_or bytes 2 0) whole in
+          absurd (grind (arith, nat_tests, get_or-drop, first, third, none))
+      | inr other ↦ other
+    ]
+
+pub neither-block : (text : List ℕ) (from n : ℕ) → IsPlainBlock (take (n + 2) (drop from text)) n
+    → NoneBetween text from (from + n)
+neither-block text from n plain k low high =
+    let i = k - from in
+    let here : from + i ≡ k = omega arith in
+    let byte : (j : ℕ) → j < n + 2 → get_or (take (n + 2) (drop from text)) j 0 ≡ get_or text (from + j) 0
+    = λ j inside. get_or-take (n + 2) (drop from text) j 0 inside ∙ get_or-drop from text j 0 in
+    let first : get_or (take (n + 2) (drop from text)) i 0 ≡ get_or text k 0 =
+    byte i (omega arith) ∙ ap (λ at. get_or text at 0) here in
+    let third : get_or (take (n + 2) (drop from text)) (i + 2) 0 ≡ get_or text (k + 2) 0 =
+    byte (i + 2) (omega arith) ∙ ap (λ at. get_or text at 0) (omega arith) in
+    let none : (eqb (get_or text k 0) 0x1b && eqb (get_or text (k + 2) 0) 0x3f) ≡ false =
+    subst (λ a. (eqb a 0x1b && eqb (get_or text (k + 2) 0) 0x3f) ≡ false) first
+    (subst (λ a. (eqb (get_or (take (n + 2) (drop from text)) i 0) 0x1b && eqb a 0x3f) ≡ false) third
+    (plain i (omega arith))) in
+    record {
+      no_begin = neither-pair 0x5b (drop 3 begin_update) text k none;
+      no_end = neither-pair 0x5b (drop 3 end_update) text k none;
     }
 
 -- with ESC among the seven bytes that follow
@@ -184,6 +214,20 @@ module _ {held more text : List ℕ} {start : ℕ} (e : IsHeldTail held more tex
       let here : get_or (take unread text) i 0 ≡ get_or all k 0 = byte_at unread i (omega arith) ∙ rw position in
       neither-plain all k (omega (arith, whole_size))
       (grind (arith, nowhere i (omega arith) (rw length-take-le (omega arith))))
+
+  -- blocks in which neither sequence begins
+  pub seen-skipped : (unread before : ℕ) {begin begins : ℕ} → unread ≤ before → before ≤ length text
+      → NoneBetween text unread before → HasSeen all (length more) (start + before) begin begins
+      → HasSeen all (length more) (start + unread) begin begins
+  seen-skipped unread before l within none seen =
+      seen-down (omega arith) (omega (arith, whole_size))
+      (λ k low high.
+      let position : k - start + start ≡ k = omega arith in
+      let neither = none (k - start) (omega arith) (omega arith) in
+      let tail : drop (k - start) text ≡ drop k all =
+      ap (drop (k - start)) e.is ∙ drop-drop (k - start) start all ∙ ap (λ at. drop at all) (omega arith) in
+      record { no_begin = rw tail at neither.no_begin; no_end = rw tail at neither.no_end })
+      seen
 
   -- there is no room for a sequence in the last seven bytes
   pub seen-nothing : (unread : ℕ) → unread ≡ length text - 7

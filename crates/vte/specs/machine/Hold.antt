@@ -1,7 +1,7 @@
 -- The bytes of a hold.
-use Rattle.std.specs.Prelude.{◌≡◌, ℕ, ◌-◌, Option, Some, None, List, ◌++◌, length, take, drop}
+use Rattle.std.specs.Prelude.{◌≡◌, ℕ, ◌+◌, ◌-◌, ◌<◌, ◌≤◌, ◌&&◌, false, eqb, Option, Some, None, List, ◌++◌, length, take, drop, slice_index}
 use Rattle.vte.specs.ProcessorCalls.{held_of}
-use Rattle.vte.specs.Synchronized.{after_last_end, begins_ending_in_last, from_begin_update, part_after_last_end}
+use Rattle.vte.specs.Synchronized.{after_last_end, begin_update, begins_ending_in_last, begins_with, end_update, from_begin_update, part_after_last_end}
 use Rattle.vte.specs.declared.ansi.hold.Hold.{Hold}
 use Rattle.vte.specs.declared.ansi.release.Release.{Release}
 
@@ -36,3 +36,17 @@ pub record IsAdded {A : Type 0} (held more : List ℕ) (hold : Hold A)
   pub released_is : released_of hold
       ≡ take (length (held ++ more) - length (still_held (held ++ more))) (held ++ more)
   pub begins_are : begins ≡ begins_ending_in_last (length more) (part_after_last_end (held ++ more))
+
+-- Neither an update begins nor one ends with the sequence at this position.
+pub record IsNeither (text : List ℕ) (position : ℕ) : Type 0 where
+  pub no_begin : begins_with begin_update (drop position text) ≡ false
+  pub no_end : begins_with end_update (drop position text) ≡ false
+
+-- The same at each position from one on, before another.
+abbrev pub NoneBetween : List ℕ → ℕ → ℕ → Type 0
+NoneBetween text from before = (k : ℕ) → from ≤ k → k < before → IsNeither text k
+
+-- None of the first bytes of a block is an ESC that a `?` follows after one byte.
+abbrev pub IsPlainBlock : List ℕ → ℕ → Type 0
+IsPlainBlock block count = (k : ℕ) → k < count
+    → (eqb (slice_index block k) 0x1b && eqb (slice_index block (k + 2)) 0x3f) ≡ false

@@ -1,6 +1,6 @@
 //! What a hold releases when bytes are added to it.
 ghost use Rattle.std.specs.Prelude.{◌≡◌, ℕ, ◌+◌, ◌≤◌, ◌<◌, ◌^◌, List, ◌++◌, IsTrue, None, length};
-ghost use Rattle.vte.specs.machine.Hold.{Adds, IsHeldTail};
+ghost use Rattle.vte.specs.machine.Hold.{Adds, IsHeldTail, IsPlainBlock, NoneBetween};
 ghost use Rattle.vte.specs.Synchronized.{begin_update, begins_with, after_last_end, end_update};
 
 use memchr::memrchr;
@@ -31,9 +31,9 @@ pub(crate) fn find_release(text: &[u8], start: usize) -> Release
     let mut begins = 0;
     // A sequence has eight bytes, and only the first is ESC: none begins among the last seven
     // bytes, or the seven before an ESC.
-    let mut unread = text.len().saturating_sub(7);
+    let mut unread = skip_blocks(text, text.len().saturating_sub(7));
     while let Some(position) = memrchr(ESCAPE, &text[..unread]) {
-        unread = position.saturating_sub(7);
+        unread = skip_blocks(text, position.saturating_sub(7));
         let sequence = &text[position..];
         if begins_update(sequence) {
             begin = start + position;
@@ -45,6 +45,35 @@ pub(crate) fn find_release(text: &[u8], start: usize) -> Release
     }
     let released = 0;
     Release { begins, released }
+}
+
+/// Goes back from a position over blocks in which neither sequence begins, and returns how far.
+fn skip_blocks(text: &[u8], before: usize) -> usize
+    requires { before ≤ length text.now }
+    ensures within { result ≤ before }
+    ensures none { NoneBetween text.now result before }
+{
+    let mut unread = before;
+    while unread >= 32 {
+        match text[unread - 32..].first_chunk::<34>() {
+            Some(block) if is_plain_block(block) => unread -= 32,
+            _ => break,
+        }
+    }
+    unread
+}
+
+/// Returns whether neither sequence begins in the first 32 bytes of a block, because no ESC is
+/// followed by what both have as their third byte. Compilers make vector instructions of the loop.
+#[inline(always)]
+fn is_plain_block(block: &[u8; 34]) -> bool
+    ensures { IsTrue result → IsPlainBlock block.now 32 }
+{
+    let mut plain = true;
+    for at in 0..32 {
+        plain &= (block[at] != ESCAPE) | (block[at + 2] != b'?');
+    }
+    plain
 }
 
 /// Returns whether the text starts with a begin-update.

@@ -1,15 +1,17 @@
 -- From the end back, from ESC to ESC: a begin counts, an end is the last one and ends the search, and any other
 -- sequence changes nothing (`updates/Seen`).
 use Rattle.vte.proofs.Common.{◌<◌, ◌≤◌, length, sym, ◌∙◌, arith, length-append, length-take-le}
-use Rattle.vte.proofs.updates.Seen.{last_escape, seen-all, seen-begin_before, seen-end, seen-nothing, seen-other_before, sequence_at}
+use Rattle.vte.proofs.updates.Seen.{last_escape, seen-all, seen-begin_before, seen-end, seen-nothing, seen-other_before, seen-skipped, sequence_at}
 use Rattle.vte.proofs.ansi.release.find_release.Goals as goal
 
 -- Nothing is seen yet.
 pub loop-position-init : goal.loop-position-init
 loop-position-init c =
     record {
-      few = omega (arith, c.saturating_sub-unread.ensures);
-      seen = λ held more e. seen-nothing e _ c.saturating_sub-unread.ensures;
+      few = omega (arith, c.saturating_sub.ensures, c.skip_blocks-unread.ensures.within);
+      seen = λ held more e.
+          seen-skipped e _ _ c.skip_blocks-unread.ensures.within (omega (arith, c.saturating_sub.ensures))
+          c.skip_blocks-unread.ensures.none (seen-nothing e _ c.saturating_sub.ensures);
     }
 
 -- A begin of an update: one more is counted.
@@ -19,16 +21,18 @@ loop-position-preserved-then-begins_update c =
     let within : c.loop-position.unread ≤ length c.args.text.now = omega (arith, before.few) in
     let earlier : c.in-Some.position < c.loop-position.unread =
     omega (arith, length-take-le c.loop-position.unread c.args.text.now within, c.in-Some.ensures.0.high) in
-    let next = c.saturating_sub-unread-in-Some.ensures in
+    let next = c.saturating_sub-in-Some.ensures in
+    let skipped = c.skip_blocks-unread-in-Some.ensures in
     record {
-      few = omega (arith, before.few);
+      few = omega (arith, before.few, next, skipped.within);
       seen = λ held more e.
           let at =
           last_escape e c.in-Some.position _ within c.in-Some.ensures.0 c.in-Some.ensures.1
           (before.seen held more e) in
           let from = e.start_is in
-          seen-begin_before at _ (omega arith) (omega arith) (omega (arith, length-append held more))
-          (rw (sequence_at e) at (sym c.begins_update.ensures.value ∙ c.if-begins_update.true));
+          seen-skipped e _ _ skipped.within (omega arith) skipped.none
+          (seen-begin_before at _ (omega arith) (omega arith) (omega (arith, length-append held more))
+          (rw (sequence_at e) at (sym c.begins_update.ensures.value ∙ c.if-begins_update.true)));
     }
 
 -- Any other sequence.
@@ -38,16 +42,18 @@ loop-position-preserved c =
     let within : c.loop-position.unread ≤ length c.args.text.now = omega (arith, before.few) in
     let earlier : c.in-Some.position < c.loop-position.unread =
     omega (arith, length-take-le c.loop-position.unread c.args.text.now within, c.in-Some.ensures.0.high) in
-    let next = c.saturating_sub-unread-in-Some.ensures in
+    let next = c.saturating_sub-in-Some.ensures in
+    let skipped = c.skip_blocks-unread-in-Some.ensures in
     record {
-      few = omega (arith, before.few);
+      few = omega (arith, before.few, next, skipped.within);
       seen = λ held more e.
           let at =
           last_escape e c.in-Some.position _ within c.in-Some.ensures.0 c.in-Some.ensures.1
           (before.seen held more e) in
-          seen-other_before at _ (omega arith) (omega arith)
+          seen-skipped e _ _ skipped.within (omega arith) skipped.none
+          (seen-other_before at _ (omega arith) (omega arith)
           (rw (sequence_at e) at (sym c.begins_update.ensures.value ∙ c.if-begins_update.false))
-          (rw (sequence_at e) at (sym c.ends_update.ensures.value ∙ c.if-ends_update.false));
+          (rw (sequence_at e) at (sym c.ends_update.ensures.value ∙ c.if-ends_update.false)));
     }
 
 -- The last end of an update.

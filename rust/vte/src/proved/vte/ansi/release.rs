@@ -1,6 +1,7 @@
 // Written by tools/erase from crates/vte/src/ansi/release.rt: edit that one.
 //! What a hold releases when bytes are added to it.
 
+use crate::prelude::first_chunk;
 use memchr::memrchr;
 
 /// The first byte of both sequences.
@@ -24,9 +25,9 @@ pub(crate) fn find_release(text: &[u8], start: usize) -> Release {
     let mut begins = 0;
     // A sequence has eight bytes, and only the first is ESC: none begins among the last seven
     // bytes, or the seven before an ESC.
-    let mut unread = text.len().saturating_sub(7);
+    let mut unread = skip_blocks(text, text.len().saturating_sub(7));
     while let Some(position) = memrchr(ESCAPE, &text[..unread]) {
-        unread = position.saturating_sub(7);
+        unread = skip_blocks(text, position.saturating_sub(7));
         let sequence = &text[position..];
         if begins_update(sequence) {
             begin = start + position;
@@ -38,6 +39,29 @@ pub(crate) fn find_release(text: &[u8], start: usize) -> Release {
     }
     let released = 0;
     Release { begins, released }
+}
+
+/// Goes back from a position over blocks in which neither sequence begins, and returns how far.
+fn skip_blocks(text: &[u8], before: usize) -> usize {
+    let mut unread = before;
+    while unread >= 32 {
+        match first_chunk::<34>(&text[unread - 32..]) {
+            Some(block) if is_plain_block(block) => unread -= 32,
+            _ => break,
+        }
+    }
+    unread
+}
+
+/// Returns whether neither sequence begins in the first 32 bytes of a block, because no ESC is
+/// followed by what both have as their third byte. Compilers make vector instructions of the loop.
+#[inline(always)]
+fn is_plain_block(block: &[u8; 34]) -> bool {
+    let mut plain = true;
+    for at in 0..32 {
+        plain &= (block[at] != ESCAPE) | (block[at + 2] != b'?');
+    }
+    plain
 }
 
 /// Returns whether the text starts with a begin-update.

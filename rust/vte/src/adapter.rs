@@ -20,7 +20,6 @@ pub(crate) mod own;
 pub(crate) mod parser;
 #[cfg(feature = "ansi")]
 pub(crate) mod processor;
-mod references;
 #[cfg(all(feature = "ansi", feature = "std"))]
 mod rgb;
 #[cfg(all(feature = "ansi", feature = "std"))]

@@ -261,6 +261,32 @@ impl PerformText for Collected {
     }
 }
 
+/// All calls of a parser take objects: it knows only the trait of such a performer.
+macro_rules! assert_takes_objects {
+    ($new:expr) => {
+        let (mut parser, mut collected) = ($new, Collected::default());
+        let object: &mut dyn Perform = &mut collected;
+        let _ = parser.advance(object, b"a\x1b[1");
+        let _ = parser.advance_until_terminated(object, b";2mb");
+        assert_eq!(collected.text, "a<[1][2]m>b");
+        let object: &mut dyn PerformText = &mut collected;
+        let _ = parser.advance_text(object, b"c\x1b]0;t");
+        let _ = parser.advance_to_run(object, b"\x07d");
+        assert_eq!(
+            (&*collected.text, collected.pieces.len()),
+            ("a<[1][2]m>bc", 2)
+        );
+    };
+}
+
+#[test]
+fn objects_are_performers() {
+    assert_takes_objects!(Parser::new());
+    assert_takes_objects!(BoundedParser::<5>::default());
+    #[cfg(any(feature = "std", feature = "ansi"))]
+    assert_takes_objects!(vte::LongParser::new());
+}
+
 #[test]
 fn what_is_read_to_its_end_is_stopped_by_nobody() {
     for advance in [Parser::advance, Parser::advance_text] {

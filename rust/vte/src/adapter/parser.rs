@@ -43,7 +43,7 @@ impl<const OSC_RAW_BUF_SIZE: usize> Parser<OSC_RAW_BUF_SIZE> {
     ///
     /// However calls split the stream, the events are the same. An unfinished character or sequence
     /// at the end waits for more bytes.
-    pub fn advance<P: Perform>(&mut self, performer: &mut P, bytes: &[u8]) {
+    pub fn advance<P: Perform + ?Sized>(&mut self, performer: &mut P, bytes: &[u8]) {
         if let Err(Refused { read }) = self.0.advance(performer, bytes) {
             end_without(bytes.len() - read);
         }
@@ -52,7 +52,7 @@ impl<const OSC_RAW_BUF_SIZE: usize> Parser<OSC_RAW_BUF_SIZE> {
     /// Reads the next bytes of the stream as [`advance`](Self::advance) does, and passes characters
     /// to print in [runs](PerformText), and the data of device control strings in
     /// [slices](PerformText::put_slice).
-    pub fn advance_text<P: PerformText>(&mut self, performer: &mut P, bytes: &[u8]) {
+    pub fn advance_text<P: PerformText + ?Sized>(&mut self, performer: &mut P, bytes: &[u8]) {
         if let Err(Refused { read }) = self.0.advance_text(performer, bytes) {
             end_without(bytes.len() - read);
         }
@@ -65,7 +65,7 @@ impl<const OSC_RAW_BUF_SIZE: usize> Parser<OSC_RAW_BUF_SIZE> {
     /// reported, many are read between two questions. A character that an earlier call began is
     /// finished first. An unfinished one at the end of the bytes counts as read.
     #[must_use = "the bytes after the stop are still to be read"]
-    pub fn advance_until_terminated<P: Perform>(
+    pub fn advance_until_terminated<P: Perform + ?Sized>(
         &mut self,
         performer: &mut P,
         bytes: &[u8],
@@ -105,7 +105,7 @@ impl<const OSC_RAW_BUF_SIZE: usize> Parser<OSC_RAW_BUF_SIZE> {
     /// Without a run the call ends with the bytes, or if the performer is terminated, which is
     /// asked as by [`advance_until_terminated`](Self::advance_until_terminated).
     #[must_use = "the bytes after the run are still to be read"]
-    pub fn advance_to_run<'a, P: Perform>(
+    pub fn advance_to_run<'a, P: Perform + ?Sized>(
         &mut self,
         performer: &mut P,
         bytes: &'a [u8],

@@ -147,7 +147,7 @@ impl<T: Timeout> Processor<T> {
     #[inline]
     pub fn advance<H>(&mut self, handler: &mut H, bytes: &[u8])
     where
-        H: Handler,
+        H: Handler + ?Sized,
     {
         end_if_refused(self.0.advance(handler, bytes), bytes.len());
     }
@@ -156,7 +156,7 @@ impl<T: Timeout> Processor<T> {
     #[inline]
     pub fn advance_text<H>(&mut self, handler: &mut H, bytes: &[u8])
     where
-        H: HandlerText,
+        H: HandlerText + ?Sized,
     {
         end_if_refused(self.0.advance_text(handler, bytes), bytes.len());
     }
@@ -168,7 +168,7 @@ impl<T: Timeout> Processor<T> {
     /// is.
     pub fn stop_sync<H>(&mut self, handler: &mut H)
     where
-        H: Handler,
+        H: Handler + ?Sized,
     {
         self.0.stop_sync(handler);
     }
@@ -176,7 +176,7 @@ impl<T: Timeout> Processor<T> {
     /// Stops an update as [`stop_sync`](Self::stop_sync) does. The handler receives text in runs.
     pub fn stop_sync_text<H>(&mut self, handler: &mut H)
     where
-        H: HandlerText,
+        H: HandlerText + ?Sized,
     {
         self.0.stop_sync_text(handler);
     }

@@ -72,7 +72,7 @@ impl<B: Buffer> Store<B> {
     }
 
     /// Dispatches the command with its pieces.
-    pub(crate) fn dispatch<P: CountedPerform<G>, G: Grain>(
+    pub(crate) fn dispatch<P: CountedPerform<G> + ?Sized, G: Grain>(
         &self,
         reader: Reader,
         performer: &mut P,

@@ -78,12 +78,12 @@ impl<T: Timeout> LongProcessor<T> {
     /// Stops an update: parses the bytes that are held back, tells the handler that the update has
     /// ended, and clears the timeout. Without an update too, the handler is told. It needs no
     /// memory: what is held back has taken it.
-    pub fn stop_sync<H: Handler>(&mut self, handler: &mut H) {
+    pub fn stop_sync<H: Handler + ?Sized>(&mut self, handler: &mut H) {
         self.engine.stop::<H, Singly>(handler);
     }
 
     /// Stops an update as [`stop_sync`](Self::stop_sync) does. The handler receives text in runs.
-    pub fn stop_sync_text<H: HandlerText>(&mut self, handler: &mut H) {
+    pub fn stop_sync_text<H: HandlerText + ?Sized>(&mut self, handler: &mut H) {
         self.engine.stop::<H, InRuns>(handler);
     }
 
@@ -92,12 +92,16 @@ impl<T: Timeout> LongProcessor<T> {
     ///
     /// If the timeout is never pending and no memory is refused, all bytes are parsed: the handler
     /// of a new processor receives the calls of the whole stream, however it is split.
-    pub fn advance<H: Handler>(&mut self, handler: &mut H, bytes: &[u8]) -> Result<(), Refused> {
+    pub fn advance<H: Handler + ?Sized>(
+        &mut self,
+        handler: &mut H,
+        bytes: &[u8],
+    ) -> Result<(), Refused> {
         self.engine.read::<H, Singly>(handler, bytes)
     }
 
     /// Reads bytes as [`advance`](Self::advance) does. The handler receives text in runs.
-    pub fn advance_text<H: HandlerText>(
+    pub fn advance_text<H: HandlerText + ?Sized>(
         &mut self,
         handler: &mut H,
         bytes: &[u8],

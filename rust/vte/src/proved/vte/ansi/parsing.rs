@@ -38,7 +38,7 @@ impl EventParser for ProcessorParser {
 }
 
 /// Parses for a handler that receives text in a grain: `Singly` or `InRuns`.
-pub(crate) trait ParseAs<H: Handler, T: Timeout, P: EventParser>: Sized {
+pub(crate) trait ParseAs<H: Handler + ?Sized, T: Timeout, P: EventParser>: Sized {
     /// Parses all bytes.
     fn advance<B: TextBuffer>(
         parser: &mut P,
@@ -55,7 +55,7 @@ pub(crate) trait ParseAs<H: Handler, T: Timeout, P: EventParser>: Sized {
 }
 
 #[cfg(not(feature = "std"))]
-impl<H: Handler, T: Timeout> ParseAs<H, T, ProcessorParser> for Singly {
+impl<H: Handler + ?Sized, T: Timeout> ParseAs<H, T, ProcessorParser> for Singly {
     #[inline(always)]
     fn advance<B: TextBuffer>(
         parser: &mut ProcessorParser,
@@ -76,7 +76,7 @@ impl<H: Handler, T: Timeout> ParseAs<H, T, ProcessorParser> for Singly {
 }
 
 #[cfg(not(feature = "std"))]
-impl<H: HandlerText, T: Timeout> ParseAs<H, T, ProcessorParser> for InRuns {
+impl<H: HandlerText + ?Sized, T: Timeout> ParseAs<H, T, ProcessorParser> for InRuns {
     #[inline(always)]
     fn advance<B: TextBuffer>(
         parser: &mut ProcessorParser,
@@ -98,7 +98,7 @@ impl<H: HandlerText, T: Timeout> ParseAs<H, T, ProcessorParser> for InRuns {
 
 /// Parses all bytes.
 pub(crate) fn parse_all<
-    H: Handler,
+    H: Handler + ?Sized,
     B: TextBuffer,
     T: Timeout,
     P: EventParser,
@@ -121,7 +121,7 @@ pub(crate) fn parse_all<
 /// Parses the bytes up to the one that begins an update. Returns how many it parsed, and whether an
 /// update begins.
 pub(crate) fn parse_until_begin<
-    H: Handler,
+    H: Handler + ?Sized,
     B: TextBuffer,
     T: Timeout,
     P: EventParser,

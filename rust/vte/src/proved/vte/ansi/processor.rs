@@ -39,12 +39,12 @@ impl<T: Timeout> Processor<T> {
 
     /// Stops an update: parses the bytes that are held back, tells the handler that the update has
     /// ended, and clears the timeout. Without an update too, the handler is told.
-    pub fn stop_sync<H: Handler>(&mut self, handler: &mut H) {
+    pub fn stop_sync<H: Handler + ?Sized>(&mut self, handler: &mut H) {
         self.engine.stop::<H, Singly>(handler);
     }
 
     /// Stops an update as [`stop_sync`](Self::stop_sync) does. The handler receives text in runs.
-    pub fn stop_sync_text<H: HandlerText>(&mut self, handler: &mut H) {
+    pub fn stop_sync_text<H: HandlerText + ?Sized>(&mut self, handler: &mut H) {
         self.engine.stop::<H, InRuns>(handler);
     }
 
@@ -52,13 +52,13 @@ impl<T: Timeout> Processor<T> {
     ///
     /// If the timeout is never pending, all bytes are parsed: the handler of a new processor
     /// receives the calls of the whole stream, however it is split.
-    pub fn advance<H: Handler>(&mut self, handler: &mut H, bytes: &[u8]) {
+    pub fn advance<H: Handler + ?Sized>(&mut self, handler: &mut H, bytes: &[u8]) {
         // The memory is there, so all bytes are read.
         let _ = self.engine.read::<H, Singly>(handler, bytes);
     }
 
     /// Reads bytes as [`advance`](Self::advance) does. The handler receives text in runs.
-    pub fn advance_text<H: HandlerText>(&mut self, handler: &mut H, bytes: &[u8]) {
+    pub fn advance_text<H: HandlerText + ?Sized>(&mut self, handler: &mut H, bytes: &[u8]) {
         // The memory is there, so all bytes are read.
         let _ = self.engine.read::<H, InRuns>(handler, bytes);
     }

@@ -66,7 +66,7 @@ pub(crate) fn text_in(piece: &[u8], keeps_all: bool) -> Option<&str> {
 }
 
 /// Sets the title that these pieces make. A title of one piece is lent, and not copied.
-pub(crate) fn perform_title<H: Handler, B: TextBuffer>(
+pub(crate) fn perform_title<H: Handler + ?Sized, B: TextBuffer>(
     handler: &mut H,
     text: &mut B,
     texts: &[&[u8]],

@@ -34,7 +34,7 @@ impl<const OSC_RAW_BUF_SIZE: usize> Parser<OSC_RAW_BUF_SIZE> {
     /// Without a run the call ends with the bytes, or if the performer is terminated, which is
     /// asked as by [`advance_until_terminated`](Self::advance_until_terminated).
     #[must_use = "the bytes after the run are still to be read"]
-    pub fn advance_to_run<'a, P: Perform>(
+    pub fn advance_to_run<'a, P: Perform + ?Sized>(
         &mut self,
         performer: &mut P,
         bytes: &'a [u8],
@@ -51,7 +51,7 @@ impl<const OSC_RAW_BUF_SIZE: usize> Parser<OSC_RAW_BUF_SIZE> {
 impl<B: Buffer> Machine<B> {
     /// Reads bytes up to a run, and finds the run. The state stays that of the run: its bytes
     /// lead back to it.
-    pub(crate) fn drive_to_run<P: CountedPerform<Singly>>(
+    pub(crate) fn drive_to_run<P: CountedPerform<Singly> + ?Sized>(
         &mut self,
         reader: Reader,
         performer: &mut P,
@@ -93,7 +93,7 @@ impl<B: Buffer> Machine<B> {
 
     /// Reads a character that isn't printed or a malformed sequence, or controls and what is
     /// malformed up to where a run may begin, or an escape sequence.
-    fn read_unprinted<P: CountedPerform<Singly>>(
+    fn read_unprinted<P: CountedPerform<Singly> + ?Sized>(
         &mut self,
         reader: Reader,
         performer: &mut P,

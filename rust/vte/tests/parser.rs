@@ -50,6 +50,32 @@ fn the_default_parser_is_of_1024_bytes() {
     let _: BoundedParser<1024> = bounded;
 }
 
+/// A parser is made without running code.
+#[test]
+fn parsers_can_be_constants() {
+    use std::sync::Mutex;
+    const NEW: Parser = Parser::new();
+    static BOUNDED: Mutex<BoundedParser<5>> = Mutex::new(BoundedParser::new_with_size());
+    static USUAL: Mutex<BoundedParser> = Mutex::new(BoundedParser::new());
+    let mut collected = Collected::default();
+    NEW.clone().advance(&mut collected, b"a\x1b]0;title\x07");
+    assert_eq!(collected.pieces, [&b"0"[..], b"title"]);
+    BOUNDED
+        .lock()
+        .unwrap()
+        .advance(&mut collected, b"b\x1b]0;title");
+    BOUNDED.lock().unwrap().advance(&mut collected, b"\x07");
+    assert_eq!(collected.pieces, [&b"0"[..], b"titl"]);
+    USUAL.lock().unwrap().advance(&mut collected, b"c");
+    assert_eq!(collected.text, "abc");
+    #[cfg(any(feature = "std", feature = "ansi"))]
+    {
+        const LONG: vte::LongParser = vte::LongParser::new();
+        assert_eq!(LONG.clone().advance(&mut collected, b"d"), Ok(()));
+        assert_eq!(collected.text, "abcd");
+    }
+}
+
 /// Some 300 bytes, and if there is a limit as many more.
 #[test]
 fn parsers_are_small() {

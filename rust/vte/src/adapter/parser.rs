@@ -27,8 +27,8 @@ pub struct Parser<const OSC_RAW_BUF_SIZE: usize = 1024>(LongParser);
 
 impl Parser {
     /// Creates a parser that has read nothing. It takes no memory.
-    pub fn new() -> Self {
-        Self::default()
+    pub const fn new() -> Self {
+        Parser(LongParser::new())
     }
 }
 

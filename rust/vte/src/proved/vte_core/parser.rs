@@ -86,7 +86,7 @@ pub struct Parser<const OSC_RAW_BUF_SIZE: usize = MAX_OSC_RAW> {
 impl Parser<MAX_OSC_RAW> {
     /// Creates a parser that has read nothing, with room for 1,024 data bytes of an operating
     /// system command.
-    pub fn new() -> Self {
+    pub const fn new() -> Self {
         Parser::new_with_size()
     }
 }
@@ -100,7 +100,7 @@ impl<const OSC_RAW_BUF_SIZE: usize> Default for Parser<OSC_RAW_BUF_SIZE> {
 impl<const OSC_RAW_BUF_SIZE: usize> Parser<OSC_RAW_BUF_SIZE> {
     /// Creates a parser that has read nothing, with room for `OSC_RAW_BUF_SIZE` data bytes of an
     /// operating system command, which may be 0.
-    pub fn new_with_size() -> Self {
+    pub const fn new_with_size() -> Self {
         Parser {
             machine: Machine::new(ArrayVec::new()),
             reader: Reader::for_limited(),

@@ -65,7 +65,7 @@ pub(crate) fn take_run(input: &[u8], range: RunRange) -> Run<'_> {
 
 impl Reader {
     /// Creates a reader for a parser with a limit.
-    pub(crate) fn for_limited() -> Self {
+    pub(crate) const fn for_limited() -> Self {
         Reader::none()
     }
 }
@@ -74,13 +74,13 @@ impl Reader {
 impl Reader {
     /// Creates a reader for a parser without a limit.
     #[inline]
-    pub(crate) fn for_long() -> Self {
+    pub(crate) const fn for_long() -> Self {
         Reader::none()
     }
 }
 
 impl Reader {
-    fn none() -> Self {
+    const fn none() -> Self {
         Reader {}
     }
 

@@ -23,7 +23,7 @@ pub(crate) struct Store<B: Buffer> {
 
 impl<B: Buffer> Store<B> {
     /// Creates a store without items, over a buffer.
-    pub(crate) fn new(bytes: B) -> Self {
+    pub(crate) const fn new(bytes: B) -> Self {
         Store {
             bytes,
             ends: ArrayVec::new(),

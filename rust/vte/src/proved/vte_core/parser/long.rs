@@ -40,7 +40,7 @@ pub struct LongParser {
 impl LongParser {
     /// Creates a parser that has read nothing. It takes no memory.
     #[inline]
-    pub fn new() -> Self {
+    pub const fn new() -> Self {
         LongParser {
             machine: Machine::new(Vec::new()),
             reader: Reader::for_long(),

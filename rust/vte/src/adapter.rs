@@ -14,6 +14,8 @@ pub(crate) mod keyboard;
 mod long;
 #[cfg(feature = "std")]
 pub(crate) mod memory;
+#[cfg(feature = "ansi")]
+pub(crate) mod no_memory;
 #[cfg(feature = "__own")]
 pub(crate) mod own;
 #[cfg(feature = "std")]

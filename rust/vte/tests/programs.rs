@@ -1,4 +1,4 @@
-//! Programs that are odd and valid: references, boxes and wrappers that are performers and handlers.
+//! Programs that are odd and valid: references, boxes and wrappers as performers and handlers.
 //!
 //! The fuzz target `beside_vte` compiles and runs this file over `vte` 0.15 too (fuzz/lines).
 

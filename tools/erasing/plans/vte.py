@@ -22,6 +22,8 @@ VTE = Plan(
     dropped_files=frozenset({
         # the crate's own timeout is over `std::time::Instant`
         "vte/ansi/clock", "vte/ansi/std_sync_handler",
+        # `BoundedProcessor` has its limit too
+        "vte/ansi/processor",
         # the crate `cursor-icon`
         "vte_types/cursor_icon",
     }),
@@ -29,6 +31,7 @@ VTE = Plan(
     members=wording.MEMBERS,
     examples=wording.EXAMPLES,
     **joined(
-        dict(homes={"": {"crate::prelude": "String Vec first_chunk"}}, rules={"": ALLOCATORS + UNSIZED}),
+        dict(homes={"": {"crate::prelude": "String Vec first_chunk"}},
+             rules={"": ALLOCATORS + UNSIZED}),
         VTE_CORE, ansi.VTE_TYPES, ansi.VTE_HANDLER, ansi.PROCESSOR),
 )

@@ -2,8 +2,6 @@
 from erasing.passes import INLINE
 
 WITH_MEMORY = 'any(feature = "std", feature = "ansi")'
-# With `std` processors have no limit: what has one is there without it.
-WITH_LIMIT = 'not(feature = "std")'
 # What only other crates of this repository need, as a parser that is plain data.
 OWN = 'feature = "__own"'
 OWN_OR_ANSI = f'any({OWN}, feature = "ansi")'
@@ -139,8 +137,7 @@ VTE_CORE = dict(
         "vte_core/parser": {
             '#[must_use = "the bytes after the stop are still to be read"]': [
                 "pub fn advance_until_terminated"],
-            f'#[cfg(any({OWN}, all(feature = "ansi", {WITH_LIMIT})))]': [
-                "pub(crate) fn advance_text_until_terminated"],
+            f"#[cfg({OWN_OR_ANSI})]": ["pub(crate) fn advance_text_until_terminated"],
         },
         "vte_core/parser/to_run": {
             '#[must_use = "the bytes after the run are still to be read"]': [

@@ -1,8 +1,8 @@
 //! A stream has the events and calls of the crate `vte`, but for listed differences: in one call,
 //! and its calls also in pieces, with updates that are held, stopped and expire.
 //!
-//! The first two bytes of the input say where the stream, which follows them, is cut. Before the first
-//! stream, the programs that must compile with both run with both.
+//! The first two bytes of the input say where the stream, which follows them, is cut. Before the
+//! first stream, programs that must compile with both run with both.
 #![no_main]
 
 #[path = "../cutting.rs"]

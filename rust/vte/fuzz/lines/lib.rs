@@ -1,5 +1,5 @@
-//! The lines of a stream's events and calls, and odd programs, over ours or over the crate `vte` (see
-//! the two manifests beside this file).
+//! The lines of a stream's events and calls, and odd programs, over ours or over the crate `vte`
+//! (see the two manifests beside this file).
 
 #[allow(dead_code)]
 #[path = "../../tests/rows/call_lines.rs"]

@@ -140,7 +140,7 @@ impl<const OSC_RAW_BUF_SIZE: usize> Parser<OSC_RAW_BUF_SIZE> {
     /// Reads bytes as [`advance_until_terminated`](Self::advance_until_terminated) does, and passes
     /// characters to print in [runs](crate::PerformText). Only for performers that nothing in a run
     /// terminates: they aren't asked there.
-    #[cfg(any(feature = "__own", all(feature = "ansi", not(feature = "std"))))]
+    #[cfg(any(feature = "__own", feature = "ansi"))]
     pub(crate) fn advance_text_until_terminated<P: PerformText + ?Sized>(
         &mut self,
         performer: &mut P,

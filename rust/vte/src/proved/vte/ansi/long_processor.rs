@@ -6,30 +6,13 @@ use crate::proved::vte::ansi::growing_text::GrowingText;
 use crate::proved::vte_core::{InRuns, LongParser, Refused, Singly};
 use crate::proved::vte_handler::{Handler, HandlerText, Timeout};
 
-/// A processor whose calls return an error if they are refused memory.
-///
-/// It keeps commands, titles and links whatever their length, as
-/// [`Processor`](crate::ansi::Processor) does with the feature `std`.
+/// A [`Processor`](crate::ansi::Processor) that keeps commands, titles and links whatever their
+/// length.
 ///
 /// A call takes memory before it parses each 65,536 bytes: for them and an open command, and for a
 /// text that is joined from these. Bytes that are held back take theirs whole. If memory is
 /// refused, the call stops there. Nothing is lost or done twice, and the rest can be passed in
 /// again:
-///
-/// ```
-/// # use vte::{Refused, ansi::{Timeout, lent::{Handler, LongProcessor}}};
-/// # struct Screen;
-/// # impl Handler for Screen {}
-/// # fn read<T: Timeout>(
-/// #     processor: &mut LongProcessor<T>, mut handler: Screen, bytes: &[u8],
-/// # ) -> Result<(), Refused> {
-/// if let Err(refused) = processor.advance(&mut handler, bytes) {
-///     // Free some memory, and go on.
-///     processor.advance(&mut handler, &bytes[refused.read..])?;
-/// }
-/// # Ok(())
-/// # }
-/// ```
 #[derive(Clone)]
 pub struct LongProcessor<T: Timeout> {
     engine: Engine<LongParser, GrowingText, T>,
@@ -57,6 +40,14 @@ impl<T: Timeout> LongProcessor<T> {
     /// Returns the number of bytes that are held back, at most 2,097,150.
     pub fn sync_bytes_count(&self) -> usize {
         self.engine.hold.len()
+    }
+
+    /// Returns whether data bytes are in no piece of the operating system command that is open, or
+    /// else ended last: those after the 16th piece. Bytes that are held back don't count.
+    ///
+    /// [`reserve`](Self::reserve) and [`shrink`](Self::shrink) forget it if the command has ended.
+    pub fn command_lost_data(&self) -> bool {
+        self.engine.parser.command_lost_data()
     }
 
     /// Takes memory for the bytes that are held back and for this many more, and returns whether it

@@ -2,26 +2,12 @@
 //! The parser, together with what a processor lends it. The references are separate parameters, not
 //! fields of one struct, so that the performer can borrow each.
 
-#[cfg(not(feature = "std"))]
-use crate::adapter::array_string::ArrayString;
 use crate::proved::vte::ansi::performer::{Performer, PerformerState};
 use crate::proved::vte::ansi::text_buffer::TextBuffer;
-#[cfg(not(feature = "std"))]
-use crate::proved::vte::ansi::titles::TEXT_ROOM;
-#[cfg(not(feature = "std"))]
+use crate::proved::vte::ansi::titles::SEPARATORS;
 use crate::proved::vte_core::{InRuns, Parser, Singly};
-#[cfg(not(feature = "std"))]
-use crate::proved::vte_handler::HandlerText;
-use crate::proved::vte_handler::{Handler, Timeout};
+use crate::proved::vte_handler::{Handler, HandlerText, Timeout};
 use core::marker::PhantomData;
-
-/// The parser of a processor.
-#[cfg(not(feature = "std"))]
-pub(crate) type ProcessorParser = Parser<1024>;
-
-/// The buffer of a processor for joined texts.
-#[cfg(not(feature = "std"))]
-pub(crate) type ProcessorText = ArrayString<TEXT_ROOM>;
 
 /// A parser whose events a processor interprets.
 pub(crate) trait EventParser {
@@ -30,10 +16,12 @@ pub(crate) trait EventParser {
     fn reserve<B: TextBuffer>(&mut self, text: &mut B, held: usize, more: usize) -> bool;
 }
 
-#[cfg(not(feature = "std"))]
-impl EventParser for ProcessorParser {
+impl<const N: usize> EventParser for Parser<N> {
     fn reserve<B: TextBuffer>(&mut self, text: &mut B, _held: usize, _more: usize) -> bool {
-        text.reserve(TEXT_ROOM)
+        match N.checked_add(SEPARATORS) {
+            Some(size) => text.reserve(size),
+            None => false,
+        }
     }
 }
 
@@ -54,11 +42,10 @@ pub(crate) trait ParseAs<H: Handler + ?Sized, T: Timeout, P: EventParser>: Sized
     ) -> usize;
 }
 
-#[cfg(not(feature = "std"))]
-impl<H: Handler + ?Sized, T: Timeout> ParseAs<H, T, ProcessorParser> for Singly {
+impl<H: Handler + ?Sized, T: Timeout, const N: usize> ParseAs<H, T, Parser<N>> for Singly {
     #[inline(always)]
     fn advance<B: TextBuffer>(
-        parser: &mut ProcessorParser,
+        parser: &mut Parser<N>,
         performer: &mut Performer<'_, '_, H, T, B, Self>,
         bytes: &[u8],
     ) {
@@ -67,7 +54,7 @@ impl<H: Handler + ?Sized, T: Timeout> ParseAs<H, T, ProcessorParser> for Singly 
 
     #[inline(always)]
     fn advance_until_begin<B: TextBuffer>(
-        parser: &mut ProcessorParser,
+        parser: &mut Parser<N>,
         performer: &mut Performer<'_, '_, H, T, B, Self>,
         bytes: &[u8],
     ) -> usize {
@@ -75,11 +62,10 @@ impl<H: Handler + ?Sized, T: Timeout> ParseAs<H, T, ProcessorParser> for Singly 
     }
 }
 
-#[cfg(not(feature = "std"))]
-impl<H: HandlerText + ?Sized, T: Timeout> ParseAs<H, T, ProcessorParser> for InRuns {
+impl<H: HandlerText + ?Sized, T: Timeout, const N: usize> ParseAs<H, T, Parser<N>> for InRuns {
     #[inline(always)]
     fn advance<B: TextBuffer>(
-        parser: &mut ProcessorParser,
+        parser: &mut Parser<N>,
         performer: &mut Performer<'_, '_, H, T, B, Self>,
         bytes: &[u8],
     ) {
@@ -88,7 +74,7 @@ impl<H: HandlerText + ?Sized, T: Timeout> ParseAs<H, T, ProcessorParser> for InR
 
     #[inline(always)]
     fn advance_until_begin<B: TextBuffer>(
-        parser: &mut ProcessorParser,
+        parser: &mut Parser<N>,
         performer: &mut Performer<'_, '_, H, T, B, Self>,
         bytes: &[u8],
     ) -> usize {

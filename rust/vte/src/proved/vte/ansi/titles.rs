@@ -7,10 +7,6 @@ use crate::proved::vte_handler::Handler;
 /// A joined text may have a separator after each of 16 pieces.
 pub(crate) const SEPARATORS: usize = 16;
 
-/// The size of the buffer for a joined text of 1,024 bytes.
-#[cfg(not(feature = "std"))]
-pub(crate) const TEXT_ROOM: usize = 1024 + SEPARATORS;
-
 /// Reads a decimal number of at most 255.
 pub(crate) fn parse_number(digits: &[u8]) -> Option<u8> {
     if digits.is_empty() {

@@ -14,19 +14,12 @@ impl<const OSC_RAW_BUF_SIZE: usize> Parser<OSC_RAW_BUF_SIZE> {
     /// Reads bytes up to a run of text, or of data of a device control string, and the run itself,
     /// which it returns instead of performing it.
     ///
-    /// A caller can take text from its own input in this way, with its position and without a copy:
+    /// Text comes in two ways: by the returned run, and by [`print`](Perform::print) a
+    /// character that was divided between two calls, and U+FFFD for malformed bytes. A
+    /// performer without `print` loses these.
     ///
-    /// ```
-    /// # use vte::{Parser, Perform, Taken};
-    /// # struct Performer;
-    /// # impl Perform for Performer {}
-    /// # let mut performer = Performer;
-    /// let mut parser = Parser::new();
-    /// let bytes = b"\x1b[1mna\xc3\xafve\r\n";
-    /// let run = parser.advance_to_run(&mut performer, bytes); // performs the sequence
-    /// assert_eq!((run.start, run.taken, run.end), (4, Taken::Text("naïve"), 10));
-    /// parser.advance(&mut performer, &bytes[run.end..]); // performs CR and LF
-    /// ```
+    /// A caller can take text from its own input in this way, with its position and without a
+    /// copy.
     ///
     /// A run begins where nothing is open and a character stands in the bytes that is printed as it
     /// is, or at a data byte that is put. It ends before the first control, malformed sequence,

@@ -1,32 +1,36 @@
-// Written by tools/erase from crates/vte/src/ansi/processor.rt: edit that one.
-//! The processor. A call of `advance` takes turns, and each turn parses bytes or holds them back.
+// Written by tools/erase from crates/vte/src/ansi/bounded_processor.rt: edit that one.
+//! The processor with a limit of its own.
 
 use crate::proved::vte::ansi::engine::Engine;
-use crate::proved::vte::ansi::parsing::{ProcessorParser, ProcessorText};
-use crate::proved::vte_core::{InRuns, Singly};
+use crate::proved::vte::ansi::growing_text::GrowingText;
+use crate::proved::vte::ansi::parsing::EventParser;
+use crate::proved::vte_core::{InRuns, Parser, Singly};
 use crate::proved::vte_handler::{Handler, HandlerText, Timeout};
 
-/// Parses the bytes that programs send to a terminal, and calls a [`Handler`] for what they ask of
-/// it.
-///
-/// The bytes of a synchronized update are held back, so that the handler receives the update in one
-/// piece when it ends. The [`Timeout`] decides how long, and [`stop_sync`](Processor::stop_sync)
-/// stops an update that has expired.
+/// A [`Processor`](crate::ansi::Processor) that keeps up to `N` data bytes of an operating system
+/// command, and drops the rest.
 #[derive(Clone)]
-pub struct Processor<T: Timeout> {
-    engine: Engine<ProcessorParser, ProcessorText, T>,
+pub struct BoundedProcessor<T: Timeout, const N: usize> {
+    engine: Engine<Parser<N>, GrowingText, T>,
 }
 
-impl<T: Timeout> Processor<T> {
+impl<T: Timeout, const N: usize> BoundedProcessor<T, N> {
     /// Creates a processor that has read nothing, and allocates the 2,097,152 bytes for updates
-    /// that are held back. No later call allocates memory.
+    /// that are held back, and `N + 16` for texts that are joined. No later call allocates memory.
     ///
     /// Returns the timeout if memory runs out.
     pub fn new(timeout: T) -> Result<Self, T> {
-        let engine = Engine::new(ProcessorParser::new(), ProcessorText::new(), timeout)?;
-        Ok(Processor { engine })
+        let mut parser = Parser::<N>::new_with_size();
+        let mut text = GrowingText::new();
+        if !parser.reserve(&mut text, 0, 0) {
+            return Err(timeout);
+        }
+        let engine = Engine::new(parser, text, timeout)?;
+        Ok(BoundedProcessor { engine })
     }
+}
 
+impl<T: Timeout, const N: usize> BoundedProcessor<T, N> {
     /// Returns the timeout.
     pub fn sync_timeout(&self) -> &T {
         &self.engine.state.timeout
@@ -35,6 +39,13 @@ impl<T: Timeout> Processor<T> {
     /// Returns the number of bytes that are held back, at most 2,097,150.
     pub fn sync_bytes_count(&self) -> usize {
         self.engine.hold.len()
+    }
+
+    /// Returns whether the operating system command that is open lost data bytes, or if none is
+    /// open, the last one: those after the first `N`, and those after the 16th piece. Bytes that
+    /// are held back don't count.
+    pub fn command_lost_data(&self) -> bool {
+        self.engine.parser.command_lost_data()
     }
 
     /// Stops an update: parses the bytes that are held back, tells the handler that the update has

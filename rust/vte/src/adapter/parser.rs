@@ -85,18 +85,34 @@ impl<const OSC_RAW_BUF_SIZE: usize> Parser<OSC_RAW_BUF_SIZE> {
     /// Reads bytes up to a run of text, or of data of a device control string, and the run itself,
     /// which it returns instead of performing it.
     ///
+    /// Text comes in two ways: by the returned run, and by [`print`](Perform::print) a character
+    /// that was divided between two calls, and U+FFFD for malformed bytes. A performer without
+    /// `print` loses these.
+    ///
     /// A caller can take text from its own input in this way, with its position and without a copy:
     ///
     /// ```
     /// # use vte::{Parser, Perform, Taken};
-    /// # struct Performer;
-    /// # impl Perform for Performer {}
-    /// # let mut performer = Performer;
-    /// let mut parser = Parser::new();
-    /// let bytes = b"\x1b[1mna\xc3\xafve\r\n";
-    /// let run = parser.advance_to_run(&mut performer, bytes); // performs the sequence
-    /// assert_eq!((run.start, run.taken, run.end), (4, Taken::Text("naïve"), 10));
-    /// parser.advance(&mut performer, &bytes[run.end..]); // performs CR and LF
+    /// #[derive(Default)]
+    /// struct Text(String);
+    ///
+    /// impl Perform for Text {
+    ///     fn print(&mut self, c: char) {
+    ///         self.0.push(c);
+    ///     }
+    /// }
+    ///
+    /// let (mut parser, mut text) = (Parser::new(), Text::default());
+    /// for mut bytes in [&b"\x1b[1mna\xc3"[..], b"\xafve\r\n"] {
+    ///     while !bytes.is_empty() {
+    ///         let run = parser.advance_to_run(&mut text, bytes); // performs what isn't in the run
+    ///         if let Taken::Text(taken) = run.taken {
+    ///             text.0.push_str(taken);
+    ///         }
+    ///         bytes = &bytes[run.end..];
+    ///     }
+    /// }
+    /// assert_eq!(text.0, "naïve");
     /// ```
     ///
     /// A run begins where nothing is open and a character stands in the bytes that is printed as it

@@ -6,11 +6,11 @@ use std::test::Fail;
 use std::time::Duration;
 use vte::ansi::cursor_icon::CursorIcon;
 use vte::ansi::{
-    Attr, ByCall, C0, CharsetIndex, ClearMode, Clock, Color, CursorShape, CursorStyle, Handler,
-    HandlerCall, Hyperlink, KeyboardModes, KeyboardModesApplyBehavior, LineClearMode, Mode,
-    ModifyOtherKeys, NamedColor, NamedMode, NamedPrivateMode, PrivateMode, Processor, Rgb,
-    ScpCharPath, ScpUpdateMode, StandardCharset, StdSyncHandler, Step, TabulationClearMode,
-    TakeCall, Timeout,
+    Attr, BoundedProcessor, ByCall, C0, CharsetIndex, ClearMode, Clock, Color, CursorShape,
+    CursorStyle, Handler, HandlerCall, Hyperlink, KeyboardModes, KeyboardModesApplyBehavior,
+    LineClearMode, Mode, ModifyOtherKeys, NamedColor, NamedMode, NamedPrivateMode, PrivateMode,
+    Processor, Rgb, ScpCharPath, ScpUpdateMode, StandardCharset, StdSyncHandler, Step,
+    TabulationClearMode, TakeCall, TakeText, Timeout,
 };
 use vte::{
     LongParser, Params, ParamsIter, Parser, Perform, Refused, Run, Saved, Taken, ansi, laws,
@@ -253,6 +253,8 @@ impl TakeCall for Called {
     }
 }
 
+impl TakeText for Called {}
+
 #[derive(Drop)]
 struct Stopped;
 
@@ -288,10 +290,31 @@ fn a_processor_makes_calls(rt: HostRuntime) {
                 &[Step::Advance(b"b\x1b[?2026hc"), Step::StopSync],
             );
             assert_eq!(rt; (called.0.0, processor.sync_bytes_count()), (3, 0));
+            assert!(rt; !processor.command_lost_data());
         }
         Err(_timeout) => assert!(rt; false, "there is room"),
     }
     assert_eq!(rt; (C0::ESC, C0::DEL), (0x1b, 0x7f));
+}
+
+#[test]
+fn a_processor_may_have_any_limit(rt: HostRuntime) {
+    let mut called = ByCall(Called(0));
+    match BoundedProcessor::<_, _, 4>::new(rt.alloc(), StdSyncHandler::new(Stopped)) {
+        Ok(mut processor) => {
+            processor.advance(&mut called, b"a\x1b]2;title");
+            assert!(rt; processor.command_lost_data());
+            processor.advance_text(&mut called, b"\x1b]2;tie\x07\x1b[?2026hb");
+            assert!(rt; !processor.command_lost_data());
+            assert_eq!(rt; (called.0.0, processor.sync_bytes_count()), (1, 1));
+            processor.stop_sync(&mut called);
+            processor.advance(&mut called, b"\x1b[?2026hc");
+            processor.stop_sync_text(&mut called);
+            assert!(rt; processor.sync_timeout().sync_timeout().is_none());
+            assert_eq!(rt; called.0.0, 3);
+        }
+        Err(_timeout) => assert!(rt; false, "there is room"),
+    }
 }
 
 #[test]

@@ -6,4 +6,5 @@ pub mod Replays
 pub mod PlainReplays
 -- The public contracts of both processors, from those of their engine.
 pub mod Standings
+pub mod BoundedStandings
 pub mod LongStandings

@@ -24,6 +24,8 @@ pub mod Synchronized
 pub mod Processor
 pub mod ProcessorCalls
 pub mod StdSyncHandler
+-- The same with any limit.
+pub mod BoundedProcessor
 -- The same without a limit, where memory may be refused.
 pub mod Memory
 pub mod Refusal

@@ -1,8 +1,9 @@
 -- What calls of a processor ensure, in the words of `Processor`: where it stands, what is true
 -- after one call and after a list of calls, and then what each function promises.
-use Rattle.std.specs.Prelude.{◌≡◌, ℕ, List, ◌++◌, length, drop, [], ◌∷◌, Bool, false, ◌≤◌, None, ⊤}
+use Rattle.std.specs.Prelude.{◌≡◌, ℕ, List, ◌++◌, length, drop, [], ◌∷◌, Bool, false, ◌≤◌, None, Option, ⊤}
+use Rattle.vte_core.specs.Outcome.{SaysLoss}
 use Rattle.vte_core.specs.Parser.{HasRead}
-use Rattle.vte_core.specs.Stream.{events, usual_limit}
+use Rattle.vte_core.specs.Stream.{events, outcome, usual_limit}
 use Rattle.vte_handler.specs.Handler.{after}
 use Rattle.vte_handler.specs.Timeout.{IsSteady}
 use Rattle.vte.specs.Calls.{last_printed, calls}
@@ -136,6 +137,11 @@ pub record CountsHeld (held : List ℕ) (result : ℕ) : Type 0 where
   pub count : result ≡ length held
   pub fits : result ≤ most_held
   pub no_end : after_last_end held ≡ None
+
+-- `command_lost_data`: of the command that is open after the parsed bytes
+abbrev pub SaysParsedLoss : {W : Type 0} → Option ℕ → StandingPredicate W → Bool → Type 0
+SaysParsedLoss {W} limit Stands answer = (parsed held : List ℕ) (timeout : W)
+    → Stands parsed held timeout → SaysLoss (outcome limit parsed).left answer
 
 -- `stop_sync` and `stop_sync_text`
 abbrev pub StopsSync : {V W : Type 0} → Meaning V W → StandingPredicate W → StandingPredicate W → V

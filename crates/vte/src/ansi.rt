@@ -1,5 +1,6 @@
 //! The processor, which interprets the events of a stream, and the handler whose methods it calls.
 
+mod bounded_processor;
 mod clock;
 mod color_reader;
 mod color_text;
@@ -27,6 +28,7 @@ mod text_buffer;
 mod titles;
 mod values;
 
+pub use bounded_processor::BoundedProcessor;
 pub use clock::Clock;
 pub use laws::Step;
 pub use long_processor::LongProcessor;

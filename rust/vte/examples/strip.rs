@@ -9,7 +9,18 @@ use vte::{Parser, Perform, PerformText};
 #[derive(Default)]
 struct Text(String);
 
-impl Perform for Text {}
+// `advance_text` makes none of these calls; without them, every other call would lose the text.
+impl Perform for Text {
+    fn print(&mut self, c: char) {
+        self.0.push(c);
+    }
+
+    fn execute(&mut self, byte: u8) {
+        if matches!(byte, b'\t' | b'\n' | b'\r') {
+            self.0.push(char::from(byte));
+        }
+    }
+}
 
 impl PerformText for Text {
     fn keeps_layout(&self) -> bool {

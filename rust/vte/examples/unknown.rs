@@ -65,7 +65,8 @@ impl Perform for Seen {
     }
 }
 
-/// Whether a call came.
+/// Whether a call came. `substitute` doesn't count: SUB makes it, and a sequence that SUB cancels
+/// comes with it.
 #[derive(Default)]
 struct Called(bool);
 
@@ -81,7 +82,7 @@ macro_rules! calls {
 
 calls! {
     input(char) bell() backspace() put_tab(u16) linefeed() carriage_return() newline()
-    substitute() goto(i32, usize) goto_line(i32) goto_col(usize) move_up(usize) move_down(usize)
+    goto(i32, usize) goto_line(i32) goto_col(usize) move_up(usize) move_down(usize)
     move_forward(usize) move_backward(usize) move_down_and_cr(usize) move_up_and_cr(usize)
     save_cursor_position() restore_cursor_position() reverse_index() scroll_up(usize)
     scroll_down(usize) set_scrolling_region(usize, Option<usize>) set_horizontal_tabstop()

@@ -14,13 +14,14 @@ pub(crate) mod keyboard;
 mod long;
 #[cfg(feature = "std")]
 pub(crate) mod memory;
+#[cfg(feature = "ansi")]
+pub(crate) mod no_memory;
 #[cfg(feature = "__own")]
 pub(crate) mod own;
 #[cfg(feature = "std")]
 pub(crate) mod parser;
 #[cfg(feature = "ansi")]
 pub(crate) mod processor;
-mod references;
 #[cfg(all(feature = "ansi", feature = "std"))]
 mod rgb;
 #[cfg(all(feature = "ansi", feature = "std"))]

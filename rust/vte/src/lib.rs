@@ -45,7 +45,46 @@
 //! a call or holds bytes back, it takes twice the memory of these bytes and an open command. It
 //! keeps that, as a parser keeps its own, until `shrink`. The program ends if memory runs out, as
 //! for any `Vec`; `LongParser` and `ansi::lent::LongProcessor` return an error instead. A copy of a
-//! parser or processor has read the same, and takes as much memory.
+//! parser or processor has read the same, and takes as much memory. An `ansi::BoundedProcessor`
+//! takes all its memory when it is created: use it, or a [`BoundedParser`], for streams that aren't
+//! trusted.
+//!
+//! # The end of a stream
+//!
+//! A character or sequence that is unfinished when the stream ends makes no event, and `is_open` of
+//! the parser says whether there is one. To perform what the unfinished one still gives, pass in
+//! CAN, which ends everything:
+//!
+//! ```
+//! # use vte::{Parser, Perform};
+//! #[derive(Default)]
+//! struct Events(String);
+//!
+//! impl Perform for Events {
+//!     fn print(&mut self, c: char) {
+//!         self.0.push(c);
+//!     }
+//!
+//!     fn osc_dispatch(&mut self, params: &[&[u8]], _: bool) {
+//!         self.0 += &format!("<{}>", String::from_utf8_lossy(&params.concat()));
+//!     }
+//! }
+//!
+//! let mut events = Events::default();
+//! for stream in [&b"caf\xc3"[..], b"\x1b]2;title", b"\x1b[1;3"] {
+//!     let mut parser = Parser::new();
+//!     parser.advance(&mut events, stream);
+//!     if parser.is_open() {
+//!         parser.advance(&mut events, b"\x18");
+//!     }
+//! }
+//! assert_eq!(events.0, "caf\u{fffd}<2title>");
+//! ```
+//!
+//! So a truncated character is printed as U+FFFD, a device control string is unhooked, and an
+//! operating system command is dispatched with what came of it: whether that should count is for
+//! the program to say. Then `execute` is called with CAN, which wasn't in the stream. A processor
+//! may also hold bytes back: call `stop_sync` at the end.
 //!
 //! # Performers that panic
 //!
@@ -91,7 +130,8 @@ pub use {adapter::own::Own, proved::vte_core::Saved};
 #[cfg(feature = "ansi")]
 pub mod ansi {
     pub use crate::adapter::hyperlink::Hyperlink;
-    pub use crate::adapter::processor::Processor;
+    pub use crate::adapter::no_memory::NoMemory;
+    pub use crate::adapter::processor::{BoundedProcessor, Processor};
     #[cfg(feature = "std")]
     pub use crate::adapter::std_sync_handler::StdSyncHandler;
     pub use crate::proved::vte_handler::owned::Handler;
@@ -108,7 +148,7 @@ pub mod ansi {
     /// Handlers that take texts without owning them, so that they aren't copied, and a processor
     /// that returns errors.
     pub mod lent {
-        pub use crate::proved::vte::ansi::LongProcessor;
+        pub use crate::adapter::processor::LongProcessor;
         #[cfg(feature = "__own")]
         #[doc(hidden)]
         pub use crate::proved::vte_handler::{ByCall, HandlerCall, TakeCall, TakeText};

@@ -53,7 +53,7 @@ mod memory {
 
     #[cfg_attr(not(feature = "ansi"), allow(dead_code))]
     impl<T: Copy> Vec<T> {
-        pub(crate) fn new() -> Self {
+        pub(crate) const fn new() -> Self {
             Vec(alloc::vec::Vec::new())
         }
 

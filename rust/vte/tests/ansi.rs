@@ -8,9 +8,11 @@ use std::str::FromStr;
 
 use support::Pending;
 use vte::ansi::cursor_icon::CursorIcon;
+use vte::ansi::lent::{self, LongProcessor};
 use vte::ansi::{
-    Attr, Color, Handler, Hyperlink, KeyboardModes, KeyboardModesApplyBehavior, Mode, NamedColor,
-    NamedMode, NamedPrivateMode, PrivateMode, Processor,
+    Attr, BoundedProcessor, Color, Handler, HandlerText, Hyperlink, KeyboardModes,
+    KeyboardModesApplyBehavior, Mode, NamedColor, NamedMode, NamedPrivateMode, PrivateMode,
+    Processor,
 };
 
 /// Writes down the calls that have owned texts, and some others.
@@ -33,6 +35,10 @@ impl Handler for Calls {
 
     fn input(&mut self, c: char) {
         self.0.push(format!("input {c}"));
+    }
+
+    fn substitute(&mut self) {
+        self.0.push("substitute".to_owned());
     }
 
     fn goto(&mut self, line: i32, column: usize) {
@@ -335,6 +341,133 @@ fn one_processor_serves_both_kinds_of_handlers() {
     processor.advance(&mut around, b" two\x07");
     assert_eq!(around.1, "one two");
     assert!(calls.0.is_empty());
+}
+
+/// All calls of a processor take objects: it knows only the trait of such a handler.
+macro_rules! assert_takes_objects {
+    ($new:expr) => {
+        let (mut processor, mut calls) = ($new, Calls::default());
+        let object: &mut dyn Handler = &mut calls;
+        let _ = processor.advance(object, b"a\x1b[?2026hb");
+        processor.stop_sync(object);
+        assert_eq!(calls.0, ["input a", "input b", "unset 2026"]);
+        let mut around = Around((), String::new());
+        let object: &mut dyn lent::Handler = &mut around;
+        let _ = processor.advance(object, b"\x1b]2;title\x07\x1b[?2026h\x1b]2;s\x07");
+        processor.stop_sync(object);
+        let object: &mut dyn HandlerText = &mut around;
+        let _ = processor.advance_text(object, b"a\x1b[?2026hb");
+        processor.stop_sync_text(object);
+        assert_eq!(around.1, "titlesab");
+    };
+}
+
+impl<T> HandlerText for Around<T> {
+    fn input_text(&mut self, text: &str) {
+        self.1.push_str(text);
+    }
+}
+
+#[test]
+fn objects_are_handlers() {
+    assert_takes_objects!(Processor::<Pending>::new());
+    assert_takes_objects!(BoundedProcessor::<9, Pending>::new());
+    assert_takes_objects!(LongProcessor::new(Pending::default()).unwrap());
+}
+
+/// Commands with at most so many data bytes, in pieces, and whether they lose some by this limit.
+fn limited_commands(limit: usize) -> [(String, bool); 5] {
+    let pieces = "2;".to_owned() + &";".repeat(14);
+    [
+        ("2;".to_owned() + &"a".repeat(limit - 1), false),
+        ("2;".to_owned() + &"a".repeat(limit), true),
+        (format!("{pieces}{}", "a".repeat(limit - 1)), false),
+        (format!("{pieces}{}", "a".repeat(limit)), true),
+        (format!("{pieces};a"), true),
+    ]
+}
+
+/// Asserts that a processor keeps so many data bytes, and says what it loses: also in a copy, and
+/// not before the bytes are parsed.
+macro_rules! assert_keeps {
+    ($limit:expr, $new:expr, $loses:expr) => {
+        for (index, (command, lost)) in limited_commands($limit).into_iter().enumerate() {
+            // the last one has too many pieces
+            let (lost, mut calls) = (lost && (index == 4 || $loses), Calls::default());
+            let mut processor = $new;
+            let _ = processor.advance(&mut calls, format!("\x1b]{command}").as_bytes());
+            assert_eq!(processor.command_lost_data(), lost, "{command}");
+            assert_eq!(processor.clone().command_lost_data(), lost, "{command}");
+            let _ = processor.advance(&mut calls, b"\x07");
+            // the last one loses a `;` too
+            let cut = usize::from(lost) + usize::from(index == 4);
+            let kept = &command["2;".len()..command.len() - cut];
+            assert_eq!(calls.0, [format!("title Some({kept:?})")]);
+            let _ = processor.advance(&mut calls, b"\x1b]2;a\x07\x1b[?2026h");
+            let _ = processor.advance(&mut calls, format!("\x1b]{command}").as_bytes());
+            assert!(!processor.command_lost_data(), "{command}");
+            processor.stop_sync(&mut calls);
+            assert_eq!(processor.command_lost_data(), lost, "{command}");
+        }
+    };
+}
+
+#[test]
+fn processors_keep_what_their_limit_says() {
+    assert_keeps!(5, BoundedProcessor::<5, Pending>::new(), true);
+    assert_keeps!(1024, BoundedProcessor::<1024, Pending>::new(), true);
+    assert_keeps!(3000, BoundedProcessor::<3000, Pending>::new(), true);
+    assert_keeps!(
+        1024,
+        Processor::<Pending>::new(),
+        cfg!(not(feature = "std"))
+    );
+    let new = || LongProcessor::new(Pending::default()).unwrap();
+    assert_keeps!(1024, new(), false);
+}
+
+/// Of a command 16 pieces count, the code among them.
+#[test]
+fn titles_and_links_are_cut_at_a_semicolon() {
+    for (command, most) in [("2;", 14), ("8;;", 13)] {
+        for count in [most, most + 1, most + 5] {
+            let mut calls = Calls::default();
+            let mut processor = Processor::<Pending>::new();
+            let text = "a;".repeat(count) + "b";
+            processor.advance(&mut calls, format!("\x1b]{command}{text}\x07").as_bytes());
+            let kept = "a;".repeat(most) + if count == most { "b" } else { "a" };
+            assert!(
+                calls.0[0].contains(&format!("\"{kept}\"")),
+                "{calls:?}",
+                calls = calls.0
+            );
+            assert_eq!(processor.command_lost_data(), count > most);
+        }
+    }
+}
+
+#[test]
+fn cancelled_commands_make_their_calls() {
+    for end in ["\x07", "\x1b\\", "\x18", "\x1a", "\x1b[m"] {
+        let mut expected = vec!["title Some(\"ti\")".to_owned()];
+        // a handler can tell only SUB
+        expected.extend((end == "\x1a").then(|| "substitute".to_owned()));
+        assert_eq!(calls(format!("\x1b]2;ti{end}").as_bytes()), expected);
+    }
+}
+
+/// With `std` the timeout has a default, and so has the limit.
+#[cfg(feature = "std")]
+#[test]
+fn processors_have_defaults() {
+    let mut calls = Calls::default();
+    let mut usual: BoundedProcessor = BoundedProcessor::new();
+    usual.advance(&mut calls, b"\x1b]2;");
+    usual.advance(&mut calls, &[b'a'; 2000]);
+    usual.advance(&mut calls, b"\x07");
+    assert_eq!(calls.0, [format!("title Some({:?})", "a".repeat(1023))]);
+    let long: LongProcessor = LongProcessor::new(Default::default()).unwrap();
+    assert_eq!(long.sync_timeout().sync_timeout(), None);
 }
 
 #[cfg(feature = "serde")]

@@ -51,12 +51,15 @@ const COUNTS: &str = "update 1: 2 characters\nupdate 2: 0 characters\nupdate 3: 
 
 /// Sequences that make calls and others, a text, and ST.
 const SEQUENCES: &[u8] =
-    b"a\x1b[5i\x1b[1m\x1b]2;t\x1b\\\x1b]1;n\x07\x1b(\\\x1b(B\x1bP1q\x1b\\\x1b[>7i\x0e";
+    b"a\x1b[5i\x1b[1m\x1b]2;t\x1b\\\x1b]1;n\x07\x1b(\\\x1b(B\x1bP1q\x1b\\\x1b[>7i\x0e\
+      \x1b]999;x\x1a\x1a\x1b]2;t\x1a\x1b]999;y\x18\x1b[5\x1a";
 const UNKNOWN: &str = r#"csi_dispatch [5] [] 'i'
 osc_dispatch ["1", "n"]
 esc_dispatch [28] 5c
 hook [1] [] 'q'
 csi_dispatch [7] [3e] 'i'
+osc_dispatch ["999", "x"]
+osc_dispatch ["999", "y"]
 "#;
 
 const EXAMPLES: [(Example, &[u8], &str); 7] = [

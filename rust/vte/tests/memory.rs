@@ -17,7 +17,7 @@ use memory::{counted, ends_without, refused};
 use refused_command::CuttingParser;
 use support::Pending;
 use vte::ansi::lent::{Handler, LongProcessor};
-use vte::ansi::{HandlerText, PrivateMode, Processor};
+use vte::ansi::{BoundedProcessor, HandlerText, PrivateMode, Processor};
 #[cfg(feature = "__own")]
 use vte::Own;
 use vte::{BoundedParser, LongParser, Perform, Refused};
@@ -88,7 +88,9 @@ fn vectors_and_texts_return_that_memory_was_refused() {
 #[test]
 fn a_processor_takes_its_hold_and_memory_for_commands() {
     let (processor, taken) = counted(|| Processor::with_timeout(Pending::default()));
-    assert_eq!(taken, 0x20_0000);
+    // With a limit, some is for a text that is joined.
+    let joined = if cfg!(feature = "std") { 0 } else { 1040 };
+    assert_eq!(taken, 0x20_0000 + joined);
     let (count, taken) = two_full_updates(&mut processor.ok().unwrap());
     assert_eq!((count, taken[1]), (2 * (MOST_HELD + 1), 0));
     if cfg!(feature = "std") {
@@ -113,6 +115,22 @@ fn a_bounded_parser_takes_no_memory() {
         assert_eq!(size.0, 1000);
     });
     assert_eq!(taken, 0);
+}
+
+#[test]
+fn a_bounded_processor_takes_no_memory_after_it_was_created() {
+    let (processor, taken) = counted(|| BoundedProcessor::<100, _>::with_timeout(Pending(false)));
+    assert_eq!(taken, 0x20_0000 + 116);
+    let (mut processor, mut counter) = (processor.unwrap(), Counter::default());
+    let title = [&b"\x1b]2;a;"[..], &[b'b'; 3000], b"\x07"].concat();
+    let ((), taken) = counted(|| {
+        processor.advance(&mut counter, &title);
+        processor.advance_text(&mut counter, b"\x1b[?2026h");
+        processor.advance(&mut counter, &title);
+        processor.stop_sync(&mut counter);
+    });
+    // the code is one of the 100 bytes, and `;` none
+    assert_eq!((counter.0, taken), (2 * 100, 0));
 }
 
 #[test]
@@ -142,7 +160,24 @@ fn copies_have_as_much_memory() {
 #[test]
 fn a_processor_without_memory_returns_the_timeout() {
     let answer = refused(|| Processor::with_timeout(Pending(true)));
-    assert!(answer.err().unwrap().0);
+    assert!(answer.err().unwrap().timeout.0);
+    let answer = refused(|| BoundedProcessor::<9, _>::with_timeout(Pending(true)));
+    assert!(answer.err().unwrap().timeout.0);
+    let answer = refused(|| LongProcessor::new(Pending(true)));
+    assert!(answer.err().unwrap().timeout.0);
+}
+
+#[cfg(feature = "std")]
+#[test]
+fn a_processor_without_memory_is_an_error() {
+    fn create() -> Result<LongProcessor, Box<dyn std::error::Error>> {
+        let refuse = || LongProcessor::new(Default::default());
+        Ok(refused(refuse)?)
+    }
+    assert_eq!(
+        create().unwrap_err().to_string(),
+        "no memory for a processor, which takes 2 MiB"
+    );
 }
 
 #[test]

@@ -50,6 +50,32 @@ fn the_default_parser_is_of_1024_bytes() {
     let _: BoundedParser<1024> = bounded;
 }
 
+/// A parser is made without running code.
+#[test]
+fn parsers_can_be_constants() {
+    use std::sync::Mutex;
+    const NEW: Parser = Parser::new();
+    static BOUNDED: Mutex<BoundedParser<5>> = Mutex::new(BoundedParser::new_with_size());
+    static USUAL: Mutex<BoundedParser> = Mutex::new(BoundedParser::new());
+    let mut collected = Collected::default();
+    NEW.clone().advance(&mut collected, b"a\x1b]0;title\x07");
+    assert_eq!(collected.pieces, [&b"0"[..], b"title"]);
+    BOUNDED
+        .lock()
+        .unwrap()
+        .advance(&mut collected, b"b\x1b]0;title");
+    BOUNDED.lock().unwrap().advance(&mut collected, b"\x07");
+    assert_eq!(collected.pieces, [&b"0"[..], b"titl"]);
+    USUAL.lock().unwrap().advance(&mut collected, b"c");
+    assert_eq!(collected.text, "abc");
+    #[cfg(any(feature = "std", feature = "ansi"))]
+    {
+        const LONG: vte::LongParser = vte::LongParser::new();
+        assert_eq!(LONG.clone().advance(&mut collected, b"d"), Ok(()));
+        assert_eq!(collected.text, "abcd");
+    }
+}
+
 /// Some 300 bytes, and if there is a limit as many more.
 #[test]
 fn parsers_are_small() {
@@ -259,6 +285,32 @@ impl PerformText for Collected {
     fn print_text(&mut self, text: &str) {
         text.chars().for_each(|c| self.print(c));
     }
+}
+
+/// All calls of a parser take objects: it knows only the trait of such a performer.
+macro_rules! assert_takes_objects {
+    ($new:expr) => {
+        let (mut parser, mut collected) = ($new, Collected::default());
+        let object: &mut dyn Perform = &mut collected;
+        let _ = parser.advance(object, b"a\x1b[1");
+        let _ = parser.advance_until_terminated(object, b";2mb");
+        assert_eq!(collected.text, "a<[1][2]m>b");
+        let object: &mut dyn PerformText = &mut collected;
+        let _ = parser.advance_text(object, b"c\x1b]0;t");
+        let _ = parser.advance_to_run(object, b"\x07d");
+        assert_eq!(
+            (&*collected.text, collected.pieces.len()),
+            ("a<[1][2]m>bc", 2)
+        );
+    };
+}
+
+#[test]
+fn objects_are_performers() {
+    assert_takes_objects!(Parser::new());
+    assert_takes_objects!(BoundedParser::<5>::default());
+    #[cfg(any(feature = "std", feature = "ansi"))]
+    assert_takes_objects!(vte::LongParser::new());
 }
 
 #[test]

@@ -177,8 +177,5 @@ fn a_refusal_is_an_error() {
         Ok(())
     }
     let said = refuse().unwrap_err().to_string();
-    assert_eq!(
-        said,
-        "no memory for an operating system command, after 3 bytes"
-    );
+    assert_eq!(said, "memory was refused after 3 bytes");
 }

@@ -2,7 +2,7 @@
 crates/vte. Plan says what each table is.
 """
 from erasing.passes import INLINE
-from erasing.plans.vte_core import OWN, WITH_LIMIT, private
+from erasing.plans.vte_core import OWN, private
 
 # inlined by rustc, it would take 1.02 times the instructions on cells with attributes
 HINTED = [("#[inline(always)] fn terminal_attribute", "#[inline]\nfn terminal_attribute")]
@@ -64,13 +64,10 @@ VTE_HANDLER = dict(
 )
 
 PROCESSOR = dict(
-    item_conditions={
-        "vte/ansi": {WITH_LIMIT: "processor"},
-        "vte/ansi/parsing": {
-            WITH_LIMIT: "ArrayString HandlerText InRuns Parser Singly TEXT_ROOM"},
-        "vte/ansi/titles": {WITH_LIMIT: "TEXT_ROOM"},
-    },
     dropped_items={
+        # the adapter's processor is one without a limit, or with any limit
+        "vte/ansi/parsing": ("type ProcessorParser", "type ProcessorText"),
+        "vte/ansi/titles": ("const TEXT_ROOM",),
         # only proofs use it
         "vte/ansi/performer": (
             "impl<'s, 'h, H: HandlerText, T: Timeout + Drop, B: TextBuffer + Drop> "
@@ -80,8 +77,14 @@ PROCESSOR = dict(
         "vte/ansi": ("use vte_handler", "use vte_types"),
     },
     imports={"vte/ansi": {"arrayvec::ArrayString": "crate::adapter::array_string::ArrayString"}},
-    rules={"vte/ansi/release": [
-        ("text[unread - 32..].first_chunk::<34>()", "first_chunk::<34>(&text[unread - 32..])")]},
+    rules={
+        # the allocator isn't the last parameter
+        "vte/ansi/bounded_processor": [
+            ("A: Allocator, const", "const"), ("A: Allocator + Copy, const", "const"),
+            ("<T, A, N>", "<T, N>")],
+        "vte/ansi/release": [
+            ("text[unread - 32..].first_chunk::<34>()", "first_chunk::<34>(&text[unread - 32..])")],
+    },
     attributes={
         # what a processor does per event, between the parser's loops and the handler
         "vte/ansi/performer": {
@@ -106,6 +109,8 @@ PROCESSOR = dict(
         "vte/ansi/long_processor": {
             '#[must_use = "the memory may be refused"]': ["pub fn reserve"],
         },
+        # its copies aren't proved
+        "vte/ansi/bounded_processor": {"#[derive(Clone)]": ["pub struct BoundedProcessor"]},
         # three numbers for one jump by a table: a range is compared first
         "vte/ansi/escape_calls": {
             "#[allow(clippy::manual_range_patterns)]": ["pub(crate) fn perform_execute"]},

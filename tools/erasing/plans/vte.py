@@ -5,6 +5,11 @@ from erasing.plans import ansi
 from erasing.plans.vte_core import VTE_CORE
 from erasing.rules import ALLOCATORS
 
+# A performer or handler may be unsized: `dyn Perform` is one. Rattle has no unsized types.
+UNSIZED = [(bound, f"{bound} + ?Sized") for bound in (
+    "P: Perform", "P: PerformText", "P: PerformAs<$g>", "P: CountedPerform<$g>",
+    "H: Handler", "H: HandlerText", "H: InputAs<$g>")]
+
 VTE = Plan(
     folder="rust/vte/src/proved",
     # bytes are read by their places, and loops count
@@ -17,6 +22,8 @@ VTE = Plan(
     dropped_files=frozenset({
         # the crate's own timeout is over `std::time::Instant`
         "vte/ansi/clock", "vte/ansi/std_sync_handler",
+        # `BoundedProcessor` has its limit too
+        "vte/ansi/processor",
         # the crate `cursor-icon`
         "vte_types/cursor_icon",
     }),
@@ -24,6 +31,7 @@ VTE = Plan(
     members=wording.MEMBERS,
     examples=wording.EXAMPLES,
     **joined(
-        dict(homes={"": {"crate::prelude": "String Vec first_chunk"}}, rules={"": ALLOCATORS}),
+        dict(homes={"": {"crate::prelude": "String Vec first_chunk"}},
+             rules={"": ALLOCATORS + UNSIZED}),
         VTE_CORE, ansi.VTE_TYPES, ansi.VTE_HANDLER, ansi.PROCESSOR),
 )

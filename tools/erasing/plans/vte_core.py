@@ -2,8 +2,6 @@
 from erasing.passes import INLINE
 
 WITH_MEMORY = 'any(feature = "std", feature = "ansi")'
-# With `std` processors have no limit: what has one is there without it.
-WITH_LIMIT = 'not(feature = "std")'
 # What only other crates of this repository need, as a parser that is plain data.
 OWN = 'feature = "__own"'
 OWN_OR_ANSI = f'any({OWN}, feature = "ansi")'
@@ -61,8 +59,14 @@ def private(*names):
     return [(f"pub fn {name}", f"pub(crate) fn {name}") for name in names]
 
 
+def constant(*fronts):
+    """Rules by which functions that begin so can be called in constants."""
+    return [(front, front.replace("fn ", "const fn ")) for front in fronts]
+
+
 VTE_CORE = dict(
-    homes={"vte_core": {"crate::proved::vte_core::scan": "take_run text up_to"}},
+    homes={"vte_core": {"crate::proved::vte_core::scan": "take_run text up_to",
+                        "crate::adapter::array_vec": "Element"}},
     item_conditions={
         "vte_core": {WITH_MEMORY: "AllocError Vec for_long long"},
         "vte_core/lib": {WITH_MEMORY: "LongParser Refused", OWN: "Saved",
@@ -96,7 +100,8 @@ VTE_CORE = dict(
             ("Input { bytes: $$x, buffer: PhantomData, }", "$x"), ("input.bytes", "input"),
             ("fn text(", "pub(crate) fn text("),
             ("input[from..].first_chunk::<N>()", "first_chunk::<N>(&input[from..])"),
-            ("unsafe {", f"{OF_TEXT}unsafe {{")],
+            ("unsafe {", f"{OF_TEXT}unsafe {{"),
+            *constant("pub(crate) fn for_limited", "pub(crate) fn for_long", "fn none")],
         "vte_core/scan/search": [("input.bytes", "input")],
         "vte_core/scan/counted_perform": [
             ("impl<P: PerformAs<G>, B, G>", "impl<P: PerformAs<G>, G>")],
@@ -105,13 +110,19 @@ VTE_CORE = dict(
              "struct Parser<const OSC_RAW_BUF_SIZE: usize = MAX_OSC_RAW>"),
             ("CountedPerform<$$b>, G>", "CountedPerform<G>"),
             *private("advance_text_until_terminated"),
+            *constant("pub fn new", "pub fn new_with_size"),
         ],
-        "vte_core/parser/long": private("advance_text_until_terminated", "stored"),
+        "vte_core/parser/long": [*private("advance_text_until_terminated", "stored"),
+                                 *constant("pub fn new")],
+        "vte_core/parser/saved": [("T: Copy + Default", "T: Element")],
+        **{f"vte_core/{module}": constant("pub(crate) fn new")
+           for module in ("parser/machine", "store", "head")},
         "vte_core/perform": [
             ("fn keeps_layout(&self) -> bool;", "fn keeps_layout(&self) -> bool { false }")],
         # writes nothing over what it held: that would take 1.02 times the instructions on colours
         "vte_core/params": [
-            ("*self = Params::new();", "self.numbers.clear(); self.lengths.clear();")],
+            ("*self = Params::new();", "self.numbers.clear(); self.lengths.clear();"),
+            *constant("pub(crate) fn new")],
         "vte_core/utf8": [
             # below the surrogates whatever the bytes are, as compilers see
             ("unsafe { char::from_u32_unchecked(number_of_two($$a)) }",
@@ -126,8 +137,7 @@ VTE_CORE = dict(
         "vte_core/parser": {
             '#[must_use = "the bytes after the stop are still to be read"]': [
                 "pub fn advance_until_terminated"],
-            f'#[cfg(any({OWN}, all(feature = "ansi", {WITH_LIMIT})))]': [
-                "pub(crate) fn advance_text_until_terminated"],
+            f"#[cfg({OWN_OR_ANSI})]": ["pub(crate) fn advance_text_until_terminated"],
         },
         "vte_core/parser/to_run": {
             '#[must_use = "the bytes after the run are still to be read"]': [

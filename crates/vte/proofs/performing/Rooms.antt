@@ -1,10 +1,9 @@
 -- With room for all bytes, a parser reads them all, and each command's joined text fits. No command has more data than
 -- was stored and read, nor more separators than 16; so the contracts of both parsers become those of one.
-use Rattle.vte.proofs.Common.{◌≡◌, ℕ, ◌+◌, ◌≤◌, true, All, Option, Some, None, List, [], ◌∷◌, ◌++◌, length, Result, Ok, Err, refl, arith, concat, take-append_seam, usual_limit, false≢true, nat_tests, All-cons, All-drop, All-head, All-nil, All-tail, All-take, Event, OscDispatch, added, events, LongParser, Refused, added-append, counts_data, events_are_bounded, PerformsAll, PerformsUntilStop, FitsText, PerformerValue, ParserHasMemory, KeepsMemory, fits_room, limited_parser_view, long_parser_view}
+use Rattle.vte.proofs.Common.{◌≡◌, ℕ, ◌+◌, ◌≤◌, true, All, Option, Some, None, List, [], ◌∷◌, ◌++◌, length, Result, Ok, Err, refl, arith, concat, take-append_seam, false≢true, nat_tests, All-cons, All-drop, All-head, All-nil, All-tail, All-take, Event, OscDispatch, added, events, LongParser, Refused, added-append, counts_data, events_are_bounded, PerformsAll, PerformsUntilStop, FitsText, HasTextRoom, PerformerValue, ParserHasMemory, KeepsMemory, fits_room, limited_parser_view, long_parser_view}
 use Rattle.vte_core.specs.EventBounds.{IsBounded}
 use Rattle.vte_core.specs.LongParserCalls.{ReadsBytesLong, ReadsUntilTerminatedLong}
 use Rattle.vte_core.specs.LongParser.{memory_of, open_command_size, read_count}
-use Rattle.vte.specs.declared.ansi.titles.TheConstants.{TEXT_ROOM}
 use Rattle.vte_core.specs.declared.parser.Parser.{Parser}
 use Rattle.vte_core.specs.Advance.{ReadsBytes}
 use Rattle.vte_core.specs.AdvanceUntilTerminated.{ReadsUntilTerminated}
@@ -38,25 +37,25 @@ front_fits size limit p front rest all =
     (added limit p front ++ added limit (p ++ front) rest) parts in
     rw (take-append_seam (added limit p front) (added limit (p ++ front) rest)) at first
 
--- ---- the parser that keeps 1,024 bytes
+-- ---- the parser with a limit
 
-pub short_fits : (size : ℕ) (stream bytes : List ℕ) → TEXT_ROOM ≤ size
-    → All (FitsText size) (added usual_limit stream bytes)
-short_fits size stream bytes room =
-    events_fit size 1024 (added usual_limit stream bytes) (omega (arith, room))
-    (All-drop (IsBounded usual_limit) (length (events usual_limit stream)) (events usual_limit (stream ++ bytes))
-    (events_are_bounded usual_limit (stream ++ bytes)))
+pub short_fits : (limit size : ℕ) (stream bytes : List ℕ) → HasTextRoom limit size
+    → All (FitsText size) (added (Some limit) stream bytes)
+short_fits limit size stream bytes room =
+    events_fit size limit (added (Some limit) stream bytes) (omega (arith, room.joined))
+    (All-drop (IsBounded (Some limit)) (length (events (Some limit) stream)) (events (Some limit) (stream ++ bytes))
+    (events_are_bounded (Some limit) (stream ++ bytes)))
 
-module _ {V W : Type 0} {step : PerformerValue V W → Event → PerformerValue V W}
+module _ {N : ℕ} {V W : Type 0} {step : PerformerValue V W → Event → PerformerValue V W}
     {old new : PerformerValue V W} {bytes : List ℕ}
-    {parser next : Parser 1024} where
+    {parser next : Parser N} where
   pub short_parses : ReadsBytes step old new bytes parser next
-      → PerformsAll limited_parser_view usual_limit step parser next old new bytes
+      → PerformsAll limited_parser_view (Some N) step parser next old new bytes
   short_parses r = record {
     parses =
         λ stream n read room. record {
           performs = r.performs stream read;
-          fits = short_fits old.room stream bytes room;
+          fits = short_fits N old.room stream bytes room;
           reads = r.reads stream read;
           room = room;
         };
@@ -64,13 +63,13 @@ module _ {V W : Type 0} {step : PerformerValue V W → Event → PerformerValue 
   }
 
   pub short_stops : {read : ℕ} → ReadsUntilTerminated step (λ lent. lent.terminated) old new bytes read parser next
-      → PerformsUntilStop limited_parser_view usual_limit step parser next old new bytes read
+      → PerformsUntilStop limited_parser_view (Some N) step parser next old new bytes read
   short_stops r = record {
     within = r.within;
     stops =
         λ stream n reads room. record {
           stops = r.stops stream reads;
-          fits = short_fits old.room stream bytes room;
+          fits = short_fits N old.room stream bytes room;
           reads = r.reads stream reads;
         };
     memory = λ size stream count had. had;

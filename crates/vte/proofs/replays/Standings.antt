@@ -1,12 +1,12 @@
 -- A processor with a limit stands where its engine does: there is always memory. So it does what the engine ensures.
-use Rattle.vte.proofs.Common.{◌≤◌, ℕ, List, length, Result, Ok, Err, arith, Bor, Refused, EngineView, Meaning, State, usual_limit, HasAdvanced, HasParsedAndHolds, HasTaken, IsAt, ReadsInTurns, EngineReads, StandingPredicate, EngineStandsAt, ◌≡◌, refl, rules, limited_parser_view, engine_view}
+use Rattle.vte.proofs.Common.{ℕ, List, length, Result, Ok, Err, arith, Bor, Refused, EngineView, Meaning, State, usual_limit, HasAdvanced, HasParsedAndHolds, HasTaken, IsAt, ReadsInTurns, EngineReads, StandingPredicate, EngineStandsAt, ◌≡◌, refl, rules, limited_parser_view, engine_view}
 use Rattle.vte_core.specs.declared.parser.Parser.{Parser}
 use Rattle.vte.proofs.replays.PlainReplays.{plain_call}
 use Rattle.vte.proofs.turns.EngineTurns.{has_advanced, taken-to}
 use Rattle.vte.specs.declared.ansi.processor.Processor.{Processor}
 use Rattle.vte.specs.declared.ansi.titles.TheConstants.{TEXT_ROOM}
 
-abbrev pub limited : {N : ℕ} {B T W : Type 0} → (T → W) → EngineView (Parser N) B T W
+abbrev pub limited : {B T W : Type 0} → (T → W) → EngineView (Parser 1024) B T W
 limited timeout_of = engine_view usual_limit limited_parser_view (λ text. TEXT_ROOM) timeout_of
 
 module _ {T A V W : Type 0} {timeout_of : T → W} {processor : Processor T A} {value : V} (s : State V W) where
@@ -18,7 +18,7 @@ module _ {T A V W : Type 0} {timeout_of : T → W} {processor : Processor T A} {
       last = at.stands.last;
       timeout_is = at.stands.timeout_is;
       holds = at.stands.holds;
-      has_memory = λ some. (let enough : TEXT_ROOM ≤ TEXT_ROOM = omega arith in enough);
+      has_memory = λ some. record { joined = omega arith; counted = omega arith };
     };
     handler_is = at.handler_is;
   }

@@ -1,14 +1,14 @@
 -- What the parts of an engine mean: of a processor with a limit, and of one without. Of the types,
 -- `P` is the parser, `B` its buffer for texts, `T` the timeout, `W` the timeout's value, and `A`
 -- the allocator.
-use Rattle.std.specs.Prelude.{ℕ, ◌≤◌, List, None, Option}
+use Rattle.std.specs.Prelude.{ℕ, List, None, Option}
 use Rattle.vte_core.specs.LongParser.{HasReadLong}
 use Rattle.vte_core.specs.Parser.{HasRead}
 use Rattle.vte_core.specs.declared.parser.Parser.{Parser}
 use Rattle.vte_core.specs.declared.parser.long.LongParser.{LongParser}
+use Rattle.vte.specs.BoundedProcessor.{HasTextRoom}
 use Rattle.vte.specs.Memory.{ParserHasMemory}
 use Rattle.vte.specs.declared.ansi.growing_text.GrowingText.{GrowingText}
-use Rattle.vte.specs.declared.ansi.titles.TheConstants.{TEXT_ROOM}
 
 -- A parser: the streams that it has read, and for how many more bytes it has memory after each,
 -- with a text of `size` bytes.
@@ -18,9 +18,9 @@ pub record ParserView (P : Type 0) : Type 1 where
 
 -- With a limit it needs memory only for a text of a fixed size, which holds what is joined.
 abbrev pub limited_parser_view : {N : ℕ} → ParserView (Parser N)
-limited_parser_view = record {
+limited_parser_view {N} = record {
   has_read = HasRead;
-  has_memory = λ parser size stream count. TEXT_ROOM ≤ size;
+  has_memory = λ parser size stream count. HasTextRoom N size;
 }
 
 abbrev pub long_parser_view : {A : Type 0} → ParserView (LongParser A)

@@ -45,6 +45,7 @@ impl<P: EventParser + Drop, B: TextBuffer + Drop, T: Timeout + Drop, A: Allocato
             (λ engine. EngineStandsAt (engine_view P.limit P.reading B.room T.value_of) engine
             [] [] (T.value_of timeout)) (λ back. back ≡ timeout) }
         ensures timeout { IfOk result (λ engine. engine.state.timeout ≡ timeout) }
+        ensures text { IfOk result (λ engine. engine.state.text ≡ text) }
     {
         laws::empty_stream();
         match Hold::new(alloc) {

@@ -1,11 +1,11 @@
 //! The processor without a limit.
 ghost use Rattle.std.specs.Prelude.{◌≡◌, ℕ, ◌+◌, false, List, [], length, None, IfOk, MatchResult};
-ghost use Rattle.vte_core.specs.LongParser.{open_command_size};
+ghost use Rattle.vte_core.specs.LongParser.{lost_data_long, open_command_size};
 ghost use Rattle.vte_handler.specs.Timeout.{AllowsOnly, IsSteady, timeout_meaning};
 ghost use Rattle.vte.specs.Processor.{HoldsWell, meaning_of};
 ghost use Rattle.vte.specs.LongProcessor.{AdvancesLong, HasParsedAndHoldsLong, IsCopyOfLong, Reserves, StopsSyncLong};
 ghost use Rattle.vte.specs.Memory.{HasFreedMemory, held_long, timeout_long};
-ghost use Rattle.vte.specs.ProcessorCalls.{CountsHeld, HasParsedAll};
+ghost use Rattle.vte.specs.ProcessorCalls.{CountsHeld, HasParsedAll, SaysParsedLoss};
 
 use crate::ansi::engine::Engine;
 use crate::ansi::growing_text::GrowingText;
@@ -78,6 +78,17 @@ impl<T: Timeout + Drop, A: Allocator> LongProcessor<T, A> {
         ensures { CountsHeld (held_long self.now) result }
     {
         self.engine.hold.len()
+    }
+
+    /// Returns whether data bytes are in no piece of the operating system command that is open, or
+    /// else ended last: those after the 16th piece. Bytes that are held back don't count.
+    ///
+    /// [`reserve`](Self::reserve) and [`shrink`](Self::shrink) forget it if the command has ended.
+    pub fn command_lost_data(&self) -> bool
+        ensures lost { result ≡ lost_data_long self.now.engine.parser }
+        ensures open { SaysParsedLoss None (HasParsedAndHoldsLong T.value_of self.now) result }
+    {
+        self.engine.parser.command_lost_data()
     }
 
     /// Takes memory for the bytes that are held back and for this many more, and returns whether it

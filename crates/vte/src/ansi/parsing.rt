@@ -1,6 +1,6 @@
 //! The parser, together with what a processor lends it. The references are separate parameters, not
 //! fields of one struct, so that the performer can borrow each.
-ghost use Rattle.std.specs.Prelude.{◌≡◌, ◌≤◌, ◌+◌, ◌++◌, ℕ, List, Option, true, false, length};
+ghost use Rattle.std.specs.Prelude.{◌≡◌, ◌≤◌, ◌+◌, ◌++◌, ℕ, List, Option, Some, true, false, length};
 ghost use Rattle.vte.specs.machine.Performing.{PerformsAll, PerformsUntilStop, performer_value};
 ghost use Rattle.vte.specs.Processor.{State, meaning_of, parse};
 ghost use Rattle.vte.specs.machine.Performer.{with_event};
@@ -8,11 +8,10 @@ ghost use Rattle.vte.specs.machine.Engine.{HasParsedFront, ArePartsAtKeeping, Ar
 ghost use Rattle.vte.specs.machine.Views.{ParserView, engine_view, limited_parser_view};
 ghost use Rattle.vte.specs.Memory.{KeepsMemory};
 ghost use Rattle.vte_handler.specs.Timeout.{timeout_meaning};
-ghost use Rattle.vte_core.specs.Stream.{usual_limit};
 
 use crate::ansi::performer::{Performer, PerformerState};
 use crate::ansi::text_buffer::TextBuffer;
-use crate::ansi::titles::TEXT_ROOM;
+use crate::ansi::titles::{SEPARATORS, TEXT_ROOM};
 use arrayvec::ArrayString;
 use std::marker::PhantomData;
 use vte_core::{InRuns, Parser, Singly};
@@ -45,13 +44,16 @@ pub(crate) trait EventParser {
             → ¬ reading.has_memory self.new (B.room text.new) stream (held + more) };
 }
 
-impl EventParser for ProcessorParser {
-    ghost limit = { usual_limit };
+impl<const N: usize> EventParser for Parser<N> {
+    ghost limit = { Some N };
 
     ghost reading = { limited_parser_view };
 
     fn reserve<B: TextBuffer>(&mut self, text: &mut B, _held: usize, _more: usize) -> bool {
-        text.reserve(TEXT_ROOM)
+        match N.checked_add(SEPARATORS) {
+            Some(size) => text.reserve(size),
+            None => false,
+        }
     }
 }
 
@@ -82,10 +84,10 @@ pub(crate) trait ParseAs<H: Handler, T: Timeout + Drop, P: EventParser>: Sized {
 }
 
 #[tactic(auto, using(crate::proofs::performing::Rooms::short_parses))]
-impl<H: Handler, T: Timeout + Drop> ParseAs<H, T, ProcessorParser> for Singly {
+impl<H: Handler, T: Timeout + Drop, const N: usize> ParseAs<H, T, Parser<N>> for Singly {
     #[inline(always)]
     fn advance<B: TextBuffer + Drop>(
-        parser: &mut ProcessorParser,
+        parser: &mut Parser<N>,
         performer: &mut Performer<'_, '_, H, T, B, Self>,
         bytes: &[u8],
     ) {
@@ -94,7 +96,7 @@ impl<H: Handler, T: Timeout + Drop> ParseAs<H, T, ProcessorParser> for Singly {
 
     #[inline(always)]
     fn advance_until_begin<B: TextBuffer + Drop>(
-        parser: &mut ProcessorParser,
+        parser: &mut Parser<N>,
         performer: &mut Performer<'_, '_, H, T, B, Self>,
         bytes: &[u8],
     ) -> usize {
@@ -103,10 +105,10 @@ impl<H: Handler, T: Timeout + Drop> ParseAs<H, T, ProcessorParser> for Singly {
 }
 
 #[tactic(auto, using(crate::proofs::performing::Rooms::short_parses))]
-impl<H: HandlerText, T: Timeout + Drop> ParseAs<H, T, ProcessorParser> for InRuns {
+impl<H: HandlerText, T: Timeout + Drop, const N: usize> ParseAs<H, T, Parser<N>> for InRuns {
     #[inline(always)]
     fn advance<B: TextBuffer + Drop>(
-        parser: &mut ProcessorParser,
+        parser: &mut Parser<N>,
         performer: &mut Performer<'_, '_, H, T, B, Self>,
         bytes: &[u8],
     ) {
@@ -115,7 +117,7 @@ impl<H: HandlerText, T: Timeout + Drop> ParseAs<H, T, ProcessorParser> for InRun
 
     #[inline(always)]
     fn advance_until_begin<B: TextBuffer + Drop>(
-        parser: &mut ProcessorParser,
+        parser: &mut Parser<N>,
         performer: &mut Performer<'_, '_, H, T, B, Self>,
         bytes: &[u8],
     ) -> usize {

@@ -2,7 +2,8 @@
 ghost use Rattle.std.specs.Prelude.{◌≡◌, [], IfOk, MatchResult, false};
 ghost use Rattle.vte_handler.specs.Timeout.{AllowsOnly, IsSteady, timeout_meaning};
 ghost use Rattle.vte.specs.Processor.{HoldsWell, meaning_of};
-ghost use Rattle.vte.specs.ProcessorCalls.{CountsHeld, HasParsedAll, HasParsedAndHolds, IsCopyOf, ReadsInTurns, StopsSync, held_in, timeout_in};
+ghost use Rattle.vte.specs.ProcessorCalls.{CountsHeld, HasParsedAll, HasParsedAndHolds, IsCopyOf, ReadsInTurns, SaysParsedLoss, StopsSync, held_in, timeout_in};
+ghost use Rattle.vte_core.specs.Parser.{lost_data};
 ghost use Rattle.vte_core.specs.Stream.{usual_limit};
 
 use crate::ansi::engine::Engine;
@@ -85,6 +86,16 @@ impl<T: Timeout + Drop, A: Allocator> Processor<T, A> {
         ensures { CountsHeld (held_in self.now) result }
     {
         self.engine.hold.len()
+    }
+
+    /// Returns whether the operating system command that is open lost data bytes, or if none is
+    /// open, the last one: those after the first 1,024, and those after the 16th piece. Bytes that
+    /// are held back don't count.
+    pub fn command_lost_data(&self) -> bool
+        ensures lost { result ≡ lost_data self.now.engine.parser }
+        ensures open { SaysParsedLoss usual_limit (HasParsedAndHolds T.value_of self.now) result }
+    {
+        self.engine.parser.command_lost_data()
     }
 
     /// Stops an update: parses the bytes that are held back, tells the handler that the update has

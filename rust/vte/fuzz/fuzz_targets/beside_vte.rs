@@ -1,11 +1,14 @@
 //! A stream has the events and calls of the crate `vte`, but for listed differences: in one call,
 //! and its calls also in pieces, with updates that are held, stopped and expire.
 //!
-//! The first two bytes of the input say where the stream, which follows them, is cut.
+//! The first two bytes of the input say where the stream, which follows them, is cut. Before the
+//! first stream, programs that must compile with both run with both.
 #![no_main]
 
 #[path = "../cutting.rs"]
 mod cutting;
+
+use std::sync::Once;
 
 use libfuzzer_sys::fuzz_target;
 
@@ -53,7 +56,13 @@ fn pieces(stream: &[u8], size: u8, seed: u8) -> Vec<&[u8]> {
     joined
 }
 
+static PROGRAMS: Once = Once::new();
+
 fuzz_target!(|input: &[u8]| {
+    PROGRAMS.call_once(|| {
+        ours::programs::run();
+        theirs::programs::run();
+    });
     if let [size, seed, stream @ ..] = input {
         if stream.len() > MOST {
             return;

@@ -1,5 +1,5 @@
-//! The lines of a stream's events and calls, over ours or over the crate `vte` (see the two
-//! manifests beside this file).
+//! The lines of a stream's events and calls, and odd programs, over ours or over the crate `vte`
+//! (see the two manifests beside this file).
 
 #[allow(dead_code)]
 #[path = "../../tests/rows/call_lines.rs"]
@@ -7,6 +7,8 @@ mod call_lines;
 #[allow(dead_code)]
 #[path = "../../tests/rows/event_lines.rs"]
 mod event_lines;
+#[path = "../../tests/programs.rs"]
+pub mod programs;
 
 use std::cell::Cell;
 use std::fmt::Write;

@@ -5,6 +5,22 @@
 #[derive(Debug)]
 pub(crate) struct CapacityError;
 
+/// What elements can be.
+pub(crate) trait Element: Copy {
+    /// Fills places that hold no element: a constant, so that `new` is one.
+    const FILLER: Self;
+}
+
+macro_rules! elements {
+    ($($number:ty)*) => {
+        $(impl Element for $number {
+            const FILLER: Self = 0;
+        })*
+    };
+}
+
+elements!(u8 u16 usize);
+
 /// A vector of at most N elements.
 #[derive(Clone)]
 pub(crate) struct ArrayVec<T, const N: usize> {
@@ -16,11 +32,11 @@ pub(crate) struct ArrayVec<T, const N: usize> {
 
 // Each crate needs some of them.
 #[allow(dead_code)]
-impl<T: Copy + Default, const N: usize> ArrayVec<T, N> {
+impl<T: Element, const N: usize> ArrayVec<T, N> {
     #[inline(always)]
-    pub(crate) fn new() -> Self {
+    pub(crate) const fn new() -> Self {
         ArrayVec {
-            elements: [T::default(); N],
+            elements: [T::FILLER; N],
             count: 0,
         }
     }
@@ -95,7 +111,11 @@ impl<T: Copy + Default, const N: usize> ArrayVec<T, N> {
 
 #[cfg(test)]
 mod tests {
-    use super::{ArrayVec, CapacityError};
+    use super::{ArrayVec, CapacityError, Element};
+
+    impl Element for (u64, char) {
+        const FILLER: Self = (0, ' ');
+    }
 
     #[test]
     fn elements_are_added_up_to_the_last() {

@@ -1,4 +1,4 @@
-//! `Debug` of parsers and processors: their name, and what callers can query.
+//! `Debug` of parsers: their name.
 use core::fmt;
 
 use crate::BoundedParser;
@@ -20,29 +20,5 @@ impl<const OSC_RAW_BUF_SIZE: usize> fmt::Debug for crate::Parser<OSC_RAW_BUF_SIZ
 impl fmt::Debug for crate::LongParser {
     fn fmt(&self, f: &mut fmt::Formatter<'_>) -> fmt::Result {
         f.debug_struct("LongParser").finish_non_exhaustive()
-    }
-}
-
-#[cfg(feature = "ansi")]
-mod processors {
-    use core::fmt;
-
-    use crate::ansi::lent::LongProcessor;
-    use crate::ansi::{Processor, Timeout};
-
-    impl<T: Timeout> fmt::Debug for Processor<T> {
-        fn fmt(&self, f: &mut fmt::Formatter<'_>) -> fmt::Result {
-            f.debug_struct("Processor")
-                .field("sync_bytes_count", &self.sync_bytes_count())
-                .finish_non_exhaustive()
-        }
-    }
-
-    impl<T: Timeout> fmt::Debug for LongProcessor<T> {
-        fn fmt(&self, f: &mut fmt::Formatter<'_>) -> fmt::Result {
-            f.debug_struct("LongProcessor")
-                .field("sync_bytes_count", &self.sync_bytes_count())
-                .finish_non_exhaustive()
-        }
     }
 }

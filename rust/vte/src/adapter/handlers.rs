@@ -22,7 +22,7 @@ macro_rules! handlers {
             )*
         }
 
-        impl<H: owned::Handler> Handler for H {
+        impl<H: owned::Handler + ?Sized> Handler for H {
             $(
                 #[inline]
                 fn $method(&mut self $(, $argument: $type)*) {
@@ -78,18 +78,6 @@ macro_rules! handlers {
                         &mut self
                         $(, $argument: $crate::adapter::handlers::last!($type $($owned)?))*
                     ) {}
-                )*
-            }
-
-            impl<H: Handler + ?Sized> Handler for &mut H {
-                $(
-                    #[inline]
-                    fn $method(
-                        &mut self
-                        $(, $argument: $crate::adapter::handlers::last!($type $($owned)?))*
-                    ) {
-                        (**self).$method($($argument),*);
-                    }
                 )*
             }
         }

@@ -11,11 +11,7 @@ impl Default for LongParser {
 
 impl fmt::Display for Refused {
     fn fmt(&self, f: &mut fmt::Formatter<'_>) -> fmt::Result {
-        let read = self.read;
-        write!(
-            f,
-            "no memory for an operating system command, after {read} bytes"
-        )
+        write!(f, "memory was refused after {} bytes", self.read)
     }
 }
 

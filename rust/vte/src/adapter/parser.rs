@@ -27,8 +27,8 @@ pub struct Parser<const OSC_RAW_BUF_SIZE: usize = 1024>(LongParser);
 
 impl Parser {
     /// Creates a parser that has read nothing. It takes no memory.
-    pub fn new() -> Self {
-        Self::default()
+    pub const fn new() -> Self {
+        Parser(LongParser::new())
     }
 }
 
@@ -43,7 +43,7 @@ impl<const OSC_RAW_BUF_SIZE: usize> Parser<OSC_RAW_BUF_SIZE> {
     ///
     /// However calls split the stream, the events are the same. An unfinished character or sequence
     /// at the end waits for more bytes.
-    pub fn advance<P: Perform>(&mut self, performer: &mut P, bytes: &[u8]) {
+    pub fn advance<P: Perform + ?Sized>(&mut self, performer: &mut P, bytes: &[u8]) {
         if let Err(Refused { read }) = self.0.advance(performer, bytes) {
             end_without(bytes.len() - read);
         }
@@ -52,7 +52,7 @@ impl<const OSC_RAW_BUF_SIZE: usize> Parser<OSC_RAW_BUF_SIZE> {
     /// Reads the next bytes of the stream as [`advance`](Self::advance) does, and passes characters
     /// to print in [runs](PerformText), and the data of device control strings in
     /// [slices](PerformText::put_slice).
-    pub fn advance_text<P: PerformText>(&mut self, performer: &mut P, bytes: &[u8]) {
+    pub fn advance_text<P: PerformText + ?Sized>(&mut self, performer: &mut P, bytes: &[u8]) {
         if let Err(Refused { read }) = self.0.advance_text(performer, bytes) {
             end_without(bytes.len() - read);
         }
@@ -65,7 +65,7 @@ impl<const OSC_RAW_BUF_SIZE: usize> Parser<OSC_RAW_BUF_SIZE> {
     /// reported, many are read between two questions. A character that an earlier call began is
     /// finished first. An unfinished one at the end of the bytes counts as read.
     #[must_use = "the bytes after the stop are still to be read"]
-    pub fn advance_until_terminated<P: Perform>(
+    pub fn advance_until_terminated<P: Perform + ?Sized>(
         &mut self,
         performer: &mut P,
         bytes: &[u8],
@@ -85,18 +85,34 @@ impl<const OSC_RAW_BUF_SIZE: usize> Parser<OSC_RAW_BUF_SIZE> {
     /// Reads bytes up to a run of text, or of data of a device control string, and the run itself,
     /// which it returns instead of performing it.
     ///
+    /// Text comes in two ways: by the returned run, and by [`print`](Perform::print) a character
+    /// that was divided between two calls, and U+FFFD for malformed bytes. A performer without
+    /// `print` loses these.
+    ///
     /// A caller can take text from its own input in this way, with its position and without a copy:
     ///
     /// ```
     /// # use vte::{Parser, Perform, Taken};
-    /// # struct Performer;
-    /// # impl Perform for Performer {}
-    /// # let mut performer = Performer;
-    /// let mut parser = Parser::new();
-    /// let bytes = b"\x1b[1mna\xc3\xafve\r\n";
-    /// let run = parser.advance_to_run(&mut performer, bytes); // performs the sequence
-    /// assert_eq!((run.start, run.taken, run.end), (4, Taken::Text("naïve"), 10));
-    /// parser.advance(&mut performer, &bytes[run.end..]); // performs CR and LF
+    /// #[derive(Default)]
+    /// struct Text(String);
+    ///
+    /// impl Perform for Text {
+    ///     fn print(&mut self, c: char) {
+    ///         self.0.push(c);
+    ///     }
+    /// }
+    ///
+    /// let (mut parser, mut text) = (Parser::new(), Text::default());
+    /// for mut bytes in [&b"\x1b[1mna\xc3"[..], b"\xafve\r\n"] {
+    ///     while !bytes.is_empty() {
+    ///         let run = parser.advance_to_run(&mut text, bytes); // performs what isn't in the run
+    ///         if let Taken::Text(taken) = run.taken {
+    ///             text.0.push_str(taken);
+    ///         }
+    ///         bytes = &bytes[run.end..];
+    ///     }
+    /// }
+    /// assert_eq!(text.0, "naïve");
     /// ```
     ///
     /// A run begins where nothing is open and a character stands in the bytes that is printed as it
@@ -105,7 +121,7 @@ impl<const OSC_RAW_BUF_SIZE: usize> Parser<OSC_RAW_BUF_SIZE> {
     /// Without a run the call ends with the bytes, or if the performer is terminated, which is
     /// asked as by [`advance_until_terminated`](Self::advance_until_terminated).
     #[must_use = "the bytes after the run are still to be read"]
-    pub fn advance_to_run<'a, P: Perform>(
+    pub fn advance_to_run<'a, P: Perform + ?Sized>(
         &mut self,
         performer: &mut P,
         bytes: &'a [u8],

@@ -10,9 +10,7 @@ use crate::block::{blocks, cuttings, Block};
 use crate::call_lines::CallLines;
 #[cfg(feature = "__own")]
 use crate::reader::CallsInRuns;
-use crate::reader::{
-    ByReference, LentTexts, LentTextsInRuns, OwnedTexts, OwnedTextsInRuns, Reader,
-};
+use crate::reader::{ByObject, LentTexts, LentTextsInRuns, OwnedTexts, OwnedTextsInRuns, Reader};
 
 const ROWS: &str = include_str!("../../../../crates/call_rows/stdin");
 const LONGEST_PIECE: usize = 32;
@@ -87,8 +85,8 @@ fn owned_texts() {
 }
 
 #[test]
-fn calls_by_reference() {
-    check_rows::<ByReference>();
+fn calls_by_object() {
+    check_rows::<ByObject>();
 }
 
 #[test]

@@ -35,14 +35,14 @@ fn events_in_runs_of(pieces: &[&[u8]]) -> String {
 }
 
 /// The same by a performer of which the parser knows only the trait, in each of two ways.
-fn events_by_reference_of<const IN_RUNS: bool>(pieces: &[&[u8]]) -> String {
+fn events_by_object_of<const IN_RUNS: bool>(pieces: &[&[u8]]) -> String {
     let mut parser = Parser::new();
     let read = |lines: &mut EventLines, piece: &[u8]| {
-        let mut lines: &mut dyn PerformText = lines;
+        let lines: &mut dyn PerformText = lines;
         if IN_RUNS {
-            parser.advance_text(&mut lines, piece);
+            parser.advance_text(lines, piece);
         } else {
-            let read = parser.advance_until_terminated(&mut lines, piece);
+            let read = parser.advance_until_terminated(lines, piece);
             assert_eq!(read, piece.len());
         }
     };
@@ -151,7 +151,7 @@ fn streams_give_their_events() {
     for row in streams_for_all() {
         check_stream(&row, events_of);
         check_stream(&row, unterminated_events_of);
-        check_stream(&row, events_by_reference_of::<false>);
+        check_stream(&row, events_by_object_of::<false>);
         #[cfg(any(feature = "std", feature = "ansi"))]
         check_stream(&row, long_events_of);
     }
@@ -161,7 +161,7 @@ fn streams_give_their_events() {
 fn streams_give_their_events_in_runs() {
     for row in streams_for_all() {
         check_stream(&row, events_in_runs_of);
-        check_stream(&row, events_by_reference_of::<true>);
+        check_stream(&row, events_by_object_of::<true>);
         check_stream(&row, events_in_lines_of);
         check_stream(&row, events_in_turn_of);
         #[cfg(any(feature = "std", feature = "ansi"))]

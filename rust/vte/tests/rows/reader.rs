@@ -60,7 +60,7 @@ macro_rules! readers {
 
 readers! {
     OwnedTexts: advance, stop_sync, lines => lines;
-    ByReference: advance, stop_sync, lines => &mut (lines as &mut dyn Handler);
+    ByObject: advance, stop_sync, lines => lines as &mut dyn Handler;
     OwnedTextsInRuns: advance_text, stop_sync_text, lines => lines;
     LentTexts: advance, stop_sync, lines => &mut Lent(lines);
     LentTextsInRuns: advance_text, stop_sync_text, lines => &mut Lent(lines);

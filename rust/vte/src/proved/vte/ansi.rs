@@ -1,6 +1,7 @@
 // Written by tools/erase from crates/vte/src/ansi.rt: edit that one.
 //! The processor, which interprets the events of a stream, and the handler whose methods it calls.
 
+mod bounded_processor;
 mod color_reader;
 mod color_text;
 mod command_calls;
@@ -16,14 +17,11 @@ mod numbers;
 mod parsing;
 mod parts;
 mod performer;
-#[cfg(not(feature = "std"))]
-mod processor;
 mod release;
 mod rendition;
 mod text_buffer;
 mod titles;
 mod values;
 
+pub use bounded_processor::BoundedProcessor;
 pub use long_processor::LongProcessor;
-#[cfg(not(feature = "std"))]
-pub use processor::Processor;

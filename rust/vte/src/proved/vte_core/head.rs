@@ -53,7 +53,7 @@ pub(crate) struct Collected {
 
 impl Collected {
     /// Creates an empty collection.
-    pub(crate) fn new() -> Self {
+    pub(crate) const fn new() -> Self {
         Collected {
             intermediates: ArrayVec::new(),
             too_many_intermediates: false,

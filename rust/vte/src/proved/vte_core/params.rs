@@ -24,7 +24,7 @@ pub struct ParamsIter<'a> {
 
 impl Params {
     /// Creates parameters without numbers.
-    pub(crate) fn new() -> Self {
+    pub(crate) const fn new() -> Self {
         Params {
             numbers: ArrayVec::new(),
             lengths: ArrayVec::new(),

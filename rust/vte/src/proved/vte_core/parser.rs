@@ -86,7 +86,7 @@ pub struct Parser<const OSC_RAW_BUF_SIZE: usize = MAX_OSC_RAW> {
 impl Parser<MAX_OSC_RAW> {
     /// Creates a parser that has read nothing, with room for 1,024 data bytes of an operating
     /// system command.
-    pub fn new() -> Self {
+    pub const fn new() -> Self {
         Parser::new_with_size()
     }
 }
@@ -100,7 +100,7 @@ impl<const OSC_RAW_BUF_SIZE: usize> Default for Parser<OSC_RAW_BUF_SIZE> {
 impl<const OSC_RAW_BUF_SIZE: usize> Parser<OSC_RAW_BUF_SIZE> {
     /// Creates a parser that has read nothing, with room for `OSC_RAW_BUF_SIZE` data bytes of an
     /// operating system command, which may be 0.
-    pub fn new_with_size() -> Self {
+    pub const fn new_with_size() -> Self {
         Parser {
             machine: Machine::new(ArrayVec::new()),
             reader: Reader::for_limited(),
@@ -111,14 +111,14 @@ impl<const OSC_RAW_BUF_SIZE: usize> Parser<OSC_RAW_BUF_SIZE> {
     ///
     /// However calls split the stream, the events are the same. An unfinished character or sequence
     /// at the end waits for more bytes.
-    pub fn advance<P: Perform>(&mut self, performer: &mut P, bytes: &[u8]) {
+    pub fn advance<P: Perform + ?Sized>(&mut self, performer: &mut P, bytes: &[u8]) {
         self.drive::<P, Singly, false>(performer, bytes);
     }
 
     /// Reads the next bytes of the stream as [`advance`](Self::advance) does, and passes characters
     /// to print in [runs](crate::PerformText), and the data of device control strings in
     /// [slices](crate::PerformText::put_slice).
-    pub fn advance_text<P: PerformText>(&mut self, performer: &mut P, bytes: &[u8]) {
+    pub fn advance_text<P: PerformText + ?Sized>(&mut self, performer: &mut P, bytes: &[u8]) {
         self.drive::<P, InRuns, false>(performer, bytes);
     }
 
@@ -129,7 +129,7 @@ impl<const OSC_RAW_BUF_SIZE: usize> Parser<OSC_RAW_BUF_SIZE> {
     /// reported, many are read between two questions. A character that an earlier call began is
     /// finished first. An unfinished one at the end of the bytes counts as read.
     #[must_use = "the bytes after the stop are still to be read"]
-    pub fn advance_until_terminated<P: Perform>(
+    pub fn advance_until_terminated<P: Perform + ?Sized>(
         &mut self,
         performer: &mut P,
         bytes: &[u8],
@@ -140,8 +140,8 @@ impl<const OSC_RAW_BUF_SIZE: usize> Parser<OSC_RAW_BUF_SIZE> {
     /// Reads bytes as [`advance_until_terminated`](Self::advance_until_terminated) does, and passes
     /// characters to print in [runs](crate::PerformText). Only for performers that nothing in a run
     /// terminates: they aren't asked there.
-    #[cfg(any(feature = "__own", all(feature = "ansi", not(feature = "std"))))]
-    pub(crate) fn advance_text_until_terminated<P: PerformText>(
+    #[cfg(any(feature = "__own", feature = "ansi"))]
+    pub(crate) fn advance_text_until_terminated<P: PerformText + ?Sized>(
         &mut self,
         performer: &mut P,
         bytes: &[u8],
@@ -162,7 +162,7 @@ impl<const OSC_RAW_BUF_SIZE: usize> Parser<OSC_RAW_BUF_SIZE> {
 
     /// Reads the bytes of a call, all of them or, if it `MAY_STOP`, until the performer is
     /// terminated, and returns how many were read.
-    fn drive<P: CountedPerform<G>, G: Grain, const MAY_STOP: bool>(
+    fn drive<P: CountedPerform<G> + ?Sized, G: Grain, const MAY_STOP: bool>(
         &mut self,
         performer: &mut P,
         bytes: &[u8],

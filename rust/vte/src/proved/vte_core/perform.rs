@@ -30,6 +30,13 @@ pub trait Perform {
 
     /// Called when an operating system command ends, with its pieces, which are 1 to 16, and
     /// whether BEL ended it.
+    ///
+    /// A command that CAN, SUB or ESC cancelled comes as one that `ESC \` ended. The next event
+    /// tells: [`execute`](Self::execute) of CAN (18) or SUB (1A) if one of these cancelled it,
+    /// and [`esc_dispatch`](Self::esc_dispatch) with the byte `\` if it ended. What follows the
+    /// 16th piece, and what is over the parser's limit, is dropped without an event: a link
+    /// (OSC 8) is cut at the 14th `;` of its URI. `command_lost_data` of the parser says
+    /// whether data were dropped.
     fn osc_dispatch(&mut self, params: &[&[u8]], bell_terminated: bool) {}
 
     /// Called for a control sequence with the final byte `action`. `intermediates` and `ignore` are
@@ -48,8 +55,11 @@ pub trait Perform {
     }
 }
 
-/// Receives text in runs, from `advance_text`: there [`print`](Perform::print) and
+/// Receives text in runs, from `advance_text` alone: there [`print`](Perform::print) and
 /// [`put`](Perform::put) aren't called.
+///
+/// All other calls, such as `advance` and `advance_to_run`, pass text by `print`, and never by
+/// `print_text`. A performer that leaves `print` empty loses their text, so implement both.
 ///
 /// How text and data are cut into runs may change from version to version.
 #[doc = include_str!("../../docs/perform_text.md")]

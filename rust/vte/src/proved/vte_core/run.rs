@@ -25,7 +25,7 @@ impl Reader {
 
     /// Finds where the run ends that begins with four bytes of ASCII, which were looked at.
     #[inline(never)]
-    pub(crate) fn find_ascii_run_end<P: CountedPerform<G>, G: Grain>(
+    pub(crate) fn find_ascii_run_end<P: CountedPerform<G> + ?Sized, G: Grain>(
         self,
         performer: &P,
         input: &[u8],
@@ -42,7 +42,7 @@ impl Reader {
     /// first byte of two, the second and that another character follows; after one of three, the
     /// second and the third.
     #[inline(always)]
-    pub(crate) fn find_run_end_at_lead<P: CountedPerform<G>, G: Grain>(
+    pub(crate) fn find_run_end_at_lead<P: CountedPerform<G> + ?Sized, G: Grain>(
         self,
         performer: &P,
         input: &[u8],
@@ -71,7 +71,7 @@ impl Reader {
 
     /// Finds where the run ends that has come to a position, for a performer.
     #[inline(never)]
-    pub(crate) fn find_run_end_for<P: CountedPerform<G>, G: Grain>(
+    pub(crate) fn find_run_end_for<P: CountedPerform<G> + ?Sized, G: Grain>(
         self,
         performer: &P,
         input: &[u8],

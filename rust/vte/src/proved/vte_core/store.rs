@@ -23,7 +23,7 @@ pub(crate) struct Store<B: Buffer> {
 
 impl<B: Buffer> Store<B> {
     /// Creates a store without items, over a buffer.
-    pub(crate) fn new(bytes: B) -> Self {
+    pub(crate) const fn new(bytes: B) -> Self {
         Store {
             bytes,
             ends: ArrayVec::new(),
@@ -72,7 +72,7 @@ impl<B: Buffer> Store<B> {
     }
 
     /// Dispatches the command with its pieces.
-    pub(crate) fn dispatch<P: CountedPerform<G>, G: Grain>(
+    pub(crate) fn dispatch<P: CountedPerform<G> + ?Sized, G: Grain>(
         &self,
         reader: Reader,
         performer: &mut P,

@@ -16,6 +16,13 @@ handlers! {
     /// A number that a sequence omits or gives as 0 arrives as 1 if it is a count, and as 0 if it
     /// selects something. No number exceeds 65,535.
     ///
+    /// # Operating system commands
+    ///
+    /// A command that CAN, SUB or ESC cancelled makes its call like one that ended. A handler can
+    /// tell only SUB, which makes a call of its own, `substitute`, after that of the command. Of a
+    /// command the first 16 pieces count, and with a limit so many bytes; the rest is dropped
+    /// without a call, and `command_lost_data` of the processor says so.
+    ///
     /// The standards: ECMA-48, fifth edition; DEC's VT510 manual; xterm's control sequences; kitty's
     /// keyboard protocol.
     pub trait Handler;
@@ -176,8 +183,12 @@ handlers! {
     /// `11`, and BEL or `ESC \\` as the question ended.
     fn dynamic_color_sequence(&mut self, prefix: &str as String = prefix.into(), index: usize, terminator: &str) {}
 
-    /// OSC 8: the characters that follow are a link; `None` ends it (the hyperlinks proposal of VTE
-    /// and iTerm2).
+    /// OSC 8: the characters that follow are a link; `None` ends it (the hyperlinks proposal of
+    /// VTE and iTerm2).
+    ///
+    /// The URI is cut at its 14th `;`. Without the feature `std` it has at most 1,023 bytes,
+    /// with the parameters before it. A cancelled command makes this call too
+    /// ([why](Handler#operating-system-commands)).
     fn set_hyperlink(&mut self, link: Option<Hyperlink<'_>> as Option<Hyperlink> = link.map(|link| link.owned())) {}
 
     /// DECSCUSR, `CSI Ps SP q`: the cursor's shape, and whether it blinks (DEC VT510; xterm).
@@ -261,6 +272,9 @@ handlers! {
     /// OSC 0 and 2: the window's title (xterm). It may be empty. Without the feature `std` it
     /// has at most 1,023 bytes. White space at both ends is trimmed. `None`, the terminal's own
     /// title, never arrives.
+    ///
+    /// The title is cut at its 15th `;`. A cancelled command makes this call too
+    /// ([why](Handler#operating-system-commands)).
     fn set_title(&mut self, title: Option<&str> as Option<String> = title.map(Into::into)) {}
 
     /// XTWINOPS 22, `CSI 22 t`: push the title onto a stack (xterm).
@@ -272,6 +286,9 @@ handlers! {
     /// OSC 52: store data in a clipboard (xterm). Its letter is the first byte of the
     /// selection, or `c` if that is empty. The data are passed on as they came: they should be
     /// base64, and may be anything. Without the feature `std` they have at most 1,022 bytes.
+    ///
+    /// The data end at their first `;`. A cancelled command makes this call too
+    /// ([why](Handler#operating-system-commands)): they may be a part of what was to be stored.
     fn clipboard_store(&mut self, clipboard: u8, bytes: &[u8]) {}
 
     /// OSC 52 with `?`: report what a clipboard holds, by its letter as in `clipboard_store`
@@ -294,8 +311,11 @@ handlers! {
     fn text_area_size_chars(&mut self) {}
 }
 
-/// Receives text in runs, from a processor's `advance_text` and `stop_sync_text`: there
+/// Receives text in runs, from a processor's `advance_text` and `stop_sync_text` alone: there
 /// [`input`](Handler::input) isn't called.
+///
+/// `advance` and `stop_sync` pass text by `input`, and never by `input_text`. A handler that
+/// leaves `input` empty loses their text, so implement both.
 ///
 /// How a text is cut into runs may change from version to version.
 #[doc = include_str!("../../docs/handler_text.md")]

@@ -14,7 +14,7 @@ use crate::proved::vte_types::CursorShape;
 use core::str::FromStr;
 
 /// Makes the calls of an operating system command.
-pub(crate) fn perform_system_command<H: Handler, B: TextBuffer>(
+pub(crate) fn perform_system_command<H: Handler + ?Sized, B: TextBuffer>(
     handler: &mut H,
     text: &mut B,
     pieces: &[&[u8]],
@@ -47,7 +47,7 @@ fn is_question(text: &[u8]) -> bool {
 }
 
 /// Sets a colour, or asks for it.
-fn set_color<H: Handler>(
+fn set_color<H: Handler + ?Sized>(
     handler: &mut H,
     prefix: &str,
     index: usize,
@@ -62,7 +62,12 @@ fn set_color<H: Handler>(
 }
 
 /// Sets a colour of the palette, or asks for it.
-fn set_palette_entry<H: Handler>(handler: &mut H, index: &[u8], color: &[u8], terminator: &str) {
+fn set_palette_entry<H: Handler + ?Sized>(
+    handler: &mut H,
+    index: &[u8],
+    color: &[u8],
+    terminator: &str,
+) {
     if let Some(index) = parse_number(index) {
         let mut prefix = ArrayString::<5>::new();
         prefix.push_str("4;");
@@ -78,7 +83,7 @@ fn set_palette_entry<H: Handler>(handler: &mut H, index: &[u8], color: &[u8], te
 }
 
 /// Sets colours of the palette, or asks for them: 4. Each index is followed by its colour.
-fn set_palette<H: Handler>(handler: &mut H, texts: &[&[u8]], terminator: &str) {
+fn set_palette<H: Handler + ?Sized>(handler: &mut H, texts: &[&[u8]], terminator: &str) {
     if texts.len() % 2 != 0 {
         return;
     }
@@ -90,7 +95,7 @@ fn set_palette<H: Handler>(handler: &mut H, texts: &[&[u8]], terminator: &str) {
 }
 
 /// Sets the link that these pieces make. A URI of one piece is lent, and not copied.
-fn set_link<H: Handler, B: TextBuffer>(handler: &mut H, text: &mut B, texts: &[&[u8]]) {
+fn set_link<H: Handler + ?Sized, B: TextBuffer>(handler: &mut H, text: &mut B, texts: &[&[u8]]) {
     match texts {
         [] | [_] => {}
         [parameters, uri] => set_link_to(handler, parameters, text_in(uri, true).unwrap_or("")),
@@ -102,7 +107,7 @@ fn set_link<H: Handler, B: TextBuffer>(handler: &mut H, text: &mut B, texts: &[&
 }
 
 /// Begins a link to a URI, or ends one if it is empty.
-fn set_link_to<H: Handler>(handler: &mut H, parameters: &[u8], uri: &str) {
+fn set_link_to<H: Handler + ?Sized>(handler: &mut H, parameters: &[u8], uri: &str) {
     if uri.is_empty() {
         handler.set_hyperlink(None);
     } else {
@@ -112,7 +117,12 @@ fn set_link_to<H: Handler>(handler: &mut H, parameters: &[u8], uri: &str) {
 }
 
 /// Sets the colour of the foreground, of the background or of the cursor, or asks for it.
-fn set_dynamic_color<H: Handler>(handler: &mut H, code: usize, terminator: &str, text: &[u8]) {
+fn set_dynamic_color<H: Handler + ?Sized>(
+    handler: &mut H,
+    code: usize,
+    terminator: &str,
+    text: &[u8],
+) {
     match code {
         10 => set_color(handler, "10", 256, terminator, text),
         11 => set_color(handler, "11", 257, terminator, text),
@@ -122,7 +132,7 @@ fn set_dynamic_color<H: Handler>(handler: &mut H, code: usize, terminator: &str,
 }
 
 /// Sets such colours, or asks for them: 10, 11 or 12, and those after it, one for each text.
-fn set_dynamic_colors<H: Handler>(
+fn set_dynamic_colors<H: Handler + ?Sized>(
     handler: &mut H,
     first: usize,
     texts: &[&[u8]],
@@ -136,7 +146,7 @@ fn set_dynamic_colors<H: Handler>(
 }
 
 /// Sets the icon of the mouse pointer: 22.
-fn set_pointer<H: Handler>(handler: &mut H, texts: &[&[u8]]) {
+fn set_pointer<H: Handler + ?Sized>(handler: &mut H, texts: &[&[u8]]) {
     if let [name] = texts {
         if let Some(icon) = icon_named(name) {
             handler.set_mouse_cursor_icon(icon);
@@ -150,7 +160,7 @@ fn icon_named(name: &[u8]) -> Option<CursorIcon> {
 }
 
 /// Sets the shape of the cursor: 50.
-fn set_shape<H: Handler>(handler: &mut H, texts: &[&[u8]]) {
+fn set_shape<H: Handler + ?Sized>(handler: &mut H, texts: &[&[u8]]) {
     if let [text, ..] = texts {
         match strip_word(text, b"CursorShape=") {
             Some([b'0', ..]) => handler.set_cursor_shape(CursorShape::Block),
@@ -162,7 +172,7 @@ fn set_shape<H: Handler>(handler: &mut H, texts: &[&[u8]]) {
 }
 
 /// Stores data in a clipboard, or asks for what it holds: 52.
-fn use_clipboard<H: Handler>(handler: &mut H, texts: &[&[u8]], terminator: &str) {
+fn use_clipboard<H: Handler + ?Sized>(handler: &mut H, texts: &[&[u8]], terminator: &str) {
     if let [name, data, ..] = texts {
         let clipboard = name.first().copied().unwrap_or(b'c');
         if is_question(data) {
@@ -174,14 +184,14 @@ fn use_clipboard<H: Handler>(handler: &mut H, texts: &[&[u8]], terminator: &str)
 }
 
 /// Resets all colours of the palette.
-fn reset_all<H: Handler>(handler: &mut H) {
+fn reset_all<H: Handler + ?Sized>(handler: &mut H) {
     for index in 0..256 {
         handler.reset_color(index);
     }
 }
 
 /// Resets colours of the palette: 104. Without an index, all are reset.
-fn reset_colors<H: Handler>(handler: &mut H, texts: &[&[u8]]) {
+fn reset_colors<H: Handler + ?Sized>(handler: &mut H, texts: &[&[u8]]) {
     match texts {
         [] | [[], ..] => reset_all(handler),
         _ => {

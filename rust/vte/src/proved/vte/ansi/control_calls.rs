@@ -17,7 +17,7 @@ use crate::proved::vte_types::{
 /// Makes the calls of a control sequence, other than `ESC [ ? .. h`: that may begin an update.
 #[inline]
 #[allow(clippy::collapsible_match)]
-pub(crate) fn perform_control<H: InputAs<G>, G>(
+pub(crate) fn perform_control<H: InputAs<G> + ?Sized, G>(
     handler: &mut H,
     last: Option<char>,
     params: &Params,
@@ -71,7 +71,7 @@ pub(crate) fn perform_control<H: InputAs<G>, G>(
 
 /// Makes the calls of a control sequence without intermediates, but for DA.
 #[inline]
-fn perform_plain<H: InputAs<G>, G>(
+fn perform_plain<H: InputAs<G> + ?Sized, G>(
     handler: &mut H,
     last: Option<char>,
     params: &Params,
@@ -121,7 +121,7 @@ fn perform_plain<H: InputAs<G>, G>(
 }
 
 /// Passes the last printed character on `count` times, if there is one.
-fn repeat<H: InputAs<G>, G>(handler: &mut H, last: Option<char>, count: u16) {
+fn repeat<H: InputAs<G> + ?Sized, G>(handler: &mut H, last: Option<char>, count: u16) {
     if let Some(c) = last {
         for _ in 0..count {
             handler.input_char(c);
@@ -130,7 +130,7 @@ fn repeat<H: InputAs<G>, G>(handler: &mut H, last: Option<char>, count: u16) {
 }
 
 /// Makes the call of a window operation (XTWINOPS), by its number.
-fn operate_window<H: Handler>(handler: &mut H, number: u16) {
+fn operate_window<H: Handler + ?Sized>(handler: &mut H, number: u16) {
     match number {
         14 => handler.text_area_size_pixels(),
         18 => handler.text_area_size_chars(),
@@ -141,7 +141,7 @@ fn operate_window<H: Handler>(handler: &mut H, number: u16) {
 }
 
 /// Clears the tab stops that TBC selects.
-fn clear_tabs<H: Handler>(handler: &mut H, number: u16) {
+fn clear_tabs<H: Handler + ?Sized>(handler: &mut H, number: u16) {
     match number {
         0 => handler.clear_tabs(TabulationClearMode::Current),
         3 => handler.clear_tabs(TabulationClearMode::All),
@@ -150,7 +150,7 @@ fn clear_tabs<H: Handler>(handler: &mut H, number: u16) {
 }
 
 /// Clears the part of the screen that ED selects.
-fn clear_screen<H: Handler>(handler: &mut H, number: u16) {
+fn clear_screen<H: Handler + ?Sized>(handler: &mut H, number: u16) {
     match number {
         0 => handler.clear_screen(ClearMode::Below),
         1 => handler.clear_screen(ClearMode::Above),
@@ -161,7 +161,7 @@ fn clear_screen<H: Handler>(handler: &mut H, number: u16) {
 }
 
 /// Clears the part of the line that EL selects.
-fn clear_line<H: Handler>(handler: &mut H, number: u16) {
+fn clear_line<H: Handler + ?Sized>(handler: &mut H, number: u16) {
     match number {
         0 => handler.clear_line(LineClearMode::Right),
         1 => handler.clear_line(LineClearMode::Left),
@@ -171,7 +171,7 @@ fn clear_line<H: Handler>(handler: &mut H, number: u16) {
 }
 
 /// Sets how modified keys are sent.
-fn set_other_keys<H: Handler>(handler: &mut H, number: u16) {
+fn set_other_keys<H: Handler + ?Sized>(handler: &mut H, number: u16) {
     match number {
         0 => handler.set_modify_other_keys(ModifyOtherKeys::Reset),
         1 => handler.set_modify_other_keys(ModifyOtherKeys::EnableExceptWellDefined),
@@ -181,7 +181,7 @@ fn set_other_keys<H: Handler>(handler: &mut H, number: u16) {
 }
 
 /// Sets the cursor style of DECSCUSR. `None` is the terminal's own style.
-fn set_cursor_style<H: Handler>(handler: &mut H, number: u16) {
+fn set_cursor_style<H: Handler + ?Sized>(handler: &mut H, number: u16) {
     let shape = match number {
         0 => return handler.set_cursor_style(None),
         1 | 2 => CursorShape::Block,
@@ -207,14 +207,14 @@ pub(crate) enum ModeChange {
 }
 
 /// Changes the modes that the first numbers of the groups name.
-fn change_modes<H: Handler>(handler: &mut H, params: &Params, change: ModeChange) {
+fn change_modes<H: Handler + ?Sized>(handler: &mut H, params: &Params, change: ModeChange) {
     for group in params {
         change_mode(handler, change, first_number(group));
     }
 }
 
 /// Changes one mode.
-pub(crate) fn change_mode<H: Handler>(handler: &mut H, change: ModeChange, number: u16) {
+pub(crate) fn change_mode<H: Handler + ?Sized>(handler: &mut H, change: ModeChange, number: u16) {
     match change {
         ModeChange::Set => handler.set_mode(Mode::new(number)),
         ModeChange::Reset => handler.unset_mode(Mode::new(number)),

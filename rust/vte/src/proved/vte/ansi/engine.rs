@@ -45,7 +45,7 @@ impl<P: EventParser, B: TextBuffer, T: Timeout> Engine<P, B, T> {
     /// Reads bytes, and parses them or holds them back: all of them, or as many as there is memory
     /// for. The grain decides how the handler receives text.
     #[inline]
-    pub(crate) fn read<H: Handler, G: ParseAs<H, T, P>>(
+    pub(crate) fn read<H: Handler + ?Sized, G: ParseAs<H, T, P>>(
         &mut self,
         handler: &mut H,
         bytes: &[u8],
@@ -69,21 +69,21 @@ impl<P: EventParser, B: TextBuffer, T: Timeout> Engine<P, B, T> {
 
     /// Stops the update, whatever is held: there is memory to parse it.
     #[inline(never)]
-    pub(crate) fn stop<H: Handler, G: ParseAs<H, T, P>>(&mut self, handler: &mut H) {
+    pub(crate) fn stop<H: Handler + ?Sized, G: ParseAs<H, T, P>>(&mut self, handler: &mut H) {
         self.hold.release_all();
         self.end_update::<H, G>(handler);
     }
 
     /// Parses the released bytes, after which nothing is held, and tells the handler that the
     /// update has ended.
-    fn end_update<H: Handler, G: ParseAs<H, T, P>>(&mut self, handler: &mut H) {
+    fn end_update<H: Handler + ?Sized, G: ParseAs<H, T, P>>(&mut self, handler: &mut H) {
         self.parse_released::<H, G>(handler);
         handler.unset_private_mode(PrivateMode::Named(NamedPrivateMode::SyncUpdate));
         self.state.timeout.clear_timeout();
     }
 
     /// Parses the released bytes.
-    fn parse_released<H: Handler, G: ParseAs<H, T, P>>(&mut self, handler: &mut H) {
+    fn parse_released<H: Handler + ?Sized, G: ParseAs<H, T, P>>(&mut self, handler: &mut H) {
         let released = self.hold.released();
         if released.is_empty() {
             return;
@@ -95,7 +95,7 @@ impl<P: EventParser, B: TextBuffer, T: Timeout> Engine<P, B, T> {
     /// asks the timeout once: while an update is pending, the bytes are held, or the update is
     /// stopped if there is no room for them.
     #[inline]
-    fn turn<H: Handler, G: ParseAs<H, T, P>>(
+    fn turn<H: Handler + ?Sized, G: ParseAs<H, T, P>>(
         &mut self,
         handler: &mut H,
         bytes: &[u8],
@@ -122,7 +122,7 @@ impl<P: EventParser, B: TextBuffer, T: Timeout> Engine<P, B, T> {
 
     /// Parses bytes up to the one that begins an update, a slice at a time, and returns how many.
     /// Memory is taken before each slice.
-    fn take_open_turn<H: Handler, G: ParseAs<H, T, P>>(
+    fn take_open_turn<H: Handler + ?Sized, G: ParseAs<H, T, P>>(
         &mut self,
         handler: &mut H,
         bytes: &[u8],
@@ -157,7 +157,11 @@ impl<P: EventParser, B: TextBuffer, T: Timeout> Engine<P, B, T> {
 
     /// Holds all bytes, and parses those that the end of an update among them releases.
     #[inline]
-    fn hold_bytes<H: Handler, G: ParseAs<H, T, P>>(&mut self, handler: &mut H, bytes: &[u8]) {
+    fn hold_bytes<H: Handler + ?Sized, G: ParseAs<H, T, P>>(
+        &mut self,
+        handler: &mut H,
+        bytes: &[u8],
+    ) {
         let begins = self.hold.add(bytes);
         set_timeout_times(&mut self.state.timeout, begins);
         if self.hold.len() == 0 {

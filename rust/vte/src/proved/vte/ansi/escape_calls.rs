@@ -6,7 +6,7 @@ use crate::proved::vte_types::{CharsetIndex, StandardCharset};
 
 /// Makes the calls of an executed byte.
 #[allow(clippy::manual_range_patterns)]
-pub(crate) fn perform_execute<H: Handler>(handler: &mut H, byte: u8) {
+pub(crate) fn perform_execute<H: Handler + ?Sized>(handler: &mut H, byte: u8) {
     match byte {
         0x07 => handler.bell(),
         0x08 => handler.backspace(),
@@ -21,7 +21,7 @@ pub(crate) fn perform_execute<H: Handler>(handler: &mut H, byte: u8) {
 }
 
 /// Makes the calls of an escape sequence.
-pub(crate) fn perform_escape<H: Handler>(handler: &mut H, intermediates: &[u8], byte: u8) {
+pub(crate) fn perform_escape<H: Handler + ?Sized>(handler: &mut H, intermediates: &[u8], byte: u8) {
     match (byte, intermediates) {
         (b'B', [index]) => configure(handler, *index, StandardCharset::Ascii),
         (b'0', [index]) => {
@@ -50,7 +50,7 @@ pub(crate) fn perform_escape<H: Handler>(handler: &mut H, intermediates: &[u8], 
 }
 
 /// Configures the index that an intermediate designates.
-fn configure<H: Handler>(handler: &mut H, intermediate: u8, charset: StandardCharset) {
+fn configure<H: Handler + ?Sized>(handler: &mut H, intermediate: u8, charset: StandardCharset) {
     match intermediate {
         b'(' => handler.configure_charset(CharsetIndex::G0, charset),
         b')' => handler.configure_charset(CharsetIndex::G1, charset),

@@ -10,14 +10,14 @@ pub(crate) trait InputAs<G>: Handler {
     fn input_char(&mut self, c: char);
 }
 
-impl<H: Handler> InputAs<Singly> for H {
+impl<H: Handler + ?Sized> InputAs<Singly> for H {
     #[inline(always)]
     fn input_char(&mut self, c: char) {
         self.input(c);
     }
 }
 
-impl<H: HandlerText> InputAs<InRuns> for H {
+impl<H: HandlerText + ?Sized> InputAs<InRuns> for H {
     fn input_char(&mut self, c: char) {
         match c {
             // Never: no control is printed.

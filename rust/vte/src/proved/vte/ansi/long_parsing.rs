@@ -30,7 +30,7 @@ fn joined_size(stored: usize, more: usize) -> Option<usize> {
     stored.checked_add(more)?.checked_add(SEPARATORS)
 }
 
-impl<H: Handler, T: Timeout> ParseAs<H, T, LongParser> for Singly {
+impl<H: Handler + ?Sized, T: Timeout> ParseAs<H, T, LongParser> for Singly {
     #[inline(always)]
     fn advance<B: TextBuffer>(
         parser: &mut LongParser,
@@ -54,7 +54,7 @@ impl<H: Handler, T: Timeout> ParseAs<H, T, LongParser> for Singly {
     }
 }
 
-impl<H: HandlerText, T: Timeout> ParseAs<H, T, LongParser> for InRuns {
+impl<H: HandlerText + ?Sized, T: Timeout> ParseAs<H, T, LongParser> for InRuns {
     #[inline(always)]
     fn advance<B: TextBuffer>(
         parser: &mut LongParser,

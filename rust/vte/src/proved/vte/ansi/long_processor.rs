@@ -6,30 +6,13 @@ use crate::proved::vte::ansi::growing_text::GrowingText;
 use crate::proved::vte_core::{InRuns, LongParser, Refused, Singly};
 use crate::proved::vte_handler::{Handler, HandlerText, Timeout};
 
-/// A processor whose calls return an error if they are refused memory.
-///
-/// It keeps commands, titles and links whatever their length, as
-/// [`Processor`](crate::ansi::Processor) does with the feature `std`.
+/// A [`Processor`](crate::ansi::Processor) that keeps commands, titles and links whatever their
+/// length.
 ///
 /// A call takes memory before it parses each 65,536 bytes: for them and an open command, and for a
 /// text that is joined from these. Bytes that are held back take theirs whole. If memory is
 /// refused, the call stops there. Nothing is lost or done twice, and the rest can be passed in
 /// again:
-///
-/// ```
-/// # use vte::{Refused, ansi::{Timeout, lent::{Handler, LongProcessor}}};
-/// # struct Screen;
-/// # impl Handler for Screen {}
-/// # fn read<T: Timeout>(
-/// #     processor: &mut LongProcessor<T>, mut handler: Screen, bytes: &[u8],
-/// # ) -> Result<(), Refused> {
-/// if let Err(refused) = processor.advance(&mut handler, bytes) {
-///     // Free some memory, and go on.
-///     processor.advance(&mut handler, &bytes[refused.read..])?;
-/// }
-/// # Ok(())
-/// # }
-/// ```
 #[derive(Clone)]
 pub struct LongProcessor<T: Timeout> {
     engine: Engine<LongParser, GrowingText, T>,
@@ -59,6 +42,14 @@ impl<T: Timeout> LongProcessor<T> {
         self.engine.hold.len()
     }
 
+    /// Returns whether data bytes are in no piece of the operating system command that is open, or
+    /// else ended last: those after the 16th piece. Bytes that are held back don't count.
+    ///
+    /// [`reserve`](Self::reserve) and [`shrink`](Self::shrink) forget it if the command has ended.
+    pub fn command_lost_data(&self) -> bool {
+        self.engine.parser.command_lost_data()
+    }
+
     /// Takes memory for the bytes that are held back and for this many more, and returns whether it
     /// is there. Calls with no more bytes than that are then never refused memory.
     #[must_use = "the memory may be refused"]
@@ -78,12 +69,12 @@ impl<T: Timeout> LongProcessor<T> {
     /// Stops an update: parses the bytes that are held back, tells the handler that the update has
     /// ended, and clears the timeout. Without an update too, the handler is told. It needs no
     /// memory: what is held back has taken it.
-    pub fn stop_sync<H: Handler>(&mut self, handler: &mut H) {
+    pub fn stop_sync<H: Handler + ?Sized>(&mut self, handler: &mut H) {
         self.engine.stop::<H, Singly>(handler);
     }
 
     /// Stops an update as [`stop_sync`](Self::stop_sync) does. The handler receives text in runs.
-    pub fn stop_sync_text<H: HandlerText>(&mut self, handler: &mut H) {
+    pub fn stop_sync_text<H: HandlerText + ?Sized>(&mut self, handler: &mut H) {
         self.engine.stop::<H, InRuns>(handler);
     }
 
@@ -92,12 +83,16 @@ impl<T: Timeout> LongProcessor<T> {
     ///
     /// If the timeout is never pending and no memory is refused, all bytes are parsed: the handler
     /// of a new processor receives the calls of the whole stream, however it is split.
-    pub fn advance<H: Handler>(&mut self, handler: &mut H, bytes: &[u8]) -> Result<(), Refused> {
+    pub fn advance<H: Handler + ?Sized>(
+        &mut self,
+        handler: &mut H,
+        bytes: &[u8],
+    ) -> Result<(), Refused> {
         self.engine.read::<H, Singly>(handler, bytes)
     }
 
     /// Reads bytes as [`advance`](Self::advance) does. The handler receives text in runs.
-    pub fn advance_text<H: HandlerText>(
+    pub fn advance_text<H: HandlerText + ?Sized>(
         &mut self,
         handler: &mut H,
         bytes: &[u8],

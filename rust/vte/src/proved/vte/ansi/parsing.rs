@@ -2,26 +2,12 @@
 //! The parser, together with what a processor lends it. The references are separate parameters, not
 //! fields of one struct, so that the performer can borrow each.
 
-#[cfg(not(feature = "std"))]
-use crate::adapter::array_string::ArrayString;
 use crate::proved::vte::ansi::performer::{Performer, PerformerState};
 use crate::proved::vte::ansi::text_buffer::TextBuffer;
-#[cfg(not(feature = "std"))]
-use crate::proved::vte::ansi::titles::TEXT_ROOM;
-#[cfg(not(feature = "std"))]
+use crate::proved::vte::ansi::titles::SEPARATORS;
 use crate::proved::vte_core::{InRuns, Parser, Singly};
-#[cfg(not(feature = "std"))]
-use crate::proved::vte_handler::HandlerText;
-use crate::proved::vte_handler::{Handler, Timeout};
+use crate::proved::vte_handler::{Handler, HandlerText, Timeout};
 use core::marker::PhantomData;
-
-/// The parser of a processor.
-#[cfg(not(feature = "std"))]
-pub(crate) type ProcessorParser = Parser<1024>;
-
-/// The buffer of a processor for joined texts.
-#[cfg(not(feature = "std"))]
-pub(crate) type ProcessorText = ArrayString<TEXT_ROOM>;
 
 /// A parser whose events a processor interprets.
 pub(crate) trait EventParser {
@@ -30,15 +16,17 @@ pub(crate) trait EventParser {
     fn reserve<B: TextBuffer>(&mut self, text: &mut B, held: usize, more: usize) -> bool;
 }
 
-#[cfg(not(feature = "std"))]
-impl EventParser for ProcessorParser {
+impl<const N: usize> EventParser for Parser<N> {
     fn reserve<B: TextBuffer>(&mut self, text: &mut B, _held: usize, _more: usize) -> bool {
-        text.reserve(TEXT_ROOM)
+        match N.checked_add(SEPARATORS) {
+            Some(size) => text.reserve(size),
+            None => false,
+        }
     }
 }
 
 /// Parses for a handler that receives text in a grain: `Singly` or `InRuns`.
-pub(crate) trait ParseAs<H: Handler, T: Timeout, P: EventParser>: Sized {
+pub(crate) trait ParseAs<H: Handler + ?Sized, T: Timeout, P: EventParser>: Sized {
     /// Parses all bytes.
     fn advance<B: TextBuffer>(
         parser: &mut P,
@@ -54,11 +42,10 @@ pub(crate) trait ParseAs<H: Handler, T: Timeout, P: EventParser>: Sized {
     ) -> usize;
 }
 
-#[cfg(not(feature = "std"))]
-impl<H: Handler, T: Timeout> ParseAs<H, T, ProcessorParser> for Singly {
+impl<H: Handler + ?Sized, T: Timeout, const N: usize> ParseAs<H, T, Parser<N>> for Singly {
     #[inline(always)]
     fn advance<B: TextBuffer>(
-        parser: &mut ProcessorParser,
+        parser: &mut Parser<N>,
         performer: &mut Performer<'_, '_, H, T, B, Self>,
         bytes: &[u8],
     ) {
@@ -67,7 +54,7 @@ impl<H: Handler, T: Timeout> ParseAs<H, T, ProcessorParser> for Singly {
 
     #[inline(always)]
     fn advance_until_begin<B: TextBuffer>(
-        parser: &mut ProcessorParser,
+        parser: &mut Parser<N>,
         performer: &mut Performer<'_, '_, H, T, B, Self>,
         bytes: &[u8],
     ) -> usize {
@@ -75,11 +62,10 @@ impl<H: Handler, T: Timeout> ParseAs<H, T, ProcessorParser> for Singly {
     }
 }
 
-#[cfg(not(feature = "std"))]
-impl<H: HandlerText, T: Timeout> ParseAs<H, T, ProcessorParser> for InRuns {
+impl<H: HandlerText + ?Sized, T: Timeout, const N: usize> ParseAs<H, T, Parser<N>> for InRuns {
     #[inline(always)]
     fn advance<B: TextBuffer>(
-        parser: &mut ProcessorParser,
+        parser: &mut Parser<N>,
         performer: &mut Performer<'_, '_, H, T, B, Self>,
         bytes: &[u8],
     ) {
@@ -88,7 +74,7 @@ impl<H: HandlerText, T: Timeout> ParseAs<H, T, ProcessorParser> for InRuns {
 
     #[inline(always)]
     fn advance_until_begin<B: TextBuffer>(
-        parser: &mut ProcessorParser,
+        parser: &mut Parser<N>,
         performer: &mut Performer<'_, '_, H, T, B, Self>,
         bytes: &[u8],
     ) -> usize {
@@ -98,7 +84,7 @@ impl<H: HandlerText, T: Timeout> ParseAs<H, T, ProcessorParser> for InRuns {
 
 /// Parses all bytes.
 pub(crate) fn parse_all<
-    H: Handler,
+    H: Handler + ?Sized,
     B: TextBuffer,
     T: Timeout,
     P: EventParser,
@@ -121,7 +107,7 @@ pub(crate) fn parse_all<
 /// Parses the bytes up to the one that begins an update. Returns how many it parsed, and whether an
 /// update begins.
 pub(crate) fn parse_until_begin<
-    H: Handler,
+    H: Handler + ?Sized,
     B: TextBuffer,
     T: Timeout,
     P: EventParser,

@@ -25,7 +25,7 @@ pub(crate) struct PerformerState<T, B> {
 }
 
 /// Calls a handler for each event, while it borrows the handler and the processor's state.
-pub(crate) struct Performer<'s, 'h, H: Handler, T: Timeout, B: TextBuffer, G> {
+pub(crate) struct Performer<'s, 'h, H: Handler + ?Sized, T: Timeout, B: TextBuffer, G> {
     pub(crate) state: &'s mut PerformerState<T, B>,
     pub(crate) handler: &'h mut H,
     /// Whether an update has begun, so that the next turn reads the bytes that follow.
@@ -33,7 +33,7 @@ pub(crate) struct Performer<'s, 'h, H: Handler, T: Timeout, B: TextBuffer, G> {
     pub(crate) grain: PhantomData<G>,
 }
 
-impl<'s, 'h, H: InputAs<G>, T: Timeout, B: TextBuffer, G> Perform
+impl<'s, 'h, H: InputAs<G> + ?Sized, T: Timeout, B: TextBuffer, G> Perform
     for Performer<'s, 'h, H, T, B, G>
 {
     #[inline]
@@ -83,7 +83,7 @@ impl<'s, 'h, H: InputAs<G>, T: Timeout, B: TextBuffer, G> Perform
     }
 }
 
-impl<'s, 'h, H: HandlerText, T: Timeout, B: TextBuffer> PerformText
+impl<'s, 'h, H: HandlerText + ?Sized, T: Timeout, B: TextBuffer> PerformText
     for Performer<'s, 'h, H, T, B, InRuns>
 {
     fn keeps_layout(&self) -> bool {
@@ -97,7 +97,7 @@ impl<'s, 'h, H: HandlerText, T: Timeout, B: TextBuffer> PerformText
     }
 }
 
-impl<'s, 'h, H: Handler, T: Timeout, B: TextBuffer, G> Performer<'s, 'h, H, T, B, G> {
+impl<'s, 'h, H: Handler + ?Sized, T: Timeout, B: TextBuffer, G> Performer<'s, 'h, H, T, B, G> {
     /// Sets the private modes, group by group.
     fn set_private_modes(&mut self, params: &Params) {
         for group in params {

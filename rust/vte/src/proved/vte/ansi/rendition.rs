@@ -9,7 +9,7 @@ use crate::proved::vte_types::{Attr, Color, NamedColor};
 
 /// Calls the handler for each attribute of the groups.
 #[inline(always)]
-pub(crate) fn perform_attributes<H: Handler>(handler: &mut H, params: &Params) {
+pub(crate) fn perform_attributes<H: Handler + ?Sized>(handler: &mut H, params: &Params) {
     let mut groups = params.iter();
     while let Some(group) = groups.next() {
         if let Some(attribute) = attribute(group, &mut groups) {

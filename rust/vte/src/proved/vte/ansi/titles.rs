@@ -7,10 +7,6 @@ use crate::proved::vte_handler::Handler;
 /// A joined text may have a separator after each of 16 pieces.
 pub(crate) const SEPARATORS: usize = 16;
 
-/// The size of the buffer for a joined text of 1,024 bytes.
-#[cfg(not(feature = "std"))]
-pub(crate) const TEXT_ROOM: usize = 1024 + SEPARATORS;
-
 /// Reads a decimal number of at most 255.
 pub(crate) fn parse_number(digits: &[u8]) -> Option<u8> {
     if digits.is_empty() {
@@ -66,7 +62,7 @@ pub(crate) fn text_in(piece: &[u8], keeps_all: bool) -> Option<&str> {
 }
 
 /// Sets the title that these pieces make. A title of one piece is lent, and not copied.
-pub(crate) fn perform_title<H: Handler, B: TextBuffer>(
+pub(crate) fn perform_title<H: Handler + ?Sized, B: TextBuffer>(
     handler: &mut H,
     text: &mut B,
     texts: &[&[u8]],

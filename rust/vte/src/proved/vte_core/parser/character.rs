@@ -14,7 +14,7 @@ impl<B: Buffer> Machine<B> {
     /// at. A byte that breaks it is left unread, and U+FFFD is printed for those before it. If text
     /// is taken in runs, a character of four bytes begins one.
     #[inline(always)]
-    pub(crate) fn read_character<P: CountedPerform<G>, G: Grain, const MAY_STOP: bool>(
+    pub(crate) fn read_character<P: CountedPerform<G> + ?Sized, G: Grain, const MAY_STOP: bool>(
         &mut self,
         reader: Reader,
         performer: &mut P,
@@ -45,7 +45,7 @@ impl<B: Buffer> Machine<B> {
 
     /// Reads the second and third byte of a character of three. The second was looked at.
     #[inline(always)]
-    pub(crate) fn complete_three<P: CountedPerform<G>, G: Grain, const MAY_STOP: bool>(
+    pub(crate) fn complete_three<P: CountedPerform<G> + ?Sized, G: Grain, const MAY_STOP: bool>(
         &mut self,
         reader: Reader,
         performer: &mut P,
@@ -74,7 +74,7 @@ impl<B: Buffer> Machine<B> {
     /// Reads the character of four bytes that begins at a position, whose first two were looked at.
     /// If text is taken in runs, it begins one.
     #[inline(always)]
-    pub(crate) fn complete_four<P: CountedPerform<G>, G: Grain, const MAY_STOP: bool>(
+    pub(crate) fn complete_four<P: CountedPerform<G> + ?Sized, G: Grain, const MAY_STOP: bool>(
         &mut self,
         reader: Reader,
         performer: &mut P,
@@ -119,7 +119,11 @@ impl<B: Buffer> Machine<B> {
     /// Reads the bytes that an unfinished character continues with. A byte that breaks it is left
     /// unread, and U+FFFD is printed for those before it.
     #[inline(always)]
-    pub(crate) fn continue_character<P: CountedPerform<G>, G: Grain, const MAY_STOP: bool>(
+    pub(crate) fn continue_character<
+        P: CountedPerform<G> + ?Sized,
+        G: Grain,
+        const MAY_STOP: bool,
+    >(
         &mut self,
         reader: Reader,
         performer: &mut P,

@@ -14,7 +14,11 @@ impl<B: Buffer> Machine<B> {
     /// Reads the head of a device control string, which has come so far, and its final byte.
     /// Controls in it are dropped.
     #[inline(never)]
-    pub(crate) fn read_device_control<P: CountedPerform<G>, G: Grain, const MAY_STOP: bool>(
+    pub(crate) fn read_device_control<
+        P: CountedPerform<G> + ?Sized,
+        G: Grain,
+        const MAY_STOP: bool,
+    >(
         &mut self,
         reader: Reader,
         performer: &mut P,
@@ -37,7 +41,7 @@ impl<B: Buffer> Machine<B> {
     }
 
     /// Hooks the string at the final byte of its head, or ignores it if the head is ill-shaped.
-    fn hook<P: CountedPerform<G>, G: Grain>(
+    fn hook<P: CountedPerform<G> + ?Sized, G: Grain>(
         &mut self,
         reader: Reader,
         performer: &mut P,
@@ -56,7 +60,11 @@ impl<B: Buffer> Machine<B> {
     /// Reads the data of a device control string, and the byte that ends them. For a performer that
     /// takes slices and is never asked, it reads either data up to a byte that isn't put, or such a
     /// byte.
-    pub(crate) fn read_device_data<P: CountedPerform<G>, G: Grain, const MAY_STOP: bool>(
+    pub(crate) fn read_device_data<
+        P: CountedPerform<G> + ?Sized,
+        G: Grain,
+        const MAY_STOP: bool,
+    >(
         &mut self,
         reader: Reader,
         performer: &mut P,
@@ -85,7 +93,11 @@ impl<B: Buffer> Machine<B> {
 
     /// Reads a byte among the data that isn't put: it ends them, or is dropped.
     #[inline(never)]
-    pub(crate) fn read_other_in_data<P: CountedPerform<G>, G: Grain, const MAY_STOP: bool>(
+    pub(crate) fn read_other_in_data<
+        P: CountedPerform<G> + ?Sized,
+        G: Grain,
+        const MAY_STOP: bool,
+    >(
         &mut self,
         reader: Reader,
         performer: &mut P,

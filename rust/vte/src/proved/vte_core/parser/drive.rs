@@ -9,7 +9,7 @@ impl<B: Buffer> Machine<B> {
     /// Reads the bytes of a call, as many as there is memory for, and returns how many: all of
     /// them, or up to a stop if `MAY_STOP`.
     #[inline(never)]
-    pub(crate) fn drive<P: CountedPerform<G>, G: Grain, const MAY_STOP: bool>(
+    pub(crate) fn drive<P: CountedPerform<G> + ?Sized, G: Grain, const MAY_STOP: bool>(
         &mut self,
         reader: Reader,
         performer: &mut P,
@@ -26,7 +26,11 @@ impl<B: Buffer> Machine<B> {
     }
 
     /// Completes the character that an earlier call began, if one is open.
-    pub(crate) fn finish_character<P: CountedPerform<G>, G: Grain, const MAY_STOP: bool>(
+    pub(crate) fn finish_character<
+        P: CountedPerform<G> + ?Sized,
+        G: Grain,
+        const MAY_STOP: bool,
+    >(
         &mut self,
         reader: Reader,
         performer: &mut P,
@@ -46,7 +50,7 @@ impl<B: Buffer> Machine<B> {
     /// Reads at least one byte, before which the performer was asked, or none if memory is refused
     /// for it.
     #[inline]
-    pub(crate) fn read_by_state<P: CountedPerform<G>, G: Grain, const MAY_STOP: bool>(
+    pub(crate) fn read_by_state<P: CountedPerform<G> + ?Sized, G: Grain, const MAY_STOP: bool>(
         &mut self,
         reader: Reader,
         performer: &mut P,

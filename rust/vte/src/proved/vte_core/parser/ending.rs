@@ -9,7 +9,7 @@ use crate::proved::vte_core::scan::{CountedPerform, Grain, Reader};
 impl<B: Buffer> Machine<B> {
     /// Closes what is open, and then begins an escape sequence, or executes CAN or SUB.
     #[inline(never)]
-    pub(crate) fn end_body<P: CountedPerform<G>, G: Grain>(
+    pub(crate) fn end_body<P: CountedPerform<G> + ?Sized, G: Grain>(
         &mut self,
         reader: Reader,
         performer: &mut P,
@@ -26,7 +26,7 @@ impl<B: Buffer> Machine<B> {
     }
 
     /// Reads a byte that ends what is open, which was looked at. After ESC it reads on.
-    pub(crate) fn read_end<P: CountedPerform<G>, G: Grain, const MAY_STOP: bool>(
+    pub(crate) fn read_end<P: CountedPerform<G> + ?Sized, G: Grain, const MAY_STOP: bool>(
         &mut self,
         reader: Reader,
         performer: &mut P,
@@ -42,7 +42,11 @@ impl<B: Buffer> Machine<B> {
     }
 
     /// Reports the end of a string: `unhook`, or the operating system command.
-    fn report_end<P: CountedPerform<G>, G: Grain>(&self, reader: Reader, performer: &mut P) {
+    fn report_end<P: CountedPerform<G> + ?Sized, G: Grain>(
+        &self,
+        reader: Reader,
+        performer: &mut P,
+    ) {
         match self.state {
             State::DeviceData => performer.unhook(reader),
             State::SystemCommand => self.command.dispatch(reader, performer, false),

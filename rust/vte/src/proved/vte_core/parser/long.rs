@@ -40,7 +40,7 @@ pub struct LongParser {
 impl LongParser {
     /// Creates a parser that has read nothing. It takes no memory.
     #[inline]
-    pub fn new() -> Self {
+    pub const fn new() -> Self {
         LongParser {
             machine: Machine::new(Vec::new()),
             reader: Reader::for_long(),
@@ -90,7 +90,11 @@ impl LongParser {
 
     /// Reads the next bytes of the stream, and performs the events that they add to it: all of
     /// them, or as many as there is memory for.
-    pub fn advance<P: Perform>(&mut self, performer: &mut P, bytes: &[u8]) -> Result<(), Refused> {
+    pub fn advance<P: Perform + ?Sized>(
+        &mut self,
+        performer: &mut P,
+        bytes: &[u8],
+    ) -> Result<(), Refused> {
         self.machine
             .drive::<P, Singly, false>(self.reader, performer, bytes)?;
         Ok(())
@@ -99,7 +103,7 @@ impl LongParser {
     /// Reads the next bytes of the stream as [`advance`](Self::advance) does, and passes characters
     /// to print in [runs](crate::PerformText), and the data of device control strings in
     /// [slices](crate::PerformText::put_slice).
-    pub fn advance_text<P: PerformText>(
+    pub fn advance_text<P: PerformText + ?Sized>(
         &mut self,
         performer: &mut P,
         bytes: &[u8],
@@ -115,7 +119,7 @@ impl LongParser {
     /// The performer is asked as by
     /// [`Parser::advance_until_terminated`](crate::Parser::advance_until_terminated), and before
     /// memory is taken: a stop needs none.
-    pub fn advance_until_terminated<P: Perform>(
+    pub fn advance_until_terminated<P: Perform + ?Sized>(
         &mut self,
         performer: &mut P,
         bytes: &[u8],
@@ -128,7 +132,7 @@ impl LongParser {
     /// characters to print in [runs](crate::PerformText). Only for performers that nothing in a run
     /// terminates: they aren't asked there.
     #[cfg(any(feature = "__own", feature = "ansi"))]
-    pub(crate) fn advance_text_until_terminated<P: PerformText>(
+    pub(crate) fn advance_text_until_terminated<P: PerformText + ?Sized>(
         &mut self,
         performer: &mut P,
         bytes: &[u8],
@@ -140,7 +144,7 @@ impl LongParser {
     /// Reads bytes up to a run of text, or of data of a device control string, and the run itself,
     /// which it returns instead of performing it, as
     /// [`Parser::advance_to_run`](crate::Parser::advance_to_run) does.
-    pub fn advance_to_run<'a, P: Perform>(
+    pub fn advance_to_run<'a, P: Perform + ?Sized>(
         &mut self,
         performer: &mut P,
         bytes: &'a [u8],

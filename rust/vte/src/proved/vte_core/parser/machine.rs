@@ -16,7 +16,7 @@ pub(crate) struct Machine<B: Buffer> {
 
 impl<B: Buffer> Machine<B> {
     /// Creates a machine that has read nothing, over an empty buffer.
-    pub(crate) fn new(bytes: B) -> Self {
+    pub(crate) const fn new(bytes: B) -> Self {
         Machine {
             state: State::Text(Unfinished::Nothing),
             collected: Collected::new(),

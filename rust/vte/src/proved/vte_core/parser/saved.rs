@@ -1,7 +1,7 @@
 // Written by tools/erase from crates/vte_core/src/parser/saved.rt: edit that one.
 //! A parser as plain data, for callers that can hold nothing else.
 
-use crate::adapter::array_vec::ArrayVec;
+use crate::adapter::array_vec::{ArrayVec, Element};
 use crate::proved::vte_core::head::HeadProgress;
 use crate::proved::vte_core::params::Params;
 use crate::proved::vte_core::parser::{Parser, State, Unfinished, MAX_OSC_RAW};
@@ -45,10 +45,7 @@ fn first_elements<T: Copy>(array: &[T], count: usize) -> &[T] {
 }
 
 /// Collects the first elements of an array.
-fn collect_front<T: Copy + Default, const N: usize>(
-    array: &[T; N],
-    count: usize,
-) -> ArrayVec<T, N> {
+fn collect_front<T: Element, const N: usize>(array: &[T; N], count: usize) -> ArrayVec<T, N> {
     let mut collected = ArrayVec::new();
     // They fit.
     let _ = collected.try_extend_from_slice(first_elements(array, count));

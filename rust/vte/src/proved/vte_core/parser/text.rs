@@ -21,7 +21,7 @@ struct AsciiRun {
 /// Prints the run of ASCII that stands at a position, whose first byte was looked at. If it is
 /// short, that is the first byte alone.
 #[inline(always)]
-fn print_ascii<P: CountedPerform<G>, G: Grain>(
+fn print_ascii<P: CountedPerform<G> + ?Sized, G: Grain>(
     reader: Reader,
     performer: &mut P,
     input: &[u8],
@@ -45,7 +45,7 @@ fn print_ascii<P: CountedPerform<G>, G: Grain>(
 impl<B: Buffer> Machine<B> {
     /// Reads text up to an ESC, and then the bytes after that.
     #[inline]
-    pub(crate) fn read_text<P: CountedPerform<G>, G: Grain, const MAY_STOP: bool>(
+    pub(crate) fn read_text<P: CountedPerform<G> + ?Sized, G: Grain, const MAY_STOP: bool>(
         &mut self,
         reader: Reader,
         performer: &mut P,
@@ -124,7 +124,7 @@ impl<B: Buffer> Machine<B> {
     /// Reads what begins with a lead byte, which was looked at, for a performer that takes runs: a
     /// run, a character or a malformed sequence.
     #[inline(always)]
-    fn read_at_lead<P: CountedPerform<G>, G: Grain, const MAY_STOP: bool>(
+    fn read_at_lead<P: CountedPerform<G> + ?Sized, G: Grain, const MAY_STOP: bool>(
         &mut self,
         reader: Reader,
         performer: &mut P,

@@ -14,19 +14,12 @@ impl<const OSC_RAW_BUF_SIZE: usize> Parser<OSC_RAW_BUF_SIZE> {
     /// Reads bytes up to a run of text, or of data of a device control string, and the run itself,
     /// which it returns instead of performing it.
     ///
-    /// A caller can take text from its own input in this way, with its position and without a copy:
+    /// Text comes in two ways: by the returned run, and by [`print`](Perform::print) a
+    /// character that was divided between two calls, and U+FFFD for malformed bytes. A
+    /// performer without `print` loses these.
     ///
-    /// ```
-    /// # use vte::{Parser, Perform, Taken};
-    /// # struct Performer;
-    /// # impl Perform for Performer {}
-    /// # let mut performer = Performer;
-    /// let mut parser = Parser::new();
-    /// let bytes = b"\x1b[1mna\xc3\xafve\r\n";
-    /// let run = parser.advance_to_run(&mut performer, bytes); // performs the sequence
-    /// assert_eq!((run.start, run.taken, run.end), (4, Taken::Text("naïve"), 10));
-    /// parser.advance(&mut performer, &bytes[run.end..]); // performs CR and LF
-    /// ```
+    /// A caller can take text from its own input in this way, with its position and without a
+    /// copy.
     ///
     /// A run begins where nothing is open and a character stands in the bytes that is printed as it
     /// is, or at a data byte that is put. It ends before the first control, malformed sequence,
@@ -34,7 +27,7 @@ impl<const OSC_RAW_BUF_SIZE: usize> Parser<OSC_RAW_BUF_SIZE> {
     /// Without a run the call ends with the bytes, or if the performer is terminated, which is
     /// asked as by [`advance_until_terminated`](Self::advance_until_terminated).
     #[must_use = "the bytes after the run are still to be read"]
-    pub fn advance_to_run<'a, P: Perform>(
+    pub fn advance_to_run<'a, P: Perform + ?Sized>(
         &mut self,
         performer: &mut P,
         bytes: &'a [u8],
@@ -51,7 +44,7 @@ impl<const OSC_RAW_BUF_SIZE: usize> Parser<OSC_RAW_BUF_SIZE> {
 impl<B: Buffer> Machine<B> {
     /// Reads bytes up to a run, and finds the run. The state stays that of the run: its bytes
     /// lead back to it.
-    pub(crate) fn drive_to_run<P: CountedPerform<Singly>>(
+    pub(crate) fn drive_to_run<P: CountedPerform<Singly> + ?Sized>(
         &mut self,
         reader: Reader,
         performer: &mut P,
@@ -93,7 +86,7 @@ impl<B: Buffer> Machine<B> {
 
     /// Reads a character that isn't printed or a malformed sequence, or controls and what is
     /// malformed up to where a run may begin, or an escape sequence.
-    fn read_unprinted<P: CountedPerform<Singly>>(
+    fn read_unprinted<P: CountedPerform<Singly> + ?Sized>(
         &mut self,
         reader: Reader,
         performer: &mut P,

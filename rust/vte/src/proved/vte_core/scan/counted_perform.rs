@@ -36,7 +36,7 @@ pub(crate) trait CountedPerform<G> {
     fn terminated(&self) -> bool;
 }
 
-impl<P: PerformAs<G>, G> CountedPerform<G> for P {
+impl<P: PerformAs<G> + ?Sized, G> CountedPerform<G> for P {
     #[inline(always)]
     fn keeps_layout(&self) -> bool {
         PerformAs::<G>::keeps_layout(self)

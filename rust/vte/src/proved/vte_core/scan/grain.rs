@@ -45,7 +45,7 @@ pub(crate) trait PerformAs<G>: Perform {
     fn put_slice(&mut self, bytes: &[u8]);
 }
 
-impl<P: Perform> PerformAs<Singly> for P {
+impl<P: Perform + ?Sized> PerformAs<Singly> for P {
     #[inline(always)]
     fn keeps_layout(&self) -> bool {
         false
@@ -81,7 +81,7 @@ impl<P: Perform> PerformAs<Singly> for P {
     }
 }
 
-impl<P: PerformText> PerformAs<InRuns> for P {
+impl<P: PerformText + ?Sized> PerformAs<InRuns> for P {
     #[inline(always)]
     fn keeps_layout(&self) -> bool {
         PerformText::keeps_layout(self)

@@ -1,0 +1,6 @@
+-- There is room for texts, so nothing is refused and all bytes are read (`refused-never-within`).
+use Rattle.vte.proofs.replays.BoundedStandings.{refused-never-within}
+use Rattle.vte.proofs.ansi.bounded_processor.BoundedProcessor.advance_text.Goals as goal
+
+pub returns : goal.returns
+returns g c = refused-never-within c.args.bytes c.read.result c.read.ensures

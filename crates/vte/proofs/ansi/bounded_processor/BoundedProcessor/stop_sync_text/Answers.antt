@@ -1,0 +1,6 @@
+-- The engine keeps the room for texts (`stops_within`).
+use Rattle.vte.proofs.replays.BoundedStandings.{stops_within}
+use Rattle.vte.proofs.ansi.bounded_processor.BoundedProcessor.stop_sync_text.Goals as goal
+
+pub returns : goal.returns
+returns g c = stops_within c.stop.ensures.stopped

@@ -1,0 +1,120 @@
+//! The processor with a limit of its own.
+ghost use Rattle.std.specs.Prelude.{◌≡◌, [], IfOk, MatchResult, Some, false};
+ghost use Rattle.vte_core.specs.Parser.{lost_data};
+ghost use Rattle.vte_handler.specs.Timeout.{AllowsOnly, IsSteady, timeout_meaning};
+ghost use Rattle.vte.specs.BoundedProcessor.{HasParsedAndHoldsWithin, held_within, timeout_within};
+ghost use Rattle.vte.specs.Processor.{HoldsWell, meaning_of};
+ghost use Rattle.vte.specs.ProcessorCalls.{CountsHeld, HasParsedAll, ReadsInTurns, SaysParsedLoss, StopsSync};
+
+use crate::ansi::engine::Engine;
+use crate::ansi::growing_text::GrowingText;
+use crate::ansi::parsing::EventParser;
+use std::alloc::Allocator;
+use vte_core::{InRuns, Parser, Singly};
+use vte_handler::{Handler, HandlerText, Timeout};
+
+/// A [`Processor`](crate::ansi::Processor) that keeps up to `N` data bytes of an operating system
+/// command, and drops the rest.
+#[derive(Drop)]
+pub struct BoundedProcessor<T: Timeout + Drop, A: Allocator, const N: usize> {
+    engine: Engine<Parser<N>, GrowingText<A>, T, A>,
+}
+
+impl<T: Timeout + Drop, A: Allocator + Copy, const N: usize> BoundedProcessor<T, A, N> {
+    /// Creates a processor that has read nothing, and allocates the 2,097,152 bytes for updates
+    /// that are held back, and `N + 16` for texts that are joined. No later call allocates memory.
+    ///
+    /// Returns the timeout if memory runs out.
+    pub fn new(alloc: A, timeout: T) -> Result<Self, T>
+        ensures stands { MatchResult result
+            (λ processor. HasParsedAndHoldsWithin T.value_of processor [] [] (T.value_of timeout))
+            (λ back. back ≡ timeout) }
+        ensures holds_well { let m = timeout_meaning T.set T.clear T.allows in
+            (IsSteady m → AllowsOnly m (T.value_of timeout) false)
+            → HoldsWell (Some N) m [] [] (T.value_of timeout) }
+        ensures timeout { IfOk result (λ processor. timeout_within processor ≡ timeout) }
+        ensures parses_all { IfOk result
+            (λ processor. HasParsedAll (HasParsedAndHoldsWithin T.value_of processor) []) }
+    {
+        let mut parser = Parser::<N>::new_with_size();
+        let mut text = GrowingText::new(alloc);
+        if !parser.reserve(&mut text, 0, 0) {
+            return Err(timeout);
+        }
+        let engine = Engine::new(alloc, parser, text, timeout)?;
+        Ok(BoundedProcessor { engine })
+    }
+}
+
+impl<T: Timeout + Drop, A: Allocator, const N: usize> BoundedProcessor<T, A, N> {
+    /// Returns the timeout.
+    pub fn sync_timeout(&self) -> &T
+        ensures { result.now ≡ timeout_within self.now }
+    {
+        &self.engine.state.timeout
+    }
+
+    /// Returns the number of bytes that are held back, at most 2,097,150.
+    pub fn sync_bytes_count(&self) -> usize
+        ensures { CountsHeld (held_within self.now) result }
+    {
+        self.engine.hold.len()
+    }
+
+    /// Returns whether the operating system command that is open lost data bytes, or if none is
+    /// open, the last one: those after the first `N`, and those after the 16th piece. Bytes that
+    /// are held back don't count.
+    pub fn command_lost_data(&self) -> bool
+        ensures lost { result ≡ lost_data self.now.engine.parser }
+        ensures open { SaysParsedLoss (Some N)
+            (HasParsedAndHoldsWithin T.value_of self.now) result }
+    {
+        self.engine.parser.command_lost_data()
+    }
+
+    /// Stops an update: parses the bytes that are held back, tells the handler that the update has
+    /// ended, and clears the timeout. Without an update too, the handler is told.
+    pub fn stop_sync<H: Handler>(&mut self, handler: &mut H)
+        ensures { StopsSync (meaning_of (Some N) H.step T.set T.clear T.allows)
+            (HasParsedAndHoldsWithin T.value_of self.old)
+            (HasParsedAndHoldsWithin T.value_of self.new)
+            (H.value_of handler.old) (H.value_of handler.new) }
+    {
+        self.engine.stop::<H, Singly>(handler);
+    }
+
+    /// Stops an update as [`stop_sync`](Self::stop_sync) does. The handler receives text in runs.
+    pub fn stop_sync_text<H: HandlerText>(&mut self, handler: &mut H)
+        ensures { StopsSync (meaning_of (Some N) H.step T.set T.clear T.allows)
+            (HasParsedAndHoldsWithin T.value_of self.old)
+            (HasParsedAndHoldsWithin T.value_of self.new)
+            (H.value_of handler.old) (H.value_of handler.new) }
+    {
+        self.engine.stop::<H, InRuns>(handler);
+    }
+
+    /// Reads bytes, and parses them or holds them back.
+    ///
+    /// If the timeout is never pending, all bytes are parsed: the handler of a new processor
+    /// receives the calls of the whole stream, however it is split.
+    pub fn advance<H: Handler>(&mut self, handler: &mut H, bytes: &[u8])
+        ensures { ReadsInTurns (meaning_of (Some N) H.step T.set T.clear T.allows)
+            (HasParsedAndHoldsWithin T.value_of self.old)
+            (HasParsedAndHoldsWithin T.value_of self.new)
+            (H.value_of handler.old) (H.value_of handler.new) bytes.now }
+    {
+        // The memory is there, so all bytes are read.
+        let _ = self.engine.read::<H, Singly>(handler, bytes);
+    }
+
+    /// Reads bytes as [`advance`](Self::advance) does. The handler receives text in runs.
+    pub fn advance_text<H: HandlerText>(&mut self, handler: &mut H, bytes: &[u8])
+        ensures { ReadsInTurns (meaning_of (Some N) H.step T.set T.clear T.allows)
+            (HasParsedAndHoldsWithin T.value_of self.old)
+            (HasParsedAndHoldsWithin T.value_of self.new)
+            (H.value_of handler.old) (H.value_of handler.new) bytes.now }
+    {
+        // The memory is there, so all bytes are read.
+        let _ = self.engine.read::<H, InRuns>(handler, bytes);
+    }
+}

@@ -50,11 +50,25 @@ class Tool:
     ("a.rs", "unsafe #[unsafe(no_mangle)]\npub extern \"C\" fn f() {} unsafe impl T for U {} "
      "pub unsafe extern \"C\" fn g(h: unsafe fn()) { unsafe {} } macro_rules! m { unsafe }",
      "7 - f T g m", "0"),
+    # what stands behind strings and characters is seen, and what stands in them isn't code
+    ("a.rs", 'fn f() { g("//"); unsafe { h("unsafe", r#"unsafe"#) } }', "1 f", "0"),
+    ("a.rs", "fn f() { g('\"'); unsafe {} } // \" unsafe", "1 f", "0"),
+    ("rust/vtlog/src/main.rs", "#![forbid(unsafe_code)]", "0", "0"),
 ])
 def test_places_of_unsafe(place, text, told, allowed):
     write(place, text)
     told = [f"{place}: `unsafe` stands here {told}; allowed is {allowed}"] * (told != allowed)
     assert [*Tool("check_trust").parts["faults"](place)] == told
+
+
+@pytest.mark.parametrize("place, text, told", [
+    ("a.rs", '\nfn f() { unsafe { " } }', ":2: unclosed quote: \""),
+    *((place, f"{text}\nfn f() {{}}", ": it doesn't deny `unsafe_code`")
+      for place in ("python/rust/lib.rs", "rust/vte/src/lib.rs")
+      for text in ("// #![deny(unsafe_code)]", "#![deny(unsafe_code_of_others)]"))])
+def test_files_that_are_not_trusted(place, text, told):
+    write(place, text)
+    assert [*Tool("check_trust").parts["faults"](place)] == [place + told]
 
 
 @pytest.mark.parametrize("place, line, most", [

@@ -120,7 +120,7 @@ def test_cargo(checkout, monkeypatch, target):
     asked = ("cargo build --message-format=json-render-diagnostics --quiet --release "
              f"--manifest-path {checkout}/rust/vtlog/Cargo.toml\n")
     assert runs("text") == (5, "ran text\ninput\n", UNPROVED, asked)
-    time.sleep(0.02)
+    time.sleep(0.05)
     assert runs() == (5, "ran\ninput\n", "", asked)
     write(f"built/{target}/vtlog", "\x7fELF of another machine", 0o755)
     status, _, said, _ = runs()

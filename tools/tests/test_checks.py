@@ -393,7 +393,8 @@ PARTS = [
     "part second 'bash crates rust-1.2 +no-such-tool' try second 'missing: a thing: not tried'\n"
     "part proofs rt rt ci\n"]
 PROGRAMS = {
-    "bin/try": '#!/bin/sh\necho $1 >>asked\necho said by $1\necho $2\n[ $1 != "$FAILS" ]\n',
+    "bin/try": '#!/bin/sh\necho $1 >>asked\necho said by $1\necho $2\n'
+               '[ $1 != "$FAILS" ] && [ "$CARGO_HOME" = next ]\n',
     "bin/rt": "#!/bin/sh\ntry proofs && echo 5 passed, 0 failed || ! echo 4 passed, 1 failed\n",
     # it has its crates only from there
     "bin/cargo": '#!/bin/sh\n[ "$CARGO_HOME" = next ]\n',

@@ -201,13 +201,13 @@ def test_without_tools(place):
     place.run("install", "--cargo", **{**variables, "VTLOG": ""}, says=said)
     assert not {name for name in place.installed("without_cc") if "vtlog" in name}
     # cargo builds for the machine that is named to it, in another folder
+    other = place.folder / "other.a"
+    place.run("objcopy", "--redefine-sym", "vte_version=vte_other", place.library.archive, other)
     (tools / "cargo").write_text(
-        f"#!/bin/sh\nmade={place.library.archive}\ncase $* in *vtlog*) made=/bin/true; esac\n"
+        f"#!/bin/sh\nmade={other}\ncase $* in *vtlog*) made=/bin/true; esac\n"
         """echo '{"reason":"compiler-artifact","filenames":["'"$made"'"]}'\n""")
     place.run("install", "--cargo", **{**variables, "VTLOG": "", "VTE_ARCHIVE": ""})
     assert place.installed("without_cc") == wanted
     installed = place.folder / "without_cc/usr/local"
     assert (installed / "bin/vtlog").read_bytes() == Path("/bin/true").read_bytes()
-    names = [place.run("nm", "-g", "--defined-only", "-f", "posix", archive).split()[1::4]
-             for archive in (installed / "lib/libvte_c.a", place.library.archive)]
-    assert names[0] == names[1] != []
+    assert " T vte_other" in place.run("nm", installed / "lib/libvte_c.a")

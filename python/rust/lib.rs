@@ -1,10 +1,13 @@
 //! The native half of the package: everything but the types of events and calls, which are written
 //! in Python.
+#![deny(unsafe_code)]
 
 mod calls;
 mod events;
 #[cfg(feature = "python-memory")]
+#[allow(unsafe_code)]
 mod memory;
+#[allow(unsafe_code)]
 mod objects;
 mod parser;
 mod processor;

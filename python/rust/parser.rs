@@ -23,6 +23,7 @@ struct Content([u8; size_of::<Saved>()]);
 const _: () = assert!(align_of::<Saved>() <= align_of::<Content>());
 
 impl Content {
+    #[allow(unsafe_code)]
     fn saved(&mut self) -> &mut Saved {
         // SAFETY: plain data of this size, aligned, for which any bytes do
         unsafe { &mut *self.0.as_mut_ptr().cast() }

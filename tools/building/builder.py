@@ -18,6 +18,7 @@ from erasing.plans.peer import PEER
 
 TOOLS = Path(__file__).resolve().parent.parent
 OURS = TOOLS.parent / "rust" / "vte"
+CARGO_PRODUCT = TOOLS / "building" / "cargo_product"
 PROFILES = {
     "fat": {"LTO": "fat", "CODEGEN_UNITS": "1"},
     "release": {"LTO": "false", "CODEGEN_UNITS": "16"},
@@ -86,9 +87,9 @@ def placed_peers(is_ours, folder, profile, count):
     # four places take each function once to each part of a line of 64 bytes that it can begin at
     for place in range(count):
         start = f"link-arg=-Wl,-Ttext={CODE_START + ALIGNMENT * place:#x}"
-        words = ["cargo", "rustc", "--release", "--manifest-path", folder / "Cargo.toml", "--"]
-        run([*words, *flags, "-C", start], "tools/peer", environment(folder, profile))
-        programs.append(shutil.copy(folder / "target/release/peer", folder / f"peer_{place}"))
+        words = ["rustc", "--release", "--manifest-path", folder / "Cargo.toml", "--", *flags]
+        made = run([CARGO_PRODUCT, *words, "-C", start], "tools/peer", environment(folder, profile))
+        programs.append(shutil.copy(made.decode().rstrip("\n"), folder / f"peer_{place}"))
     return programs
 
 

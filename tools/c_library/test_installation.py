@@ -65,6 +65,9 @@ class Place:
         assert self.installed(folder) == others
         assert set(said.splitlines()) == {f"{top}/{file}" for file in files}
         assert not [file for file in top.rglob("vte*") if file.is_dir()]
+        for file in others:
+            (top / file).unlink()
+        assert self.run("uninstall", **variables) == "" and not [*top.rglob("*")]
 
     def assert_strips(self, program):
         libraries = self.environment["LD_LIBRARY_PATH"]
@@ -197,3 +200,14 @@ def test_without_tools(place):
             "out\ninstall: the library is given as ")
     place.run("install", "--cargo", **{**variables, "VTLOG": ""}, says=said)
     assert not {name for name in place.installed("without_cc") if "vtlog" in name}
+    # cargo builds for the machine that is named to it, in another folder
+    other = place.folder / "other.a"
+    place.run("objcopy", "--redefine-sym", "vte_version=vte_other", place.library.archive, other)
+    (tools / "cargo").write_text(
+        f"#!/bin/sh\nmade={other}\ncase $* in *vtlog*) made=/bin/true; esac\n"
+        """echo '{"reason":"compiler-artifact","filenames":["'"$made"'"]}'\n""")
+    place.run("install", "--cargo", **{**variables, "VTLOG": "", "VTE_ARCHIVE": ""})
+    assert place.installed("without_cc") == wanted
+    installed = place.folder / "without_cc/usr/local"
+    assert (installed / "bin/vtlog").read_bytes() == Path("/bin/true").read_bytes()
+    assert " T vte_other" in place.run("nm", installed / "lib/libvte_c.a")

@@ -61,12 +61,12 @@ def find_vtlog(given=None):
 
 
 def built_by_cargo():
-    words = ["cargo", "build", "--quiet", "--release", "--locked", "--target-dir",
-             CARGO_CRATE / "target", "--manifest-path", CARGO_CRATE / "Cargo.toml"]
+    words = [TOP / "tools/building/cargo_product", "build", "--quiet", "--release", "--locked",
+             "--manifest-path", CARGO_CRATE / "Cargo.toml"]
     if not shutil.which("cargo"):
         return None
     done = subprocess.run(words, stdin=subprocess.DEVNULL, capture_output=True)
     if done.returncode == 0:
-        return CARGO_CRATE / "target" / "release" / "vtlog"
+        return done.stdout.decode().rstrip("\n")
     sys.stderr.buffer.write(done.stderr[-2000:])
     return None

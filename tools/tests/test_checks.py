@@ -50,11 +50,25 @@ class Tool:
     ("a.rs", "unsafe #[unsafe(no_mangle)]\npub extern \"C\" fn f() {} unsafe impl T for U {} "
      "pub unsafe extern \"C\" fn g(h: unsafe fn()) { unsafe {} } macro_rules! m { unsafe }",
      "7 - f T g m", "0"),
+    # what stands behind strings and characters is seen, and what stands in them isn't code
+    ("a.rs", 'fn f() { g("//"); unsafe { h("unsafe", r#"unsafe"#) } }', "1 f", "0"),
+    ("a.rs", "fn f() { g('\"'); unsafe {} } // \" unsafe", "1 f", "0"),
+    ("rust/vtlog/src/main.rs", "#![forbid(unsafe_code)]", "0", "0"),
 ])
 def test_places_of_unsafe(place, text, told, allowed):
     write(place, text)
     told = [f"{place}: `unsafe` stands here {told}; allowed is {allowed}"] * (told != allowed)
     assert [*Tool("check_trust").parts["faults"](place)] == told
+
+
+@pytest.mark.parametrize("place, text, told", [
+    ("a.rs", '\nfn f() { unsafe { " } }', ":2: unclosed quote: \""),
+    *((place, f"{text}\nfn f() {{}}", ": it doesn't deny `unsafe_code`")
+      for place in ("python/rust/lib.rs", "rust/vte/src/lib.rs")
+      for text in ("// #![deny(unsafe_code)]", "#![deny(unsafe_code_of_others)]"))])
+def test_files_that_are_not_trusted(place, text, told):
+    write(place, text)
+    assert [*Tool("check_trust").parts["faults"](place)] == [place + told]
 
 
 @pytest.mark.parametrize("place, line, most", [
@@ -373,58 +387,73 @@ def test_what_the_eraser_refuses_is_told(words, folder):
 # ---- test
 
 # parts in the place of those of tools/test: those at once, and those after them
-PARTS = {
-    "": "part first bash try first\npart lacking no-such-command try lacking\n",
-    "    ": "    part second 'bash cargo rust-1.2' try second 'missing: a thing: not tried'\n"
-            "    part proofs rt rt ci\n"}
+PARTS = [
+    "part first bash try first\npart lacking 'bash no-such-command' try lacking\n"
+    "part far 'rust=1.0 no-such-program' try far\n",
+    "part second 'bash crates rust-1.2 +no-such-tool' try second 'missing: a thing: not tried'\n"
+    "part proofs rt rt ci\n"]
 PROGRAMS = {
-    "try": '#!/bin/sh\necho $1 >>asked\necho said by $1\necho $2\n[ $1 != "$FAILS" ]\n',
-    "rt": "#!/bin/sh\ntry proofs && echo 5 passed, 0 failed || ! echo 4 passed, 1 failed\n",
-    "cargo": "#!/bin/sh\n",
-    "python3": "#!/bin/sh\nexit 1\n",
-    "rustc": "#!/bin/sh\necho rustc 1.63.0\n",
+    "bin/try": '#!/bin/sh\necho $1 >>asked\necho said by $1\necho $2\n'
+               '[ $1 != "$FAILS" ] && [ "$CARGO_HOME" = next ]\n',
+    "bin/rt": "#!/bin/sh\ntry proofs && echo 5 passed, 0 failed || ! echo 4 passed, 1 failed\n",
+    # it has its crates only from there
+    "bin/cargo": '#!/bin/sh\n[ "$CARGO_HOME" = next ]\n',
+    "tools/next_release": '#!/bin/sh\n[ "$FAILS" != crates ] && echo export CARGO_HOME=next\n',
+    "bin/python3": "#!/bin/sh\nexit 1\n",
+    "bin/rustc": "#!/bin/sh\necho rustc 1.63.0\n",
 }
+FAR, LACKING = "far: it needs rustc 1.0, no-such-program", "lacking: it needs no-such-command"
+THING, WAITS = "a thing: not tried", "{}: it needs all parts before it to pass"
 
 
-# words for it, what fails, what runs, and how it ends
-@pytest.mark.parametrize("words, fails, ran, status, last", [
-    ("", "", "first second proofs", 0, "5 passed, 0 failed"),
-    ("", "first", "first", 1, "0 passed, 1 failed"),
-    ("", "second", "first second proofs", 1, "5 passed, 0 failed"),
-    ("", "proofs", "first second proofs", 1, "4 passed, 1 failed"),
-    ("--strict", "", "first second proofs", 1, "5 passed, 0 failed"),
-    ("first", "", "first", 0, "1 passed, 0 failed"),
-    ("--strict first proofs", "", "first proofs", 0, "5 passed, 0 failed"),
-    ("--strict second", "", "second", 1, "1 passed, 0 failed"),
-    ("--strict lacking", "", "", 1, "0 passed, 0 failed"),
-    ("unknown", "", "", 2, "test: no part is named unknown"),
-    ("first unknown", "", "", 2, "test: no part is named unknown"),
-    ("fir.t", "", "", 2, "test: no part is named fir.t"),
-    ("bash", "", "", 2, "test: no part is named bash"),
+# words for it, what fails, what runs, what isn't tested, the packages that it needs, how it ends
+@pytest.mark.parametrize("words, fails, ran, left, packages, status, counts", [
+    ("", "", "first second proofs", [THING, FAR, LACKING], "no-such-command no-such-tool", 0,
+     ["3 passed, 0 failed", "8 passed, 0 failed"]),
+    ("", "first", "first", [FAR, LACKING, WAITS.format("proofs"), WAITS.format("second")],
+     "no-such-command", 1, ["0 passed, 1 failed"]),
+    ("", "second", "first second proofs", [THING, FAR, LACKING], "no-such-command no-such-tool", 1,
+     ["2 passed, 1 failed", "7 passed, 1 failed"]),
+    ("", "proofs", "first second proofs", [THING, FAR, LACKING], "no-such-command no-such-tool", 1,
+     ["2 passed, 1 failed", "6 passed, 2 failed"]),
+    ("--strict", "", "first second proofs", [THING, FAR, LACKING], "no-such-command no-such-tool",
+     1, ["3 passed, 0 failed", "8 passed, 0 failed"]),
+    ("first", "", "first", [], "", 0, ["1 passed, 0 failed"]),
+    ("--strict first proofs", "", "first proofs", [], "", 0,
+     ["2 passed, 0 failed", "7 passed, 0 failed"]),
+    ("second", "", "second", [THING], "no-such-tool", 0, ["1 passed, 0 failed"]),
+    ("--strict second", "", "second", [THING], "no-such-tool", 1, ["1 passed, 0 failed"]),
+    ("second", "crates", "", ["second: it needs what cargo gets from a network"], "", 1,
+     ["0 passed, 0 failed"]),
+    ("first lacking", "", "first", [LACKING], "no-such-command", 1, ["1 passed, 0 failed"]),
+    ("far", "", "", [FAR], "", 1, ["0 passed, 0 failed"]),
+    *((f"{front}{name}", "", "", name, "", 2, [])
+      for front, name in (("", "unknown"), ("first ", "unknown"), ("", "fir.t"), ("", "bash"))),
 ])
-def test_what_is_run_and_listed(folder, words, fails, ran, status, last):
-    text = (TOOLS / "test").read_text()
-    for front, parts in PARTS.items():
-        text = re.sub(rf"^(?:{front}part (?:.*\\\n)*.*\n)+", lambda _, parts=parts: parts, text,
-                      flags=re.M)
+def test_what_is_run_and_listed(folder, words, fails, ran, left, packages, status, counts):
+    parts = iter(PARTS)
+    text = re.sub(r"^(?:part (?:.*\\\n)*.*\n)+", lambda _: next(parts),
+                  (TOOLS / "test").read_text(), flags=re.M)
     test = write("tools/test", text, 0o755)
     for name, text in PROGRAMS.items():
-        write(f"bin/{name}", text, 0o755)
+        write(name, text, 0o755)
     (folder / "temporary").mkdir()
     asked = write("asked", "")
     given = {**os.environ, "PATH": f"{folder}/bin:{os.environ['PATH']}",
              "TMPDIR": f"{folder}/temporary", "FAILS": fails}
     done = subprocess.run([test, *words.split()], env=given, capture_output=True, text=True)
-    lines = done.stdout.splitlines()
-    told = done.returncode, lines[-1], sorted(asked.read_text().split())
-    assert told == (status, last, sorted(ran.split())), done
-    for name in ran.split():
-        ended = "FAILED" if name == fails else "passed"
-        assert f"test: {name} begins" in lines
-        told = [it.split("s  ")[-1] for it in lines if it.endswith(f"  {name}")]
-        assert told == [f"{ended}  {name}"] * 2
-        assert (f"said by {name}" in lines) == (name in (fails, "proofs"))
-    is_asked = not words or "lacking" in words or words == "--strict"
-    assert ("    lacking: it needs no-such-command" in lines) == is_asked
-    assert ("    a thing: not tried" in lines) == ("second" in ran)
+    assert (done.returncode, sorted(asked.read_text().split())) == (status, sorted(ran.split()))
     assert not any((folder / "temporary").iterdir())
+    lines = [re.sub(r"^ *\d+ s ", "", line) for line in done.stdout.splitlines()]
+    if status == 2:
+        assert lines == [f"test: no part is named {left}"]
+        return
+    ended = [f" {'FAILED' if name == fails else 'passed'}  {name}" for name in ran.split()]
+    told = ["not tested:"] * bool(left) + [f"    {line}" for line in left]
+    told += [f"{counts[0]}, {len(left)} not tested"]
+    told += [f"apt install {packages}  # on Debian 12, to test more"] * bool(packages) + counts[1:]
+    at = lines.index("tested:")
+    assert sorted(lines[at + 1:-len(told)]) == sorted(ended) and lines[-len(told):] == told
+    for name in ran.split():
+        assert f"test: {name} begins" in lines
+        assert (f"said by {name}" in lines) == (name in (fails, "proofs"))

@@ -225,8 +225,9 @@ def test_which_files_are_written():
 
 @pytest.mark.skipif(os.environ.get("HAS_CRATES") != "yes", reason="without the crates of rust/vte")
 def test_what_the_benchmark_shares_compiles(tmp_path):
-    if "2024" not in subprocess.check_output(["rustc", "--help"], text=True):
-        pytest.skip("with an older Rust")
+    version = subprocess.check_output(["cargo", "--version"], text=True).split()[1]
+    if [*map(int, version.split(".")[:2])] < [1, 85]:
+        pytest.skip("cargo 1.85 or later")
     builder.placed_peers(True, tmp_path, "checked", 1)
 
 

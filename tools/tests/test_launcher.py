@@ -9,16 +9,20 @@ from pathlib import Path
 
 import pytest
 
+from tests.missing import need
 from tests.support import wait_until, write
 
 TOP = Path(__file__).resolve().parents[2]
+WHOLE_PATH = os.environ["PATH"]
 # what the launcher may use
 USED = ("bash cat chmod dirname env find grep iconv mkdir mktemp readlink rm sed sh sleep tail "
         "touch").split()
 BEGINS = "vtlog: proving and building the program, at first in 4 to 7 minutes on 4 quiet cores\n"
 BUILT = f"{BEGINS}vtlog: built in N s\n"
 FAILED = "vtlog: the program could not be built; above are the last lines of the log\n"
-UNPROVED = "vtlog: there is no rt of a Rattle kit; cargo builds the same text, unproved\n"
+UNPROVED = "vtlog: there is no rt of a Rattle kit; cargo built the same text, unproved\n"
+UNEXPECTED = ('vtlog: unexpected argument\nvtlog: "{}": it reads standard input, as in vtlog text '
+              "<FILE; see vtlog --help\n")
 ALL = "vte_core lib\nevent_log lib\nvtlog run\n"
 
 # They note their folder, their words and what they read, and make a program that prints its own.
@@ -43,9 +47,13 @@ chmod +x out/vtlog
 CARGO = r"""#!/bin/sh
 echo "cargo $*" >>"$TOP/asked"
 [ ! -e "$TOP/fails" ] || { echo "no crate" >&2; exit 101; }
-mkdir -p "$TOP/rust/vtlog/target/release"
-printf "#!/bin/sh\necho ran \"\$@\"; cat; exit 5\n" >"$TOP/rust/vtlog/target/release/vtlog"
-chmod +x "$TOP/rust/vtlog/target/release/vtlog"
+made=$TOP/built/$CARGO_BUILD_TARGET
+mkdir -p "$made"
+[ -e "$made/vtlog" ] || printf "#!/bin/sh\necho ran \"\$@\"; cat; exit 5\n" >"$made/vtlog"
+chmod +x "$made/vtlog"
+echo '{"reason":"compiler-artifact","filenames":["/of/another/crate"],"fresh":true}'
+echo '{"reason":"compiler-artifact","filenames":["'"$made/vtlog"'"],"executable":null}'
+echo '{"reason":"build-finished","success":true}'
 """
 
 
@@ -56,7 +64,8 @@ def checkout(folder, monkeypatch):
     for place in ("bin", "temporary", "crates/vtlog/src", "crates/vtlog/proofs",
                   "crates/vte_core/src", "crates/vte_core/specs", "crates/event_log/src"):
         (top / place).mkdir(parents=True)
-    for place in "vtlog", "crates/vtlog/src/main.rt":
+    for place in "vtlog", "crates/vtlog/src/main.rt", "tools/building/cargo_product":
+        (top / place).parent.mkdir(parents=True, exist_ok=True)
         shutil.copy(TOP / place, top / place)
     for tool in USED:
         (top / "bin" / tool).symlink_to(shutil.which(tool))
@@ -96,24 +105,52 @@ def test_answers():
     version = f"vtlog {re.search('^version = .(.*).$', manifest, re.M)[1]}\n"
     for word, answer in ("--help", shown), ("-h", shown), ("--version", version):
         assert runs(word) == (0, answer, "", "")
-    for words in ["Text"], [""], ["text", "text"]:
-        assert runs(*words) == (2, "", "vtlog: unexpected argument\n", "")
+    for words, shown in ((["Text"], "Text"), ([""], ""), (["a\x1b[m"], "a?[m"), (["a", "b"], "a"),
+                         (["text", "b"], "b"), (["--help", "b c"], "b c")):
+        assert runs(*words) == (2, "", UNEXPECTED.format(shown), "")
     assert runs("text", b"\xff") == (3, "", "vtlog: no arguments read\n", "")
 
 
-def test_cargo(checkout):
+@pytest.mark.parametrize("target", ["", "a b"])
+def test_cargo(checkout, monkeypatch, target):
+    """It says what it runs if cargo has built it, wherever that put it."""
+    monkeypatch.setenv("CARGO_BUILD_TARGET", target)
     Path("bin/rt").unlink()
     cargo = write("bin/cargo", CARGO, 0o755)
-    asked = (f"cargo build --quiet --release --manifest-path {checkout}/rust/vtlog/Cargo.toml "
-             f"--target-dir {checkout}/rust/vtlog/target\n")
+    asked = ("cargo build --message-format=json-render-diagnostics --quiet --release "
+             f"--manifest-path {checkout}/rust/vtlog/Cargo.toml\n")
     assert runs("text") == (5, "ran text\ninput\n", UNPROVED, asked)
-    assert runs() == (5, "ran\ninput\n", UNPROVED, asked)
+    time.sleep(0.05)
+    assert runs() == (5, "ran\ninput\n", "", asked)
+    write(f"built/{target}/vtlog", "\x7fELF of another machine", 0o755)
+    status, _, said, _ = runs()
+    assert status == 70 and said.endswith("vtlog: what cargo built is for another machine\n")
     write("fails", "")
-    said = f"{UNPROVED}no crate\nvtlog: cargo could not build the program, as above\n"
+    said = "no crate\nvtlog: cargo could not build the program, as above\n"
     assert runs("text") == (70, "", said, asked)
     cargo.unlink()
     said = "vtlog: building the program takes cargo, or rt of a Rattle kit\n"
     assert runs("text") == (70, "", said, "")
+
+
+@pytest.mark.parametrize("place, variables", [
+    ("p/target/", {}), ("p/target/HOST/", {"CARGO_BUILD_TARGET": "HOST"}),
+    ('a "b" \\é/', {"CARGO_TARGET_DIR": 'a "b" \\é'}),
+    ("c/HOST/", {"CARGO_BUILD_TARGET": "HOST", "CARGO_TARGET_DIR": "c"})])
+def test_where_cargo_puts_what_it_makes(checkout, monkeypatch, place, variables):
+    monkeypatch.setenv("PATH", WHOLE_PATH)
+    need("cargo", "cargo, so it was not asked where it puts what it makes")
+    host = re.search(r"^host: (.*)", subprocess.check_output(["rustc", "-vV"], text=True), re.M)[1]
+    for name in "CARGO_BUILD_TARGET", "CARGO_TARGET_DIR":
+        monkeypatch.delenv(name, raising=False)
+    for name, value in variables.items():
+        monkeypatch.setenv(name, value.replace("HOST", host))
+    write("p/Cargo.toml", '[package]\nname = "p"\nversion = "0.0.0"\n[workspace]\n')
+    write("p/src/main.rs", "fn main() {}\n")
+    words = "rustc --quiet --offline --manifest-path p/Cargo.toml -- -Copt-level=0"
+    made = subprocess.check_output(["tools/building/cargo_product", *words.split()], text=True)
+    assert made == f"{checkout}/{place.replace('HOST', host)}debug/p\n"
+    assert subprocess.run([made[:-1]]).returncode == 0
 
 
 def replace_sleep(line):

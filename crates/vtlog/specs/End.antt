@@ -13,7 +13,7 @@ abbrev pub status_of : Result (Unit {0}) Fault → ℕ
 status_of (Ok _) = 0
 status_of (Err _) = 1
 
--- The message on standard error, which is empty if there is none.
+-- The first line on standard error, which is empty if there is none.
 abbrev pub words_of : Result (Unit {0}) Fault → List ℕ
 words_of (Ok _) = []
 words_of (Err Read) = codes "vtlog: read failed"

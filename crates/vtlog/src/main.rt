@@ -2,15 +2,15 @@
 //! `text` only the text.
 #![tactic(auto)]
 
-mod output;
+mod stream;
 
 ghost use Rattle.std.specs.Prelude.{◌≡◌, OnOk, OnErr, is_err, map, option_map};
 ghost use Rattle.std.specs.Io.KnownBytes.{Appends};
 ghost use Rattle.vtlog.specs.Arguments.{chosen_mode, page_of};
 ghost use Rattle.vtlog.specs.End.{Ends, status_of, words_of};
 
-use crate::output::Output;
-use event_log::{Device, Fault, Sink, Source, run, run_text};
+use crate::stream::Stream;
+use event_log::{Fault, Sink, Source, run, run_text};
 use std::process::ExitCode;
 use std::{env, io};
 
@@ -31,6 +31,9 @@ line per event or, with `text`, the text without its escape sequences:
 The manual page vtlog(1) describes the lines and the exit statuses.
 ";
 
+/// What follows an argument that is unexpected.
+const HINT: &str = "it reads standard input, as in vtlog text <FILE; see vtlog --help";
+
 /// What is written.
 #[derive(Clone, Copy, Debug, PartialEq, Eq)]
 enum Mode {
@@ -41,27 +44,58 @@ enum Mode {
 }
 
 fn main(rt: HostRuntime) -> ExitCode {
-    let (status, message) = log_streams(&rt).unwrap_or((3, "vtlog: no arguments read"));
-    if !message.is_empty() {
-        // If standard error can't be written, the status alone reports the failure.
-        let _ = eprintln!(rt; "{message}");
-    }
+    let Ok(status) = log_streams(&rt) else {
+        let _ = eprintln!(rt; "vtlog: no arguments read");
+        return ExitCode::from(3);
+    };
     ExitCode::from(status)
 }
 
-/// Does what the arguments ask for, over the standard streams. Returns the exit status and the
-/// message for standard error.
+/// Does what the arguments ask for, over the standard streams. Returns the exit status, and writes
+/// on standard error what failed, and then why. If that can't be written, the status alone reports
+/// the failure.
 ///
 /// # Errors
 ///
 /// Fails if the arguments can't be fetched.
-fn log_streams(rt: &HostRuntime) -> io::Result<(u8, &'static str)> {
+fn log_streams(rt: &HostRuntime) -> io::Result<u8> {
     let words: Vec<String> = env::args(rt)?.skip(1).collect(rt.alloc())?;
     let args: Vec<&str> = words.iter().map(|word| word.as_str()).collect(rt.alloc())?;
-    let mut output = Output::new(rt.stdout());
-    let end = log(&args, &mut Device::new(rt.stdin()), &mut output);
-    // a closed pipe ends the program silently, as it ends other filters
-    Ok(if output.is_closed() { (141, "") } else { end })
+    let mut input = Stream::new(rt.stdin());
+    let mut output = Stream::new(rt.stdout());
+    let (status, message) = log(&args, &mut input, &mut output);
+    if output.is_closed() {
+        // this ends the program silently, as it ends other filters
+        return Ok(141);
+    }
+    if !message.is_empty() {
+        let _ = eprintln!(rt; "{message}");
+    }
+    if let Some(error) = input.trouble() {
+        let _ = eprintln!(rt; "vtlog: standard input: {error}");
+    }
+    if let Some(error) = output.trouble() {
+        let _ = eprintln!(rt; "vtlog: standard output: {error}");
+    }
+    if let (2, Some(word)) = (status, unexpected(&args)) {
+        let _ = eprintln!(rt; "vtlog: {word:?}: {HINT}");
+    }
+    Ok(status)
+}
+
+/// Returns the first argument that can't stand where it does.
+fn unexpected<'a>(args: &[&'a str]) -> Option<&'a str> {
+    match args {
+        [] => None,
+        [word] => Some(*word),
+        [first, second, ..] => Some(if is_known(first) { *second } else { *first }),
+    }
+}
+
+/// Returns whether it could be the only argument.
+fn is_known(word: &str) -> bool {
+    let args = [word];
+    page_of(&args).is_some() || choose(&args).is_some()
 }
 
 /// Does what the arguments ask for. Returns the exit status and the message for standard error,

@@ -5,7 +5,7 @@
 
 use std::ffi::OsString;
 use std::fs::File;
-use std::io::{BufReader, Read, Write};
+use std::io::{BufReader, Read, Seek, SeekFrom, Write};
 use std::process::{Command, Output, Stdio};
 use std::time::Duration;
 
@@ -16,7 +16,7 @@ mod block;
 use block::blocks;
 
 const ROWS: &str = include_str!("../../vte/tests/rows/events.txt");
-const UNEXPECTED: &str = "vtlog: unexpected argument\n";
+const HINT: &str = "it reads standard input, as in vtlog text <FILE; see vtlog --help";
 
 /// The program that is tested instead of the one that cargo builds.
 fn other_program() -> Option<OsString> {
@@ -52,6 +52,11 @@ fn assert_ends(output: &Output, status: i32, written: &str, message: &str) {
     assert_eq!(String::from_utf8_lossy(&output.stderr), message);
     assert_eq!(String::from_utf8_lossy(&output.stdout), written);
     assert_eq!(output.status.code(), Some(status));
+}
+
+/// What is said of a stream that fails.
+fn failure(verb: &str, stream: &str, why: &str) -> String {
+    format!("vtlog: {verb} failed\nvtlog: standard {stream}: {why}\n")
 }
 
 #[test]
@@ -101,20 +106,22 @@ fn help_and_version_are_printed() {
 
 #[test]
 fn other_arguments_are_refused() {
-    for arguments in [
-        &[""][..],
-        &["Text"],
-        &["text "],
-        &["text", "text"],
-        &["text", ""],
-        &["text", "--help"],
-        &["--help", "--help"],
-        &["--lines"],
-        &["--"],
-        &["-"],
-        &["/dev/null"],
+    for (arguments, shown) in [
+        (&[""][..], r#""""#),
+        (&["Text"], r#""Text""#),
+        (&["text "], r#""text ""#),
+        (&["text", "text"], r#""text""#),
+        (&["text", ""], r#""""#),
+        (&["text", "--help"], r#""--help""#),
+        (&["--help", "a", "b"], r#""a""#),
+        (&["a", "--help"], r#""a""#),
+        (&["--lines"], r#""--lines""#),
+        (&["--"], r#""--""#),
+        (&["-"], r#""-""#),
+        (&["a\x1b[m\"é\n"], r#""a\u{1b}[m\"é\n""#),
     ] {
-        assert_ends(&run(arguments, b"a"), 2, "", UNEXPECTED);
+        let message = format!("vtlog: unexpected argument\nvtlog: {shown}: {HINT}\n");
+        assert_ends(&run(arguments, b"a"), 2, "", &message);
     }
 }
 
@@ -129,15 +136,106 @@ fn arguments_are_text() {
     }
 }
 
-#[cfg(unix)]
+/// A file that has 16 bytes and then an error: the end of this process's stack, where the kernel
+/// puts the name of the program and zeros.
+#[cfg(target_os = "linux")]
+fn memory() -> (File, Vec<u8>) {
+    let maps = std::fs::read_to_string("/proc/self/maps").unwrap();
+    let stack = maps.lines().find(|line| line.ends_with("[stack]")).unwrap();
+    let end = stack.split(['-', ' ']).nth(1).unwrap();
+    let place = u64::from_str_radix(end, 16).unwrap() - 16;
+    let mut file = File::open("/proc/self/mem").unwrap();
+    let mut bytes = vec![0; 16];
+    std::os::unix::fs::FileExt::read_exact_at(&file, &mut bytes, place).unwrap();
+    assert!(bytes[..7].iter().all(u8::is_ascii_graphic) && bytes[7..] == [0; 9]);
+    file.seek(SeekFrom::Start(place)).unwrap();
+    (file, bytes)
+}
+
+/// A terminal whose program has ended after it wrote something.
+#[cfg(target_os = "linux")]
+fn left_terminal(written: &[u8]) -> File {
+    extern "C" {
+        fn unlockpt(file: i32) -> i32;
+    }
+    let terminal = File::options()
+        .read(true)
+        .write(true)
+        .open("/dev/ptmx")
+        .unwrap();
+    let file = std::os::unix::io::AsRawFd::as_raw_fd(&terminal);
+    assert_eq!(unsafe { unlockpt(file) }, 0);
+    let told = std::fs::read_to_string(format!("/proc/self/fdinfo/{file}")).unwrap();
+    let number = told
+        .lines()
+        .find_map(|line| line.strip_prefix("tty-index:"))
+        .unwrap();
+    let place = format!("/dev/pts/{}", number.trim());
+    let mut program = File::options().write(true).open(place).unwrap();
+    program.write_all(written).unwrap();
+    terminal
+}
+
+/// What was read before is written.
+#[cfg(target_os = "linux")]
 #[test]
 fn standard_input_may_fail() {
     for arguments in [&[][..], &["text"]] {
-        let mut command = vtlog(arguments);
-        command.stdin(File::open("/").unwrap());
-        let output = command.output().unwrap();
-        assert_ends(&output, 1, "", "vtlog: read failed\n");
+        let (memory, name) = memory();
+        for (input, bytes, why) in [
+            (
+                File::open("/").unwrap(),
+                vec![],
+                "Is a directory (os error 21)",
+            ),
+            (memory, name, "Input/output error (os error 5)"),
+            (
+                left_terminal(b"a\x1b[1"),
+                vec![b'a'],
+                "Input/output error (os error 5)",
+            ),
+        ] {
+            let written: String = match arguments {
+                [] => bytes
+                    .iter()
+                    .map(|byte| match byte {
+                        0 => "execute 00\n".to_owned(),
+                        _ => format!("print {byte:04x}\n"),
+                    })
+                    .collect(),
+                _ => bytes
+                    .iter()
+                    .filter(|byte| **byte != 0)
+                    .map(|byte| char::from(*byte))
+                    .collect(),
+            };
+            let mut command = vtlog(arguments);
+            let output = command.stdin(input).output().unwrap();
+            assert_ends(&output, 1, &written, &failure("read", "input", why));
+        }
     }
+}
+
+/// What is open at the end isn't written.
+#[test]
+fn a_file_may_end_in_the_middle() {
+    let place = std::env::temp_dir().join(format!("vtlog-{}", std::process::id()));
+    for end in [
+        &b"\xe4\xb8"[..],
+        b"\x1b",
+        b"\x1b[1",
+        b"\x1b]0;b",
+        b"\x1bX",
+        b"\x1b[\xc3",
+    ] {
+        for (arguments, written) in [(&[][..], "print 0061\n"), (&["text"], "a")] {
+            std::fs::write(&place, [b"a", end].concat()).unwrap();
+            let mut command = vtlog(arguments);
+            let output = command.stdin(File::open(&place).unwrap()).output().unwrap();
+            assert_ends(&output, 0, written, "");
+        }
+    }
+    std::fs::remove_file(place).unwrap();
 }
 
 /// Rust's std opens /dev/null for a standard stream that is closed from the start, so the program
@@ -145,10 +243,8 @@ fn standard_input_may_fail() {
 #[cfg(unix)]
 #[test]
 fn standard_streams_may_be_closed() {
-    for (redirection, message) in [
-        ("<&-", "vtlog: read failed\n"),
-        (">&-", "vtlog: write failed\n"),
-    ] {
+    for (redirection, verb, stream) in [("<&-", "read", "input"), (">&-", "write", "output")] {
+        let message = failure(verb, stream, "Bad file descriptor (os error 9)");
         for argument in ["", "text"] {
             let program = vtlog(&[]).get_program().to_owned();
             let mut command = Command::new("sh");
@@ -157,7 +253,7 @@ fn standard_streams_may_be_closed() {
             command.stdin(Stdio::piped()).stdout(Stdio::piped());
             let output = finish(command.stderr(Stdio::piped()), b"a");
             match other_program() {
-                Some(_) => assert_ends(&output, 1, "", message),
+                Some(_) => assert_ends(&output, 1, "", &message),
                 None => assert_ends(&output, 0, "", ""),
             }
         }
@@ -211,7 +307,7 @@ fn what_a_piece_gives_is_written_before_the_next_is_read() {
         std::thread::spawn(move || bytes.try_for_each(|byte| sender.send(byte)));
         for (input, output) in inputs.iter().zip(outputs) {
             stdin.write_all(input).unwrap();
-            let next = || written.recv_timeout(Duration::from_secs(60)).ok()?.ok();
+            let next = || written.recv_timeout(Duration::from_secs(1200)).ok()?.ok();
             let bytes: Vec<u8> = output.bytes().map_while(|_| next()).collect();
             assert_eq!(String::from_utf8_lossy(&bytes), *output);
         }
@@ -231,7 +327,8 @@ fn full() -> File {
 fn a_full_device_fails() {
     for arguments in [&[][..], &["text"], &["--help"], &["--version"]] {
         let output = finish(vtlog(arguments).stdout(full()), b"a");
-        assert_ends(&output, 1, "", "vtlog: write failed\n");
+        let why = "No space left on device (os error 28)";
+        assert_ends(&output, 1, "", &failure("write", "output", why));
     }
 }
 

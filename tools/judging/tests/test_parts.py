@@ -165,16 +165,15 @@ def test_a_vtlog_of_this_repository_comes_before_others(tmp_path, monkeypatch):
 
 
 def test_the_vtlog_of_this_repository_is_built(tmp_path, monkeypatch, capsys):
-    cargo = program_in(tmp_path, 'echo "$@" >>"$0.said"; echo why >&2; exit $FAILS')
-    monkeypatch.setattr(reference.shutil, "which", lambda name: name == "cargo")
-    run_program = reference.subprocess.run
-    monkeypatch.setattr(reference.subprocess, "run",
-                        lambda words, **how: run_program([cargo, *words[1:]], **how))
-    for fails, built in (("0", reference.CARGO_CRATE / "target/release/vtlog"), ("1", None)):
+    made = '{"reason":"compiler-artifact","filenames":["/made/vtlog"]}'
+    line = f'echo "$@" >>"$0.said"; echo why >&2; echo \'{made}\'; exit $FAILS'
+    program_in(tmp_path, line).rename(tmp_path / "cargo")
+    monkeypatch.setenv("PATH", str(tmp_path), prepend=os.pathsep)
+    for fails, built in ("0", "/made/vtlog"), ("1", None):
         monkeypatch.setenv("FAILS", fails)
         assert reference.built_by_cargo() == built
     assert capsys.readouterr().err == "why\n"
-    said = (tmp_path / "program.said").read_text().split()
+    said = (tmp_path / "cargo.said").read_text().split()
     assert {"build", "--release", "--locked", str(reference.CARGO_CRATE / "Cargo.toml")} <= {*said}
 
 

@@ -1,8 +1,6 @@
 // Written by tools/erase from crates/event_log/src/device.rt: edit that one.
 //! Readers and writers.
 
-use std::io::{Read, Write};
-
 /// A source of bytes.
 ///
 /// A source that has failed stays failed.
@@ -33,54 +31,4 @@ pub trait Sink {
     ///
     /// Fails if the sink has failed.
     fn flush(&mut self) -> Result<(), ()>;
-}
-
-/// A [`Read`] or [`Write`] of std as a [`Source`] or [`Sink`].
-///
-/// After the first error of the reader or writer inside, it has failed: every further call is an
-/// error, and nothing is known of its bytes.
-pub struct Device<D> {
-    inner: D,
-    failed: bool,
-}
-
-impl<D> Device<D> {
-    /// Wraps a reader or writer.
-    pub fn new(inner: D) -> Self {
-        Device {
-            inner,
-            failed: false,
-        }
-    }
-}
-
-impl<D: Read> Source for Device<D> {
-    fn read(&mut self, room: &mut [u8]) -> Result<usize, ()> {
-        if self.failed {
-            return Err(());
-        }
-        let answer = self.inner.read(room);
-        self.failed = answer.is_err();
-        answer.map_err(|_| ())
-    }
-}
-
-impl<D: Write> Sink for Device<D> {
-    fn write_all(&mut self, bytes: &[u8]) -> Result<(), ()> {
-        if self.failed {
-            return Err(());
-        }
-        let answer = self.inner.write_all(bytes);
-        self.failed = answer.is_err();
-        answer.map_err(|_| ())
-    }
-
-    fn flush(&mut self) -> Result<(), ()> {
-        if self.failed {
-            return Err(());
-        }
-        let answer = self.inner.flush();
-        self.failed = answer.is_err();
-        answer.map_err(|_| ())
-    }
 }

@@ -69,8 +69,11 @@ def test_commands_that_lost_data_say_so(limits, data, pieces, truncated, end, be
     stream, wanted = b"\x1b]" + data + end, [Osc(tuple(pieces), bell, truncated), *after]
     for limit in limits:
         several = stream + b"\x1b]c\x07" + stream
-        assert vte.Parser(limit).feed(several) == [*wanted, Osc((b"c",), True), *wanted]
-        assert feed(vte.Parser(limit), cut(stream, 1)) == wanted
+        parser, x = vte.Parser(limit), Esc(b"", False, "x") if end == b"\x1b" else Text("x")
+        assert parser.feed(several) == [*wanted, Osc((b"c",), True), *wanted]
+        assert parser.feed(b"x") == [x]
+        assert feed(parser, cut(b"\x18" + stream, 1))[1:] == wanted
+        assert feed(parser, cut(b"x\x1b]c\x07", 1)) == [x, Osc((b"c",), True)]
 
 
 @pytest.mark.parametrize("size", [7, 4096, 1 << 20])
@@ -106,6 +109,14 @@ def test_stops(make):
     assert make().feed_until(stream, {Osc}, {Osc}) == ([Osc((b"0", b"a"), True)], 10)
 
 
+@pytest.mark.parametrize("kinds", [{Osc}, Osc, (), {Data, Osc}])
+def test_what_stops_need_not_be_wanted(make, kinds):
+    parser = make()
+    assert parser.feed_until(b"one\ntwo\nthree", Execute, kinds) == ([], 4)
+    assert parser.feed_until(b"two\x1b[1mthree\n", {Csi, Esc}, kinds) == ([], 7)
+    assert parser.feed(b"x") == [Text("x")]
+
+
 @pytest.mark.parametrize("kind", [*typing.get_args(vte.Event), *calls.KINDS])
 def test_equality_and_copies(kind):
     one, other = kind(*range(len(kind._fields))), (Put if kind is Execute else Execute)(0)
@@ -139,7 +150,7 @@ def test_any_object_with_a_buffer(data, wanted):
     assert vte.Processor().feed(data) == vte.Processor().feed(bytes(data))
 
 
-@pytest.mark.parametrize("wrong", [{int}, [Text, None], Text, 5, "Osc", [[]], [Text("a")]])
+@pytest.mark.parametrize("wrong", [{int}, [Text, None], int, 5, "Osc", [[]], [Text("a")]])
 def test_wrong_kinds_leave_the_stream(make, wrong):
     parser = make()
     parser.feed(b"\x1b[1")

@@ -40,7 +40,8 @@ def test_files(source, size):
 @pytest.mark.parametrize("kinds", [
     {Osc}, {Csi, Esc}, [Put], (), {Text, Execute}, [Osc, Text, Osc], {Hook: 1},
     set(map(type, EVENTS))])
-@pytest.mark.parametrize("given", [lambda kinds: kinds, iter])
+@pytest.mark.parametrize("given", [
+    lambda kinds: kinds, iter, lambda kinds: [*kinds][0] if len(kinds) == 1 else kinds])
 def test_kinds(source, kinds, given):
     wanted = [event for event in EVENTS if type(event) in set(kinds)]
     for parser in parsers():

@@ -48,13 +48,17 @@ pub struct Recorder {
     seen: Kinds,
     // where it stands whether the last command lost data
     truncated: Option<usize>,
+    // whether the last call was refused memory, so that the next is to tell where it stopped
+    pub is_refused: bool,
 }
 
 impl Recorder {
     pub fn start(&mut self, kinds: Kinds, stops: Kinds) {
+        if !(self.is_refused && self.has_stopped()) {
+            self.go_on();
+        }
         (self.kinds, self.stops) = (kinds, stops);
         self.pauses = [stops | COMMANDS, ALL][usize::from(self.only_commands())];
-        self.go_on();
     }
 
     pub fn go_on(&mut self) {

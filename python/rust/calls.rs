@@ -33,7 +33,7 @@ macro_rules! classes {
 
 classes! {
     Text Execute Hook Put Unhook Osc Csi Esc Data
-    Refused Rgb NamedColor Attribute LinePart ScreenPart Tabs Shape Charset Path Update Behavior
+    Rgb NamedColor Attribute LinePart ScreenPart Tabs Shape Charset Path Update Behavior
     OtherKeys Input;
     Bell Backspace PutTab(count) Linefeed CarriageReturn Newline Substitute Goto(line, col)
     GotoLine(line) GotoCol(col) MoveUp(lines) MoveDown(lines) MoveForward(cols) MoveBackward(cols)

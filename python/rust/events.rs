@@ -16,12 +16,16 @@ pub fn has(kinds: Kinds, kind: Kind) -> bool {
     kinds >> kind as u16 & 1 == 1
 }
 
-/// Those that an iterable over classes names.
+/// Those that an iterable over classes names, or a class alone.
 pub fn kinds_of(kinds: &Bound<'_, PyAny>) -> PyResult<Kinds> {
     let events = &classes(kinds.py())?[..=Kind::Data as usize];
+    let place_of = |kind: &Bound<'_, PyAny>| events.iter().position(|class| class.is(kind));
+    if let Some(place) = place_of(kinds) {
+        return Ok(1 << place);
+    }
     kinds.iter()?.try_fold(0, |made, kind| {
         let kind = kind?;
-        match events.iter().position(|class| class.is(&kind)) {
+        match place_of(&kind) {
             Some(place) => Ok(made | 1 << place),
             None => Err(PyTypeError::new_err(format!(
                 "kinds must be types of events, such as vte.Osc, not {kind:?}"
@@ -44,13 +48,17 @@ pub struct Recorder {
     seen: Kinds,
     // where it stands whether the last command lost data
     truncated: Option<usize>,
+    // whether the last call was refused memory, so that the next is to tell where it stopped
+    pub is_refused: bool,
 }
 
 impl Recorder {
     pub fn start(&mut self, kinds: Kinds, stops: Kinds) {
+        if !(self.is_refused && self.has_stopped()) {
+            self.go_on();
+        }
         (self.kinds, self.stops) = (kinds, stops);
         self.pauses = [stops | COMMANDS, ALL][usize::from(self.only_commands())];
-        self.go_on();
     }
 
     pub fn go_on(&mut self) {
@@ -61,8 +69,9 @@ impl Recorder {
         self.seen & self.stops != 0
     }
 
+    /// Whether nothing but commands is wanted, and nothing else stops a call.
     pub fn only_commands(&self) -> bool {
-        self.kinds == COMMANDS
+        self.kinds == COMMANDS && self.stops & !COMMANDS == 0
     }
 
     /// Notes that the command that ended since `go_on` lost data, if there is one.

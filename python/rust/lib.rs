@@ -12,6 +12,7 @@ mod objects;
 mod parser;
 mod processor;
 mod reader;
+mod refusal;
 mod strip;
 mod tape;
 
@@ -22,6 +23,7 @@ fn _vte(module: &Bound<'_, PyModule>) -> PyResult<()> {
     // what is looked up now needs no memory later
     tape::classes(module.py())?;
     processor::monotonic(module.py())?;
+    refusal::class(module.py())?;
     module.add_class::<parser::Parser>()?;
     module.add_class::<processor::Processor>()?;
     module.add_class::<strip::Stripper>()?;

@@ -131,45 +131,65 @@ pub fn tuple(py: Python<'_>, count: usize, mut value: impl FnMut(usize) -> Made)
     Some(tuple)
 }
 
-/// A pair. The second is made after the first.
-pub fn pair<F>(py: Python<'_>, mut first: Made, second: F) -> PyResult<PyObject>
-where
-    F: Fn(Python<'_>) -> Made,
-{
-    let values = |place| if place == 0 { first.take() } else { second(py) };
-    raised(py, tuple(py, 2, values))
+/// What a function returns of a tuple of arguments.
+pub fn call(py: Python<'_>, function: &PyObject, words: &PyObject) -> Made {
+    new!(py, PyObject_CallObject(function.as_ptr(), words.as_ptr()))
 }
 
-/// A list of objects, which it takes. If memory is refused, they stay.
-pub fn list(py: Python<'_>, objects: &mut Vec<PyObject>) -> Made {
-    let list = new!(py, PyList_New(size(objects.len())))?;
-    for (place, object) in objects.drain(..).enumerate() {
+/// A pair. The second is made after the first.
+pub fn pair(py: Python<'_>, mut first: Made, second: impl Fn(Python<'_>) -> Made) -> Made {
+    tuple(
+        py,
+        2,
+        |place| if place == 0 { first.take() } else { second(py) },
+    )
+}
+
+/// A list of the first objects, which it takes. If memory is refused, they stay.
+pub fn list(py: Python<'_>, objects: &mut Vec<PyObject>, count: usize) -> Made {
+    let list = new!(py, PyList_New(size(count)))?;
+    for (place, object) in objects.drain(..count).enumerate() {
         // SAFETY: a new list, which has this place
         unsafe { ffi::PyList_SetItem(list.as_ptr(), size(place), object.into_ptr()) };
     }
     Some(list)
 }
 
-/// A class of Python's half of the package.
+/// A class of named tuples, or an enumeration.
 pub struct Class {
     class: PyObject,
-    // whether an object is a tuple as Python has it before 3.14, with its places after its size
-    is_tuple: bool,
-    // how many fields an object has
+    // how many fields an object has: a member of an enumeration is made of its number
     fields: usize,
+    way: Way,
+}
+
+/// How objects are made: without code in Python, which a signal can end.
+enum Way {
+    /// A tuple as Python has it before 3.14, with its places after its size.
+    Places,
+    /// By `tuple.__new__`.
+    Tuple(PyObject),
+    /// From the members of an enumeration, by their numbers.
+    Members(PyObject),
 }
 
 impl Class {
     pub fn of(class: Bound<'_, PyAny>) -> PyResult<Self> {
+        let py = class.py();
         let is_tuple = class.downcast::<PyType>()?.is_subclass_of::<PyTuple>()?;
-        // a member of an enumeration is made of its number
-        let names = class.getattr("_fields");
-        let fields = names.map_or(Ok(1), |names| names.len())?;
-        Ok(Class {
-            is_tuple: is_tuple && class.py().version_info() < (3, 14),
-            fields,
-            class: class.unbind(),
-        })
+        let (fields, way) = match (is_tuple, py.version_info() < (3, 14)) {
+            (false, _) => (
+                1,
+                Way::Members(class.getattr("_value2member_map_")?.unbind()),
+            ),
+            (true, true) => (class.getattr("_fields")?.len()?, Way::Places),
+            (true, false) => {
+                let new = py.get_type_bound::<PyTuple>().getattr("__new__")?;
+                (class.getattr("_fields")?.len()?, Way::Tuple(new.unbind()))
+            }
+        };
+        let class = class.unbind();
+        Ok(Class { class, fields, way })
     }
 
     pub fn is(&self, other: &Bound<'_, PyAny>) -> bool {
@@ -180,9 +200,15 @@ impl Class {
     #[inline(always)]
     pub fn make(&self, py: Python<'_>, mut field: impl FnMut(usize) -> Made) -> Made {
         let (class, count) = (self.class.as_ptr(), self.fields);
-        if !self.is_tuple {
-            let fields = tuple(py, count, field)?;
-            return new!(py, PyObject_CallObject(class, fields.as_ptr()));
+        match &self.way {
+            Way::Places => {}
+            Way::Members(members) => {
+                return new!(py, PyObject_GetItem(members.as_ptr(), field(0)?.as_ptr()));
+            }
+            Way::Tuple(new) => {
+                let mut words = [tuple(py, count, field)?, self.class.clone_ref(py)].into_iter();
+                return call(py, new, &tuple(py, 2, |_| words.next_back())?);
+            }
         }
         // SAFETY: a tuple, whose places are null or set before anything sees it. What they hold is
         // in no cycle, so the collector needn't look at it

@@ -2,7 +2,7 @@
 
 use crate::calls::Kind;
 use crate::events::{has, kinds_of, Kinds, Recorder, ALL};
-use crate::objects::{borrowed, bytes, bytes_of, error, integer, pair, raised, text, tuple};
+use crate::objects::{borrowed, bytes, bytes_of, error, integer, pair, raised, text, Made};
 use crate::reader::{read, step, Reader};
 use crate::tape::Tape;
 use pyo3::exceptions::{PyTypeError, PyValueError};
@@ -31,7 +31,7 @@ impl Content {
 }
 
 /// A parser and the version of this package, to be pickled.
-pub fn state_of(py: Python<'_>, parser: &Limited) -> PyResult<PyObject> {
+pub fn state_of(py: Python<'_>, parser: &Limited) -> Made {
     let mut content = Content([0; size_of::<Saved>()]);
     parser.save(content.saved());
     let version = text(py, env!("CARGO_PKG_VERSION").as_bytes());
@@ -68,11 +68,13 @@ pub struct Parser {
 #[pymethods]
 impl Parser {
     #[new]
-    #[pyo3(signature = (limit=None))]
-    fn new(limit: Option<&Bound<'_, PyAny>>) -> PyResult<Self> {
+    #[pyo3(signature = (limit=None, state=None), text_signature = "(limit=None)")]
+    fn new(limit: Option<&Bound<'_, PyAny>>, state: Option<&Bound<'_, PyAny>>) -> PyResult<Self> {
         let machine = match limit {
             None => Machine::Long(LongParser::new()),
-            Some(limit) if limit.eq(LIMIT)? => Machine::Limited(Limited::new()),
+            Some(limit) if limit.eq(LIMIT)? => {
+                Machine::Limited(state.map_or_else(|| Ok(Limited::new()), restored)?)
+            }
             Some(limit) => {
                 let wrong = format!("limit must be None or {LIMIT}, not {}", limit.repr()?);
                 return Err(PyValueError::new_err(wrong));
@@ -103,7 +105,7 @@ impl Parser {
         data: &Bound<'_, PyAny>,
         kinds: Option<&Bound<'_, PyAny>>,
     ) -> PyResult<PyObject> {
-        Ok(read_events(slf, data, kinds, 0)?.0)
+        read_events(slf, data, kinds, 0, |events, _| Some(events))
     }
 
     /// Reads the next bytes up to the first event of the types `stops`, and that too. Returns a
@@ -123,42 +125,42 @@ impl Parser {
             let wrong = "stops can't have vte.Text or vte.Data\0";
             return Err(error::<PyValueError>(py, wrong));
         }
-        let (events, read) = read_events(slf, data, kinds, stops)?;
-        pair(py, Some(events), |py| integer(py, read as i64))
+        read_events(slf, data, kinds, stops, |events, read| {
+            pair(py, Some(events), |py| integer(py, read as i64))
+        })
     }
 
-    // with these, `object` can make a copy and a pickle
-
+    /// Of what `object` makes a copy and a pickle, to which it adds the attributes of a subclass.
     fn __getnewargs__(slf: &Bound<'_, Self>) -> PyResult<PyObject> {
         let py = slf.py();
-        raised(py, tuple(py, 1, |_| integer(py, LIMIT as i64)))
-    }
-
-    fn __getstate__(slf: &Bound<'_, Self>) -> PyResult<PyObject> {
         let wrong = "only parsers with a limit can be copied and pickled: vte.Parser(limit=1024)\0";
         match &borrowed(slf)?.machine {
-            Machine::Limited(parser) => state_of(slf.py(), parser),
-            Machine::Long(_) => Err(error::<PyTypeError>(slf.py(), wrong)),
+            Machine::Limited(parser) => {
+                let limit = integer(py, LIMIT as i64);
+                raised(py, pair(py, limit, |py| state_of(py, parser)))
+            }
+            Machine::Long(_) => Err(error::<PyTypeError>(py, wrong)),
         }
-    }
-
-    fn __setstate__(slf: &Bound<'_, Self>, state: &Bound<'_, PyAny>) -> PyResult<()> {
-        borrowed(slf)?.machine = Machine::Limited(restored(state)?);
-        Ok(())
     }
 }
 
-/// Reads bytes up to a stop. Returns the events, and how many bytes were read.
-fn read_events(
+/// Reads bytes up to a stop. The answer is made of the events, and of how many bytes were read.
+fn read_events<F>(
     parser: &Bound<'_, Parser>,
     data: &Bound<'_, PyAny>,
     kinds: Option<&Bound<'_, PyAny>>,
     stops: Kinds,
-) -> PyResult<(PyObject, usize)> {
+    answer: F,
+) -> PyResult<PyObject>
+where
+    F: FnOnce(PyObject, usize) -> Made,
+{
     let (source, kinds) = (bytes_of(data)?, kinds.map_or(Ok(ALL), kinds_of)?);
     let mut reader = borrowed(parser)?;
     reader.recorder.start(kinds, stops);
-    read(parser.py(), &mut *reader, source.as_bytes())
+    let answer = read(parser.py(), &mut *reader, source.as_bytes(), answer);
+    reader.recorder.is_refused = answer.is_err();
+    answer
 }
 
 impl Reader for Parser {

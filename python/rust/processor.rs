@@ -1,7 +1,8 @@
 //! The processor of calls.
 
 use crate::objects::{borrowed, bytes_of, integer, no_memory, raised, real};
-use crate::reader::{make, read, step, Reader};
+use crate::reader::{read, step, Reader};
+use crate::refusal::Refusal;
 use crate::tape::Tape;
 use pyo3::prelude::*;
 use pyo3::sync::GILOnceCell;
@@ -29,6 +30,8 @@ pub struct Processor {
     calls: ByCall<Tape>,
     // how many bytes an open command has at most
     command: usize,
+    // whether an update was stopped whose calls are to come, as memory was refused to them
+    is_stopped: bool,
 }
 
 #[pymethods]
@@ -40,30 +43,33 @@ impl Processor {
             processor,
             calls: ByCall(Tape::default()),
             command: 0,
+            is_stopped: false,
         })
     }
 
     /// Reads the next bytes of the stream, and returns the calls that they add.
     ///
-    /// If memory is refused, it raises `vte.Refused`; a `MemoryError` of another class says that
-    /// calls of these bytes were lost.
+    /// If memory is refused, it raises `vte.Refused`, whose `lost` says whether calls were lost.
     fn feed(slf: &Bound<'_, Self>, data: &Bound<'_, PyAny>) -> PyResult<PyObject> {
         let source = bytes_of(data)?;
-        Ok(read(slf.py(), &mut *borrowed(slf)?, source.as_bytes())?.0)
+        let mut shared = borrowed(slf)?;
+        read(slf.py(), &mut *shared, source.as_bytes(), |calls, _| {
+            Some(calls)
+        })
     }
 
     /// Ends an update whose end doesn't come, and returns the calls of what was held.
-    fn stop_sync(slf: &Bound<'_, Self>) -> PyResult<Option<PyObject>> {
-        let mut shared = borrowed(slf)?;
-        let Processor {
-            processor, calls, ..
-        } = &mut *shared;
-        calls.0.end_run();
-        let is_refused = calls.0.reserve(processor.sync_bytes_count(), 0).is_err();
-        if !is_refused {
-            processor.stop_sync_text(calls);
-        }
-        make(slf.py(), &mut calls.0, 0, is_refused, true)
+    ///
+    /// If memory is refused, it raises `vte.Refused`: call it again.
+    fn stop_sync(slf: &Bound<'_, Self>) -> PyResult<PyObject> {
+        let (py, mut shared) = (slf.py(), borrowed(slf)?);
+        let refusal = Refusal::new(py)?;
+        let done = shared.stop().map_err(|_| no_memory(py));
+        let tape = shared.tape();
+        let done = done.and_then(|()| tape.make(py, true));
+        let answer = refusal.or(py, tape, 0, done, |calls, _| Some(calls));
+        shared.is_stopped &= answer.is_err();
+        answer
     }
 
     /// How many bytes are held.
@@ -90,6 +96,22 @@ impl Processor {
     }
 }
 
+impl Processor {
+    /// Records the calls of what is held.
+    fn stop(&mut self) -> Result<(), Refused> {
+        let Processor {
+            processor, calls, ..
+        } = self;
+        calls.0.end_run();
+        if !self.is_stopped {
+            calls.0.reserve(processor.sync_bytes_count(), 0)?;
+            processor.stop_sync_text(calls);
+            self.is_stopped = true;
+        }
+        Ok(())
+    }
+}
+
 impl Reader for Processor {
     fn tape(&mut self) -> &mut Tape {
         &mut self.calls.0
@@ -99,6 +121,7 @@ impl Reader for Processor {
         let (bytes, before) = (step(bytes), self.calls.0.size());
         let most = self.processor.sync_bytes_count() + bytes.len();
         self.calls.0.reserve(most, self.command)?;
+        self.is_stopped = false;
         self.processor.advance_text(&mut self.calls, bytes)?;
         self.command = match self.calls.0.size() == before {
             true => self.command + bytes.len(),

@@ -1,9 +1,8 @@
-//! How streams are read, and what an error has.
+//! How streams are read.
 
-use crate::calls::Kind;
-use crate::objects::{integer, no_memory, raised, run, LONG};
-use crate::tape::{classes, Tape};
-use pyo3::exceptions::PyMemoryError;
+use crate::objects::{no_memory, run, Made, LONG};
+use crate::refusal::Refusal;
+use crate::tape::Tape;
 use pyo3::prelude::*;
 use vte::Refused;
 
@@ -31,22 +30,30 @@ pub fn step(bytes: &[u8]) -> &[u8] {
     &bytes[..bytes.len().min(STEP)]
 }
 
-/// Reads bytes up to a stop. Returns a list of what they add, and how many were read.
-pub fn read(
+/// Reads bytes up to a stop. The answer is made of a list of what they add, and of how many were
+/// read.
+pub fn read<F>(
     py: Python<'_>,
     reader: &mut impl Reader,
     source: &[u8],
-) -> PyResult<(PyObject, usize)> {
-    let mut at = 0;
+    answer: F,
+) -> PyResult<PyObject>
+where
+    F: FnOnce(PyObject, usize) -> Made,
+{
+    let (refusal, mut at) = (Refusal::new(py)?, 0);
     reader.tape().end_run();
     loop {
         let rest = &source[at..];
         let (read, is_refused) = run(py, rest.len(), || read_some(reader, rest));
         at += read;
         let ends = is_refused || at == source.len() || reader.has_stopped();
-        if let Some(list) = make(py, reader.tape(), at, is_refused, ends)? {
-            return Ok((list, at));
-        }
+        let done = match reader.tape().make(py, ends) {
+            Ok(()) if !ends => continue,
+            Ok(()) if is_refused => Err(no_memory(py)),
+            done => done,
+        };
+        return refusal.or(py, reader.tape(), at, done, answer);
     }
 }
 
@@ -54,45 +61,11 @@ pub fn read(
 fn read_some(reader: &mut impl Reader, source: &[u8]) -> (usize, bool) {
     let mut at = 0;
     let most = [MOST, MOST_OF_LONG][usize::from(source.len() >= LONG)];
-    while at < source.len() && reader.tape().count() < most && !reader.has_stopped() {
+    while at < source.len() && !reader.tape().is_full(most) && !reader.has_stopped() {
         match reader.read(&source[at..]) {
             Ok(read) => at += read,
             Err(Refused { read }) => return (at + read, true),
         }
     }
     (at, false)
-}
-
-/// Makes what was recorded, and a list of it if this is the end. An error of memory, which was
-/// refused now or before, has what was made.
-pub fn make(
-    py: Python<'_>,
-    tape: &mut Tape,
-    read: usize,
-    is_refused: bool,
-    ends: bool,
-) -> PyResult<Option<PyObject>> {
-    if tape.has_lost() {
-        return Err(no_memory(py));
-    }
-    let made = match tape.make(py, ends) {
-        Ok(()) if is_refused => Err(no_memory(py)),
-        Ok(()) if ends => raised(py, tape.list(py)).map(Some),
-        made => made.map(|()| None),
-    };
-    made.map_err(|error| {
-        if !error.is_instance_of::<PyMemoryError>(py) {
-            return error;
-        }
-        let refused = classes(py).ok().and_then(|classes| {
-            classes[Kind::Refused as usize].make(py, |place| match place {
-                0 => integer(py, read as i64),
-                _ => tape.list(py),
-            })
-        });
-        match refused {
-            Some(refused) => PyErr::from_value_bound(refused.into_bound(py)),
-            None => no_memory(py),
-        }
-    })
 }

@@ -1,6 +1,8 @@
 //! Texts without sequences.
 
-use crate::objects::{borrowed, bytes, bytes_of, decoded, encoded, no_memory, raised, run};
+use crate::objects::{
+    borrowed, bytes, bytes_of, decoded, encoded, no_memory, raised, run, text, tuple,
+};
 use crate::parser::{restored, state_of, Limited};
 use pyo3::exceptions::PyValueError;
 use pyo3::prelude::*;
@@ -69,17 +71,16 @@ impl PerformText for Shown<'_> {
     fn put_slice(&mut self, _: &[u8]) {}
 }
 
+/// What ends that which a stream leaves open, without text of its own.
+const END: &[u8] = b"\x1b";
+
 /// The text of a whole stream. Of the two parsers this one is made in less time.
 fn shown(source: &[u8]) -> Result<Cow<'_, [u8]>, Refused> {
-    let mut shown = Shown::new(source);
-    LongParser::new().advance_text(&mut shown, source)?;
-    shown.all()
-}
-
-/// The text of more of a stream.
-fn shown_by<'a>(parser: &mut Limited, source: &'a [u8]) -> Result<Cow<'a, [u8]>, Refused> {
-    let mut shown = Shown::new(source);
-    parser.advance_text(&mut shown, source);
+    let (mut parser, mut shown) = (LongParser::new(), Shown::new(source));
+    parser.advance_text(&mut shown, source)?;
+    if parser.is_open() {
+        parser.advance_text(&mut shown, END)?;
+    }
     shown.all()
 }
 
@@ -101,28 +102,6 @@ impl Perform for Single {
     }
 }
 
-/// The text of a whole stream, with malformed bytes as they are.
-fn shown_with_bytes(source: &[u8]) -> Result<Cow<'_, [u8]>, Refused> {
-    let (mut parser, mut shown, mut at) = (Limited::new(), Shown::new(source), 0);
-    while at < source.len() {
-        let mut single = Single::default();
-        let run = parser.advance_to_run(&mut single, &source[at..]);
-        match single.0 {
-            // a well-formed one comes in a run
-            Some(char::REPLACEMENT_CHARACTER) => {
-                shown.add(malformed_end(&source[at..at + run.start]))
-            }
-            Some(c) => shown.add(c.encode_utf8(&mut [0; 4]).as_bytes()),
-            None => {}
-        }
-        if let Taken::Text(text) = run.taken {
-            shown.add(text.as_bytes());
-        }
-        at += run.end;
-    }
-    shown.all()
-}
-
 /// The malformed bytes at the end: the front of a character, or one byte.
 fn malformed_end(bytes: &[u8]) -> &[u8] {
     let end = |count: usize| &bytes[bytes.len() - count..];
@@ -134,15 +113,148 @@ fn malformed_end(bytes: &[u8]) -> &[u8] {
     end((1..=most).rev().find(is_front).unwrap_or(1))
 }
 
-/// The errors of codecs that the package names: U+FFFD for each surrogate.
-const REPLACE: &str = "vte.replace\0";
+/// What stands for malformed bytes.
+#[derive(Clone, Copy)]
+enum Errors {
+    Replace,
+    Escape,
+}
+
+impl Errors {
+    fn of(name: &str) -> PyResult<Self> {
+        match name {
+            "replace" => Ok(Errors::Replace),
+            "surrogateescape" => Ok(Errors::Escape),
+            _ => Err(PyValueError::new_err(format!(
+                "errors must be 'replace' or 'surrogateescape', not {name:?}"
+            ))),
+        }
+    }
+
+    fn name(self) -> &'static str {
+        match self {
+            Errors::Replace => "replace",
+            Errors::Escape => "surrogateescape",
+        }
+    }
+
+    /// The errors of codecs between bytes and `str`: U+FFFD for each surrogate, or these bytes.
+    fn of_codecs(self) -> &'static str {
+        match self {
+            Errors::Replace => "vte.replace\0",
+            Errors::Escape => "surrogateescape\0",
+        }
+    }
+}
+
+/// Where in a stream a stripper stands.
+#[derive(Clone)]
+struct Place {
+    errors: Errors,
+    parser: Limited,
+    // the bytes of an unfinished character, and how many: only if they may have to stay. Then the
+    // parser hasn't read them
+    held: ([u8; 3], usize),
+}
+
+impl Place {
+    fn start(errors: Errors) -> Self {
+        let (parser, held) = (Limited::new(), ([0; 3], 0));
+        Place {
+            errors,
+            parser,
+            held,
+        }
+    }
+
+    /// The text of more of the stream, which may end there.
+    fn read<'a>(&mut self, more: &'a [u8], ends: bool) -> Result<Cow<'a, [u8]>, Refused> {
+        let (held, count) = self.held;
+        match self.errors {
+            Errors::Replace => self.replace(more, ends),
+            Errors::Escape if count == 0 => self.escape(more, ends),
+            Errors::Escape => {
+                let (mut all, held) = (Vec::new(), &held[..count]);
+                let taken = all.try_reserve_exact(count + more.len());
+                taken.map_err(|_| Refused { read: 0 })?;
+                all.extend(held.iter().chain(more));
+                let same = match self.escape(&all, ends)? {
+                    Cow::Borrowed(front) => front.len(),
+                    Cow::Owned(text) => return Ok(Cow::Owned(text)),
+                };
+                all.truncate(same);
+                Ok(Cow::Owned(all))
+            }
+        }
+    }
+
+    fn replace<'a>(&mut self, source: &'a [u8], ends: bool) -> Result<Cow<'a, [u8]>, Refused> {
+        let mut shown = Shown::new(source);
+        self.parser.advance_text(&mut shown, source);
+        if ends {
+            self.parser.advance_text(&mut shown, END);
+            *self = Place::start(self.errors);
+        }
+        shown.all()
+    }
+
+    /// The text of bytes, with malformed ones as they are.
+    fn escape<'a>(&mut self, source: &'a [u8], ends: bool) -> Result<Cow<'a, [u8]>, Refused> {
+        let (mut shown, mut at) = (Shown::new(source), 0);
+        while at < source.len() {
+            let mut single = Single::default();
+            let run = self.parser.advance_to_run(&mut single, &source[at..]);
+            match single.0 {
+                // a well-formed one comes in a run
+                Some(char::REPLACEMENT_CHARACTER) => {
+                    shown.add(malformed_end(&source[at..at + run.start]))
+                }
+                Some(c) => shown.add(c.encode_utf8(&mut [0; 4]).as_bytes()),
+                None => {}
+            }
+            if let Taken::Text(text) = run.taken {
+                shown.add(text.as_bytes());
+            }
+            at += run.end;
+        }
+        match (self.take_open(source), ends) {
+            (open, false) => self.hold(open),
+            (open, true) => {
+                shown.add(open);
+                *self = Place::start(self.errors);
+            }
+        }
+        shown.all()
+    }
+
+    fn hold(&mut self, open: &[u8]) {
+        let count = open.len().min(self.held.0.len());
+        self.held.0[..count].copy_from_slice(&open[..count]);
+        self.held.1 = count;
+    }
+
+    /// The bytes of an unfinished character at the end, which the parser then hasn't read.
+    fn take_open<'a>(&mut self, source: &'a [u8]) -> &'a [u8] {
+        let mut single = Single::default();
+        if self.parser.is_open() {
+            self.parser.clone().advance(&mut single, END);
+        }
+        match single.0 {
+            Some(_) => {
+                self.parser = Limited::new();
+                malformed_end(source)
+            }
+            None => &[],
+        }
+    }
+}
 
 /// The text of a `str` or bytes by a function of bytes. If it is all of them, it is their object.
-fn strip_by<F>(data: &Bound<'_, PyAny>, errors: &'static str, read: F) -> PyResult<PyObject>
+fn strip_by<F>(data: &Bound<'_, PyAny>, errors: Errors, read: F) -> PyResult<PyObject>
 where
     F: for<'a> FnOnce(&'a [u8]) -> Result<Cow<'a, [u8]>, Refused> + Send,
 {
-    let py = data.py();
+    let (py, errors) = (data.py(), errors.of_codecs());
     let text = data.downcast::<PyString>().ok();
     let utf8 = text.and_then(|text| text.to_str().ok());
     let made;
@@ -167,48 +279,78 @@ where
 /// Returns the text of a whole stream, a `str` or bytes, without its sequences.
 ///
 /// For what isn't UTF-8, bytes or a lone surrogate of a `str`, U+FFFD stands in the text. With
-/// `errors="surrogateescape"` these bytes stay, and the surrogates that stand for bytes. An
-/// unfinished character at the end gives no text.
+/// `errors="surrogateescape"` these bytes stay, and the surrogates that stand for bytes. So it is
+/// with an unfinished character at the end.
 #[pyfunction]
 #[pyo3(signature = (data, errors="replace"))]
 pub fn strip(data: &Bound<'_, PyAny>, errors: &str) -> PyResult<PyObject> {
+    let errors = Errors::of(errors)?;
     match errors {
-        "replace" => strip_by(data, REPLACE, shown),
-        "surrogateescape" => strip_by(data, "surrogateescape\0", shown_with_bytes),
-        _ => Err(PyValueError::new_err(format!(
-            "errors must be 'replace' or 'surrogateescape', not {errors:?}"
-        ))),
+        Errors::Replace => strip_by(data, errors, shown),
+        Errors::Escape => strip_by(data, errors, |source| {
+            Place::start(errors).read(source, true)
+        }),
     }
 }
 
 /// Reads a stream in pieces of any length and returns its text. It can be copied and pickled, for
 /// the same version of the package.
+///
+/// What stands for malformed bytes is said by `errors`, as for `strip`.
 #[pyclass(module = "vte", subclass, weakref)]
-pub struct Stripper(Limited);
+pub struct Stripper(Place);
 
 #[pymethods]
 impl Stripper {
     #[new]
-    fn new() -> Self {
-        Stripper(Limited::new())
+    #[pyo3(
+        signature = (errors="replace", state=None, held=None),
+        text_signature = "(errors='replace')"
+    )]
+    fn new(
+        errors: &str,
+        state: Option<&Bound<'_, PyAny>>,
+        held: Option<&Bound<'_, PyBytes>>,
+    ) -> PyResult<Self> {
+        let mut place = Place::start(Errors::of(errors)?);
+        if let Some(state) = state {
+            place.parser = restored(state)?;
+        }
+        place.hold(held.map_or(&[], |held| held.as_bytes()));
+        Ok(Stripper(place))
     }
 
     /// Reads more of the stream, and returns the text that this adds, without the sequences:
     /// characters, HT, LF and CR.
     ///
-    /// Of a `str` the text is a `str`, and of bytes it is in UTF-8.
-    fn strip(slf: &Bound<'_, Self>, data: &Bound<'_, PyAny>) -> PyResult<PyObject> {
-        let mut stripper = borrowed(slf)?;
-        let parser = &mut stripper.0;
-        strip_by(data, REPLACE, |source| shown_by(parser, source))
+    /// Of a `str` the text is a `str`, and of bytes it is bytes. An unfinished character at the end
+    /// waits for more. With `final=True` the stream ends there, where it is malformed, and the next
+    /// call begins another. If memory is refused, call it again: nothing was read.
+    #[pyo3(signature = (data, r#final=false), text_signature = "($self, data, final=False)")]
+    fn strip(slf: &Bound<'_, Self>, data: &Bound<'_, PyAny>, r#final: bool) -> PyResult<PyObject> {
+        let mut shared = borrowed(slf)?;
+        let before = shared.0.clone();
+        let place = &mut shared.0;
+        let stripped = strip_by(data, before.errors, |source| place.read(source, r#final));
+        if stripped.is_err() {
+            shared.0 = before;
+        }
+        stripped
     }
 
-    fn __getstate__(slf: &Bound<'_, Self>) -> PyResult<PyObject> {
-        state_of(slf.py(), &borrowed(slf)?.0)
-    }
-
-    fn __setstate__(slf: &Bound<'_, Self>, state: &Bound<'_, PyAny>) -> PyResult<()> {
-        borrowed(slf)?.0 = restored(state)?;
-        Ok(())
+    /// Of what `object` makes a copy and a pickle, to which it adds the attributes of a subclass.
+    fn __getnewargs__(slf: &Bound<'_, Self>) -> PyResult<PyObject> {
+        let (py, shared) = (slf.py(), borrowed(slf)?);
+        let Place {
+            errors,
+            parser,
+            held,
+        } = &shared.0;
+        let values = |place| match place {
+            0 => text(py, errors.name().as_bytes()),
+            1 => state_of(py, parser),
+            _ => bytes(py, &held.0[..held.1]),
+        };
+        raised(py, tuple(py, 3, values))
     }
 }

@@ -3,7 +3,7 @@
 //! still there.
 
 use crate::calls::{Kind, NAMES};
-use crate::objects::{bytes, integer, list, no_memory, text, tuple, Class, Made};
+use crate::objects::{bytes, integer, list, no_memory, raised, text, tuple, Class, Made};
 use pyo3::prelude::*;
 use pyo3::sync::{GILOnceCell, GILProtected};
 use std::cell::Cell;
@@ -116,9 +116,11 @@ fn extend<T: Copy>(vector: &mut Vec<T>, more: &[T], is_refused: &mut bool) {
 
 #[cold]
 fn grow<T: Copy>(vector: &mut Vec<T>, more: &[T], is_refused: &mut bool) {
-    match vector.try_reserve(more.len()) {
-        Ok(()) => vector.extend_from_slice(more),
-        Err(_) => *is_refused = true,
+    // what was refused once isn't asked for again
+    if *is_refused || vector.try_reserve(more.len()).is_err() {
+        *is_refused = true;
+    } else {
+        vector.extend_from_slice(more);
     }
 }
 
@@ -237,20 +239,32 @@ impl Tape {
         self.values[place] = Value::new(FLAG, 1);
     }
 
-    /// Returns whether there was no memory to record something. Then all that is recorded is
+    /// Whether so many values are recorded, or memory was refused to one.
+    pub fn is_full(&self, most: usize) -> bool {
+        self.values.len() >= most || self.is_refused
+    }
+
+    /// Returns once whether there was no memory to record something. Then all that wasn't made is
     /// dropped.
     pub fn has_lost(&mut self) -> bool {
         let is_refused = self.is_refused;
         if is_refused {
-            *self = Tape::default();
+            let made = std::mem::take(&mut self.made);
+            *self = Tape {
+                made,
+                ..Tape::default()
+            };
         }
         is_refused
     }
 
-    /// Makes the objects, but not the last if it may go on. If memory is refused, those that aren't
-    /// made stay.
+    /// Makes the objects, but not the last if it may go on. If memory is refused, now or to what
+    /// was to be recorded, those that aren't made stay.
     #[inline(never)]
     pub fn make(&mut self, py: Python<'_>, ends: bool) -> PyResult<()> {
+        if self.is_refused {
+            return Err(no_memory(py));
+        }
         let reserved = self.made.try_reserve(self.values.len());
         reserved.map_err(|_| no_memory(py))?;
         let (classes, mut known) = (classes(py)?, KNOWN.get(py).take());
@@ -285,12 +299,25 @@ impl Tape {
 
     /// A list of what was made. If memory is refused, this stays.
     pub fn list(&mut self, py: Python<'_>) -> Made {
-        let list = list(py, &mut self.made)?;
+        let count = self.made.len();
+        let list = list(py, &mut self.made, count)?;
         // the memory of few is at hand
         if self.made.capacity() > 1 << 12 {
             self.made = Vec::new();
         }
         Some(list)
+    }
+
+    /// A list of as many of the first that were made as there is memory for. The others stay.
+    pub fn some(&mut self, py: Python<'_>) -> Option<PyObject> {
+        let mut count = self.made.len();
+        while count > 0 {
+            match raised(py, list(py, &mut self.made, count)) {
+                Ok(list) => return Some(list),
+                Err(_) => count /= 2,
+            }
+        }
+        None
     }
 }
 

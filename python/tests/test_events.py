@@ -69,8 +69,11 @@ def test_commands_that_lost_data_say_so(limits, data, pieces, truncated, end, be
     stream, wanted = b"\x1b]" + data + end, [Osc(tuple(pieces), bell, truncated), *after]
     for limit in limits:
         several = stream + b"\x1b]c\x07" + stream
-        assert vte.Parser(limit).feed(several) == [*wanted, Osc((b"c",), True), *wanted]
-        assert feed(vte.Parser(limit), cut(stream, 1)) == wanted
+        parser, x = vte.Parser(limit), Esc(b"", False, "x") if end == b"\x1b" else Text("x")
+        assert parser.feed(several) == [*wanted, Osc((b"c",), True), *wanted]
+        assert parser.feed(b"x") == [x]
+        assert feed(parser, cut(b"\x18" + stream, 1))[1:] == wanted
+        assert feed(parser, cut(b"x\x1b]c\x07", 1)) == [x, Osc((b"c",), True)]
 
 
 @pytest.mark.parametrize("size", [7, 4096, 1 << 20])
@@ -106,6 +109,14 @@ def test_stops(make):
     assert make().feed_until(stream, {Osc}, {Osc}) == ([Osc((b"0", b"a"), True)], 10)
 
 
+@pytest.mark.parametrize("kinds", [{Osc}, Osc, (), {Data, Osc}])
+def test_what_stops_need_not_be_wanted(make, kinds):
+    parser = make()
+    assert parser.feed_until(b"one\ntwo\nthree", Execute, kinds) == ([], 4)
+    assert parser.feed_until(b"two\x1b[1mthree\n", {Csi, Esc}, kinds) == ([], 7)
+    assert parser.feed(b"x") == [Text("x")]
+
+
 @pytest.mark.parametrize("kind", [*typing.get_args(vte.Event), *calls.KINDS])
 def test_equality_and_copies(kind):
     one, other = kind(*range(len(kind._fields))), (Put if kind is Execute else Execute)(0)
@@ -139,19 +150,45 @@ def test_any_object_with_a_buffer(data, wanted):
     assert vte.Processor().feed(data) == vte.Processor().feed(bytes(data))
 
 
-@pytest.mark.parametrize("wrong", [{int}, [Text, None], Text, 5, "Osc", [[]], [Text("a")]])
+@pytest.mark.parametrize("wrong", [{int}, [Text, None], int, 5, "Osc", [[]], [Text("a")]])
 def test_wrong_kinds_leave_the_stream(make, wrong):
     parser = make()
     parser.feed(b"\x1b[1")
-    with pytest.raises(TypeError, match="kinds must be types of events|is not iterable"):
-        parser.feed(b"ma", wrong)
+    for function, *words in (parser.feed, wrong), (parser.feed_until, wrong), (
+            parser.feed_until, {Csi}, wrong):
+        with pytest.raises(TypeError, match="kinds must be types of events|is not iterable"):
+            function(b"ma", *words)
     assert parser.feed(b"ma") == [Csi(((1,),), b"", False, "m"), Text("a")]
+
+
+WRONG = [("feed", 1), ("feed", "a"), ("feed", b"x", [1]), ("feed", b"x", Osc, Osc),
+         ("feed_until", b"x", {Text}), ("feed_until", b"x", [1]), ("feed_until", b"x", Osc, 5),
+         ("strip", 1), ("strip", b"x", True, 1), ("strip", "\ud800")]
+
+
+@pytest.mark.parametrize("make_any, read", [
+    (vte.Parser, "feed"), (lambda: vte.Parser(limit=1024), "feed"), (vte.Processor, "feed"),
+    (lambda: vte.Stripper("surrogateescape"), "strip")])
+@pytest.mark.parametrize("at", range(0, len(STREAM), 3))
+def test_errors_leave_the_stream(make_any, read, at):
+    read, other = getattr(make_any(), read), getattr(make_any(), read)
+    made, wanted = read(STREAM[:at]), other(STREAM[:at]) + other(STREAM[at:])
+    for name, *words in WRONG:
+        if function := getattr(read.__self__, name, None):
+            with pytest.raises((TypeError, ValueError)):
+                function(*words)
+    # nor is there a state to be set by what wasn't pickled
+    assert not hasattr(read.__self__, "__setstate__")
+    assert made + read(STREAM[at:]) == wanted
 
 
 # ---- copies
 
-@pytest.mark.parametrize("copied", [
-    copy.copy, copy.deepcopy, lambda reader: pickle.loads(pickle.dumps(reader))])
+def pickled(reader):
+    return pickle.loads(pickle.dumps(reader))
+
+
+@pytest.mark.parametrize("copied", [copy.copy, copy.deepcopy, pickled])
 def test_copies(copied):
     for at in range(len(STREAM) + 1):
         parser, stripper = OwnParser(limit=1024), OwnStripper()
@@ -160,6 +197,16 @@ def test_copies(copied):
         assert (type(parser), parser.limit, type(stripper)) == (OwnParser, 1024, OwnStripper)
         assert joined(events + parser.feed(STREAM[at:])) == EVENTS
         assert text + stripper.strip(STREAM[at:]) == text_of(EVENTS)
+    class Slots(vte.Stripper):
+        __slots__ = "more",
+
+    parser.name, stripper.name, slots = ["a"], "b", Slots("surrogateescape")
+    slots.more = 5
+    slots.strip(b"\xe2\x82")
+    for attributes, reader in ({"name": ["a"]}, parser), ({"name": "b"}, stripper):
+        assert vars(copied(reader)) == attributes
+    if copied is not pickled:
+        assert (copied(slots).more, copied(slots).strip(b"a")) == (5, b"\xe2\x82a")
     with pytest.raises(TypeError, match="only parsers with a limit can be copied"):
         copied(vte.Parser())
     with pytest.raises(TypeError, match="cannot pickle '.*Processor' object"):
@@ -167,15 +214,19 @@ def test_copies(copied):
 
 
 def test_states_of_other_versions():
-    version, content = vte.Parser(limit=1024).__getstate__()
-    wrong = (0, b""), ("0.0.0", content), (version, content[1:]), None, (version, content, 1)
-    for state, made in itertools.product(wrong, [vte.Parser(limit=1024), vte.Stripper()]):
+    version, content = vte.Parser(limit=1024).__getnewargs__()[1]
+    wrong = (0, b""), ("0.0.0", content), (version, content[1:]), (version, content, 1)
+    for state, (make, word) in itertools.product(
+            wrong, [(OwnParser, 1024), (OwnStripper, "replace")]):
+        class Other(make):
+            def __getnewargs__(self):
+                return word, state
+
         with pytest.raises(ValueError, match="pickled with another version of the package"):
-            made.__setstate__(state)
+            copy.copy(Other(word))
     # any content of this length is some parser
     for byte in range(256):
-        made = vte.Parser(limit=1024)
-        made.__setstate__((version, bytes([byte]) * len(content)))
+        made = vte.Parser.__new__(vte.Parser, 1024, (version, bytes([byte]) * len(content)))
         made.feed(STREAM)
 
 
@@ -202,6 +253,17 @@ except vte.Refused as error:
 leave(1 << 30)
 assert 6 < read < len(stream) and parser.feed(stream[read:]) == [vte.Osc((b"52", b"c", text), True)]
 del parser
+# what a processor loses, it says; the next bytes mean what they should
+many, processor = b"a\\x1b[65535b" * 400, vte.Processor()
+leave(16 << 20)
+try:
+    processor.feed(many)
+    raise SystemExit("it isn't refused")
+except vte.Refused as error:
+    assert error.lost and 0 < error.read <= len(many)
+leave(1 << 30)
+assert processor.feed(b"\\x18x") == [vte.calls.Input("x")]
+del processor
 leave(96 << 20)
 for _ in range(64):
     vte.Processor().feed(b"a")
@@ -216,6 +278,7 @@ def test_little_memory():
 
 
 def test_refused():
-    refused = pickle.loads(pickle.dumps(vte.Refused(3, [Text("a")])))
-    assert isinstance(refused, MemoryError)
-    assert (type(refused), refused.read, refused.events) == (vte.Refused, 3, [Text("a")])
+    for lost in [], [True]:
+        refused = pickle.loads(pickle.dumps(vte.Refused(3, [Text("a")], *lost)))
+        assert isinstance(refused, MemoryError) and type(refused) is vte.Refused
+        assert (refused.read, refused.events, refused.lost) == (3, [Text("a")], bool(lost))

@@ -108,11 +108,16 @@ def test_other_threads_run_meanwhile(read):
         counter.join()
 
 
+# each makes another object, and none is made by code in Python, where a signal would come
+COLOURS = b"".join(b"\x1b[38;2;%d;%d;9m" % (it & 255, it >> 8) for it in range(30_000))
+
+
 @pytest.mark.parametrize("make, end", [
     (vte.Parser, [Csi(((1,), (4,)), b"", False, "m")]),
     (vte.Processor, [TerminalAttribute(Attribute.Bold, None),
                      TerminalAttribute(Attribute.Underline, None)])])
-def test_a_signal_comes_out_and_the_next_call_goes_on(make, end):
+@pytest.mark.parametrize("data", [b"a\x1b[m" * 100_000, COLOURS])
+def test_a_signal_comes_out_and_the_next_call_goes_on(make, end, data):
     class Alarm(Exception):
         pass
 
@@ -126,7 +131,7 @@ def test_a_signal_comes_out_and_the_next_call_goes_on(make, end):
         with pytest.raises(Alarm):
             signal.setitimer(signal.ITIMER_REAL, 0.005)
             for _ in range(1000):
-                shared.feed(b"a\x1b[m" * 100_000 + b"\x1b[1")
+                shared.feed(data + b"\x1b[1")
                 shared.feed(b"m")
         # the stream is after the one call or the other
         shared.feed(b"\x18")

@@ -44,15 +44,19 @@ def test_kinds(stream):
 
 
 @often
-@given(streams, strategies.sets(strategies.sampled_from(ENDS), min_size=1))
-def test_pieces_and_stops(stream, stops):
-    for parser, stopped, other in zip(parsers(), parsers(), parsers()):
+@given(streams, strategies.sets(strategies.sampled_from(ENDS), min_size=1), some_kinds)
+def test_pieces_and_stops(stream, stops, kinds):
+    for parser, stopped, some, other in zip(parsers(), parsers(), parsers(), parsers()):
         wanted, events = other.feed(b"".join(stream)), []
         assert joined(feed(parser, stream)) == wanted
         for piece in stream:
             while piece:
                 more, read = stopped.feed_until(piece, stops)
                 assert not any(type(event) in stops for event in more[:-2])
+                # whatever is wanted, it stops there
+                found, same = some.feed_until(piece, stops, kinds and kinds - {Data})
+                assert (found, same) == ([event for event in more if kinds is None
+                                          or type(event) in kinds - {Data}], read)
                 events, piece = events + more, piece[read:]
         assert joined(events) == wanted
     if not any(isinstance(event, Osc) and event.truncated for event in wanted):
@@ -63,16 +67,25 @@ def test_pieces_and_stops(stream, stops):
 @given(streams)
 def test_texts_and_calls(stream):
     whole, texts = b"".join(stream), [piece.decode(errors="replace") for piece in stream]
-    plain, parser = vte.strip(whole), vte.Parser()
-    pieces = [*map(vte.Stripper().strip, stream)]
+    plain, parser, stripper = vte.strip(whole), vte.Parser(), vte.Stripper()
+    pieces = [*map(stripper.strip, stream)]
     assert pieces == [text_of(parser.feed(piece)) for piece in stream]
+    # an ESC is what ends an unfinished character without text of its own
+    pieces.append(stripper.strip(b"", final=True))
+    assert pieces[-1] == text_of(parser.feed(b"\x1b"))
     assert b"".join(pieces) == plain
+    assert stripper.strip(whole, final=True) == plain
+    keeping = vte.Stripper("surrogateescape")
+    kept = b"".join([*map(keeping.strip, stream), keeping.strip(b"", final=True)])
+    assert kept == vte.strip(whole, errors="surrogateescape")
     assert "".join(map(vte.Stripper().strip, texts)) == vte.strip("".join(texts))
     assert list(vte.strip_lines(stream + texts)) == [*map(vte.strip, stream + texts)]
     assert vte.strip("".join(texts)) == vte.strip("".join(texts).encode()).decode()
     # in the place of each U+FFFD it or malformed bytes may stand
-    kept = rb"[\x80-\xff]{1,3}".join(map(re.escape, plain.split("\ufffd".encode())))
-    assert re.fullmatch(kept, vte.strip(whole, errors="surrogateescape"))
+    wanted = rb"[\x80-\xff]{1,3}".join(map(re.escape, plain.split("\ufffd".encode())))
+    assert re.fullmatch(wanted, kept)
+    assert "".join(vte.strip_lines([whole.decode(errors="surrogateescape")], "surrogateescape")
+                   ) == kept.decode(errors="surrogateescape")
     if b"2026" not in whole:
         assert joined(feed(vte.Processor(), stream)) == vte.Processor().feed(whole)
 
@@ -86,4 +99,4 @@ def test_as_vtlog(stream):
 
     found = event_lines(feed(vte.Parser(limit=1024), stream))
     assert found == vtlog().decode().splitlines()
-    assert vte.strip(b"".join(stream)) == vtlog("text")
+    assert vte.Stripper().strip(b"".join(stream)) == vtlog("text")

@@ -1,4 +1,5 @@
 """Tests of files and terminals."""
+import errno
 import io
 import os
 import pty
@@ -40,7 +41,8 @@ def test_files(source, size):
 @pytest.mark.parametrize("kinds", [
     {Osc}, {Csi, Esc}, [Put], (), {Text, Execute}, [Osc, Text, Osc], {Hook: 1},
     set(map(type, EVENTS))])
-@pytest.mark.parametrize("given", [lambda kinds: kinds, iter])
+@pytest.mark.parametrize("given", [
+    lambda kinds: kinds, iter, lambda kinds: [*kinds][0] if len(kinds) == 1 else kinds])
 def test_kinds(source, kinds, given):
     wanted = [event for event in EVENTS if type(event) in set(kinds)]
     for parser in parsers():
@@ -96,6 +98,57 @@ def test_files_that_have_nothing_yet():
                 assert next(events) == Text(text.decode())
         os.close(writing)
         assert list(vte.open(file)) == []
+
+
+def test_an_end_in_the_middle(tmp_path):
+    path = tmp_path / "stream"
+    for end in range(len(STREAM) + 1):
+        path.write_bytes(STREAM[:end])
+        wanted = joined(vte.Parser().feed(STREAM[:end]))
+        for size in 1, 7, 65536:
+            with vte.open(path, size) as events:
+                assert joined(events) == wanted
+    assert list(vte.open(io.BytesIO(b"caf\xe9"))) == [Text("caf")]
+
+
+@pytest.mark.skipif(sys.platform != "linux", reason="these errors are Linux's")
+def test_errors_of_files():
+    # Linux has no memory at address 0
+    with open("/proc/self/mem", "rb", buffering=0) as file:
+        for source in "/proc/self/mem", file, file.fileno():
+            with vte.open(source) as events:
+                for _ in range(2):
+                    with pytest.raises(OSError, match="Input/output error"):
+                        next(events)
+    master, slave = pty.openpty()
+    os.write(slave, b"a\x1b[1")
+    events = vte.open(master)
+    assert next(events) == Text("a")
+    # only one error is the end of a terminal
+    os.close(slave)
+    assert next(events, "end") == "end"
+    os.close(master)
+    with pytest.raises(OSError, match="Bad file descriptor"):
+        next(events)
+
+
+class Failing(io.BytesIO):
+    """Its second read is an error."""
+
+    def read1(self, size):
+        self.count = getattr(self, "count", 0) + 1
+        if self.count == 2:
+            raise OSError(errno.EIO, "no luck")
+        return super().read(size)
+
+
+@pytest.mark.parametrize("size", [1, 7, 20])
+def test_reading_goes_on_after_an_error_of_a_file(size):
+    events, made = vte.open(Failing(STREAM), size), []
+    with pytest.raises(OSError, match="no luck"):
+        while True:
+            made.append(next(events))
+    assert joined(made + list(events)) == EVENTS
 
 
 def test_standard_input():

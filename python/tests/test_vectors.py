@@ -1,4 +1,5 @@
 """Compares events, texts and calls with the test vectors, which an sdist doesn't have."""
+import copy
 import json
 
 import pytest
@@ -46,17 +47,28 @@ def test_events(row):
     if row["limit"] not in (None, 1024):
         pytest.skip("no parser has this limit")
     for pieces in cuttings(row):
-        if row["limit"] is None or len(b"".join(pieces)) <= 1024:
-            assert event_lines(feed(vte.Parser(), pieces)) == row["events"]
-        if row["limit"] == 1024:
-            assert event_lines(feed(vte.Parser(limit=1024), pieces)) == row["events"]
+        for limit in None, 1024:
+            if limit == row["limit"] or limit is None and len(b"".join(pieces)) <= 1024:
+                parser = vte.Parser(limit)
+                assert event_lines(feed(parser, pieces)) == row["events"]
+                # the next byte means what it should
+                assert parser.feed(b"\x18x")[-2:] == [vte.Execute(0x18), vte.Text("x")]
+                assert parser.feed(b"x") == [vte.Text("x")]
 
 
 @each("calls.json", "text")
 def test_text(row):
     for pieces in cuttings(row):
-        assert b"".join(map(vte.Stripper().strip, pieces)).hex() == row["text"]
-        assert vte.strip(b"".join(pieces)).hex() == row["text"]
+        for errors in "replace", "surrogateescape":
+            stripper = vte.Stripper(errors)
+            texts = [*map(stripper.strip, pieces)]
+            # the text of a vector ends before an unfinished character
+            end = copy.copy(stripper).strip(b"", final=True)
+            assert b"".join([*texts, end]) == vte.strip(b"".join(pieces), errors)
+            assert (stripper.strip(b"\x18x")[-1:], stripper.strip(b"x")) == (b"x", b"x")
+            if errors == "replace":
+                assert b"".join(texts).hex() == row["text"]
+                assert end in (b"", "\ufffd".encode())
 
 
 @each("calls.json", "calls")
@@ -69,6 +81,7 @@ def test_calls(row):
         found = call_lines(feed(processor, pieces))
         # what is held comes when the update is stopped
         found += call_lines(processor.stop_sync()) if processor.sync_timeout is not None else []
+        assert processor.feed(b"\x18x")[-1:] == [calls.Input("x")]
         assert found == wanted or found[:len(wanted)] == wanted and b"2026" in stream
 
 

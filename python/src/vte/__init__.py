@@ -26,8 +26,8 @@ of each line. A `Processor` returns what a stream asks of a terminal, as calls o
 >>> vte.Processor().feed(b"\x1b[5H\x1b[1mhi")
 [Goto(line=4, col=0), TerminalAttribute(attribute=Bold, color=None), Input(text='hi')]
 
-If memory is refused, they raise `Refused` or another `MemoryError`. A call of what another thread
-uses raises a `RuntimeError`.
+If memory is refused, they raise `Refused`, or another `MemoryError` if nothing was read. A call of
+what another thread uses raises a `RuntimeError`.
 """
 from ._events import Csi, Data, Esc, Event, Execute, Hook, Osc, Put, Refused, Text, Unhook
 from . import calls

@@ -3,7 +3,7 @@ import array
 import codecs
 import mmap
 from collections.abc import Iterable
-from typing import Any, Literal, NamedTuple, Union, get_args
+from typing import Any, Literal, NamedTuple, TypeVar, Union, get_args
 
 
 def _equal(self: tuple[Any, ...], other: object) -> bool:
@@ -78,20 +78,23 @@ Event = Union[Text, Execute, Hook, Put, Data, Unhook, Osc, Csi, Esc]
 
 # what functions take
 Buffer = Union[bytes, bytearray, memoryview, "array.array[int]", mmap.mmap]
-Kinds = Union[Iterable[type[Event]], None]
-Errors = Literal["replace", "surrogateescape"]
+# one type of event, which a type checker then knows in what they return, or any of them
+Own = TypeVar("Own", Text, Execute, Hook, Put, Data, Unhook, Osc, Csi, Esc)
+Kind = Union[type[Own], Iterable[type[Own]]]
+Kinds = Union[type[Event], Iterable[type[Event]]]
+Errors = Union[Literal["replace"], Literal["surrogateescape"]]
 
 
 class Refused(MemoryError):
     """Memory was refused, after `read` bytes of the call, which add `events`.
 
-    Feed the rest once there is memory.
+    Feed the rest once there is memory: events that are missing come first. Only of a processor
+    calls may be `lost`.
     """
-    _fields = "read", "events"
 
-    def __init__(self, read: int, events: list[Any]) -> None:
-        super().__init__(read, events)
-        self.read, self.events = read, events
+    def __init__(self, read: int, events: list[Any], lost: bool = False) -> None:
+        super().__init__(read, events, lost)
+        self.read, self.events, self.lost = read, events, lost
 
     def __str__(self) -> str:
         return f"no memory, after {self.read} bytes"

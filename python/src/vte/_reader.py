@@ -6,31 +6,39 @@ import errno
 import os
 from collections.abc import Iterable, Iterator
 from functools import partial
-from typing import IO, Any, Union, overload
+from typing import IO, Any, Optional, TypeVar, Union, overload
 
-from ._events import Buffer, Errors, Event, Kinds
+from ._events import Buffer, Errors, Event, Kind, Kinds, Own, Refused
 from ._vte import Parser, strip
 
 Source = Union[str, "os.PathLike[str]", int, IO[bytes]]
+Item = TypeVar("Item", bound=Event, covariant=True)
 
 
-class Reader(Iterator[Event]):
+class Reader(Iterator[Item]):
     """An iterator over the events of a path, a file descriptor or a binary file.
 
-    With `kinds`, a set of types of events, it has these alone. The file is read in pieces of at
-    most `size` bytes, each when its events are requested, with what is there by then. If a
-    nonblocking file has nothing yet, `BlockingIOError` is raised, and the iterator goes on later. A
-    pty, given by its descriptor, ends when no program has it open any more. As a context manager it
-    closes the file of a path at the end.
+    With `kinds`, a type of events or a set of them, it has these alone. The file is read in pieces
+    of at most `size` bytes, each when its events are requested, with what is there by then. If a
+    nonblocking file has nothing yet, `BlockingIOError` is raised, and the iterator goes on later.
+    It also does so after a `MemoryError`. A pty, given by its descriptor, ends when no program has
+    it open any more. As a context manager it closes the file of a path at the end.
     """
 
-    def __init__(self, source: Source, size: int = 65536, kinds: Kinds = None) -> None:
+    def __init__(
+        self, source: Source, size: int = 65536, kinds: Optional[Kinds] = None
+    ) -> None:
         if not isinstance(size, int) or size < 1:
             raise ValueError(f"size must be at least 1, not {size!r}")
         # an iterator lasts for one call only; wrong kinds are an error now
-        self._kinds = list(kinds) if isinstance(kinds, Iterable) else kinds
+        self._kinds: Any = list(kinds) if isinstance(kinds, Iterable) else kinds
         self._parser = Parser()
-        self._events = iter(self._parser.feed(b"", self._kinds))
+        self._made: list[Any] = self._parser.feed(b"", self._kinds)
+        self._events: Iterator[Item] = iter(self._made)
+        # what is to be fed, what was fed last, and what the call made of this if it was refused
+        self._piece: Optional[bytes] = None
+        self._fed = b""
+        self._refused: Optional[Refused] = None
         self._is_terminal = isinstance(source, int) and os.isatty(source)
         file: Any = source
         self._is_own = isinstance(source, (str, os.PathLike, int))
@@ -43,24 +51,49 @@ class Reader(Iterator[Event]):
             raise TypeError(f"open takes a path, a file descriptor or a binary file, not {kind}")
         self._file, self._read = file, partial(read, size)
 
-    def __next__(self) -> Event:
+    def __next__(self) -> Item:
         while True:
             for event in self._events:
                 return event
-            try:
-                data = self._read()
-            except OSError as error:
-                # what Linux answers once the last program has closed a pty
-                if error.errno != errno.EIO or not self._is_terminal:
-                    raise
-                data = b""
-            if data is None:
-                raise BlockingIOError(errno.EAGAIN, "the file has no bytes yet")
-            if not data:
-                raise StopIteration
-            self._events = iter(self._parser.feed(data, self._kinds))
+            # if memory is refused to a step, the next call takes it again
+            if self._refused:
+                refused, rest = self._refused, self._fed[self._refused.read:]
+                self._made, self._piece, self._refused = refused.events, rest, None
+            elif self._made:
+                self._events, self._made = iter(self._made), []
+            elif self._piece is None:
+                self._piece = self._next_piece()
+            else:
+                self._feed(self._piece)
 
-    def __enter__(self) -> Reader:
+    def _feed(self, piece: bytes) -> None:
+        # a signal may end the call when all of it was read
+        self._fed, self._piece = piece, None
+        try:
+            self._made = self._parser.feed(piece, self._kinds)
+        except Refused as refused:
+            self._refused = refused
+            if not refused.events:
+                raise
+        except MemoryError:
+            self._piece = piece
+            raise
+
+    def _next_piece(self) -> bytes:
+        try:
+            data: Optional[bytes] = self._read()
+        except OSError as error:
+            # what Linux answers once the last program has closed a pty
+            if error.errno != errno.EIO or not self._is_terminal:
+                raise
+            data = b""
+        if data is None:
+            raise BlockingIOError(errno.EAGAIN, "the file has no bytes yet")
+        if not data:
+            raise StopIteration
+        return data
+
+    def __enter__(self) -> Reader[Item]:
         return self
 
     def __exit__(self, *_: object) -> None:
@@ -72,7 +105,18 @@ class Reader(Iterator[Event]):
             self._file.close()
 
 
-open = Reader
+@overload
+def open(source: Source, size: int = ..., *, kinds: Kind[Own]) -> Reader[Own]: ...
+
+
+@overload
+def open(source: Source, size: int = ..., kinds: Optional[Kinds] = ...) -> Reader[Event]: ...
+
+
+def open(source: Source, size: int = 65536, kinds: Any = None) -> Reader[Any]:
+    """Returns a `Reader`: an iterator over the events of a path, a file descriptor or a binary
+    file."""
+    return Reader(source, size, kinds)
 
 
 @overload

@@ -1,8 +1,7 @@
-from collections.abc import Iterable
 from typing import Literal, overload
 
 from . import calls
-from ._events import Buffer, Errors, Event, Kinds
+from ._events import Buffer, Errors, Event, Kind, Kinds, Own
 
 __version__: str
 
@@ -10,9 +9,17 @@ class Parser:
     def __init__(self, limit: Literal[1024] | None = None) -> None: ...
     @property
     def limit(self) -> int | None: ...
-    def feed(self, data: Buffer, kinds: Kinds = None) -> list[Event]: ...
+    @overload
+    def feed(self, data: Buffer, kinds: Kind[Own]) -> list[Own]: ...  # type: ignore[misc]
+    @overload
+    def feed(self, data: Buffer, kinds: Kinds | None = None) -> list[Event]: ...
+    @overload
+    def feed_until(  # type: ignore[misc]
+        self, data: Buffer, stops: Kinds, kinds: Kind[Own]
+    ) -> tuple[list[Own], int]: ...
+    @overload
     def feed_until(
-        self, data: Buffer, stops: Iterable[type[Event]], kinds: Kinds = None
+        self, data: Buffer, stops: Kinds, kinds: Kinds | None = None
     ) -> tuple[list[Event], int]: ...
 
 class Processor:
@@ -24,10 +31,11 @@ class Processor:
     def sync_timeout(self) -> float | None: ...
 
 class Stripper:
+    def __init__(self, errors: Errors = "replace") -> None: ...
     @overload
-    def strip(self, data: str) -> str: ...
+    def strip(self, data: str, final: bool = False) -> str: ...
     @overload
-    def strip(self, data: Buffer) -> bytes: ...
+    def strip(self, data: Buffer, final: bool = False) -> bytes: ...
 
 @overload
 def strip(data: str, errors: Errors = "replace") -> str: ...

@@ -138,10 +138,12 @@ pub record CountsHeld (held : List ℕ) (result : ℕ) : Type 0 where
   pub no_end : after_last_end held ≡ None
 
 -- `stop_sync` and `stop_sync_text`
-abbrev pub StopsSync : {V W : Type 0} → Meaning V W → StandingPredicate W → StandingPredicate W → V
-    → V → Type 0
-StopsSync meaning Before After old new =
-    (state : State _ _) → IsAt Before old state → IsAt After new (stop meaning state)
+pub record StopsSync {V W : Type 0} (meaning : Meaning V W) (Before After : StandingPredicate W)
+    (old new : V) : Type 0 where
+  pub stops : (state : State V W) → IsAt Before old state → IsAt After new (stop meaning state)
+  -- Each byte is parsed or held, once and in order.
+  pub each_once : (state : State V W) → all_bytes (stop meaning state) ≡ all_bytes state
+  pub holds_well : (state : State V W) → HoldsWellAt meaning (stop meaning state)
 
 -- `advance` and `advance_text`, which read all bytes
 pub record ReadsInTurns {V W : Type 0} (meaning : Meaning V W) (Before After : StandingPredicate W)

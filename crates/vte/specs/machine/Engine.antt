@@ -6,8 +6,8 @@ use Rattle.vte.specs.BeginUpdate.{begin_count}
 use Rattle.vte.specs.Calls.{last_printed}
 use Rattle.vte.specs.LongProcessor.{read_of}
 use Rattle.vte.specs.Memory.{KeepsMemory}
-use Rattle.vte.specs.Processor.{Meaning, State, front_to_begin, most_held, open_turn, parse, turn}
-use Rattle.vte.specs.ProcessorCalls.{IsAt, StopsSync, held_of}
+use Rattle.vte.specs.Processor.{Meaning, State, front_to_begin, most_held, open_turn, parse, stop, turn}
+use Rattle.vte.specs.ProcessorCalls.{IsAt, held_of}
 use Rattle.vte.specs.Refusal.{HasTaken, TakesTurnsUntilRefused}
 use Rattle.vte.specs.machine.Views.{EngineView}
 use Rattle.vte.specs.declared.ansi.performer.PerformerState.{PerformerState}
@@ -46,7 +46,8 @@ pub record EngineReserves {P B T A W : Type 0} (view : EngineView P B T W)
 
 pub record EngineStops {P B T A V W : Type 0} (view : EngineView P B T W)
     (meaning : Meaning V W) (engine next : Engine P B T A) (old new : V) : Type 0 where
-  pub stops : StopsSync meaning (EngineStandsAt view engine) (EngineStandsAt view next) old new
+  pub stops : (state : State V W) → IsAt (EngineStandsAt view engine) old state
+      → IsAt (EngineStandsAt view next) new (stop meaning state)
   pub memory : (state : State V W) → IsAt (EngineStandsAt view engine) old state
       → KeepsMemory (EngineHasMemory view engine) (EngineHasMemory view next)
 

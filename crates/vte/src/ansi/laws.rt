@@ -1,8 +1,8 @@
 //! Laws of lists of a processor's calls, and the laws of the types.
-ghost use Rattle.std.specs.Prelude.{◌≡◌, ℕ, List, None, Option};
+ghost use Rattle.std.specs.Prelude.{ℕ, List, None};
 ghost use Rattle.vte.specs.CallExamples.{AreMade, AreRead, color_examples, command_examples, counted_examples, escape_examples, executed_examples};
 ghost use Rattle.vte.specs.CallExamples.{link_examples, mode_examples, palette_examples, position_examples, rendition_examples, selected_examples, title_examples};
-ghost use Rattle.vte.specs.Processor.{HoldsWellAt, State, TakesAllTurns, TakesTurns, all_bytes, meaning_of, stop};
+ghost use Rattle.vte.specs.Processor.{HoldsWellAt, State, TakesAllTurns, TakesTurns, meaning_of};
 ghost use Rattle.vte.specs.Refusal.{TakesTurnsUntilRefused};
 ghost use Rattle.vte.specs.UpdateExamples.{AreRight, ShortExamples, expired_example, update_examples};
 ghost use Rattle.vte_handler.specs.Timeout.{IsSteady};
@@ -34,16 +34,6 @@ pub fn worked_examples()
     ensures update { AreRight update_examples }
     ensures expired { expired_example }
     ensures short { ShortExamples }
-{}
-
-/// A stop loses no byte, and the facts about the hold are true after it.
-#[tactic(auto, using(crate::proofs::turns::HoldFacts::stop_well))]
-pub fn stops_lose_nothing<H: Handler, T: Timeout>()
-    ensures each_once { (limit : Option ℕ) (state : State H.Value T.Value)
-        → all_bytes (stop (meaning_of limit H.step T.set T.clear T.allows) state)
-        ≡ all_bytes state }
-    ensures holds_well { (limit : Option ℕ) (state : State H.Value T.Value)
-        → let m = meaning_of limit H.step T.set T.clear T.allows in HoldsWellAt m (stop m state) }
 {}
 
 /// Where the rest of a refused call of a [`LongProcessor`](crate::ansi::LongProcessor) leads to,

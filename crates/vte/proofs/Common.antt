@@ -43,7 +43,7 @@ pub use Rattle.vte.specs.CommandCalls.{dynamic_calls, id_of, link_to, palette_en
 unfoldable pub use Rattle.vte.specs.CommandCalls.{all_reset}
 pub use Rattle.vte.specs.machine.ColorReader.{component_at_front}
 pub use Rattle.vte.specs.machine.Hold.{Adds, IsAdded, IsHeldTail, released_of, still_held}
-pub use Rattle.vte.specs.ProcessorCalls.{HasAdvanced, HasParsedAll, HasParsedAndHolds, IsAt, ReadsInTurns, HasReplayed, Replays, StandingPredicate, held_of}
+pub use Rattle.vte.specs.ProcessorCalls.{HasAdvanced, HasParsedAll, HasParsedAndHolds, IsAt, ReadsInTurns, HasReplayed, HasTold, Replays, StandingPredicate, held_of}
 pub use Rattle.vte.specs.machine.Performing.{PerformsAll, PerformsUntilStop, performer_value, with_private_mode, with_private_modes}
 pub use Rattle.vte.specs.LongProcessor.{AdvancesLong, HasParsedAndHoldsLong, Reserves, StopsSyncLong}
 pub use Rattle.vte.specs.Memory.{HasMemory, ParserHasMemory, KeepsMemory, LacksMemoryForSome}

@@ -63,27 +63,35 @@ pub record HasAdvanced {V W : Type 0} (meaning : Meaning V W) (state : State V W
   -- Processor and handler are at that state.
   pub is_at : IsNowAt next
 
--- A list of calls.
-pub record HasReplayed {V W : Type 0} (meaning : Meaning V W) (state : State V W)
-    (steps : List Step)
-    (IsNowAt : State V W → Type 0) : Type 0 where
-  -- the state to which they led, the bytes parsed on the way, and the positions of stops on the way
-  pub next : State V W
+-- Calls that pass these bytes led from a state to another: what became of the bytes, and what the
+-- handler received.
+pub record HasTold {V W : Type 0} (meaning : Meaning V W) (state : State V W) (bytes : List ℕ)
+    (next : State V W) : Type 0 where
+  -- the bytes parsed on the way, and the positions of stops on the way
   pub more : List ℕ
   pub positions : List ℕ
-  -- They led there step by step.
-  pub takes : TakesSteps meaning state steps next
   pub parsed_is : next.parsed ≡ state.parsed ++ more
   pub stops_are : next.stops ≡ state.stops ++ positions
   -- The stops were at bytes parsed on the way, each at or after the one before it.
   pub in_order : AreInOrder (length state.parsed) positions (length next.parsed)
   -- The bytes held before and those given are those parsed on the way and those held now, each once
   -- and in order.
-  pub each_once : state.held ++ given_bytes steps ≡ more ++ next.held
+  pub each_once : state.held ++ bytes ≡ more ++ next.held
   -- The handler has received the calls of the bytes parsed on the way, and one more at each stop.
   pub handler_is : next.handler
       ≡ after meaning.step state.handler
       (calls_with_stops meaning.limit next.parsed (length state.parsed) positions)
+
+-- A list of calls.
+pub record HasReplayed {V W : Type 0} (meaning : Meaning V W) (state : State V W)
+    (steps : List Step)
+    (IsNowAt : State V W → Type 0) : Type 0 where
+  -- the state to which they led
+  pub next : State V W
+  -- They led there step by step.
+  pub takes : TakesSteps meaning state steps next
+  -- Each byte was parsed or is held, and the handler received the calls.
+  pub tells : HasTold meaning state (given_bytes steps) next
   -- `HoldsWell` stays true.
   pub holds_well : HoldsWellAt meaning state → HoldsWellAt meaning next
   -- If the timeout is steady, the calls lead to no other state.

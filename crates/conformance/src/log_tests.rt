@@ -326,14 +326,15 @@ fn writer_that_takes_one_byte_a_call(rt: HostRuntime) -> Result<(), Fail> {
     Ok(())
 }
 
+/// A device fails where its writer does, in a flush too: ESC gives no line to write before it.
 #[test]
 fn writer_that_takes_nothing(rt: HostRuntime) -> Result<(), Fail> {
-    let mut writer = AtMost::new(rt.alloc(), 0);
-    let result = run(
-        &mut Pieces::new(&STREAM, false),
-        &mut Device::new(&mut writer),
-    );
-    assert_eq!(rt; result, Err(Fault::Write));
-    assert!(rt; writer.bytes.is_empty());
+    for pieces in [&STREAM[..], &[b"\x1b"]] {
+        let mut writer = AtMost::new(rt.alloc(), 0);
+        let mut reader = Pieces::new(pieces, false);
+        let result = run(&mut reader, &mut Device::new(&mut writer));
+        assert_eq!(rt; result, Err(Fault::Write));
+        assert!(rt; writer.bytes.is_empty());
+    }
     Ok(())
 }

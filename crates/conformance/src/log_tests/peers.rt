@@ -3,7 +3,7 @@ ghost use Rattle.std.specs.Prelude.{◌≡◌, is_err, IsTrue};
 
 use event_log::{Sink, Source};
 use std::alloc::Global;
-use std::io;
+use std::io::{self, ErrorKind};
 
 /// A reader that gives one piece per call, and ends or fails after the last.
 #[derive(Drop)]
@@ -93,7 +93,8 @@ impl Sink for Written {
     }
 }
 
-/// A writer of std that takes at most `count` bytes per call, and passes none on before a flush.
+/// A writer of std that takes at most `count` bytes per call, and passes none on before a flush. If
+/// `count` is 0, a flush fails.
 #[derive(Drop)]
 pub(super) struct AtMost {
     pub(super) count: usize,
@@ -119,6 +120,9 @@ impl io::Write for AtMost {
     }
 
     fn flush(&mut self) -> io::Result<()> {
+        if self.count == 0 {
+            return Err(io::Error::from(ErrorKind::WriteZero));
+        }
         self.bytes.extend_from_slice(self.unflushed.as_slice())?;
         self.unflushed.clear();
         Ok(())

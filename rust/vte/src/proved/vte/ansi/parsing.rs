@@ -4,7 +4,7 @@
 
 #[cfg(not(feature = "std"))]
 use crate::adapter::array_string::ArrayString;
-use crate::proved::vte::ansi::performer::{Performer, PerformerState};
+use crate::proved::vte::ansi::performer::{Performer, ProcessorState};
 use crate::proved::vte::ansi::text_buffer::TextBuffer;
 #[cfg(not(feature = "std"))]
 use crate::proved::vte::ansi::titles::TEXT_ROOM;
@@ -105,7 +105,7 @@ pub(crate) fn parse_all<
     G: ParseAs<H, T, P>,
 >(
     parser: &mut P,
-    state: &mut PerformerState<T, B>,
+    state: &mut ProcessorState<T, B>,
     handler: &mut H,
     bytes: &[u8],
 ) {
@@ -128,7 +128,7 @@ pub(crate) fn parse_until_begin<
     G: ParseAs<H, T, P>,
 >(
     parser: &mut P,
-    state: &mut PerformerState<T, B>,
+    state: &mut ProcessorState<T, B>,
     handler: &mut H,
     bytes: &[u8],
 ) -> (usize, bool) {

@@ -19,7 +19,7 @@ pub struct Processor<T: Timeout> {
 
 impl<T: Timeout> Processor<T> {
     /// Creates a processor that has read nothing, and allocates the 2,097,152 bytes for updates
-    /// that are held back. No later call allocates memory.
+    /// that are held back. After that, only a clone allocates memory.
     ///
     /// Returns the timeout if memory runs out.
     pub fn new(timeout: T) -> Result<Self, T> {

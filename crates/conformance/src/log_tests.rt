@@ -308,37 +308,33 @@ fn repeated(alloc: Global, unit: &[u8], times: usize) -> Result<Vec<u8>, AllocEr
     Ok(bytes)
 }
 
+/// A run flushes, a device passes that on, and it doesn't fail unless its writer does.
 #[test]
 fn writer_that_takes_one_byte_a_call(rt: HostRuntime) -> Result<(), Fail> {
-    let mut writer = AtMost {
-        count: 1,
-        bytes: Vec::new(rt.alloc()),
-    };
-    assert_eq!(rt;
-        run(
-            &mut Pieces::new(&STREAM, false),
-            &mut Device::new(&mut writer)
-        ),
-        Ok(())
-    );
-    assert_eq!(rt;
-        writer.bytes.as_slice(),
-        joined_lines(rt.alloc(), &LINES)?.as_bytes()
-    );
+    let mut writer = AtMost::new(rt.alloc(), 1);
+    let mut reader = Pieces::new(&STREAM, false);
+    let result = run(&mut reader, &mut Device::new(&mut writer));
+    assert_eq!(rt; result, Ok(()));
+    let lines = joined_lines(rt.alloc(), &LINES)?;
+    assert_eq!(rt; writer.bytes.as_slice(), lines.as_bytes());
+
+    let mut writer = AtMost::new(rt.alloc(), 1);
+    let mut reader = Pieces::new(&STREAM, false);
+    let result = run_text(&mut reader, &mut Device::new(&mut writer));
+    assert_eq!(rt; result, Ok(()));
+    assert_eq!(rt; writer.bytes.as_slice(), b"a\n".as_slice());
     Ok(())
 }
 
+/// A device fails where its writer does, in a flush too: ESC gives no line to write before it.
 #[test]
 fn writer_that_takes_nothing(rt: HostRuntime) -> Result<(), Fail> {
-    let mut writer = AtMost {
-        count: 0,
-        bytes: Vec::new(rt.alloc()),
-    };
-    let result = run(
-        &mut Pieces::new(&STREAM, false),
-        &mut Device::new(&mut writer),
-    );
-    assert_eq!(rt; result, Err(Fault::Write));
-    assert!(rt; writer.bytes.is_empty());
+    for pieces in [&STREAM[..], &[b"\x1b"]] {
+        let mut writer = AtMost::new(rt.alloc(), 0);
+        let mut reader = Pieces::new(pieces, false);
+        let result = run(&mut reader, &mut Device::new(&mut writer));
+        assert_eq!(rt; result, Err(Fault::Write));
+        assert!(rt; writer.bytes.is_empty());
+    }
     Ok(())
 }

@@ -4,3 +4,4 @@ pub mod LastPrinted
 pub mod Logged
 pub mod Page
 pub mod Printed
+pub mod Session

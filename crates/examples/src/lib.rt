@@ -17,6 +17,7 @@ pub mod page;
 mod performer;
 pub mod printed;
 mod screen;
+pub mod session;
 #[cfg(test)]
 mod tests;
 

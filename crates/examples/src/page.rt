@@ -60,8 +60,8 @@ impl TakeCall for Page {
 
 /// A timeout that waits until an update ends.
 #[derive(Drop)]
-struct UntilEnded {
-    pending: bool,
+pub(crate) struct UntilEnded {
+    pub(crate) pending: bool,
 }
 
 impl Timeout for UntilEnded {

@@ -3,6 +3,7 @@ use crate::command_text::last_text_length;
 use crate::last_printed::Watcher;
 use crate::logged::lines;
 use crate::printed::prints;
+use crate::session::Session;
 use crate::{bell, page};
 use std::test::Fail;
 
@@ -36,5 +37,16 @@ fn a_page_has_text_and_titles(rt: HostRuntime) -> Result<(), Fail> {
     assert!(rt; page.text.as_str() == "atitleb\n");
     assert!(rt; page.whole && page.rung);
     assert!(rt; page::rings(rt.alloc(), stream)?);
+    Ok(())
+}
+
+#[test]
+fn a_session_rings_when_its_update_ends(rt: HostRuntime) -> Result<(), Fail> {
+    let mut session = Session::new(rt.alloc())?;
+    session.read(b"\x1b[?2026h");
+    session.read(b"a\x07");
+    assert!(rt; !session.has_rung());
+    session.end_update();
+    assert!(rt; session.has_rung());
     Ok(())
 }

@@ -43,7 +43,7 @@ pub use Rattle.vte.specs.CommandCalls.{dynamic_calls, id_of, link_to, palette_en
 unfoldable pub use Rattle.vte.specs.CommandCalls.{all_reset}
 pub use Rattle.vte.specs.machine.ColorReader.{component_at_front}
 pub use Rattle.vte.specs.machine.Hold.{Adds, IsAdded, IsHeldTail, released_of, still_held}
-pub use Rattle.vte.specs.ProcessorCalls.{StopsSync, HasAdvanced, HasParsedAll, HasParsedAndHolds, IsAt, ReadsInTurns, HasReplayed, Replays, StandingPredicate, held_of}
+pub use Rattle.vte.specs.ProcessorCalls.{StopsSync, HasAdvanced, HasParsedAll, HasParsedAndHolds, IsAt, ReadsInTurns, HasReplayed, HasTold, Replays, StandingPredicate, held_of}
 pub use Rattle.vte.specs.machine.Performing.{PerformsAll, PerformsUntilStop, performer_value, with_private_mode, with_private_modes}
 pub use Rattle.vte.specs.BoundedProcessor.{HasParsedAndHoldsWithin, HasTextRoom}
 pub use Rattle.vte.specs.LongProcessor.{AdvancesLong, HasParsedAndHoldsLong, Reserves, StopsSyncLong}
@@ -60,5 +60,5 @@ pub use Rattle.vte_types.specs.Words.{after_word}
 pub use Rattle.vte.specs.Titles.{joined_texts, text_in}
 pub use Rattle.vte.specs.declared.ansi.laws.replays.Step.{Step}
 pub use Rattle.vte.specs.declared.ansi.laws.replays.Step.TheVariants.{Advance, StopSync}
-pub use Rattle.vte.specs.declared.ansi.performer.PerformerState.{PerformerState}
+pub use Rattle.vte.specs.declared.ansi.performer.ProcessorState.{ProcessorState}
 pub use Rattle.vte.specs.declared.ansi.engine.Engine.{Engine}

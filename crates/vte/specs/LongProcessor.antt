@@ -6,7 +6,7 @@ use Rattle.vte_core.specs.Stream.{events}
 use Rattle.vte_core.specs.declared.parser.refused.Refused.{Refused}
 use Rattle.vte.specs.Calls.{last_printed}
 use Rattle.vte.specs.Memory.{HasMemory, KeepsMemory, LacksMemoryForSome, held_long, timeout_long}
-use Rattle.vte.specs.Processor.{Meaning, State, stop}
+use Rattle.vte.specs.Processor.{HoldsWellAt, Meaning, State, all_bytes, stop}
 use Rattle.vte.specs.ProcessorCalls.{IsAt, ReadsInTurns}
 use Rattle.vte.specs.Refusal.{HasTaken}
 use Rattle.vte.specs.declared.ansi.long_processor.LongProcessor.{LongProcessor}
@@ -63,6 +63,8 @@ module _ {T A V W : Type 0} (timeout_of : T → W) (meaning : Meaning V W)
   -- `stop_sync` and `stop_sync_text`
   pub record StopsSyncLong : Type 0 where
     pub stops : (state : State V W) → WasAt state → IsNowAt (stop meaning state)
+    pub each_once : (state : State V W) → all_bytes (stop meaning state) ≡ all_bytes state
+    pub holds_well : (state : State V W) → HoldsWellAt meaning (stop meaning state)
     pub memory : (state : State V W) → WasAt state
         → KeepsMemory (HasMemory processor) (HasMemory next)
 

@@ -9,7 +9,7 @@ use Rattle.vte_handler.specs.Timeout.{IsSteady}
 use Rattle.vte.specs.Calls.{last_printed, calls}
 use Rattle.vte.specs.Processor.{HoldsWellAt, Meaning, TakesSteps, State, TakesAllTurns, all_bytes, given_bytes, calls_with_stops, AreInOrder, most_held, stop}
 use Rattle.vte.specs.Synchronized.{after_last_end}
-use Rattle.vte.specs.declared.ansi.hold.Hold.{Hold}
+use Rattle.vte.specs.declared.ansi.hold.SyncState.{SyncState}
 use Rattle.vte.specs.declared.ansi.laws.replays.Step.{Step}
 use Rattle.vte.specs.declared.ansi.laws.replays.Step.TheVariants.{Advance, StopSync}
 use Rattle.vte.specs.declared.ansi.processor.Processor.{Processor}
@@ -17,7 +17,7 @@ use Rattle.vte.specs.declared.ansi.processor.Processor.{Processor}
 -- ---- where a processor stands
 
 -- The held bytes. Those before them in the buffer were released by the last turn.
-abbrev pub held_of : {A : Type 0} → Hold A → List ℕ
+abbrev pub held_of : {A : Type 0} → SyncState A → List ℕ
 held_of hold = drop hold.released hold.bytes.items
 
 abbrev pub held_in : {T A : Type 0} → Processor T A → List ℕ
@@ -64,27 +64,35 @@ pub record HasAdvanced {V W : Type 0} (meaning : Meaning V W) (state : State V W
   -- Processor and handler are at that state.
   pub is_at : IsNowAt next
 
--- A list of calls.
-pub record HasReplayed {V W : Type 0} (meaning : Meaning V W) (state : State V W)
-    (steps : List Step)
-    (IsNowAt : State V W → Type 0) : Type 0 where
-  -- the state to which they led, the bytes parsed on the way, and the positions of stops on the way
-  pub next : State V W
+-- Calls that pass these bytes led from a state to another: what became of the bytes, and what the
+-- handler received.
+pub record HasTold {V W : Type 0} (meaning : Meaning V W) (state : State V W) (bytes : List ℕ)
+    (next : State V W) : Type 0 where
+  -- the bytes parsed on the way, and the positions of stops on the way
   pub more : List ℕ
   pub positions : List ℕ
-  -- They led there step by step.
-  pub takes : TakesSteps meaning state steps next
   pub parsed_is : next.parsed ≡ state.parsed ++ more
   pub stops_are : next.stops ≡ state.stops ++ positions
   -- The stops were at bytes parsed on the way, each at or after the one before it.
   pub in_order : AreInOrder (length state.parsed) positions (length next.parsed)
   -- The bytes held before and those given are those parsed on the way and those held now, each once
   -- and in order.
-  pub each_once : state.held ++ given_bytes steps ≡ more ++ next.held
+  pub each_once : state.held ++ bytes ≡ more ++ next.held
   -- The handler has received the calls of the bytes parsed on the way, and one more at each stop.
   pub handler_is : next.handler
       ≡ after meaning.step state.handler
       (calls_with_stops meaning.limit next.parsed (length state.parsed) positions)
+
+-- A list of calls.
+pub record HasReplayed {V W : Type 0} (meaning : Meaning V W) (state : State V W)
+    (steps : List Step)
+    (IsNowAt : State V W → Type 0) : Type 0 where
+  -- the state to which they led
+  pub next : State V W
+  -- They led there step by step.
+  pub takes : TakesSteps meaning state steps next
+  -- Each byte was parsed or is held, and the handler received the calls.
+  pub tells : HasTold meaning state (given_bytes steps) next
   -- `HoldsWell` stays true.
   pub holds_well : HoldsWellAt meaning state → HoldsWellAt meaning next
   -- If the timeout is steady, the calls lead to no other state.
@@ -144,10 +152,12 @@ SaysParsedLoss {W} limit Stands answer = (parsed held : List ℕ) (timeout : W)
     → Stands parsed held timeout → SaysLoss (outcome limit parsed).left answer
 
 -- `stop_sync` and `stop_sync_text`
-abbrev pub StopsSync : {V W : Type 0} → Meaning V W → StandingPredicate W → StandingPredicate W → V
-    → V → Type 0
-StopsSync meaning Before After old new =
-    (state : State _ _) → IsAt Before old state → IsAt After new (stop meaning state)
+pub record StopsSync {V W : Type 0} (meaning : Meaning V W) (Before After : StandingPredicate W)
+    (old new : V) : Type 0 where
+  pub stops : (state : State V W) → IsAt Before old state → IsAt After new (stop meaning state)
+  -- Each byte is parsed or held, once and in order.
+  pub each_once : (state : State V W) → all_bytes (stop meaning state) ≡ all_bytes state
+  pub holds_well : (state : State V W) → HoldsWellAt meaning (stop meaning state)
 
 -- `advance` and `advance_text`, which read all bytes
 pub record ReadsInTurns {V W : Type 0} (meaning : Meaning V W) (Before After : StandingPredicate W)

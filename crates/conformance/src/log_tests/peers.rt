@@ -3,7 +3,7 @@ ghost use Rattle.std.specs.Prelude.{◌≡◌, is_err, IsTrue};
 
 use event_log::{Sink, Source};
 use std::alloc::Global;
-use std::io;
+use std::io::{self, ErrorKind};
 
 /// A reader that gives one piece per call, and ends or fails after the last.
 #[derive(Drop)]
@@ -93,21 +93,38 @@ impl Sink for Written {
     }
 }
 
-/// A writer of std that takes at most `count` bytes per call.
+/// A writer of std that takes at most `count` bytes per call, and passes none on before a flush. If
+/// `count` is 0, a flush fails.
 #[derive(Drop)]
 pub(super) struct AtMost {
     pub(super) count: usize,
+    pub(super) unflushed: Vec<u8>,
     pub(super) bytes: Vec<u8>,
+}
+
+impl AtMost {
+    pub(super) fn new(alloc: Global, count: usize) -> Self {
+        AtMost {
+            count,
+            unflushed: Vec::new(alloc),
+            bytes: Vec::new(alloc),
+        }
+    }
 }
 
 impl io::Write for AtMost {
     fn write(&mut self, bytes: &[u8]) -> io::Result<usize> {
         let count = self.count.min(bytes.len());
-        self.bytes.extend_from_slice(&bytes[..count])?;
+        self.unflushed.extend_from_slice(&bytes[..count])?;
         Ok(count)
     }
 
     fn flush(&mut self) -> io::Result<()> {
+        if self.count == 0 {
+            return Err(io::Error::from(ErrorKind::WriteZero));
+        }
+        self.bytes.extend_from_slice(self.unflushed.as_slice())?;
+        self.unflushed.clear();
         Ok(())
     }
 }

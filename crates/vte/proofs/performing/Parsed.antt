@@ -1,6 +1,6 @@
 -- What parsed bytes make of a handler and a timeout. A performer's value steps by events; all events together make the
 -- calls of their rows and set the timeout once per begin of an update. An early stop is the front up to the begin.
-use Rattle.vte.proofs.Common.{◌≡◌, ℕ, ◌+◌, ◌<◌, inl, inr, Bool, false, ◌||◌, nat_lt, All, List, [], ◌∷◌, ◌++◌, length, take, refl, ap, sym, ◌∙◌, arith, or-false, cases_lt, false≢true, nat_tests, All-head, All-tail, told_before, resumed_stream, StopsExactly, Event, added, events, starts-settled, resumed_stream-settled, told-settled, events_grow, after, PerformerState, begin_count, begins_in_event, calls_of, calls_from, last_printed_after, last_printed, last_printed_from, performer_value, Meaning, set_times, FitsText, PerformerValue, with_event, engine_view, ArePartsAt, ArePartsAtKeeping, KeepsMemory, State, parse, front_to_begin, ParserView}
+use Rattle.vte.proofs.Common.{◌≡◌, ℕ, ◌+◌, ◌<◌, inl, inr, Bool, false, ◌||◌, nat_lt, All, List, [], ◌∷◌, ◌++◌, length, take, refl, ap, sym, ◌∙◌, arith, or-false, cases_lt, false≢true, nat_tests, All-head, All-tail, told_before, resumed_stream, StopsExactly, Event, added, events, starts-settled, resumed_stream-settled, told-settled, events_grow, after, ProcessorState, begin_count, begins_in_event, calls_of, calls_from, last_printed_after, last_printed, last_printed_from, performer_value, Meaning, set_times, FitsText, PerformerValue, with_event, engine_view, ArePartsAt, ArePartsAtKeeping, KeepsMemory, State, parse, front_to_begin, ParserView}
 use Rattle.vte_core.specs.Perform.{after as performed}
 use Rattle.vte.specs.declared.ansi.performer.Performer.{Performer}
 use Rattle.vte.proofs.performing.CallLists.{after_calls-append, added_calls-events, last_printed-append, set_times-add}
@@ -41,7 +41,7 @@ performed-events m lent (event ∷ events) fit =
 
 module _ {H T B G V W : Type 0} (handler_of : H → V) (timeout_of : T → W) (room_of : B → ℕ) (m : Meaning V W)
     (s : State V W) (f : List ℕ)
-    (old : PerformerValue V W) (new : Performer H T B G) {state : PerformerState T B}
+    (old : PerformerValue V W) (new : Performer H T B G) {state : ProcessorState T B}
     (fit : All (FitsText old.room) (added m.limit s.parsed f))
     (made : performer_value handler_of timeout_of room_of new
     ≡ performed (with_event m.step m.timeout) old (added m.limit s.parsed f))
@@ -56,7 +56,7 @@ module _ {H T B G V W : Type 0} (handler_of : H → V) (timeout_of : T → W) (r
   pub room_back : room_of state.text ≡ old.room
   room_back = rw state-is (ap (λ lent. lent.room) all_made)
 
-  pub performer-given_back : {P : Type 0} {reading : ParserView P} {parser next : P} {lent : PerformerState T B}
+  pub performer-given_back : {P : Type 0} {reading : ParserView P} {parser next : P} {lent : ProcessorState T B}
       {value : V} {handler : H} → ArePartsAt (engine_view m.limit reading room_of timeout_of) parser lent value s
       → old.last ≡ lent.preceding_char → old.timeout ≡ timeout_of lent.timeout → old.handler ≡ value
       → old.room ≡ room_of lent.text

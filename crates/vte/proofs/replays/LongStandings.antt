@@ -1,8 +1,9 @@
 -- A processor without a limit stands where its engine does, and does what that ensures. A call is refused no memory
 -- that was there for all its bytes: room for the held and the given bytes at the start leaves room for what is left,
 -- turn by turn.
-use Rattle.vte.proofs.Common.{◌≡◌, ℕ, ◌+◌, ◌-◌, ◌<◌, List, ◌++◌, length, Result, Ok, Err, refl, ap, arith, length-append, Refused, counts_data, AdvancesLong, Bor, Meaning, IsAt, HasMemory, HasParsedAndHoldsLong, HasTaken, Reserves, StopsSyncLong, EngineLacksMemory, EngineReads, EngineReserves, EngineStandsAt, EngineStops, State, Bool, stop, drop, length-drop, long_engine_view, rules}
+use Rattle.vte.proofs.Common.{◌≡◌, ℕ, ◌+◌, ◌-◌, ◌<◌, List, ◌++◌, length, Result, Ok, Err, refl, ap, append-nil, arith, length-append, Refused, counts_data, AdvancesLong, Bor, Meaning, IsAt, HasMemory, HasParsedAndHoldsLong, HasTaken, Reserves, StopsSyncLong, EngineLacksMemory, EngineReads, EngineReserves, EngineStandsAt, EngineStops, State, Bool, stop, drop, length-drop, long_engine_view, rules}
 use Rattle.vte.proofs.turns.EngineTurns.{taken-to}
+use Rattle.vte.proofs.turns.HoldFacts.{stop_well}
 use Rattle.vte.proofs.replays.Standings.{reads_in_turns}
 use Rattle.vte.specs.declared.ansi.long_processor.LongProcessor.{LongProcessor}
 use Rattle.vte.proofs.turns.Slices.{until_refused-grows}
@@ -41,6 +42,8 @@ pub stops_long : {T A V W : Type 0} {timeout_of : T → W} {m : Meaning V W} {ol
     → StopsSyncLong timeout_of m old new before value
 stops_long {m} r = record {
   stops = λ s at. is_at-processor (stop m s) (r.stops s (is_at-engine s at));
+  each_once = λ s. append-nil (s.parsed ++ s.held);
+  holds_well = stop_well m;
   memory = λ s at. r.memory s (is_at-engine s at);
 }
 

@@ -48,18 +48,25 @@ module _ {V W : Type 0} {Before : StandingPredicate W} (old : V) {stream : List 
     plain : IsPlain here told.next
     plain = plain_run m never here told.next steps told.takes only refl
 
-    more_is : told.more ≡ given_bytes steps
-    more_is = sym (told.each_once ∙ ap (λ held. told.more ++ held) plain.none_held ∙ append-nil told.more)
+    more_is : told.tells.more ≡ given_bytes steps
+    more_is =
+        sym (told.tells.each_once ∙ ap (λ held. told.tells.more ++ held) plain.none_held ∙ append-nil told.tells.more)
 
     parsed_all : told.next.parsed ≡ stream ++ given_bytes steps
-    parsed_all = told.parsed_is ∙ ap (λ more. stream ++ more) more_is
+    parsed_all = told.tells.parsed_is ∙ ap (λ more. stream ++ more) more_is
 
     plain_follows : (start : V) → old ≡ after m.step start (calls (events m.limit stream))
         → new ≡ after m.step start (calls (events m.limit (stream ++ given_bytes steps)))
     plain_follows start was =
         told.is_at.handler_is
-        ∙ told.handler_is
-        ∙ rw (← told.stops_are, plain.no_stop, parsed_all, calls_between-whole m.limit stream (given_bytes steps), was)
+        ∙ told.tells.handler_is
+        ∙ rw (
+          ← told.tells.stops_are,
+          plain.no_stop,
+          parsed_all,
+          calls_between-whole m.limit stream (given_bytes steps),
+          was,
+        )
         (sym
         (after_calls-append m.step start (calls (events m.limit stream))
         (added_calls m.limit stream (given_bytes steps))))

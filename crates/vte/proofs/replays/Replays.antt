@@ -1,9 +1,10 @@
 -- From calls to a list of them: a loop over calls makes `TakesSteps`, call by call. A steady timeout allows one answer
 -- in each state, so where the list leads is then a function of its calls.
-use Rattle.vte.proofs.Common.{ℕ, ◌+◌, ◌<◌, List, [], ◌∷◌, ◌++◌, length, take, drop, get_or, refl, ap, append-nil, Bor, drop_more, take_more, Step, Advance, StopSync, Meaning, HasAdvanced, HoldsWellAt, TakesSteps, HasReplayed, State, stop, ◌≡◌, ◌-◌, HasTaken, inl, inr, Bool, sym, ◌∙◌, IsSteady, TakesAllTurns, done, turns, given_bytes}
+use Rattle.vte.proofs.Common.{ℕ, ◌+◌, ◌<◌, List, [], ◌∷◌, ◌++◌, length, take, drop, get_or, refl, ap, append-nil, append_assoc, append_cancel_right, take-append-drop, Bor, drop_more, take_more, Step, Advance, StopSync, Meaning, HasAdvanced, HoldsWellAt, TakesSteps, TakesTurnsUntilRefused, HasReplayed, HasTold, State, stop, ◌≡◌, ◌-◌, HasTaken, inl, inr, Bool, sym, ◌∙◌, IsSteady, TakesAllTurns, done, turns, given_bytes}
 use Rattle.vte.specs.Refusal.{IsFirstRefused}
-use Rattle.vte.proofs.turns.EachOnce.{replay_grows}
-use Rattle.vte.proofs.replays.Tellings.{tells-replay}
+use Rattle.vte.proofs.turns.EachOnce.{grows_before, grows_on, replay_grows}
+use Rattle.vte.proofs.turns.Slices.{until_refused-grows}
+use Rattle.vte.proofs.replays.Tellings.{HasStillToTell, tells-refused, tells-replay}
 use Rattle.vte.proofs.turns.HoldFacts.{stop_well, taken_well, turn_well}
 
 -- the refused step is the first of those that are left
@@ -30,49 +31,73 @@ module _ {V W : Type 0} (m : Meaning V W) (steady : IsSteady m.timeout) where
       advances-only_one _ t u _ (turn_well m pending s (b ∷ r) allowed h) more
       (rw (answers-only_one s other pending h allowed_too allowed) at further)
 
-  replay-only_one : (s t u : State V W) (steps : List Step) → HoldsWellAt m s → TakesSteps m s steps t
+  pub replay_only_one : (s t u : State V W) (steps : List Step) → HoldsWellAt m s → TakesSteps m s steps t
       → TakesSteps m s steps u → u ≡ t
-  replay-only_one s t u [] h first other = sym other ∙ first
-  replay-only_one s t u (Advance bytes ∷ steps) h (next, (a, r)) (other, (b, q)) =
-      replay-only_one next t u steps (taken_well m a h) r
+  replay_only_one s t u [] h first other = sym other ∙ first
+  replay_only_one s t u (Advance bytes ∷ steps) h (next, (a, r)) (other, (b, q)) =
+      replay_only_one next t u steps (taken_well m a h) r
       (rw (advances-only_one s next other bytes.now h a b) at q)
-  replay-only_one s t u (StopSync ∷ steps) h r q = replay-only_one (stop m s) t u steps (stop_well m s) r q
+  replay_only_one s t u (StopSync ∷ steps) h r q = replay_only_one (stop m s) t u steps (stop_well m s) r q
 
 -- ---- calls one by one
 
 module _ {V W : Type 0} (m : Meaning V W) where
-  replay-well : (s t : State V W) (steps : List Step) → TakesSteps m s steps t → HoldsWellAt m s → HoldsWellAt m t
-  replay-well s t [] same h = rw (← same) h
-  replay-well s t (Advance bytes ∷ steps) (next, (a, r)) h = replay-well next t steps r (taken_well m a h)
-  replay-well s t (StopSync ∷ steps) r h = replay-well (stop m s) t steps r (stop_well m s)
+  pub replay_well : (s t : State V W) (steps : List Step) → TakesSteps m s steps t → HoldsWellAt m s → HoldsWellAt m t
+  replay_well s t [] same h = rw (← same) h
+  replay_well s t (Advance bytes ∷ steps) (next, (a, r)) h = replay_well next t steps r (taken_well m a h)
+  replay_well s t (StopSync ∷ steps) r h = replay_well (stop m s) t steps r (stop_well m s)
 
   -- a list of calls goes on with further ones
-  replay-append : (s t u : State V W) (steps more : List Step) → TakesSteps m s steps t → TakesSteps m t more u
+  pub replay_append : (s t u : State V W) (steps more : List Step) → TakesSteps m s steps t → TakesSteps m t more u
       → TakesSteps m s (steps ++ more) u
-  replay-append s t u [] more same r = rw same r
-  replay-append s t u (Advance bytes ∷ steps) more (next, (a, q)) r = (next, (a, replay-append next t u steps more q r))
-  replay-append s t u (StopSync ∷ steps) more q r = replay-append (stop m s) t u steps more q r
+  replay_append s t u [] more same r = rw same r
+  replay_append s t u (Advance bytes ∷ steps) more (next, (a, q)) r = (next, (a, replay_append next t u steps more q r))
+  replay_append s t u (StopSync ∷ steps) more q r = replay_append (stop m s) t u steps more q r
+
+  -- what the handler has received, and what became of the bytes
+  tells : {s t : State V W} {bytes : List ℕ} (more : List ℕ) → t.parsed ≡ s.parsed ++ more
+      → s.held ++ bytes ≡ more ++ t.held → HasStillToTell m t s.parsed s.stops s.handler → HasTold m s bytes t
+  tells more parsed_is each_once e = record {
+    more = more;
+    positions = e.positions;
+    parsed_is = parsed_is;
+    stops_are = e.stops_are;
+    in_order = e.in_order;
+    each_once = each_once;
+    handler_is = e.told;
+  }
+
+  pub steps_told : (s t : State V W) (steps : List Step) → TakesSteps m s steps t → HasTold m s (given_bytes steps) t
+  steps_told s t steps run =
+      let g = replay_grows m s t steps run in
+      tells g.more g.parsed_is (g.each_once ∙ ap (λ held. g.more ++ held) (append-nil t.held))
+      (tells-replay m t s steps run)
+
+  -- the last call was refused memory
+  pub refused_told : (s u t : State V W) (steps : List Step) (bytes : List ℕ) (read : ℕ) → TakesSteps m s steps u
+      → TakesTurnsUntilRefused m u bytes t (drop read bytes) → HasTold m s (given_bytes steps ++ take read bytes) t
+  refused_told s u t steps bytes read run more =
+      let g = grows_on (grows_before (replay_grows m s u steps run) bytes) (until_refused-grows m more) in
+      tells g.more g.parsed_is
+      (append_cancel_right _ _ (drop read bytes)
+      (append_assoc s.held (given_bytes steps ++ take read bytes) (drop read bytes)
+      ∙ ap (λ all. s.held ++ all)
+      (append_assoc (given_bytes steps) (take read bytes) (drop read bytes)
+      ∙ ap (λ all. given_bytes steps ++ all) (take-append-drop read bytes))
+      ∙ g.each_once ∙ sym (append_assoc g.more t.held (drop read bytes))))
+      (tells-refused m t s u steps bytes (drop read bytes) run more)
 
   pub replayed : {s : State V W} (t : State V W) {steps : List Step} {IsNowAt : State V W → Type 0}
       → TakesSteps m s steps t
       → IsNowAt t → HasReplayed m s steps IsNowAt
-  replayed {s} t {steps} run at =
-      let g = replay_grows m s t steps run in
-      let e = tells-replay m t s steps run in
-      record {
-        next = t;
-        takes = run;
-        more = g.more;
-        parsed_is = g.parsed_is;
-        each_once = g.each_once ∙ ap (λ held. g.more ++ held) (append-nil t.held);
-        positions = e.positions;
-        stops_are = e.stops_are;
-        in_order = e.in_order;
-        handler_is = e.told;
-        holds_well = replay-well s t steps run;
-        only = λ steady well other r. replay-only_one m steady s t other steps well run r;
-        is_at = at;
-      }
+  replayed {s} t {steps} run at = record {
+    next = t;
+    takes = run;
+    tells = steps_told s t steps run;
+    holds_well = replay_well s t steps run;
+    only = λ steady well other r. replay_only_one m steady s t other steps well run r;
+    is_at = at;
+  }
 
   -- a call of `advance` is such a list
   pub advance_runs : {s : State V W} {bytes : Bor (List ℕ)} {IsNowAt : State V W → Type 0}
@@ -85,7 +110,7 @@ module _ {V W : Type 0} (m : Meaning V W) where
     step_taken q =
         replayed q.next
         (rw (take_more steps i d inside)
-        (replay-append s r.next q.next (take i steps) (get_or steps i d ∷ []) r.takes q.takes)) q.is_at
+        (replay_append s r.next q.next (take i steps) (get_or steps i d ∷ []) r.takes q.takes)) q.is_at
 
     -- the next step is taken, or refused
     pub advance_taken : {bytes : Bor (List ℕ)} → get_or steps i d ≡ Advance bytes → HasAdvanced m r.next bytes.now new

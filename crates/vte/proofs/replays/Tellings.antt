@@ -1,9 +1,9 @@
 -- What a handler receives in a list of calls, from a state on: first by what is done there, then by the rest of the
 -- list. By induction over the list; the calls before a stop are those of the bytes up to it, and positions of later
 -- stops only grow.
-use Rattle.vte.proofs.Common.{◌≡◌, ◌≤◌, ℕ, ◌+◌, ◌-◌, inl, inr, Bool, Option, List, [], ◌∷◌, ◌++◌, length, take, refl, ap, sym, ◌∙◌, arith, append_assoc, length-append, cases_Bool, append-nil, drop_all, take-append-add, take-append_seam, take_all, after, Step, Advance, StopSync, added_calls, Meaning, TakesSteps, calls_after, after_last_end, from_begin_update, hold_turn, AreInOrder, calls, calls_between, calls_with_stops, events, State, TakesAllTurns, front_to_begin, extend, release, open_turn, stop, turn, done, turns}
+use Rattle.vte.proofs.Common.{◌≡◌, ◌≤◌, ℕ, ◌+◌, ◌-◌, inl, inr, Bool, Option, List, [], ◌∷◌, ◌++◌, length, take, refl, ap, sym, ◌∙◌, arith, append_assoc, length-append, cases_Bool, append-nil, subst, drop_all, take-append-add, take-append_seam, take_all, after, Step, Advance, StopSync, added_calls, Meaning, TakesSteps, calls_after, after_last_end, from_begin_update, hold_turn, AreInOrder, calls, calls_between, calls_with_stops, events, State, TakesTurns, TakesTurnsUntilRefused, between_turns, inside_turn, front_to_begin, extend, release, open_turn, stop, turn, done, turns}
 use Rattle.vte.proofs.performing.CallLists.{after_calls-append, added_calls-append}
-use Rattle.vte.proofs.turns.Kinds.{hold_turn-all, hold_turn-rest, is_held, is_stopped, turn-holds, turn-parses}
+use Rattle.vte.proofs.turns.Kinds.{hold_turn-all, hold_turn-rest, is_held, is_stopped, refused-opens, stop_if_due, turn-holds, turn-parses}
 use Rattle.vte.proofs.updates.Sequences.{cases_Option}
 
 -- ---- the calls between two positions
@@ -118,24 +118,46 @@ module _ {V W : Type 0} (m : Meaning V W) (end : State V W) where
         (tells-release (extend m state bytes) (from_begin_update some.0))
   ]
 
+  tells-due : (pending : Bool) (state : State V W) → TellsAt (stop_if_due m pending state) → TellsAt state
+  tells-due pending state = elim (cases_Bool (is_stopped pending state)) [
+    | inl stopped ↦ rw stopped (tells-stop state)
+    | inr none ↦ rw none (λ rest. rest)
+  ]
+
   tells-turn : (pending : Bool) (state : State V W) (bytes : List ℕ) → TellsAt (turn m pending state bytes).state
       → TellsAt state
   tells-turn pending state bytes = elim (cases_Bool (is_held pending state bytes)) [
     | inl held ↦ rw (turn-holds m pending state bytes held) (tells-hold state bytes)
-    | inr parses ↦ rw (turn-parses m pending state bytes parses) (elim (cases_Bool (is_stopped pending state)) [
-      | inl stopped ↦ rw stopped (λ rest. tells-stop state (tells-open (stop m state) bytes rest))
-      | inr none ↦ rw none (tells-open state bytes)
-    ])
+    | inr parses ↦
+        rw (turn-parses m pending state bytes parses)
+        (λ rest. tells-due pending state (tells-open (stop_if_due m pending state) bytes rest))
   ]
 
-  tells-advances : (state next : State V W) (bytes : List ℕ) → TakesAllTurns m state bytes next → TellsAt next
+  tells-turns : (state next : State V W) (bytes left : List ℕ) → TakesTurns m state bytes next left → TellsAt next
       → TellsAt state
-  tells-advances state next [] done rest = rest
-  tells-advances state next (byte ∷ bytes) (turns pending allowed more) rest =
-      tells-turn pending state (byte ∷ bytes) (tells-advances _ next _ more rest)
+  tells-turns state next bytes left done rest = rest
+  tells-turns state next (byte ∷ bytes) left (turns pending allowed more) rest =
+      tells-turn pending state (byte ∷ bytes) (tells-turns _ next _ left more rest)
+
+  tells-steps : (state next : State V W) (steps : List Step) → TakesSteps m state steps next → TellsAt next
+      → TellsAt state
+  tells-steps state next [] same = rw same (λ rest. rest)
+  tells-steps state next (Advance bytes ∷ steps) (reached, (advances, more)) =
+      λ rest. tells-turns state reached bytes.now [] advances (tells-steps reached next steps more rest)
+  tells-steps state next (StopSync ∷ steps) more =
+      λ rest. tells-stop state (tells-steps (stop m state) next steps more rest)
 
   pub tells-replay : (state : State V W) (steps : List Step) → TakesSteps m state steps end → TellsAt state
-  tells-replay state [] same = rw same tells-nothing
-  tells-replay state (Advance bytes ∷ steps) (next, (advances, rest)) =
-      tells-advances state next bytes.now advances (tells-replay next steps rest)
-  tells-replay state (StopSync ∷ steps) rest = tells-stop state (tells-replay (stop m state) steps rest)
+  tells-replay state steps taken = tells-steps state end steps taken tells-nothing
+
+  -- the last call was refused memory
+  pub tells-refused : (state reached : State V W) (steps : List Step) (bytes left : List ℕ)
+      → TakesSteps m state steps reached → TakesTurnsUntilRefused m reached bytes end left → TellsAt state
+  tells-refused state reached steps bytes left taken (between_turns more) =
+      tells-steps state reached steps taken (tells-turns reached end bytes left more tells-nothing)
+  tells-refused state reached steps bytes left taken (inside_turn {reached = mid} {rest} more pending allowed halts) =
+      let opened = (refused-opens m pending mid end rest left halts).1 in
+      tells-steps state reached steps taken
+      (tells-turns reached mid bytes rest more
+      (tells-due pending mid
+      (tells-parse opened.front (subst (λ state. TellsAt state) opened.state_is tells-nothing))))

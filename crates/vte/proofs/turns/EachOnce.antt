@@ -39,7 +39,7 @@ grows_on {s} {u} {left} a b = record {
 }
 
 -- bytes that follow are left
-grows_before : {V W : Type 0} {s t : State V W} {bytes : List ℕ} → Progresses s t bytes [] → (left : List ℕ)
+pub grows_before : {V W : Type 0} {s t : State V W} {bytes : List ℕ} → Progresses s t bytes [] → (left : List ℕ)
     → Progresses s t (bytes ++ left) left
 grows_before {s} {t} {bytes} g left = record {
   more = g.more;

@@ -6,11 +6,11 @@ use Rattle.vte.specs.BeginUpdate.{begin_count}
 use Rattle.vte.specs.Calls.{last_printed}
 use Rattle.vte.specs.LongProcessor.{read_of}
 use Rattle.vte.specs.Memory.{KeepsMemory}
-use Rattle.vte.specs.Processor.{Meaning, State, front_to_begin, most_held, open_turn, parse, turn}
-use Rattle.vte.specs.ProcessorCalls.{IsAt, StopsSync, held_of}
+use Rattle.vte.specs.Processor.{Meaning, State, front_to_begin, most_held, open_turn, parse, stop, turn}
+use Rattle.vte.specs.ProcessorCalls.{IsAt, held_of}
 use Rattle.vte.specs.Refusal.{HasTaken, TakesTurnsUntilRefused}
 use Rattle.vte.specs.machine.Views.{EngineView}
-use Rattle.vte.specs.declared.ansi.performer.PerformerState.{PerformerState}
+use Rattle.vte.specs.declared.ansi.performer.ProcessorState.{ProcessorState}
 use Rattle.vte.specs.declared.ansi.engine.TheConstants.{SLICE}
 use Rattle.vte.specs.declared.ansi.engine.Engine.{Engine}
 
@@ -46,7 +46,8 @@ pub record EngineReserves {P B T A W : Type 0} (view : EngineView P B T W)
 
 pub record EngineStops {P B T A V W : Type 0} (view : EngineView P B T W)
     (meaning : Meaning V W) (engine next : Engine P B T A) (old new : V) : Type 0 where
-  pub stops : StopsSync meaning (EngineStandsAt view engine) (EngineStandsAt view next) old new
+  pub stops : (state : State V W) → IsAt (EngineStandsAt view engine) old state
+      → IsAt (EngineStandsAt view next) new (stop meaning state)
   pub memory : (state : State V W) → IsAt (EngineStandsAt view engine) old state
       → KeepsMemory (EngineHasMemory view engine) (EngineHasMemory view next)
 
@@ -72,7 +73,7 @@ pub record EngineReads {P B T A V W : Type 0} (view : EngineView P B T W)
 
 -- The parser, the state lent to it and the handler's value are as the state says, whatever is held.
 pub record ArePartsAt {P B T V W : Type 0} (view : EngineView P B T W) (parser : P)
-    (lent : PerformerState T B) (value : V) (state : State V W) : Type 0 where
+    (lent : ProcessorState T B) (value : V) (state : State V W) : Type 0 where
   pub has_read : view.reading.has_read parser state.parsed
   pub last : lent.preceding_char ≡ last_printed (events view.limit state.parsed)
   pub timeout_is : view.timeout_of lent.timeout ≡ state.timeout
@@ -80,13 +81,13 @@ pub record ArePartsAt {P B T V W : Type 0} (view : EngineView P B T W) (parser :
 
 -- `ArePartsAt`, and there is memory for `count` bytes.
 pub record ArePartsAtWithMemory {P B T V W : Type 0} (view : EngineView P B T W) (parser : P)
-    (lent : PerformerState T B) (value : V) (state : State V W) (count : ℕ) : Type 0 where
+    (lent : ProcessorState T B) (value : V) (state : State V W) (count : ℕ) : Type 0 where
   pub parts_at : ArePartsAt view parser lent value state
   pub room : view.reading.has_memory parser (view.room_of lent.text) state.parsed count
 
 -- `ArePartsAt`, with the memory that was there before.
 pub record ArePartsAtKeeping {P B T V W : Type 0} (view : EngineView P B T W) (parser : P)
-    (lent : PerformerState T B) (next : P) (back : PerformerState T B)
+    (lent : ProcessorState T B) (next : P) (back : ProcessorState T B)
     (value : V) (state : State V W) : Type 0 where
   pub parts_at : ArePartsAt view next back value state
   pub memory : KeepsMemory (view.reading.has_memory parser (view.room_of lent.text))

@@ -8,9 +8,9 @@ ghost use Rattle.vte.specs.Processor.{State, hold_turn, meaning_of, most_held, p
 ghost use Rattle.vte.specs.machine.Engine.{EngineIsAtKeeping, EndsOpen, EndsTurn, ArePartsAt, ArePartsAtKeeping, ArePartsAtWithMemory, LeadOn, EngineLacksMemory, EngineReads, EngineReserves, EngineStandsAt, EngineStops};
 ghost use Rattle.vte_handler.specs.Timeout.{timeout_meaning};
 
-use crate::ansi::hold::{Hold, MOST_HELD};
+use crate::ansi::hold::{MOST_HELD, SyncState};
 use crate::ansi::parsing::{EventParser, ParseAs, parse_all, parse_until_begin};
-use crate::ansi::performer::{PerformerState, UPDATE_TIMEOUT_MILLIS};
+use crate::ansi::performer::{ProcessorState, UPDATE_TIMEOUT_MILLIS};
 use crate::ansi::text_buffer::TextBuffer;
 use std::alloc::Allocator;
 use std::time::Duration;
@@ -27,8 +27,8 @@ const SLICE: usize = 65_536;
 #[derive(Clone, Drop)]
 pub(crate) struct Engine<P: Drop, B: Drop, T: Drop, A: Allocator> {
     pub(crate) parser: P,
-    pub(crate) hold: Hold<A>,
-    pub(crate) state: PerformerState<T, B>,
+    pub(crate) hold: SyncState<A>,
+    pub(crate) state: ProcessorState<T, B>,
 }
 
 impl<P: EventParser + Drop, B: TextBuffer + Drop, T: Timeout + Drop, A: Allocator> Engine<
@@ -48,11 +48,11 @@ impl<P: EventParser + Drop, B: TextBuffer + Drop, T: Timeout + Drop, A: Allocato
         ensures text { IfOk result (λ engine. engine.state.text ≡ text) }
     {
         laws::empty_stream();
-        match Hold::new(alloc) {
+        match SyncState::new(alloc) {
             Ok(hold) => Ok(Engine {
                 parser,
                 hold,
-                state: PerformerState {
+                state: ProcessorState {
                     preceding_char: None,
                     text,
                     timeout,

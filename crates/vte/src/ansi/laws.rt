@@ -1,10 +1,12 @@
 //! Laws of lists of a processor's calls, and the laws of the types.
-ghost use Rattle.std.specs.Prelude.{◌≡◌, ℕ, List, None, Option};
+ghost use Rattle.std.specs.Prelude.{◌≡◌, ◌++◌, ℕ, List, None, Option, drop, take};
 ghost use Rattle.vte.specs.CallExamples.{AreMade, AreRead, color_examples, command_examples, counted_examples, escape_examples, executed_examples};
 ghost use Rattle.vte.specs.CallExamples.{link_examples, mode_examples, palette_examples, position_examples, rendition_examples, selected_examples, title_examples};
-ghost use Rattle.vte.specs.Processor.{HoldsWellAt, State, TakesAllTurns, TakesTurns, all_bytes, meaning_of, stop};
+ghost use Rattle.vte.specs.Processor.{HoldsWellAt, State, TakesAllTurns, TakesSteps, TakesTurns, given_bytes, meaning_of};
+ghost use Rattle.vte.specs.ProcessorCalls.{HasTold};
 ghost use Rattle.vte.specs.Refusal.{TakesTurnsUntilRefused};
 ghost use Rattle.vte.specs.UpdateExamples.{AreRight, ShortExamples, expired_example, update_examples};
+ghost use Rattle.vte.specs.declared.ansi.laws.replays.Step.{Step};
 ghost use Rattle.vte_handler.specs.Timeout.{IsSteady};
 
 mod replays;
@@ -36,14 +38,31 @@ pub fn worked_examples()
     ensures short { ShortExamples }
 {}
 
-/// A stop loses no byte, and the facts about the hold are true after it.
-#[tactic(auto, using(crate::proofs::turns::HoldFacts::stop_well))]
-pub fn stops_lose_nothing<H: Handler, T: Timeout>()
-    ensures each_once { (limit : Option ℕ) (state : State H.Value T.Value)
-        → all_bytes (stop (meaning_of limit H.step T.set T.clear T.allows) state)
-        ≡ all_bytes state }
-    ensures holds_well { (limit : Option ℕ) (state : State H.Value T.Value)
-        → let m = meaning_of limit H.step T.set T.clear T.allows in HoldsWellAt m (stop m state) }
+/// What becomes of the bytes that a caller passes to a processor in calls of its own, and what its
+/// handler receives of them: as of the calls of [`replay`], with a limit and without.
+pub fn calls_are_told<H: Handler, T: Timeout>()
+    ensures told { (limit : Option ℕ) (state next : State H.Value T.Value) (steps : List Step)
+        → let m = meaning_of limit H.step T.set T.clear T.allows in
+        TakesSteps m state steps next → HasTold m state (given_bytes steps) next }
+    // The last call was refused memory when it had read this many of its bytes.
+    ensures refused { (state reached next : State H.Value T.Value) (steps : List Step)
+        (bytes : List ℕ) (read : ℕ) → let m = meaning_of None H.step T.set T.clear T.allows in
+        TakesSteps m state steps reached →
+        TakesTurnsUntilRefused m reached bytes next (drop read bytes) →
+        HasTold m state (given_bytes steps ++ take read bytes) next }
+    // Further calls go on from where calls led to.
+    ensures goes_on { (limit : Option ℕ) (state reached next : State H.Value T.Value)
+        (steps more : List Step) → let m = meaning_of limit H.step T.set T.clear T.allows in
+        TakesSteps m state steps reached → TakesSteps m reached more next →
+        TakesSteps m state (steps ++ more) next }
+    ensures holds_well { (limit : Option ℕ) (state next : State H.Value T.Value)
+        (steps : List Step) → let m = meaning_of limit H.step T.set T.clear T.allows in
+        TakesSteps m state steps next → HoldsWellAt m state → HoldsWellAt m next }
+    // With a steady timeout they lead to one state only.
+    ensures only { (limit : Option ℕ) (state next other : State H.Value T.Value)
+        (steps : List Step) → let m = meaning_of limit H.step T.set T.clear T.allows in
+        IsSteady m.timeout → HoldsWellAt m state →
+        TakesSteps m state steps next → TakesSteps m state steps other → other ≡ next }
 {}
 
 /// Where the rest of a refused call of a [`LongProcessor`](crate::ansi::LongProcessor) leads to,

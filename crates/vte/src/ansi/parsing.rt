@@ -9,7 +9,7 @@ ghost use Rattle.vte.specs.machine.Views.{ParserView, engine_view, limited_parse
 ghost use Rattle.vte.specs.Memory.{KeepsMemory};
 ghost use Rattle.vte_handler.specs.Timeout.{timeout_meaning};
 
-use crate::ansi::performer::{Performer, PerformerState};
+use crate::ansi::performer::{Performer, ProcessorState};
 use crate::ansi::text_buffer::TextBuffer;
 use crate::ansi::titles::{SEPARATORS, TEXT_ROOM};
 use arrayvec::ArrayString;
@@ -132,7 +132,7 @@ pub(crate) fn parse_all<
     T: Timeout + Drop,
     P: EventParser,
     G: ParseAs<H, T, P>,
->(parser: &mut P, state: &mut PerformerState<T, B>, handler: &mut H, bytes: &[u8])
+>(parser: &mut P, state: &mut ProcessorState<T, B>, handler: &mut H, bytes: &[u8])
     ensures parsed { (s : State H.Value T.Value) (n : ℕ)
         → ArePartsAtWithMemory (engine_view P.limit P.reading B.room T.value_of) parser.old
         state.old (H.value_of handler.old) s (length bytes.now + n) →
@@ -163,7 +163,7 @@ pub(crate) fn parse_until_begin<
     T: Timeout + Drop,
     P: EventParser,
     G: ParseAs<H, T, P>,
->(parser: &mut P, state: &mut PerformerState<T, B>, handler: &mut H, bytes: &[u8]) -> (usize, bool)
+>(parser: &mut P, state: &mut ProcessorState<T, B>, handler: &mut H, bytes: &[u8]) -> (usize, bool)
     ensures within { result.0 ≤ length bytes.now }
     ensures stops { (s : State H.Value T.Value) (n : ℕ)
         → ArePartsAtWithMemory (engine_view P.limit P.reading B.room T.value_of) parser.old

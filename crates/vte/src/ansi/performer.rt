@@ -24,7 +24,7 @@ pub(crate) const UPDATE_TIMEOUT_MILLIS: u64 = 150;
 
 /// What a processor keeps between events.
 #[derive(Clone, Drop)]
-pub(crate) struct PerformerState<T: Drop, B: Drop> {
+pub(crate) struct ProcessorState<T: Drop, B: Drop> {
     pub(crate) preceding_char: Option<char>,
     pub(crate) text: B,
     pub(crate) timeout: T,
@@ -33,7 +33,7 @@ pub(crate) struct PerformerState<T: Drop, B: Drop> {
 /// Calls a handler for each event, while it borrows the handler and the processor's state.
 #[derive(Drop)]
 pub(crate) struct Performer<'s, 'h, H: Handler, T: Timeout + Drop, B: TextBuffer + Drop, G> {
-    pub(crate) state: &'s mut PerformerState<T, B>,
+    pub(crate) state: &'s mut ProcessorState<T, B>,
     pub(crate) handler: &'h mut H,
     /// Whether an update has begun, so that the next turn reads the bytes that follow.
     pub(crate) terminated: bool,

@@ -56,7 +56,7 @@ impl<T: Timeout + Clone + Drop, A: Allocator + Clone> Clone for Processor<T, A> 
 
 impl<T: Timeout + Drop, A: Allocator> Processor<T, A> {
     /// Creates a processor that has read nothing, and allocates the 2,097,152 bytes for updates
-    /// that are held back. No later call allocates memory.
+    /// that are held back. After that, only a clone allocates memory.
     ///
     /// Returns the timeout if memory runs out.
     pub fn new(alloc: A, timeout: T) -> Result<Self, T>

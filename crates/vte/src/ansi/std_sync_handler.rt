@@ -23,6 +23,9 @@ impl<C: Clock + Clone + Drop> Clone for StdSyncHandler<C> {
     ghost is_clone = { λ timeout clone. (expiry_in clone ≡ expiry_in timeout)
         × C.is_clone (clock_in timeout) (clock_in clone) };
 
+    // Only the clock may need memory.
+    ghost is_infallible = { λ timeout. C.is_infallible (clock_in timeout) };
+
     fn clone(&self) -> Result<Self, AllocError> {
         let (clock, expiry) = (self.clock.clone()?, self.expiry);
         Ok(StdSyncHandler { clock, expiry })

@@ -2,7 +2,7 @@
 //! The parser, together with what a processor lends it. The references are separate parameters, not
 //! fields of one struct, so that the performer can borrow each.
 
-use crate::proved::vte::ansi::performer::{Performer, PerformerState};
+use crate::proved::vte::ansi::performer::{Performer, ProcessorState};
 use crate::proved::vte::ansi::text_buffer::TextBuffer;
 use crate::proved::vte::ansi::titles::SEPARATORS;
 use crate::proved::vte_core::{InRuns, Parser, Singly};
@@ -91,7 +91,7 @@ pub(crate) fn parse_all<
     G: ParseAs<H, T, P>,
 >(
     parser: &mut P,
-    state: &mut PerformerState<T, B>,
+    state: &mut ProcessorState<T, B>,
     handler: &mut H,
     bytes: &[u8],
 ) {
@@ -114,7 +114,7 @@ pub(crate) fn parse_until_begin<
     G: ParseAs<H, T, P>,
 >(
     parser: &mut P,
-    state: &mut PerformerState<T, B>,
+    state: &mut ProcessorState<T, B>,
     handler: &mut H,
     bytes: &[u8],
 ) -> (usize, bool) {

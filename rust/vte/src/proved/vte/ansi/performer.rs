@@ -18,7 +18,7 @@ pub(crate) const UPDATE_TIMEOUT_MILLIS: u64 = 150;
 
 /// What a processor keeps between events.
 #[derive(Clone)]
-pub(crate) struct PerformerState<T, B> {
+pub(crate) struct ProcessorState<T, B> {
     pub(crate) preceding_char: Option<char>,
     pub(crate) text: B,
     pub(crate) timeout: T,
@@ -26,7 +26,7 @@ pub(crate) struct PerformerState<T, B> {
 
 /// Calls a handler for each event, while it borrows the handler and the processor's state.
 pub(crate) struct Performer<'s, 'h, H: Handler + ?Sized, T: Timeout, B: TextBuffer, G> {
-    pub(crate) state: &'s mut PerformerState<T, B>,
+    pub(crate) state: &'s mut ProcessorState<T, B>,
     pub(crate) handler: &'h mut H,
     /// Whether an update has begun, so that the next turn reads the bytes that follow.
     pub(crate) terminated: bool,

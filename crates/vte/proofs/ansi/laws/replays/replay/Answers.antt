@@ -17,7 +17,7 @@ loop-step-preserved g c = λ s at.
           (w.advance.ensures.advances r.next r.is_at))
       | in-StopSync w ↦ rw (w.processor-is, w.handler-is)
           (stop_taken _ s c.args.steps.now _ _ c.loop-step-test.true r w.in-StopSync.is
-          (w.stop_sync.ensures r.next r.is_at))
+          (w.stop_sync.ensures.stops r.next r.is_at))
     ]
 
 pub returns : goal.returns

@@ -1,0 +1,33 @@
+-- Whether a session's terminal was to ring.
+use Rattle.std.specs.Prelude.{◌≡◌, ℕ, Bool, false, List, [], ◌++◌, length}
+use Rattle.examples.specs.Page.{rung_after}
+use Rattle.examples.specs.declared.session.Session.{Session}
+use Rattle.vte.specs.Handler.{after}
+use Rattle.vte.specs.Processor.{AreInOrder, Meaning, State, TakesSteps, calls_with_stops}
+use Rattle.vte.specs.ProcessorCalls.{HasParsedAndHolds, IsAt}
+use Rattle.vte.specs.StdSyncHandler.{pending_meaning}
+use Rattle.vte.specs.Stream.{usual_limit}
+use Rattle.vte.specs.declared.ansi.laws.replays.Step.{Step}
+
+-- The values are whether the terminal was to ring, and whether an update is pending.
+abbrev pub meaning : Meaning Bool Bool
+meaning = record { limit = usual_limit; step = rung_after; timeout = pending_meaning }
+
+abbrev pub start : State Bool Bool
+start = record { parsed = []; stops = []; held = []; timeout = false; handler = false }
+
+-- The session has taken these calls.
+pub record HasTaken (session : Session) (steps : List Step) : Type 0 where
+  pub state : State Bool Bool
+  pub takes : TakesSteps meaning start steps state
+  pub is_at : IsAt (HasParsedAndHolds (λ timeout. timeout.pending) session.processor)
+      session.page.0.rung state
+
+-- The bell has rung, or not, by the calls of a beginning of the given bytes. The others are held.
+pub record RangBy (given : List ℕ) (rung : Bool) : Type 0 where
+  pub parsed : List ℕ
+  pub held : List ℕ
+  pub stops : List ℕ
+  pub each_once : given ≡ parsed ++ held
+  pub in_order : AreInOrder 0 stops (length parsed)
+  pub told : rung ≡ after rung_after false (calls_with_stops usual_limit parsed 0 stops)

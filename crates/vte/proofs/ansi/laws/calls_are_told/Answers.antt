@@ -1,0 +1,19 @@
+-- Each law is a lemma on lists of calls.
+use Rattle.vte.proofs.replays.Replays.{refused_told, replay_append, replay_only_one, replay_well, steps_told}
+use Rattle.vte.proofs.ansi.laws.calls_are_told.Goals as goal
+
+pub returns-clause-told : goal.returns-clause-told
+returns-clause-told g c = λ limit. steps_told _
+
+pub returns-clause-refused : goal.returns-clause-refused
+returns-clause-refused g c = refused_told _
+
+pub returns-clause-goes_on : goal.returns-clause-goes_on
+returns-clause-goes_on g c = λ limit. replay_append _
+
+pub returns-clause-holds_well : goal.returns-clause-holds_well
+returns-clause-holds_well g c = λ limit. replay_well _
+
+pub returns-clause-only : goal.returns-clause-only
+returns-clause-only g c =
+    λ limit s t other steps steady well run more. replay_only_one _ steady s t other steps well run more

@@ -156,8 +156,28 @@ static bool is_joined_after_refusals() {
     }
 }
 
+struct Updates : Texts {
+    int ends = 0;
+    void unset_private_mode(uint16_t mode) override { ends += mode == 2026; }
+};
+
+// Each stop of an update adds a call for mode 2026, and where the stream is cut decides how many
+// stops there are: here one, or two. All else is the same.
+static bool are_stops_added() {
+    Updates whole, cut;
+    vte::Processor first(whole), second(cut);
+    std::string update = "\033[?2026ha\033[?2026l";
+    const auto *bytes = reinterpret_cast<const uint8_t *>(update.data());
+    second.advance(bytes, update.size());
+    second.advance(bytes, update.size());
+    update += update;
+    first.advance(reinterpret_cast<const uint8_t *>(update.data()), update.size());
+    return whole.all == "aa" && cut.all == "aa" && whole.ends == 3 && cut.ends == 4;
+}
+
 int main() {
     if (!is_joined_after_refusals()) return 7;
+    if (!are_stops_added()) return 8;
     for (const char *bytes :
          {"a", "\a", "\033[A", "\033]10;?\a", "\033]8;;x\a", "\033]52;c;YQ==\a", "\033]52;c;?\a"})
         if (!ends_the_program(bytes)) return 5;

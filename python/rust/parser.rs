@@ -9,7 +9,7 @@ use pyo3::exceptions::{PyTypeError, PyValueError};
 use pyo3::prelude::*;
 use pyo3::types::{PyBytes, PyString};
 use std::mem::{align_of, size_of};
-use vte::{LongParser, Own as _, Refused, Saved};
+use vte::{LongParser, Open, Own as _, Refused, Saved};
 
 /// How many data bytes of a command a parser with a limit keeps.
 const LIMIT: usize = 1024;
@@ -91,6 +91,27 @@ impl Parser {
             Machine::Long(_) => Ok(slf.py().None()),
             Machine::Limited(_) => raised(slf.py(), integer(slf.py(), LIMIT as i64)),
         }
+    }
+
+    /// What is unfinished: None, "character", "esc" (also if only ESC was read), "csi", "dcs",
+    /// "osc", or "ignored" for a string that means nothing. It began at the last ESC, or is at most
+    /// three bytes of a character.
+    #[getter]
+    fn open(slf: &Bound<'_, Self>) -> PyResult<PyObject> {
+        let open = match &borrowed(slf)?.machine {
+            Machine::Long(parser) => parser.open(),
+            Machine::Limited(parser) => parser.open(),
+        };
+        let word = match open {
+            Open::Nothing => return Ok(slf.py().None()),
+            Open::Character => "character",
+            Open::EscapeSequence => "esc",
+            Open::ControlSequence => "csi",
+            Open::DeviceControl => "dcs",
+            Open::SystemCommand => "osc",
+            Open::IgnoredString => "ignored",
+        };
+        raised(slf.py(), text(slf.py(), word.as_bytes()))
     }
 
     /// Reads the next bytes of the stream, and returns the events that they add to it.

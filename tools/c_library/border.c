@@ -152,16 +152,20 @@ static void test_data(void) {
           "the place of data");
 }
 
-/* Whether something is open is known at each byte. */
+/* What is open is known at each byte. */
 static void test_open(void) {
-    static const uint8_t sent[] = "a\303\274\033[1m\033]2;t\a\033Pq+\030\377b";
-    static const char open[] = "01011101111101111000";
+    static const uint8_t sent[] =
+        "a\303\274\033[1m\033]2;t\a\033Pq+\030\377b\033_x\033P1?q\234\032";
+    static const char open[] = "010233025555024440002662444660";
     vte_parser parser = new_parser;
     for (size_t at = 0; at < sizeof sent - 1; at++) {
         vte_counts counts;
         feed(&parser, sent + at, 1, 0, 0, &counts);
         holds(counts.events == 0 && vte_is_open(&parser) == open[at] - '0', "what is open");
     }
+    holds(VTE_OPEN_NOTHING == 0 && VTE_OPEN_CHARACTER == 1 && VTE_OPEN_ESC == 2 && VTE_OPEN_CSI == 3
+              && VTE_OPEN_DCS == 4 && VTE_OPEN_OSC == 5 && VTE_OPEN_IGNORED == 6,
+          "the numbers of what is open");
 }
 
 static const uint8_t all_kinds[] = "a\r\033P1q+\033\\\033]t\007\033[1mb\033(B\033Pq-\030\033Pqxyz";
@@ -220,9 +224,9 @@ static void test_long_commands(void) {
                   && events[0].flag == (drops ? VTE_BELL | VTE_TRUNCATED : VTE_BELL),
               "a command of 17 pieces");
     }
-    holds(!vte_long_is_open(parser)
+    holds(vte_long_is_open(parser) == VTE_OPEN_NOTHING
               && vte_long_feed(parser, sent, 3, 0, 0, events, 64, &area, &counts) == 3
-              && vte_long_is_open(parser),
+              && vte_long_is_open(parser) == VTE_OPEN_OSC,
           "a command is open");
     vte_long_parser_free(parser);
 }

@@ -4,6 +4,7 @@
 #include <cstdio>
 #include <cstdlib>
 #include <exception>
+#include <string>
 #include <sys/wait.h>
 #include <unistd.h>
 #include <type_traits>
@@ -22,11 +23,14 @@ static_assert(std::is_nothrow_move_assignable_v<vte::Processor>);
 
 extern "C" {
 static bool refuses;
+// how many allocations there are before those that are refused
+static int allowed;
+static bool is_refused_now() { return refuses && allowed-- <= 0; }
 void *__real_malloc(size_t size);
 void *__real_realloc(void *place, size_t size);
-void *__wrap_malloc(size_t size) { return refuses ? nullptr : __real_malloc(size); }
+void *__wrap_malloc(size_t size) { return is_refused_now() ? nullptr : __real_malloc(size); }
 void *__wrap_realloc(void *place, size_t size) {
-    return refuses ? nullptr : __real_realloc(place, size);
+    return is_refused_now() ? nullptr : __real_realloc(place, size);
 }
 }
 
@@ -114,7 +118,66 @@ struct Nested : vte::Handler {
     }
 };
 
+struct Texts : vte::Handler {
+    std::string all;
+    void input(std::string_view text) override { all += text; }
+    void set_title(std::string_view title) override { all.append("[").append(title).append("]"); }
+};
+
+// Passes a stream, and after each refusal the rest. Returns what came, and counts the refusals.
+static std::string joined(std::string_view stream, int allocations, int &refusals) {
+    Texts texts;
+    vte::Processor processor(texts);
+    for (size_t at = 0; at < stream.size();) {
+        allowed = allocations;
+        refuses = refusals % 2 == 0 && allocations >= 0;
+        try {
+            processor.advance(reinterpret_cast<const uint8_t *>(stream.data()) + at,
+                              stream.size() - at);
+            at = stream.size();
+        } catch (const vte::Refused &refused) {
+            at += refused.read;
+            refusals++;
+        }
+        refuses = false;
+    }
+    return texts.all;
+}
+
+static bool is_joined_after_refusals() {
+    std::string stream = "A";
+    for (size_t size = 100; size < 1000000; size *= 10)
+        stream += "\033]2;" + std::string(size, 't') + "\aB\033[1m\xc3\xbc";
+    int none = 0, all = 0;
+    std::string wanted = joined(stream, -1, none);
+    for (int allocations = 0, refusals = 0;; allocations++, all += refusals, refusals = 0) {
+        if (joined(stream, allocations, refusals) != wanted) return false;
+        if (refusals == 0) return none == 0 && all > 3;
+    }
+}
+
+struct Updates : Texts {
+    int ends = 0;
+    void unset_private_mode(uint16_t mode) override { ends += mode == 2026; }
+};
+
+// Each stop of an update adds a call for mode 2026, and where the stream is cut decides how many
+// stops there are: here one, or two. All else is the same.
+static bool are_stops_added() {
+    Updates whole, cut;
+    vte::Processor first(whole), second(cut);
+    std::string update = "\033[?2026ha\033[?2026l";
+    const auto *bytes = reinterpret_cast<const uint8_t *>(update.data());
+    second.advance(bytes, update.size());
+    second.advance(bytes, update.size());
+    update += update;
+    first.advance(reinterpret_cast<const uint8_t *>(update.data()), update.size());
+    return whole.all == "aa" && cut.all == "aa" && whole.ends == 3 && cut.ends == 4;
+}
+
 int main() {
+    if (!is_joined_after_refusals()) return 7;
+    if (!are_stops_added()) return 8;
     for (const char *bytes :
          {"a", "\a", "\033[A", "\033]10;?\a", "\033]8;;x\a", "\033]52;c;YQ==\a", "\033]52;c;?\a"})
         if (!ends_the_program(bytes)) return 5;

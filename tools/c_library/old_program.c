@@ -29,6 +29,9 @@ int main(void) {
     vte_handler *calls = malloc(sizeof *calls);
     size_t read;
     *calls = (vte_handler){input, bell, backspace};
+    /* a part of a function is no table */
+    for (size_t part = 1; part < sizeof *calls + sizeof calls; part++)
+        if (part % sizeof calls != 0 && vte_processor_new(calls, part, stdout) != NULL) return 2;
     vte_processor *processor = vte_processor_new(calls, sizeof *calls, stdout);
     free(calls);
     if (vte_processor_advance(processor, (const uint8_t *)stream, sizeof stream - 1, &read) != 0)

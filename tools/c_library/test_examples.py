@@ -103,22 +103,6 @@ def test_pty_events(library, place, tmp_path):
     assert running.returncode == 0
 
 
-def test_forward(library):
-    """Streams are passed on without clipboards, however they are cut."""
-    forward = program(library, "c/forward.c", *(SANITIZERS if library.sanitized else ()))
-    kept = [b"a\xc3\xbc\xff\x1b[1;31m", b"b\x1b]2;a;b\x07\x1bPq+\x1b\\",
-            b"\x1b]521;x\x07\x1b_52;c\x1b\\", b"\x1b[mc\xc3\r\n", b"\x1b]2;t\x1b\\d\x1b]5"]
-    clipboards = [b"\x1b]52;c;YQ==\x07", b"\x1b]52;c;" + b"YQ==" * 3000 + b"\x1b\\", b"\x1b]52\x18",
-                  b"\x1b]52;c;x"]
-    stream = b"".join(a + b for a, b in zip(kept, [*clipboards, b""]))
-    assert output_of([forward], stream) == b"".join(kept)
-    # one that another sequence ends isn't followed by ST
-    for name in "vim", "tmux", "sixel", "malformed-text":
-        recorded = (TOOLS / f"recorded/{name}.bin").read_bytes()
-        assert output_of([forward], recorded) == recorded
-    assert_slow([forward], [(b"a\x1b]52;c;", b"a"), (b"YQ==\x07b\x1b", b"b"), (b"[mc", b"\x1b[mc")])
-
-
 def test_clipboards(whole, tmp_path):
     texts = [b"Q" * 1_000_000, b"", b"YWJj"] + [b"YQ=="] * 20
     stream = b"a\x1b]52;c;?\x07\x1b]2;c;title\x07\x1b]52;c\x07" + b"".join(

@@ -112,8 +112,13 @@ def test_build_in_a_folder_with_a_blank(place):
 def test_pkg_config(prefix):
     need("pkg-config", "pkg-config, so the installed library was not looked for by it")
     assert "soname: [libvte_c.so.6]" in prefix.run("readelf", "-d", "prefix/lib/libvte_c.so")
-    prefix.run("pkg-config", "--exists", "libvte_c >= 6")
-    prefix.run("pkg-config", "--exists", "libvte_c >= 7", status=1)
+    # what the pages and the file itself say to ask for: each other version is incompatible
+    prefix.run("pkg-config", "--exists", "libvte_c = 6")
+    for wrong in "= 5", "= 7", ">= 7":
+        prefix.run("pkg-config", "--exists", f"libvte_c {wrong}", status=1)
+    for file in prefix.folder / "prefix/lib/pkgconfig/libvte_c.pc", TOOLS.parent / "docs/C.md":
+        said = file.read_text()
+        assert "`libvte_c = 6`" in said and "libvte_c >= " not in said
     build = "cargo" if prefix.library.is_whole else "given"
     assert prefix.run("pkg-config", "--variable=build", "libvte_c") == f"{build}\n"
     flags = prefix.run("pkg-config", "--cflags", "--libs", "libvte_c").split()

@@ -13,7 +13,7 @@ use vte::ansi::{
     TabulationClearMode, TakeCall, TakeText, Timeout,
 };
 use vte::{
-    LongParser, Params, ParamsIter, Parser, Perform, Refused, Run, Saved, Taken, ansi, laws,
+    LongParser, Open, Params, ParamsIter, Parser, Perform, Refused, Run, Saved, Taken, ansi, laws,
 };
 
 fn hash_of<T: Hash>(value: &T) -> u64 {
@@ -209,6 +209,7 @@ fn parsers_are_made_in_every_way(rt: HostRuntime) {
     laws::replay::<Counts, 4>(&mut counts, &[b"\x1b[", b"m"]);
     assert_eq!(rt; counts.numbers, 1);
     assert!(rt; !parser.is_open() && !parser.command_lost_data());
+    assert_eq!(rt; parser.open(), Open::Nothing);
     let mut long = LongParser::new(rt.alloc());
     match long.advance(&mut counts, b"\x1b[1;2;3;4m") {
         Ok(()) => assert_eq!(rt; counts.numbers, 4),

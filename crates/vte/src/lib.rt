@@ -8,8 +8,8 @@
 #![tactic(auto)]
 
 pub use vte_core::{
-    LongParser, Params, ParamsIter, Parser, Perform, PerformText, PerformThroughText, Refused, Run,
-    Saved, Taken, laws,
+    LongParser, Open, Params, ParamsIter, Parser, Perform, PerformText, PerformThroughText,
+    Refused, Run, Saved, Taken, laws,
 };
 
 pub mod ansi;

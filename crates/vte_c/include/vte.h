@@ -124,7 +124,19 @@ size_t vte_feed(vte_parser *parser, const uint8_t *bytes, size_t length, uint32_
 size_t vte_strip(vte_parser *parser, const uint8_t *bytes, size_t length, uint8_t *text,
                  size_t text_room, size_t *written);
 
-/* Returns whether a sequence or a character is unfinished. */
+/* What is unfinished. It began at the last ESC, or is at most three bytes of a character. */
+enum {
+    VTE_OPEN_NOTHING = 0,
+    VTE_OPEN_CHARACTER = 1,
+    VTE_OPEN_ESC = 2,    /* an escape sequence; or only ESC, after which any other may follow */
+    VTE_OPEN_CSI = 3,    /* a control sequence */
+    VTE_OPEN_DCS = 4,    /* a device control string: its head, or its data */
+    VTE_OPEN_OSC = 5,    /* an operating system command */
+    VTE_OPEN_IGNORED = 6 /* a string that means nothing (SOS, PM, APC), or a device control string
+                            after an ill-shaped head */
+};
+
+/* Returns what is unfinished, or 0: one of VTE_OPEN_. */
 uint8_t vte_is_open(const vte_parser *parser);
 
 /* The version of the library, the sizes of its two structs, and its least room. */

@@ -1,6 +1,7 @@
 pub mod Calls
 pub mod Events
 pub mod Feeding
+pub mod OpenCode
 pub mod Record
 pub mod Text
 pub mod Told

@@ -6,10 +6,12 @@
 //! anything else that is passed.
 #![tactic(auto)]
 
-ghost use Rattle.std.specs.Prelude.{◌≡◌, ℕ, List};
+ghost use Rattle.std.specs.Prelude.{◌≡◌, ◌≢◌, ℕ, List};
+ghost use Rattle.vte_core.specs.Open.{open_at_end};
 ghost use Rattle.vte_core.specs.Saved.{HasReadSaved};
 ghost use Rattle.vte_core.specs.Stream.{IsFinished, IsUnfinished, usual_limit};
 ghost use Rattle.vte_c.specs.Calls.{Feeds, Strips};
+ghost use Rattle.vte_c.specs.OpenCode.{open_code};
 
 mod event;
 mod events;
@@ -71,21 +73,19 @@ pub extern "C" fn vte_strip(
     text::strip(parser, bytes, room, written)
 }
 
-/// Returns whether a sequence or a character is unfinished: 1 or 0.
+/// Returns what is unfinished, or 0.
 #[unsafe(no_mangle)]
 pub extern "C" fn vte_is_open(parser: &Saved) -> u8
-    // If not, more bytes give what they give on their own.
+    ensures which { (stream : List ℕ) → HasReadSaved parser.now stream
+        → result ≡ open_code (open_at_end stream) }
+    // If nothing is, more bytes give what they give on their own.
     ensures closed { result ≡ 0 → (stream : List ℕ) → HasReadSaved parser.now stream
         → IsFinished usual_limit stream }
-    // If one is, they don't.
-    ensures opens { result ≡ 1 → (stream : List ℕ) → HasReadSaved parser.now stream
+    // If something is, they don't.
+    ensures opens { result ≢ 0 → (stream : List ℕ) → HasReadSaved parser.now stream
         → IsUnfinished usual_limit stream }
 {
-    if Parser::restored(parser).is_open() {
-        1
-    } else {
-        0
-    }
+    Parser::restored(parser).open() as u8
 }
 
 /// Returns the version of this interface. It grows when programs compiled for an earlier version no

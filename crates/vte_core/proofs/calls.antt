@@ -22,6 +22,6 @@ pub mod Data
 pub mod BeforeRun
 pub mod ToRun
 -- Parsers between characters, and calls without a limit, which may be refused memory.
-pub mod IsOpen
+pub mod Open
 pub mod Refusals
 pub mod Long

@@ -10,3 +10,5 @@ pub mod StreamSteps
 -- The data of commands, and streams that go on after a broken character.
 pub mod CommandSizes
 pub mod Resuming
+-- What is open at the end began at the last ESC, or is a few bytes of a character.
+pub mod OpenLaws

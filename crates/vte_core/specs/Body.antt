@@ -7,7 +7,7 @@ use Rattle.vte_core.specs.DeviceControl.{device_control_outcome}
 use Rattle.vte_core.specs.Escape.{escape_outcome}
 use Rattle.vte_core.specs.Event.{Execute}
 use Rattle.vte_core.specs.IgnoredString.{ignored_string_outcome}
-use Rattle.vte_core.specs.Outcome.{Outcome, NothingToClose, leaves, tell}
+use Rattle.vte_core.specs.Outcome.{Outcome, EscapeToClose, leaves, tell}
 use Rattle.vte_core.specs.CutBefore.{cut_before}
 use Rattle.vte_core.specs.SystemCommand.{system_command_outcome}
 use Rattle.vte_core.specs.Text.{text_outcome, executed_events}
@@ -20,10 +20,10 @@ sequence_outcome limit SystemCommand key bytes = system_command_outcome limit by
 sequence_outcome limit IgnoredString key bytes = ignored_string_outcome bytes
 sequence_outcome limit EscapeSequence key bytes = escape_outcome (key ∷ bytes)
 
--- The body from its key on. CAN and SUB are executed, and text follows. Without a key nothing is
--- left open.
+-- The body from its key on. CAN and SUB are executed, and text follows. Without a key an escape
+-- sequence stays open, whose kind isn't known yet.
 abbrev pub body_rest : Option ℕ → List ℕ → Outcome
-body_rest limit [] = leaves NothingToClose
+body_rest limit [] = leaves EscapeToClose
 body_rest limit (key ∷ bytes) =
     if is_cancel (class_of key) then tell (Execute key ∷ []) (text_outcome bytes)
     else sequence_outcome limit (sequence_kind key) key bytes

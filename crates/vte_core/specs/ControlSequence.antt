@@ -3,7 +3,7 @@ use Rattle.std.specs.Prelude.{ℕ, List, [], ◌∷◌, if◌then◌else◌}
 use Rattle.vte_core.specs.Class.{class_of, is_cancel, ends_head}
 use Rattle.vte_core.specs.Event.{Event, Execute, CsiDispatch}
 use Rattle.vte_core.specs.Head.{head_of, head_bytes, is_well_shaped, sequence_event}
-use Rattle.vte_core.specs.Outcome.{Outcome, NothingToClose, leaves, tell}
+use Rattle.vte_core.specs.Outcome.{Outcome, ControlSequenceToClose, leaves, tell}
 use Rattle.vte_core.specs.CutBefore.{cut_before}
 use Rattle.vte_core.specs.Text.{text_outcome, executed_events}
 
@@ -15,9 +15,9 @@ control_sequence_end head end =
     else if is_well_shaped (head_of head) then sequence_event CsiDispatch (head_of head) end ∷ []
     else []
 
--- The end, and the text that follows it. Without an end nothing is left open.
+-- The end, and the text that follows it. Without an end the sequence stays open.
 abbrev pub control_sequence_rest : List ℕ → List ℕ → Outcome
-control_sequence_rest head [] = leaves NothingToClose
+control_sequence_rest head [] = leaves ControlSequenceToClose
 control_sequence_rest head (end ∷ text) = tell (control_sequence_end head end) (text_outcome text)
 
 -- The end is the first of 40..7E, CAN and SUB. Before it, plain controls are executed, 20..3F are

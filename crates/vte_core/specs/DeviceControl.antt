@@ -5,7 +5,7 @@ use Rattle.vte_core.specs.Class.{class_of, is_cancel, is_device_data, ends_head}
 use Rattle.vte_core.specs.Event.{Event, Execute, Hook, Put, Unhook}
 use Rattle.vte_core.specs.Head.{head_of, head_bytes, is_well_shaped, sequence_event}
 use Rattle.vte_core.specs.IgnoredString.{ignored_string_outcome}
-use Rattle.vte_core.specs.Outcome.{Outcome, NothingToClose, DeviceDataToClose, leaves, tell}
+use Rattle.vte_core.specs.Outcome.{Outcome, DeviceHeadToClose, DeviceDataToClose, leaves, tell}
 use Rattle.vte_core.specs.CutBefore.{cut_before}
 use Rattle.vte_core.specs.Text.{text_outcome}
 
@@ -43,9 +43,9 @@ device_control_after_head head end bytes =
     then tell (sequence_event Hook (head_of head) end ∷ []) (device_data_outcome bytes)
     else ignored_string_outcome bytes
 
--- The end of the head, and the bytes that follow it. Without an end nothing is left open.
+-- The end of the head, and the bytes that follow it. Without an end the head stays open.
 abbrev pub device_control_rest : List ℕ → List ℕ → Outcome
-device_control_rest head [] = leaves NothingToClose
+device_control_rest head [] = leaves DeviceHeadToClose
 device_control_rest head (end ∷ bytes) = device_control_after_head head end bytes
 
 -- The head ends as that of a control sequence does, but plain controls in it are dropped.

@@ -4,7 +4,7 @@ use Rattle.std.specs.List.{filter}
 use Rattle.vte_core.specs.Class.{class_of, is_cancel, is_intermediate, ends_escape}
 use Rattle.vte_core.specs.Event.{Event, Execute, EscDispatch}
 use Rattle.vte_core.specs.Intermediates.{first_two, are_too_many}
-use Rattle.vte_core.specs.Outcome.{Outcome, NothingToClose, leaves, tell}
+use Rattle.vte_core.specs.Outcome.{Outcome, EscapeToClose, leaves, tell}
 use Rattle.vte_core.specs.CutBefore.{cut_before}
 use Rattle.vte_core.specs.Text.{text_outcome, executed_events}
 
@@ -14,9 +14,9 @@ escape_end intermediates end =
     if is_cancel (class_of end) then Execute end
     else EscDispatch (first_two intermediates) (are_too_many intermediates) end
 
--- The end, and the text that follows it. Without an end nothing is left open.
+-- The end, and the text that follows it. Without an end the sequence stays open.
 abbrev pub escape_rest : List ℕ → List ℕ → Outcome
-escape_rest intermediates [] = leaves NothingToClose
+escape_rest intermediates [] = leaves EscapeToClose
 escape_rest intermediates (end ∷ text) =
     tell (escape_end intermediates end ∷ []) (text_outcome text)
 

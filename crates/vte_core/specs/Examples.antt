@@ -3,7 +3,10 @@
 use Rattle.std.specs.Prelude.{replicate, ◌≡◌, ℕ, true, false, List, [], ◌∷◌, ◌++◌, map, Option, codes}
 use Rattle.std.specs.List.{repeat}
 use Rattle.vte_core.specs.EarlyStop.{resumed_stream, told_before}
+use Rattle.vte_core.specs.declared.parser.open.Open.{Open}
+use Rattle.vte_core.specs.declared.parser.open.Open.TheVariants.{Nothing, Character, EscapeSequence, ControlSequence, DeviceControl, SystemCommand, IgnoredString}
 use Rattle.vte_core.specs.Event.{Event, Print, Execute, Hook, Put, Unhook, OscDispatch, CsiDispatch, EscDispatch}
+use Rattle.vte_core.specs.Open.{open_at_end}
 use Rattle.vte_core.specs.Outcome.{ToClose, CommandToClose}
 use Rattle.vte_core.specs.Stream.{events, outcome}
 
@@ -266,4 +269,82 @@ stop_examples =
       told = [];
       resumed = codes "a\u{1b}[";
     }
+    ∷ []
+
+-- A stream, and what is open at its end.
+pub record EndExample : Type 0 where
+  pub stream : List ℕ
+  pub kind : Open
+
+abbrev pub ends_in : Open → List ℕ → EndExample
+ends_in kind stream = record { stream = stream; kind = kind }
+
+abbrev pub AreOpen : List EndExample → Type 0
+AreOpen examples =
+    map (λ example. open_at_end example.stream) examples ≡ map (λ example. example.kind) examples
+
+abbrev pub text_end_examples : List EndExample
+text_end_examples =
+    ends_in Nothing []
+    ∷ ends_in Nothing (codes "a\n")
+    -- after one, two and three bytes of a character
+    ∷ ends_in Character (codes "a" ++ 0xc3 ∷ [])
+    ∷ ends_in Character (0xe4 ∷ 0xbf ∷ [])
+    ∷ ends_in Character (0xf0 ∷ 0x9f ∷ 0x8e ∷ [])
+    ∷ ends_in Nothing (0xf0 ∷ 0x9f ∷ 0x8e ∷ 0x89 ∷ [])
+    -- a byte that breaks one, and begins another or none
+    ∷ ends_in Character (0xe4 ∷ 0xe4 ∷ [])
+    ∷ ends_in Nothing (0xe4 ∷ codes "a")
+    ∷ ends_in Nothing (0xe4 ∷ 0x18 ∷ [])
+    ∷ ends_in Nothing (0xc0 ∷ [])
+    ∷ []
+
+abbrev pub sequence_end_examples : List EndExample
+sequence_end_examples =
+    -- which kind it is isn't known before the key
+    ends_in EscapeSequence (0xe4 ∷ codes "\u{1b}")
+    ∷ ends_in EscapeSequence (codes "\u{1b}\n\u{7f}" ++ 0xe4 ∷ [])
+    ∷ ends_in Nothing (codes "\u{1b}\u{18}")
+    ∷ ends_in EscapeSequence (codes "\u{1b}(")
+    ∷ ends_in EscapeSequence (codes "\u{1b}(\n)")
+    ∷ ends_in Nothing (codes "\u{1b}(B")
+    ∷ ends_in Nothing (codes "\u{1b}(\u{1a}")
+    ∷ ends_in Character (codes "\u{1b}c" ++ 0xe4 ∷ [])
+    -- a head of any shape, up to its final byte
+    ∷ ends_in ControlSequence (codes "\u{1b}[")
+    ∷ ends_in ControlSequence (codes "\u{1b}[1\n$")
+    ∷ ends_in ControlSequence (codes "\u{1b}[1?")
+    ∷ ends_in Nothing (codes "\u{1b}[1?m")
+    ∷ ends_in Nothing (codes "\u{1b}[1m")
+    ∷ ends_in Nothing (codes "\u{1b}[1\u{18}")
+    ∷ ends_in EscapeSequence (codes "\u{1b}[1\u{1b}")
+    ∷ []
+
+abbrev pub string_end_examples : List EndExample
+string_end_examples =
+    -- 9C ends no head
+    ends_in DeviceControl (codes "\u{1b}P")
+    ∷ ends_in DeviceControl (codes "\u{1b}P1?" ++ 0x9c ∷ [])
+    ∷ ends_in Nothing (codes "\u{1b}P1\u{18}")
+    ∷ ends_in DeviceControl (codes "\u{1b}P1q")
+    ∷ ends_in DeviceControl (codes "\u{1b}P1qa\u{7}")
+    ∷ ends_in Nothing (codes "\u{1b}P1qa" ++ 0x9c ∷ [])
+    ∷ ends_in Nothing (codes "\u{1b}P1qa\u{1a}")
+    ∷ ends_in EscapeSequence (codes "\u{1b}P1qa\u{1b}")
+    ∷ ends_in Nothing (codes "\u{1b}P1qa\u{1b}\\")
+    -- after the final byte of an ill-shaped head the string means nothing
+    ∷ ends_in IgnoredString (codes "\u{1b}P1?q" ++ 0x9c ∷ [])
+    ∷ ends_in Nothing (codes "\u{1b}P1?q\u{18}")
+    -- BEL ends a command, 9C doesn't
+    ∷ ends_in SystemCommand (codes "\u{1b}]")
+    ∷ ends_in SystemCommand (codes "\u{1b}]0;a" ++ 0x9c ∷ 0xe4 ∷ [])
+    ∷ ends_in Nothing (codes "\u{1b}]0;a\u{7}")
+    ∷ ends_in Nothing (codes "\u{1b}]0;a\u{1a}")
+    ∷ ends_in EscapeSequence (codes "\u{1b}]0;a\u{1b}")
+    -- neither ends an ignored string
+    ∷ ends_in IgnoredString (codes "\u{1b}X")
+    ∷ ends_in IgnoredString (codes "\u{1b}^a\u{7}")
+    ∷ ends_in IgnoredString (codes "\u{1b}_a" ++ 0x9c ∷ 0xe4 ∷ [])
+    ∷ ends_in Nothing (codes "\u{1b}_a\u{18}")
+    ∷ ends_in EscapeSequence (codes "\u{1b}_a\u{1b}")
     ∷ []

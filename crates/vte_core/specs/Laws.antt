@@ -2,9 +2,11 @@
 use Rattle.std.specs.Char.{IsScalar, encode_utf8}
 use Rattle.std.specs.Prelude.{◌≡◌, ◌≢◌, ◌⊎◌, ℕ, ◌+◌, ◌<◌, ◌≤◌, true, false, List, [], ◌∷◌, ◌++◌, length, map, All, Option, Some, None}
 use Rattle.std.specs.Str.{chars}
+use Rattle.vte_core.specs.declared.parser.open.Open.TheVariants.{Nothing, Character}
 use Rattle.vte_core.specs.Event.{CsiDispatch, Print, replacement}
 use Rattle.vte_core.specs.EventBounds.{IsBounded}
 use Rattle.vte_core.specs.LongParser.{open_command_size}
+use Rattle.vte_core.specs.Open.{open_at_end}
 use Rattle.vte_core.specs.Parameters.{count_of, shown, AreGroups}
 use Rattle.vte_core.specs.Stream.{events, added, open_character, escape}
 use Rattle.vte_core.specs.Text.{character_event}
@@ -72,3 +74,20 @@ pub record CountsData (stream bytes : List ℕ) : Type 0 where
   pub told : All (IsBounded (Some (open_command_size stream + length bytes)))
       (added None stream bytes)
   pub left : open_command_size (stream ++ bytes) ≤ open_command_size stream + length bytes
+
+-- The stream ends with the bytes of its open character, which are at most three.
+pub record EndsInCharacter (stream : List ℕ) : Type 0 where
+  pub front : List ℕ
+  pub joins : front ++ open_character stream ≡ stream
+  pub few : length (open_character stream) ≤ 3
+
+-- What is open at the end of a stream began at the last ESC, or is at most three bytes of a
+-- character.
+pub record OpensLate : Type 0 where
+  -- What comes before an ESC has no effect on what is open later.
+  pub after_escape : (stream more : List ℕ)
+      → open_at_end (stream ++ escape ∷ more) ≡ open_at_end (escape ∷ more)
+  -- Without an ESC nothing is open, or a character.
+  pub without_escape : (text : List ℕ) → All (λ b. b ≢ escape) text
+      → (open_at_end text ≡ Nothing) ⊎ (open_at_end text ≡ Character)
+  pub character : (stream : List ℕ) → EndsInCharacter stream

@@ -27,6 +27,7 @@ pub mod Parser
 -- What calls ensure.
 pub mod Looks
 pub mod Advance
+pub mod Open
 pub mod EarlyStop
 pub mod AdvanceUntilTerminated
 pub mod OutsideRuns

@@ -2,22 +2,28 @@
 use Rattle.std.specs.Prelude.{◌≡◌, ℕ, Bool, false, List, [], ◌∷◌, ◌++◌, ⊤}
 use Rattle.vte_core.specs.Event.{Event, Print, Unhook, OscDispatch, replacement}
 
--- What an ESC that follows closes, with an event.
+-- What an ESC that follows closes, with or without an event.
 pub data ToClose : Type 0 where
   NothingToClose : ToClose
   -- these bytes of an unfinished character
   CharacterToClose : List ℕ → ToClose
+  -- an escape sequence; or an ESC alone, after which any kind may follow
+  EscapeToClose : ToClose
+  ControlSequenceToClose : ToClose
+  -- the head of a device control string, whatever its shape
+  DeviceHeadToClose : ToClose
   -- the data of a hooked device control string
   DeviceDataToClose : ToClose
   -- an operating system command with these pieces, and whether data bytes of it are in none
   CommandToClose : List (List ℕ) → Bool → ToClose
+  IgnoredStringToClose : ToClose
 
 -- The events with which it is closed.
 abbrev pub closing_events : ToClose → List Event
-closing_events NothingToClose = []
 closing_events (CharacterToClose bytes) = Print replacement ∷ []
 closing_events DeviceDataToClose = Unhook ∷ []
 closing_events (CommandToClose pieces lost) = OscDispatch pieces false ∷ []
+closing_events _ = []
 
 -- If a command is open, the flag says whether data bytes of it are in no piece.
 abbrev pub SaysLoss : ToClose → Bool → Type 0

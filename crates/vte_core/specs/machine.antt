@@ -9,6 +9,7 @@ pub mod Store
 pub mod Groups
 pub mod Ready
 pub mod ParserFields
+pub mod OpenStates
 -- What a byte does to the performer and to the parser.
 pub mod Tells
 pub mod Takes

@@ -8,7 +8,8 @@ ghost use Rattle.vte_core.specs.Division.{AreRightSegments, IsAllDivided};
 ghost use Rattle.vte_core.specs.Examples.{AreRight, text_examples, escape_examples, control_sequence_examples, device_control_examples, system_command_examples, full_store_examples};
 ghost use Rattle.vte_core.specs.Examples.{store_of_five_examples, store_of_two_examples, empty_store_examples, ignored_string_examples};
 ghost use Rattle.vte_core.specs.Examples.{AreLeft, AreStops, open_command_examples, stop_examples};
-ghost use Rattle.vte_core.specs.Laws.{AreParameters, AreWellFormed, Resyncs, CountsData, DispatchesShown, GivesCharacters, Grows, IsDecoded, IsEncoding, OpensSilently};
+ghost use Rattle.vte_core.specs.Examples.{AreOpen, text_end_examples, sequence_end_examples, string_end_examples};
+ghost use Rattle.vte_core.specs.Laws.{AreParameters, AreWellFormed, Resyncs, CountsData, DispatchesShown, GivesCharacters, Grows, IsDecoded, IsEncoding, OpensLate, OpensSilently};
 ghost use Rattle.vte_core.specs.Perform.{after};
 ghost use Rattle.vte_core.specs.EarlyStopLaws.{GoesOnFromPositions, TellsUnits};
 ghost use Rattle.vte_core.specs.Stream.{added, events, usual_limit};
@@ -78,6 +79,13 @@ pub fn opens_silently()
     ensures { (limit : Option ℕ) → OpensSilently limit }
 {}
 
+/// What is open at the end of a stream began at the last ESC, or is at most three bytes of a
+/// character.
+#[tactic(auto, using(crate::proofs::streams::OpenLaws::opens_late))]
+pub fn opens_late()
+    ensures { OpensLate }
+{}
+
 /// What a call that stops early has reported, followed by what the unread bytes add from there, is
 /// what all bytes add. From one start to the next it reports at most two events, and the second of
 /// them is a character or an executed byte.
@@ -134,4 +142,7 @@ pub fn worked_examples()
     ensures empty_store { AreRight (Some 0) empty_store_examples }
     ensures ignored_string { (limit : Option ℕ) → AreRight limit ignored_string_examples }
     ensures stops { (limit : Option ℕ) → AreStops limit stop_examples }
+    ensures text_ends { AreOpen text_end_examples }
+    ensures sequence_ends { AreOpen sequence_end_examples }
+    ensures string_ends { AreOpen string_end_examples }
 {}

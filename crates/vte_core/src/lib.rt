@@ -24,7 +24,7 @@ mod store;
 mod utf8;
 
 pub use params::{Params, ParamsIter};
-pub use parser::Parser;
+pub use parser::{Open, Parser};
 // for C alone
 pub use parser::Saved;
 // takes memory

@@ -1,8 +1,10 @@
 //! The parser of a stream, as its callers see it.
-ghost use Rattle.std.specs.Prelude.{◌≡◌, true, false, ℕ, List, [], Some, ⊤};
+ghost use Rattle.std.specs.Prelude.{◌≡◌, ◌≢◌, true, false, ℕ, List, [], Some, ⊤};
 ghost use Rattle.vte_core.specs.Advance.{ReadsBytes};
 ghost use Rattle.vte_core.specs.AdvanceUntilTerminated.{ReadsUntilTerminated};
+ghost use Rattle.vte_core.specs.declared.parser.open.Open.TheVariants.{Nothing};
 ghost use Rattle.vte_core.specs.EarlyStop.{NoCharacterStops};
+ghost use Rattle.vte_core.specs.Open.{open_at_end};
 ghost use Rattle.vte_core.specs.Outcome.{SaysLoss};
 ghost use Rattle.vte_core.specs.Parser.{HasRead, IsCopyOf, lost_data};
 ghost use Rattle.vte_core.specs.Stream.{IsFinished, IsUnfinished, outcome};
@@ -16,6 +18,7 @@ mod escape;
 mod ignored_string;
 mod long;
 mod machine;
+mod open;
 mod refused;
 mod saved;
 mod system_command;
@@ -29,6 +32,7 @@ use crate::utf8::Unfinished;
 use arrayvec::ArrayVec;
 pub use long::LongParser;
 use machine::Machine;
+pub use open::Open;
 pub use refused::Refused;
 pub use saved::Saved;
 use std::alloc::AllocError;
@@ -172,6 +176,22 @@ impl<const OSC_RAW_BUF_SIZE: usize> Parser<OSC_RAW_BUF_SIZE> {
         self.drive::<P, InRuns, true>(performer, bytes)
     }
 
+    /// Returns what is unfinished, if anything is.
+    ///
+    /// It began at the last ESC, or is at most three bytes of a character.
+    pub fn open(&self) -> Open
+        ensures which { (stream : List ℕ) → HasRead self.now stream → result ≡ open_at_end stream }
+        // If nothing is, it goes on as a new parser, and more bytes give what they give on their
+        // own.
+        ensures closed { result ≡ Nothing → (stream : List ℕ) → HasRead self.now stream
+            → HasRead self.now [] × IsFinished (Some OSC_RAW_BUF_SIZE) stream }
+        // If something is, some bytes give something else than on their own: a `0`.
+        ensures opens { result ≢ Nothing → (stream : List ℕ) → HasRead self.now stream
+            → IsUnfinished (Some OSC_RAW_BUF_SIZE) stream }
+    {
+        self.machine.open()
+    }
+
     /// Returns whether a character or a sequence is unfinished.
     pub fn is_open(&self) -> bool
         // If not, it goes on as a new parser, and more bytes give what they give on their own.
@@ -181,7 +201,7 @@ impl<const OSC_RAW_BUF_SIZE: usize> Parser<OSC_RAW_BUF_SIZE> {
         ensures opens { result ≡ true → (stream : List ℕ) → HasRead self.now stream
             → IsUnfinished (Some OSC_RAW_BUF_SIZE) stream }
     {
-        self.machine.is_open()
+        !matches!(self.open(), Open::Nothing)
     }
 
     /// Returns whether the operating system command that is open lost data bytes, or if none is

@@ -121,7 +121,7 @@ pub use proved::vte_core::Parser;
 pub use proved::vte_core::Parser as BoundedParser;
 #[cfg(any(feature = "std", feature = "ansi"))]
 pub use proved::vte_core::{LongParser, Refused};
-pub use proved::vte_core::{Params, ParamsIter, Perform, PerformText, Run, Taken};
+pub use proved::vte_core::{Open, Params, ParamsIter, Perform, PerformText, Run, Taken};
 #[cfg(feature = "__own")]
 #[doc(hidden)]
 pub use {adapter::own::Own, proved::vte_core::Saved};

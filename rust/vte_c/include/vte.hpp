@@ -9,6 +9,12 @@
 //     vte::Processor processor(screen);
 //     processor.advance(bytes, length);
 //
+// If memory is refused, `advance` throws vte::Refused, which says how many bytes were read:
+//
+//     } catch (const vte::Refused &refused) {
+//         bytes += refused.read, length -= refused.read; // free some memory, and go on
+//     }
+//
 // A function that throws ends the program. The rules are those of vte_handler.h.
 #ifndef VTE_HPP
 #define VTE_HPP
@@ -24,6 +30,14 @@
 #include <string_view>
 
 namespace vte {
+
+// Memory was refused to a call, which read so many of its bytes. The rest can be passed again.
+class Refused : public std::bad_alloc {
+public:
+    size_t read;
+    explicit Refused(size_t read) noexcept : read(read) {}
+    const char *what() const noexcept override { return "memory was refused to a vte::Processor"; }
+};
 
 // Receives the calls of a processor. vte_handler.h says what their numbers are.
 class Handler {
@@ -148,8 +162,8 @@ struct Free {
     void operator()(vte_processor *processor) const { vte_processor_free(processor); }
 };
 
-inline void check(int status) {
-    if (status == VTE_NO_MEMORY) throw std::bad_alloc();
+inline void check(int status, size_t read = 0) {
+    if (status == VTE_NO_MEMORY) throw Refused(read);
     if (status == VTE_BUSY) throw std::logic_error("a call of this processor is under way");
 }
 
@@ -220,12 +234,13 @@ class Processor {
 public:
     explicit Processor(Handler &handler)
         : processor(vte_processor_new(&calls(), sizeof calls(), &handler)) {
-        if (!processor) throw std::bad_alloc();
+        if (!processor) throw Refused(0);
     }
 
     void advance(const uint8_t *bytes, size_t length) {
-        size_t read;
-        detail::check(vte_processor_advance(processor.get(), bytes, length, &read));
+        size_t read = 0;
+        int status = vte_processor_advance(processor.get(), bytes, length, &read);
+        detail::check(status, read);
     }
 
     void stop_sync() { detail::check(vte_processor_stop_sync(processor.get())); }

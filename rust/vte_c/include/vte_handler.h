@@ -13,10 +13,12 @@
  *     vte_processor_advance(processor, bytes, length, &read);
  *     vte_processor_free(processor);
  *
- * The calls are those of the whole stream, in order, however you split it. A text is passed in
- * runs, of which there may be several one after another, and which aren't terminated by 0; a text
- * that a call passes is valid until the call returns. A call must return, and not by an exception
- * or longjmp. The calls come in the thread that calls vte_processor_advance or
+ * The calls are those of the whole stream, in order, however you split it, apart from how often
+ * unset_private_mode comes with 2026: each stop of an update adds one, and where you split the
+ * stream, and time, decide how many stops there are (docs/UPDATES.md). A text is passed in runs, of
+ * which there may be several one after another, and which aren't terminated by 0; a text that a
+ * call passes is valid until the call returns. A call must return, and not by an exception or
+ * longjmp. The calls come in the thread that calls vte_processor_advance or
  * vte_processor_stop_sync.
  *
  * Threads may use different processors at once. Of one, the first call is made, and others get
@@ -185,7 +187,8 @@ typedef struct {
 
 /* Returns a new processor, or NULL if memory is refused. It copies the table, which has so many
  * bytes: pass its size. Later versions may have more calls, at the end, and a program that was
- * compiled without them keeps working. */
+ * compiled without them keeps working. A size that isn't that of whole pointers is refused: it
+ * returns NULL, and reads nothing of the table. */
 vte_processor *vte_processor_new(const vte_handler *calls, size_t size, void *user);
 
 /* Frees a processor. NULL is no processor. */

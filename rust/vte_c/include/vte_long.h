@@ -55,7 +55,7 @@ size_t vte_long_feed(vte_long_parser *parser, const uint8_t *bytes, size_t lengt
                      uint32_t stops, vte_event *events, size_t event_room, const uint8_t **data,
                      vte_counts *counts);
 
-/* Returns whether a sequence or a character is unfinished. */
+/* Returns what is unfinished, as vte_is_open does. */
 uint8_t vte_long_is_open(const vte_long_parser *parser);
 
 #ifdef __cplusplus

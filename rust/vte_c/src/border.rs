@@ -82,7 +82,7 @@ pub unsafe extern "C" fn vte_strip(
     }
 }
 
-/// Returns whether a sequence or a character is unfinished.
+/// Returns what is unfinished, or 0.
 #[no_mangle]
 pub unsafe extern "C" fn vte_is_open(parser: *const Saved) -> u8 {
     // SAFETY: the callers' rules above

@@ -113,11 +113,11 @@ pub unsafe extern "C" fn vte_long_parser_free(parser: *mut VteLongParser) {
     }
 }
 
-/// Returns whether a sequence or a character is unfinished.
+/// Returns what is unfinished, or 0.
 #[no_mangle]
 pub unsafe extern "C" fn vte_long_is_open(parser: *const VteLongParser) -> u8 {
     // SAFETY: the callers' rules above
-    u8::from(unsafe { &*parser }.parser.is_open())
+    unsafe { &*parser }.parser.open() as u8
 }
 
 /// Reads bytes, and writes the events of some kinds that they add to the stream. Returns how many

@@ -306,14 +306,18 @@ unsafe fn enter(
     }
 }
 
-/// Returns a new processor, or null if memory is refused.
+/// Returns a new processor, or null if memory is refused, or the size is of no table.
 #[no_mangle]
 pub unsafe extern "C" fn vte_processor_new(
     table: *const VteHandler,
     size: usize,
     user: *mut c_void,
 ) -> *mut VteProcessor {
-    // SAFETY: no function is null, the table has as many bytes as its size says, and no part of one
+    if size % size_of::<*const c_void>() != 0 {
+        return ptr::null_mut();
+    }
+    // SAFETY: the table has as many bytes as its size says, and no part of a function; no function
+    // is null
     let table = unsafe {
         let mut known: VteHandler = zeroed();
         let size = size.min(size_of::<VteHandler>());

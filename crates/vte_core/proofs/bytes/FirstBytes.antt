@@ -175,7 +175,7 @@ fits_front-long (range ∷ ranges) [] long = absurd (omega (arith, long))
 fits_front-long (range ∷ ranges) (b ∷ u) long = and_right _ _ (fits_front-long ranges u (omega (arith, long)))
 
 -- no sequence of four bytes or more is truncated
-truncated-long : (a : ℕ) (u : List ℕ) → 3 ≤ length u → is_truncated (a ∷ u) ≡ false
+pub truncated-long : (a : ℕ) (u : List ℕ) → 3 ≤ length u → is_truncated (a ∷ u) ≡ false
 truncated-long a u long = elim (first_byte a) [
   | ascii high ↦ (tests-ascii a high u).is_open
   | lone none ↦ (tests-none a none u).is_open

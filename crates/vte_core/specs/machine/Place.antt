@@ -9,7 +9,7 @@ use Rattle.vte_core.specs.Escape.{escape_rest}
 use Rattle.vte_core.specs.Event.{Event}
 use Rattle.vte_core.specs.Head.{head_bytes}
 use Rattle.vte_core.specs.IgnoredString.{ignored_string_outcome}
-use Rattle.vte_core.specs.Outcome.{ToClose, NothingToClose, CharacterToClose, DeviceDataToClose, CommandToClose, Outcome, closing_events, tell}
+use Rattle.vte_core.specs.Outcome.{ToClose, NothingToClose, CharacterToClose, EscapeToClose, ControlSequenceToClose, DeviceHeadToClose, DeviceDataToClose, CommandToClose, IgnoredStringToClose, Outcome, closing_events, tell}
 use Rattle.vte_core.specs.CutBefore.{cut_before}
 use Rattle.vte_core.specs.Stream.{cut_at_escape, events, outcome, with_bodies}
 use Rattle.vte_core.specs.SystemCommand.{loses_data, ends_command, items_of, pieces_of, system_command_rest}
@@ -78,11 +78,16 @@ rest_outcome limit InIgnoredString rest = ignored_string_outcome rest
 
 -- What is open at the place.
 abbrev pub left_at : Option ℕ → Place → ToClose
+left_at limit (InText []) = NothingToClose
 left_at limit (InText (a ∷ bytes)) = CharacterToClose (a ∷ bytes)
+left_at limit AtEscape = EscapeToClose
+left_at limit (InEscape intermediates) = EscapeToClose
+left_at limit (InControlSequence head) = ControlSequenceToClose
+left_at limit (InDeviceControl head) = DeviceHeadToClose
 left_at limit InDeviceData = DeviceDataToClose
 left_at limit (InSystemCommand items) = CommandToClose (pieces_of limit items)
     (loses_data limit items)
-left_at limit _ = NothingToClose
+left_at limit InIgnoredString = IgnoredStringToClose
 
 -- The events of an ESC at the place.
 abbrev pub closing_events_at : Option ℕ → Place → List Event

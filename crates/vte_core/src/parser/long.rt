@@ -1,13 +1,15 @@
 //! The parser that keeps operating system commands of any length.
-ghost use Rattle.std.specs.Prelude.{◌≡◌, ◌+◌, ◌<◌, ◌≤◌, ℕ, true, false, List, [], None, length};
+ghost use Rattle.std.specs.Prelude.{◌≡◌, ◌≢◌, ◌+◌, ◌<◌, ◌≤◌, ℕ, true, false, List, [], None, length};
 ghost use Rattle.vte_core.specs.LongParserCalls.{ReadsBytesLong, ReadsToRunLong, ReadsUntilTerminatedLong};
 ghost use Rattle.vte_core.specs.LongParser.{HasReadLong, IsCopyOfLong, LacksMemoryForMore, lost_data_long, memory_of};
 ghost use Rattle.vte_core.specs.LongParser.{open_command_size};
 ghost use Rattle.vte_core.specs.Looks.{looks_long};
+ghost use Rattle.vte_core.specs.Open.{open_at_end};
+ghost use Rattle.vte_core.specs.declared.parser.open.Open.TheVariants.{Nothing};
 ghost use Rattle.vte_core.specs.Outcome.{SaysLoss};
 ghost use Rattle.vte_core.specs.Stream.{IsFinished, IsUnfinished, outcome};
 
-use crate::parser::{Machine, Refused, State};
+use crate::parser::{Machine, Open, Refused, State};
 use crate::perform::{Perform, PerformText, PerformThroughText};
 use crate::scan::{InRuns, Input, Reader, Run, Singly};
 use std::alloc::{AllocError, Allocator};
@@ -209,6 +211,23 @@ impl<A: Allocator> LongParser<A> {
         Ok(input.take_run(range))
     }
 
+    /// Returns what is unfinished, if anything is.
+    ///
+    /// It began at the last ESC, or is at most three bytes of a character.
+    pub fn open(&self) -> Open
+        ensures which { (stream : List ℕ) → HasReadLong self.now stream
+            → result ≡ open_at_end stream }
+        // If nothing is, it goes on as a new parser, and more bytes give what they give on their
+        // own.
+        ensures closed { result ≡ Nothing → (stream : List ℕ) → HasReadLong self.now stream
+            → HasReadLong self.now [] × IsFinished None stream }
+        // If something is, some bytes give something else than on their own: a `0`.
+        ensures opens { result ≢ Nothing → (stream : List ℕ) → HasReadLong self.now stream
+            → IsUnfinished None stream }
+    {
+        self.machine.open()
+    }
+
     /// Returns whether a character or a sequence is unfinished.
     pub fn is_open(&self) -> bool
         // If not, it goes on as a new parser, and more bytes give what they give on their own.
@@ -218,6 +237,6 @@ impl<A: Allocator> LongParser<A> {
         ensures opens { result ≡ true → (stream : List ℕ) → HasReadLong self.now stream
             → IsUnfinished None stream }
     {
-        self.machine.is_open()
+        !matches!(self.open(), Open::Nothing)
     }
 }

@@ -1,10 +1,12 @@
 //! The state of a parser, and what it has collected.
-ghost use Rattle.std.specs.Prelude.{◌≡◌, true, false, ℕ, List, []};
+ghost use Rattle.std.specs.Prelude.{◌≡◌, ◌≢◌, ℕ, List, []};
+ghost use Rattle.vte_core.specs.declared.parser.open.Open.TheVariants.{Nothing};
+ghost use Rattle.vte_core.specs.Open.{open_at_end};
 ghost use Rattle.vte_core.specs.machine.Prelude.{HasReadWithLimit, IsFinished, SaysLoss, IsUnfinished, outcome};
 
 use crate::buffer::Buffer;
 use crate::head::Collected;
-use crate::parser::{State, Unfinished};
+use crate::parser::{Open, State, Unfinished};
 use crate::store::Store;
 
 /// A parser without its reader, over any buffer for operating system commands. The state
@@ -40,17 +42,16 @@ impl<B: Buffer> Machine<B> {
         self.command.has_lost_data()
     }
 
-    /// Returns whether a character or a sequence is unfinished.
-    pub(crate) fn is_open(&self) -> bool
-        ensures closed { result ≡ false → (stream : List ℕ)
+    /// Returns what is unfinished.
+    pub(crate) fn open(&self) -> Open
+        ensures which { (stream : List ℕ) → HasReadWithLimit B.limit self.now stream
+            → result ≡ open_at_end stream }
+        ensures closed { result ≡ Nothing → (stream : List ℕ)
             → HasReadWithLimit B.limit self.now stream
             → HasReadWithLimit B.limit self.now [] × IsFinished B.limit stream }
-        ensures opens { result ≡ true → (stream : List ℕ) → HasReadWithLimit B.limit self.now stream
-            → IsUnfinished B.limit stream }
+        ensures opens { result ≢ Nothing → (stream : List ℕ)
+            → HasReadWithLimit B.limit self.now stream → IsUnfinished B.limit stream }
     {
-        match self.state {
-            State::Text(begun) => !begun.is_nothing(),
-            _ => true,
-        }
+        self.state.open()
     }
 }

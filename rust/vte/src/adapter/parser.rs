@@ -1,7 +1,7 @@
 //! The parser of the feature `std`: one without a limit, that ends the program if memory is
 //! refused.
 use crate::adapter::memory::end_without;
-use crate::proved::vte_core::{LongParser, Perform, PerformText, Refused, Run};
+use crate::proved::vte_core::{LongParser, Open, Perform, PerformText, Refused, Run};
 
 /// A parser of the bytes that programs send to a terminal.
 ///
@@ -138,6 +138,13 @@ impl<const OSC_RAW_BUF_SIZE: usize> Parser<OSC_RAW_BUF_SIZE> {
     /// [`shrink`](Self::shrink) forgets it if the command has ended.
     pub fn command_lost_data(&self) -> bool {
         self.0.command_lost_data()
+    }
+
+    /// Returns what is unfinished, if anything is.
+    ///
+    /// It began at the last ESC, or is at most three bytes of a character.
+    pub fn open(&self) -> Open {
+        self.0.open()
     }
 
     /// Returns whether a character or a sequence is unfinished.

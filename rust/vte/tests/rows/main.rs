@@ -6,6 +6,7 @@
 mod block;
 mod event_lines;
 mod events;
+mod open;
 
 #[cfg(feature = "ansi")]
 mod acts;

@@ -19,7 +19,7 @@ mod store;
 mod utf8;
 
 pub use params::{Params, ParamsIter};
-pub use parser::Parser;
+pub use parser::{Open, Parser};
 // for C alone
 #[cfg(feature = "__own")]
 pub use parser::Saved;

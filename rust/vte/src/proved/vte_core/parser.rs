@@ -11,6 +11,7 @@ mod ignored_string;
 #[cfg(any(feature = "std", feature = "ansi"))]
 mod long;
 mod machine;
+mod open;
 mod refused;
 #[cfg(feature = "__own")]
 mod saved;
@@ -26,6 +27,7 @@ use crate::proved::vte_core::utf8::Unfinished;
 #[cfg(any(feature = "std", feature = "ansi"))]
 pub use long::LongParser;
 use machine::Machine;
+pub use open::Open;
 pub use refused::Refused;
 #[cfg(feature = "__own")]
 pub use saved::Saved;
@@ -149,9 +151,16 @@ impl<const OSC_RAW_BUF_SIZE: usize> Parser<OSC_RAW_BUF_SIZE> {
         self.drive::<P, InRuns, true>(performer, bytes)
     }
 
+    /// Returns what is unfinished, if anything is.
+    ///
+    /// It began at the last ESC, or is at most three bytes of a character.
+    pub fn open(&self) -> Open {
+        self.machine.open()
+    }
+
     /// Returns whether a character or a sequence is unfinished.
     pub fn is_open(&self) -> bool {
-        self.machine.is_open()
+        !matches!(self.open(), Open::Nothing)
     }
 
     /// Returns whether the operating system command that is open lost data bytes, or if none is

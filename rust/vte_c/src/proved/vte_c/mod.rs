@@ -54,13 +54,9 @@ pub fn vte_strip(parser: &mut Saved, bytes: &[u8], room: &mut [u8], written: &mu
     text::strip(parser, bytes, room, written)
 }
 
-/// Returns whether a sequence or a character is unfinished: 1 or 0.
+/// Returns what is unfinished, or 0.
 pub fn vte_is_open(parser: &Saved) -> u8 {
-    if Parser::restored(parser).is_open() {
-        1
-    } else {
-        0
-    }
+    Parser::restored(parser).open() as u8
 }
 
 /// Returns the version of this interface. It grows when programs compiled for an earlier version no

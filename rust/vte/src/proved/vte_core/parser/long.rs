@@ -2,7 +2,7 @@
 //! The parser that keeps operating system commands of any length.
 
 use crate::prelude::Vec;
-use crate::proved::vte_core::parser::{Machine, Refused, State};
+use crate::proved::vte_core::parser::{Machine, Open, Refused, State};
 use crate::proved::vte_core::perform::{Perform, PerformText};
 use crate::proved::vte_core::scan::{take_run, InRuns, Reader, Run, Singly};
 
@@ -154,9 +154,17 @@ impl LongParser {
         Ok(take_run(input, range))
     }
 
+    /// Returns what is unfinished, if anything is.
+    ///
+    /// It began at the last ESC, or is at most three bytes of a character.
+    #[inline]
+    pub fn open(&self) -> Open {
+        self.machine.open()
+    }
+
     /// Returns whether a character or a sequence is unfinished.
     #[inline]
     pub fn is_open(&self) -> bool {
-        self.machine.is_open()
+        !matches!(self.open(), Open::Nothing)
     }
 }

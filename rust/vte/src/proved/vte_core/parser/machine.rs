@@ -3,7 +3,7 @@
 
 use crate::proved::vte_core::buffer::Buffer;
 use crate::proved::vte_core::head::Collected;
-use crate::proved::vte_core::parser::{State, Unfinished};
+use crate::proved::vte_core::parser::{Open, State, Unfinished};
 use crate::proved::vte_core::store::Store;
 
 /// A parser over any buffer for operating system commands. The state functions are its methods.
@@ -30,11 +30,8 @@ impl<B: Buffer> Machine<B> {
         self.command.has_lost_data()
     }
 
-    /// Returns whether a character or a sequence is unfinished.
-    pub(crate) fn is_open(&self) -> bool {
-        match self.state {
-            State::Text(begun) => !begun.is_nothing(),
-            _ => true,
-        }
+    /// Returns what is unfinished.
+    pub(crate) fn open(&self) -> Open {
+        self.state.open()
     }
 }

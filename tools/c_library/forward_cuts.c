@@ -1,0 +1,54 @@
+/* Runs forward.c on its standard input: whole, byte by byte, and cut in two at every place. Writes
+ * what it passes on of the whole, or where a cut changes that. */
+#include <stdio.h>
+#include <stdlib.h>
+#include <string.h>
+#include <unistd.h>
+
+static char stream[1 << 16];
+static size_t length, at, cut, step;
+
+/* Reads up to the cut, or a step. */
+static ssize_t next_piece(int file, void *bytes, size_t room) {
+    size_t end = step ? at + step : at < cut ? cut : length;
+    size_t count = (end < length ? end : length) - at;
+    if (count > room || file != 0) abort();
+    memcpy(bytes, stream + at, count);
+    at += count;
+    return (ssize_t)count;
+}
+
+#define main forward
+#define read next_piece
+#include "forward.c"
+#undef main
+#undef read
+
+static char *passed_on(size_t *size) {
+    char *passed;
+    FILE *real = stdout;
+    memset(&parser, 0, sizeof parser);
+    held = NULL;
+    at = held_length = held_room = escape = 0;
+    stdout = open_memstream(&passed, size);
+    if (forward() != 0) abort();
+    fclose(stdout);
+    stdout = real;
+    return passed;
+}
+
+int main(void) {
+    length = fread(stream, 1, sizeof stream, stdin);
+    size_t whole_size, size;
+    char *whole = passed_on(&whole_size);
+    step = 1;
+    for (cut = 0; cut < length; cut++, step = 0) {
+        char *passed = passed_on(&size);
+        if (size != whole_size || memcmp(passed, whole, size) != 0)
+            printf("cut at %zu, by %zu:\n", cut, step);
+        free(passed);
+    }
+    fwrite(whole, 1, whole_size, stdout);
+    free(whole);
+    return 0;
+}

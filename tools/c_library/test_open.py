@@ -1,0 +1,68 @@
+"""What is open, at each byte of rows and of hostile streams."""
+from ctypes import CDLL, byref, c_size_t, c_uint8, c_uint64
+
+import pytest
+from generating.hostile_streams import hostile_stream
+from generating.rows import all_rows, bytes_of
+from judging.open_ends import open_at_end
+
+from c_library.library import at_once
+
+# streams, and what is open after each of their bytes, worked out by hand
+BY_HAND = [
+    (b"", ""), (b"a\xc3\xa9\xe4\xbf\x99\xf0\x9f\x8e\x89", "0101101110"),
+    # a byte that breaks a character begins another one, or none
+    (b"\xe4\xe4a\xf0\x9f\x18\xc0\x80\xff\xc2\x85", "11011000010"),
+    # which kind it is isn't known before the key
+    (b"\xe4\x1b\n\x7f\xe4(\n)B\x1b\x1bc\x1b\x18\x1b#\x1a", "12222222022020220"),
+    # a head of any shape, up to its final byte
+    (b"\x1b[1;\n2$m\x1b[1?\xe4m\x1b[\x18\x1b[\x1b", "23333330233330230232"),
+    (b"\x1bP1\n\x9cq\x07\x9c\x1bP?\x1a\x1bPq\x18\x1bPq\x1b\\", "244444402440244024420"),
+    # after the final byte of an ill-shaped head the string means nothing
+    (b"\x1bP1?\x9cq\x9c\x1b\\\x1bP??q\x18", "244446620244460"),
+    (b"\x1b]0;a\x9c\xe4\x07\x1b]\x1a\x1b]\x1b\\", "255555502502520"),
+    (b"\x1bXa\x07\x9c\xe4\x18\x1b^\x1a\x1b_\x1b\\", "26666602602620")]
+
+
+class Parser:
+    """A parser that is fed in pieces."""
+
+    def __init__(self, library):
+        self.library = CDLL(library.shared)
+        self.memory = (c_uint64 * 164)()
+        self.room = (c_uint64 * 8)(), c_size_t(4), (c_uint8 * 2112)(), c_size_t(2112)
+
+    def feed(self, piece):
+        counts = (c_size_t * 2)()
+        length = c_size_t(len(piece))
+        fed = self.library.vte_feed(byref(self.memory), piece, length, 0, 0, *self.room, counts)
+        assert fed == len(piece)
+
+    def open(self):
+        return self.library.vte_is_open(byref(self.memory))
+
+
+def assert_open(library, stream, wanted):
+    """Checks each prefix, byte by byte and whole."""
+    parser = Parser(library)
+    for end in range(len(stream) + 1):
+        whole = Parser(library)
+        whole.feed(stream[:end])
+        assert parser.open() == whole.open() == wanted[end], stream[:end]
+        parser.feed(stream[end:end + 1])
+
+
+@pytest.mark.parametrize("stream, codes", BY_HAND)
+def test_by_hand(library, stream, codes):
+    wanted = [0, *map(int, codes)]
+    assert [open_at_end(stream[:end]) for end in range(len(stream) + 1)] == wanted
+    assert_open(library, stream, wanted)
+
+
+def test_prefixes(library):
+    def test(stream):
+        assert_open(library, stream, [open_at_end(stream[:end]) for end in range(len(stream) + 1)])
+
+    rows = [bytes_of(row["pieces"]) for row in all_rows() if row["kind"] == "lines"]
+    hostile = [b"".join(hostile_stream(52, number)) for number in range(100)]
+    at_once(test, [stream for stream in rows + hostile if len(stream) < 300])

@@ -5,6 +5,7 @@ use Rattle.std.specs.List.{repeat}
 use Rattle.vte_core.specs.EarlyStop.{resumed_stream, told_before}
 use Rattle.vte_core.specs.Event.{Event, Print, Execute, Hook, Put, Unhook, OscDispatch, CsiDispatch, EscDispatch}
 use Rattle.vte_core.specs.Outcome.{ToClose, CommandToClose}
+use Rattle.vte_core.specs.OutsideRuns.{TellsOutsideRuns}
 use Rattle.vte_core.specs.Stream.{events, outcome}
 
 -- A stream and its events.
@@ -267,3 +268,8 @@ stop_examples =
       resumed = codes "a\u{1b}[";
     }
     ∷ []
+
+-- A call that returns runs completes the open character, and doesn't perform the next one.
+abbrev pub LeavesTextToRun : Option ℕ → Type 0
+LeavesTextToRun limit =
+    TellsOutsideRuns limit (0xe4 ∷ []) (0xbf ∷ 0x99 ∷ 0xe6 ∷ 0x97 ∷ 0xa5 ∷ []) 5 → ⊥

@@ -5,7 +5,7 @@
 ghost use Rattle.std.specs.Prelude.{◌≡◌, ◌≢◌, ◌+◌, ◌*◌, ◌<◌, ◌≤◌, ℕ, IsTrue, true, length, min, slice_index};
 ghost use Rattle.vte_core.specs.machine.Prelude.{AreIgnored, FindsEnd, IsCommandData, IsDeviceData, IsRange, Scans, class_of, ends_body, looked};
 
-use crate::class::{ESCAPE, cannot_end, ends_body, is_device_data};
+use crate::class::{ESCAPE, cannot_end, ends_body, is_command_data, is_device_data};
 use crate::scan::{Input, Reader};
 use memchr::memchr;
 
@@ -17,7 +17,7 @@ impl<B> Reader<B> {
         ensures { FindsEnd IsCommandData input.entry.bytes.now from result self.old self.new }
     {
         let mut end = from;
-        while end < input.len() && input.bytes[end] >= 0x20 && input.bytes[end] != b';' {
+        while end < input.len() && is_command_data(input.bytes[end]) {
             end += 1;
         }
         self.add((end - from) + usize::from(end < input.len()));

@@ -6,7 +6,7 @@
 //! text or data: for a performer, or in a [`Run`] for the caller. Only `for_limited` and `for_long`
 //! make a `Reader<B>`: a function that is generic in the buffer `B` can't replace one, and its
 //! count, by a new one.
-ghost use Rattle.std.specs.Prelude.{◌≡◌, ◌+◌, ◌-◌, ◌<◌, ◌≤◌, ℕ, [], ◌∷◌, ◌++◌, false, length, drop, map, take, slice_index, vec_capacity, MatchOption, IsUtf8};
+ghost use Rattle.std.specs.Prelude.{◌≡◌, ◌+◌, ◌-◌, ◌<◌, ◌≤◌, ℕ, [], ◌∷◌, ◌++◌, false, true, length, drop, map, take, slice_index, vec_capacity, MatchOption, IsUtf8};
 ghost use Rattle.vte_core.specs.machine.Prelude.{AreOfKind, ArePut, IsRange, IsRun, IsTaken, PrintsRun, Put, Tells, after, character_event, is_in, looked, malformed_event, from_to};
 
 mod counted_perform;
@@ -207,7 +207,11 @@ impl<B> Reader<B> {
     /// Tells a whole character.
     #[inline(always)]
     #[tactic(auto, unfolding(crate::specs::Text::character_event))]
-    pub(crate) fn tell_character<P: CountedPerform<B, G>, G>(&mut self, performer: &mut P, c: char)
+    pub(crate) fn tell_character<P: CountedPerform<B, G>, G: Grain>(
+        &mut self,
+        performer: &mut P,
+        c: char,
+    )
         ensures { Tells P.step (P.value_of performer.old) (P.value_of performer.new)
             (character_event c) self.old self.new }
     {
@@ -221,7 +225,11 @@ impl<B> Reader<B> {
     /// alone.
     #[inline(always)]
     #[tactic(auto, unfolding(crate::specs::Text::character_event, crate::specs::Text::malformed_event))]
-    pub(crate) fn tell_lone_byte<P: CountedPerform<B, G>, G>(&mut self, performer: &mut P, byte: u8)
+    pub(crate) fn tell_lone_byte<P: CountedPerform<B, G>, G: Grain>(
+        &mut self,
+        performer: &mut P,
+        byte: u8,
+    )
         requires { is_in (from_to 0x20 0x7f) byte ≡ false }
         ensures control { byte < 0x80
             → P.value_of performer.new ≡ P.step (P.value_of performer.old) (character_event byte) }
@@ -238,13 +246,14 @@ impl<B> Reader<B> {
 
     /// Tells the run of text that stands from one position to another, which counts its bytes.
     #[inline(always)]
-    pub(crate) fn tell_text<P: CountedPerform<B, G>, G>(
+    pub(crate) fn tell_text<P: CountedPerform<B, G>, G: Grain>(
         &mut self,
         performer: &mut P,
         input: Input<'_, B>,
         from: usize,
         to: usize,
     )
+        requires in_runs { G.IN_RUNS ≡ true }
         requires some { from < to }
         requires within { to ≤ length input.bytes.now }
         requires run { IsRun P.layout input.bytes.now from to }
@@ -257,13 +266,14 @@ impl<B> Reader<B> {
 
     /// Tells the data that stand from one position to another, which counts them.
     #[inline(always)]
-    pub(crate) fn tell_data<P: CountedPerform<B, G>, G>(
+    pub(crate) fn tell_data<P: CountedPerform<B, G>, G: Grain>(
         &mut self,
         performer: &mut P,
         input: Input<'_, B>,
         from: usize,
         to: usize,
     )
+        requires in_runs { G.IN_RUNS ≡ true }
         requires some { from < to }
         requires within { to ≤ length input.bytes.now }
         requires put { ArePut input.bytes.now from to }

@@ -99,7 +99,8 @@ VTE_CORE = dict(
             ("unsafe {", f"{OF_TEXT}unsafe {{")],
         "vte_core/scan/search": [("input.bytes", "input")],
         "vte_core/scan/counted_perform": [
-            ("impl<P: PerformAs<G>, B, G>", "impl<P: PerformAs<G>, G>")],
+            ("impl<P: PerformAs<G>, B, G: Grain>", "impl<P: PerformAs<G>, G: Grain>"),
+            ("trait CountedPerform<B, G: Grain>", "trait CountedPerform<G: Grain>")],
         "vte_core/parser": [
             ("struct Parser<const OSC_RAW_BUF_SIZE: usize>",
              "struct Parser<const OSC_RAW_BUF_SIZE: usize = MAX_OSC_RAW>"),

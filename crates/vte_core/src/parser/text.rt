@@ -29,6 +29,7 @@ fn print_ascii<B, P: CountedPerform<B, G>, G: Grain>(
     from: usize,
     first: u8,
 ) -> AsciiRun
+    requires in_runs { G.IN_RUNS ≡ true }
     requires within { from < length input.bytes.now }
     requires looked_at { first ≡ slice_index input.bytes.now from }
     requires printed { IsPrintedAscii first }

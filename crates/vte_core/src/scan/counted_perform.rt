@@ -1,14 +1,14 @@
 //! Performers that count each event as it is reported.
-ghost use Rattle.std.specs.Prelude.{◌≡◌, ◌<◌, Bool, false, length, map, chars};
+ghost use Rattle.std.specs.Prelude.{◌≡◌, ◌<◌, Bool, false, true, length, map, chars};
 ghost use Rattle.vte_core.specs.machine.Prelude.{CsiDispatch, EscDispatch, Event, Execute, Hook, IsNonEmptyRun, OscDispatch, Print, Put, Tells, TellsAll, Unhook, is_control_character, run_event};
 
 use crate::head::Collected;
 use crate::perform::Perform;
 use crate::scan::Reader;
-use crate::scan::grain::PerformAs;
+use crate::scan::grain::{Grain, PerformAs};
 
 /// A performer, as the functions of a parser see it. Each event counts one.
-pub(crate) trait CountedPerform<B, G> {
+pub(crate) trait CountedPerform<B, G: Grain> {
     ghost Value: { Type 0 };
 
     ghost value_of: { Self → Value };
@@ -30,7 +30,8 @@ pub(crate) trait CountedPerform<B, G> {
 
     /// Counts a text's bytes, which are no fewer than its characters.
     fn print_text(&mut self, reader: &mut Reader<B>, text: &str)
-        requires { IsNonEmptyRun layout text.now }
+        requires in_runs { G.IN_RUNS ≡ true }
+        requires run { IsNonEmptyRun layout text.now }
         ensures { TellsAll step (value_of self.old) (value_of self.new)
             (map (run_event layout) (chars text.now)) (length text.now) reader.old reader.new };
 
@@ -49,6 +50,7 @@ pub(crate) trait CountedPerform<B, G> {
 
     /// Counts each byte.
     fn put_slice(&mut self, reader: &mut Reader<B>, bytes: &[u8])
+        requires in_runs { G.IN_RUNS ≡ true }
         requires some { 0 < length bytes.now }
         ensures { TellsAll step (value_of self.old) (value_of self.new) (map Put bytes.now)
             (length bytes.now) reader.old reader.new };
@@ -81,7 +83,7 @@ pub(crate) trait CountedPerform<B, G> {
         ensures { result ≡ is_terminated (value_of self.now) };
 }
 
-impl<P: PerformAs<G>, B, G> CountedPerform<B, G> for P {
+impl<P: PerformAs<G>, B, G: Grain> CountedPerform<B, G> for P {
     ghost Value = { P.Value };
 
     ghost value_of = { P.value_of };

@@ -113,7 +113,7 @@ impl Reader {
 
     /// Tells a whole character.
     #[inline(always)]
-    pub(crate) fn tell_character<P: CountedPerform<G>, G>(self, performer: &mut P, c: char) {
+    pub(crate) fn tell_character<P: CountedPerform<G>, G: Grain>(self, performer: &mut P, c: char) {
         match c {
             '\u{0}'..='\u{1f}' | '\u{80}'..='\u{9f}' => performer.execute_control(self, c as u8),
             _ => performer.print_char(self, c),
@@ -123,7 +123,11 @@ impl Reader {
     /// Tells a byte that is neither printed nor a lead byte: a control, or a malformed sequence
     /// alone.
     #[inline(always)]
-    pub(crate) fn tell_lone_byte<P: CountedPerform<G>, G>(self, performer: &mut P, byte: u8) {
+    pub(crate) fn tell_lone_byte<P: CountedPerform<G>, G: Grain>(
+        self,
+        performer: &mut P,
+        byte: u8,
+    ) {
         match byte {
             0x00..=0x1f | 0x80..=0x9f => performer.execute_control(self, byte),
             _ => performer.print_char(self, char::REPLACEMENT_CHARACTER),
@@ -132,7 +136,7 @@ impl Reader {
 
     /// Tells the data that stand from one position to another.
     #[inline(always)]
-    pub(crate) fn tell_data<P: CountedPerform<G>, G>(
+    pub(crate) fn tell_data<P: CountedPerform<G>, G: Grain>(
         self,
         performer: &mut P,
         input: &[u8],

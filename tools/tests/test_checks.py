@@ -57,6 +57,23 @@ def test_places_of_unsafe(place, text, told, allowed):
     assert [*Tool("check_trust").parts["faults"](place)] == told
 
 
+@pytest.mark.parametrize("place, line, told", [
+    ("scan.rt", "    fn new(bytes: &'a [u8]) -> Self", ""),
+    ("scan.rt", "    pub(crate) fn new(bytes: &'a [u8])", "other modules can make a reader"),
+    ("scan.rt", "    pub trail: Snapshot<Trail>,", "other modules can make a reader"),
+    ("parser.rt", "    pub(crate) fn new(bytes: B) -> Self", ""),
+    ("scan/calls.rt", "self.drive::<P, InRuns, true>(performer, Chunk::new(bytes)) // bytes", ""),
+    ("scan/long_calls.rt", "Ok(take_run(bytes, range))", ""),
+    ("scan/calls.rt", "for byte in bytes {}", "the bytes of a call are used"),
+    ("scan/long_calls.rt", "f(bytes); Chunk::new(bytes)", "the bytes of a call are used"),
+])
+def test_reading_uncounted(place, line, told):
+    place = f"crates/vte_core/src/{place}"
+    write(place, f"{line}\n")
+    said = [f"{place}:1: {told}"] * bool(told)
+    assert [*Tool("check_trust").parts["reads_uncounted"](place)] == said
+
+
 @pytest.mark.parametrize("place, line, most", [
     ("crates/x/src/lib.rt", "fn f" + " x" * 60, 100),
     ("crates/x/specs/A.antt", "a" + " x" * 60, 100),

@@ -71,6 +71,23 @@ def test_files_that_are_not_trusted(place, text, told):
     assert [*Tool("check_trust").parts["faults"](place)] == [place + told]
 
 
+@pytest.mark.parametrize("place, line, told", [
+    ("scan.rt", "    fn new(bytes: &'a [u8]) -> Self", ""),
+    ("scan.rt", "    pub(crate) fn new(bytes: &'a [u8])", "other modules can make a reader"),
+    ("scan.rt", "    pub trail: Snapshot<Trail>,", "other modules can make a reader"),
+    ("parser.rt", "    pub(crate) fn new(bytes: B) -> Self", ""),
+    ("scan/calls.rt", "self.drive::<P, InRuns, true>(performer, Chunk::new(bytes)) // bytes", ""),
+    ("scan/long_calls.rt", "Ok(take_run(bytes, range))", ""),
+    ("scan/calls.rt", "for byte in bytes {}", "the bytes of a call are used"),
+    ("scan/long_calls.rt", "f(bytes); Chunk::new(bytes)", "the bytes of a call are used"),
+])
+def test_reading_uncounted(place, line, told):
+    place = f"crates/vte_core/src/{place}"
+    write(place, f"{line}\n")
+    said = [f"{place}:1: {told}"] * bool(told)
+    assert [*Tool("check_trust").parts["reads_uncounted"](place)] == said
+
+
 @pytest.mark.parametrize("place, line, most", [
     ("crates/x/src/lib.rt", "fn f" + " x" * 60, 100),
     ("crates/x/specs/A.antt", "a" + " x" * 60, 100),
@@ -225,8 +242,10 @@ def differences(source, written, place="c/mod.rs", **given):
     ("pub const N: u8 = 1;", "pub const N: u8 = 2;", ["const N: : u8 = 2 ;", "const N"]),
     ("impl S { const N: u8 = 1; }", "impl S {}", ["const N"]),
     ("fn f<const N: u8>() -> *const u8 { N }", "fn f<const N: u8>() -> *const u8 { N }", []),
-    ("fn f() { one(); g(&mut self.reader, Input::new(a), input.up_to(b)); }",
-     "fn f() { two(); g(self.reader, a, up_to(input, b)); }", []),
+    ("fn f() { one(); g(&mut reader, Chunk::new(a), input.up_to(b)); }",
+     "fn f() { two(); g(reader, a, up_to(input, b)); }", []),
+    ("fn f() { let (mut reader, input) = chunk.open(); self.looks.add(reader); g(); }",
+     "fn f() { let reader = Reader {}; g(); }", []),
     ("fn f() { match a { A => b(1), _ => c } }",
      "fn f() { match a { A => { b(1) } _ => c, } }", []),
     ("fn f() { input.up_to(a); }", "fn f() { up_to(input, b); }",

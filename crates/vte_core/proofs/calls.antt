@@ -21,7 +21,8 @@ pub mod Data
 -- Calls that return at a run.
 pub mod BeforeRun
 pub mod ToRun
--- Parsers between characters, and calls without a limit, which may be refused memory.
+-- Parsers between characters, looks, and calls without a limit, which may be refused memory.
 pub mod Open
 pub mod Refusals
+pub mod Counts
 pub mod Long

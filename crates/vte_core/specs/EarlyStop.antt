@@ -1,6 +1,6 @@
 -- Where a call may stop early, and what has been reported by then: at the first start where the
--- performer is terminated. Its answer changes with events alone, so it is asked after them, and not
--- before each byte.
+-- performer is terminated. Its answer changes with events alone, so where nothing was reported it
+-- need not be asked again.
 use Rattle.std.specs.Prelude.{◌≡◌, ◌⊎◌, ℕ, ◌<◌, ◌≤◌, Bool, true, false, ◌&&◌, not, List, [], ◌∷◌, ◌++◌, length, take, drop, Option, if◌then◌else◌}
 use Rattle.vte_core.specs.Event.{Event, Print, replacement}
 use Rattle.vte_core.specs.Perform.{after}

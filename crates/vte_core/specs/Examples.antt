@@ -8,6 +8,7 @@ use Rattle.vte_core.specs.declared.parser.open.Open.TheVariants.{Nothing, Charac
 use Rattle.vte_core.specs.Event.{Event, Print, Execute, Hook, Put, Unhook, OscDispatch, CsiDispatch, EscDispatch}
 use Rattle.vte_core.specs.Open.{open_at_end}
 use Rattle.vte_core.specs.Outcome.{ToClose, CommandToClose}
+use Rattle.vte_core.specs.OutsideRuns.{TellsOutsideRuns}
 use Rattle.vte_core.specs.Stream.{events, outcome}
 
 -- A stream and its events.
@@ -348,3 +349,8 @@ string_end_examples =
     ∷ ends_in Nothing (codes "\u{1b}_a\u{18}")
     ∷ ends_in EscapeSequence (codes "\u{1b}_a\u{1b}")
     ∷ []
+
+-- A call that returns runs completes the open character, and doesn't perform the next one.
+abbrev pub LeavesTextToRun : Option ℕ → Type 0
+LeavesTextToRun limit =
+    TellsOutsideRuns limit (0xe4 ∷ []) (0xbf ∷ 0x99 ∷ 0xe6 ∷ 0x97 ∷ 0xa5 ∷ []) 5 → ⊥

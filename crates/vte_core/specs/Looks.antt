@@ -3,8 +3,9 @@
 -- A look is the load of one byte of a call. A word counts eight looks and a block 16, whatever is
 -- done with them: bytes after the end of a run count too. A search counts each byte up to and with
 -- the one that it finds, and a copy each byte that it copies. A text that is handed over is not
--- loaded for it. Each event counts one look, and those of a run as many as it has bytes.
+-- loaded for it. Each event counts one look, and those of a run together as many as it has bytes.
 use Rattle.std.specs.Prelude.{ℕ, ◌+◌}
+use Rattle.vte_core.specs.declared.scan.Looks.{Looks}
 use Rattle.vte_core.specs.declared.scan.Reader.{Reader}
 use Rattle.vte_core.specs.declared.scan.Trail.{Trail}
 use Rattle.vte_core.specs.declared.scan.Trail.TheOpen.{Trail-F}
@@ -16,17 +17,22 @@ use Rattle.vte_core.specs.declared.parser.Parser.{Parser}
 abbrev pub count_step : Trail-F ℕ → ℕ
 count_step Trail-F.Start = 0
 count_step (Trail-F.Then before count) = before.value + count
+count_step (Trail-F.Both before call) = before.value + call.value
 
 abbrev pub look_count : Trail → ℕ
 look_count = fold-Trail ℕ count_step
 
-abbrev pub looked : {B : Type 0} → Reader B → ℕ
+-- The count of a call up to here.
+abbrev pub looked : Reader → ℕ
 looked reader = look_count reader.trail.value
+
+abbrev pub counted : Looks → ℕ
+counted all = look_count all.trail.value
 
 -- The count of a parser since it was created.
 abbrev pub looks : {N : ℕ} → Parser N → ℕ
-looks parser = looked parser.reader
+looks parser = counted parser.looks
 
 -- The count of a parser without a limit since it was created.
 abbrev pub looks_long : {A : Type 0} → LongParser A → ℕ
-looks_long parser = looked parser.reader
+looks_long parser = counted parser.looks

@@ -1,5 +1,5 @@
 -- Events other than those of runs.
-use Rattle.std.specs.Prelude.{◌≡◌, ℕ, ◌≤◌, Option, List, [], ◌++◌, ⊤}
+use Rattle.std.specs.Prelude.{◌≡◌, ℕ, ◌≤◌, Option, List, [], ◌++◌, drop, ⊤}
 use Rattle.std.specs.List.{All}
 use Rattle.vte_core.specs.EarlyStop.{told_before}
 use Rattle.vte_core.specs.Event.{Event, Print, Put, replacement}
@@ -18,10 +18,11 @@ PrintsNoAscii (Put byte) = ⊥
 PrintsNoAscii _ = ⊤
 
 -- Before position n of a call nothing is told that belongs into a run: only the character that an
--- earlier call began, if one was open.
+-- earlier call began, if one was open. It is told first.
 pub record TellsOutsideRuns (limit : Option ℕ) (stream bytes : List ℕ) (n : ℕ) : Type 0 where
   pub outside_runs : open_character stream ≡ []
       → All IsOutsideRuns (told_before limit stream bytes n)
+  pub after_first : All IsOutsideRuns (drop 1 (told_before limit stream bytes n))
   -- The character that an earlier call began isn't ASCII.
   pub no_ascii : All PrintsNoAscii (told_before limit stream bytes n)
 

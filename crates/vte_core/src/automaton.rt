@@ -120,17 +120,12 @@ fn step(state: u64, byte: u8) -> u64
     TABLE[byte as usize] >> (state % 64)
 }
 
-impl<B> Reader<B> {
+impl Reader {
     /// Skips blocks of a run, and returns where the last character ended. With `layout`, the run
     /// may hold HT, LF and CR. A block with a byte that fits nowhere, or with another control, is
     /// read in vain.
     #[inline(never)]
-    pub(crate) fn skip_run_blocks(
-        &mut self,
-        input: Input<'_, B>,
-        from: usize,
-        layout: bool,
-    ) -> usize
+    pub(crate) fn skip_run_blocks(&mut self, input: Input<'_>, from: usize, layout: bool) -> usize
         requires { from ≤ length input.bytes.now }
         ensures scans { Scans (IsRun layout) input.entry.bytes.now from result self.old self.new }
         ensures count { looked self.new + 3 * from ≤ looked self.old + 3 * result + 16 }
@@ -153,7 +148,7 @@ impl<B> Reader<B> {
 
     /// Finds where the last character ended before a position.
     #[inline(always)]
-    fn last_end(&mut self, input: Input<'_, B>, from: usize, at: usize, state: u64) -> usize
+    fn last_end(&mut self, input: Input<'_>, from: usize, at: usize, state: u64) -> usize
         requires in_order { from ≤ length input.bytes.now }
         requires read { HasScanned (drop from input.bytes.now) at state }
         ensures last { LastEnd (drop from input.entry.bytes.now) at result }

@@ -38,7 +38,7 @@ pub(crate) trait Buffer {
             (capacity self.new) result };
 
     /// Adds the bytes of an input from one position to another, up to the limit.
-    fn append<B>(&mut self, reader: &mut Reader<B>, input: Input<'_, B>, from: usize, to: usize)
+    fn append(&mut self, reader: &mut Reader, input: Input<'_>, from: usize, to: usize)
         requires range { IsRange input.bytes.now from to }
         requires memory { HasCapacity limit (capacity self.old) (length (held self.old))
             (to - from) }
@@ -73,7 +73,7 @@ impl<const N: usize> Buffer for ArrayVec<u8, N> {
         true
     }
 
-    fn append<B>(&mut self, reader: &mut Reader<B>, input: Input<'_, B>, from: usize, to: usize) {
+    fn append(&mut self, reader: &mut Reader, input: Input<'_>, from: usize, to: usize) {
         let kept = (to - from).min(self.remaining_capacity());
         // It fits.
         let _ = reader.copy_to_array(input, from, from + kept, self);
@@ -103,7 +103,7 @@ impl<A: Allocator> Buffer for Vec<u8, A> {
         self.reserve(more).is_ok()
     }
 
-    fn append<B>(&mut self, reader: &mut Reader<B>, input: Input<'_, B>, from: usize, to: usize) {
+    fn append(&mut self, reader: &mut Reader, input: Input<'_>, from: usize, to: usize) {
         // There is room.
         let _ = reader.copy_to_vec(input, from, to, self);
     }

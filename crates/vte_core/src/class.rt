@@ -2,7 +2,7 @@
 #![tactic(auto, unfolding(crate::specs::Class::class_of))]
 
 ghost use Rattle.std.specs.Prelude.{◌≡◌, ◌-◌, ◌<◌, ◌≤◌, true, false, MatchOption};
-ghost use Rattle.vte_core.specs.machine.Prelude.{begins_ignored_string, class_of, dispatches_escape, ends_body, is_plain_control, is_device_data, is_final, is_head_byte, is_intermediate, is_layout, is_parameter_text, is_separator};
+ghost use Rattle.vte_core.specs.machine.Prelude.{IsCommandData, begins_ignored_string, class_of, dispatches_escape, ends_body, is_plain_control, is_device_data, is_final, is_head_byte, is_intermediate, is_layout, is_parameter_text, is_separator};
 
 pub(crate) const ESCAPE: u8 = 0x1b;
 
@@ -42,6 +42,15 @@ pub(crate) fn is_device_data(byte: u8) -> bool
     ensures { result ≡ is_device_data (class_of byte) }
 {
     (byte >= 0x20 && byte < 0x7f) || is_plain_control(byte)
+}
+
+/// Returns whether a byte is data of an operating system command, and no `;`.
+#[inline(always)]
+pub(crate) fn is_command_data(byte: u8) -> bool
+    ensures is { result ≡ true → IsCommandData byte }
+    ensures other { result ≡ false → IsCommandData byte → ⊥ }
+{
+    byte >= 0x20 && byte != b';'
 }
 
 /// Returns whether a byte is an intermediate 20..2F.

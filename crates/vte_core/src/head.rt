@@ -137,12 +137,12 @@ impl Collected {
     /// Reads the digits at a position of a head, if any, and the separators too if there may be
     /// `several` numbers.
     #[inline(always)]
-    pub(crate) fn read_numbers<B>(
+    pub(crate) fn read_numbers(
         &mut self,
-        reader: &mut Reader<B>,
+        reader: &mut Reader,
         reached: HeadProgress,
         several: bool,
-        input: Input<'_, B>,
+        input: Input<'_>,
         from: usize,
     ) -> HeadEnd
         requires in_order { from ≤ length input.bytes.now }
@@ -190,11 +190,11 @@ impl Collected {
     /// Reads the rest of a head that has come to `reached`, up to the first byte that isn't part
     /// of it.
     #[inline(always)]
-    pub(crate) fn read_head<B>(
+    pub(crate) fn read_head(
         &mut self,
-        reader: &mut Reader<B>,
+        reader: &mut Reader,
         reached: HeadProgress,
-        input: Input<'_, B>,
+        input: Input<'_>,
         from: usize,
     ) -> HeadEnd
         requires { from ≤ length input.bytes.now }

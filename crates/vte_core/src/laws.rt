@@ -7,7 +7,7 @@ ghost use Rattle.vte_core.specs.EventBounds.{IsBounded, AreFromOneByte};
 ghost use Rattle.vte_core.specs.Division.{AreRightSegments, IsAllDivided};
 ghost use Rattle.vte_core.specs.Examples.{AreRight, text_examples, escape_examples, control_sequence_examples, device_control_examples, system_command_examples, full_store_examples};
 ghost use Rattle.vte_core.specs.Examples.{store_of_five_examples, store_of_two_examples, empty_store_examples, ignored_string_examples};
-ghost use Rattle.vte_core.specs.Examples.{AreLeft, AreStops, open_command_examples, stop_examples};
+ghost use Rattle.vte_core.specs.Examples.{AreLeft, AreStops, LeavesTextToRun, open_command_examples, stop_examples};
 ghost use Rattle.vte_core.specs.Examples.{AreOpen, text_end_examples, sequence_end_examples, string_end_examples};
 ghost use Rattle.vte_core.specs.Laws.{AreParameters, AreWellFormed, Resyncs, CountsData, DispatchesShown, GivesCharacters, Grows, IsDecoded, IsEncoding, OpensLate, OpensSilently};
 ghost use Rattle.vte_core.specs.Perform.{after};
@@ -142,6 +142,7 @@ pub fn worked_examples()
     ensures empty_store { AreRight (Some 0) empty_store_examples }
     ensures ignored_string { (limit : Option ℕ) → AreRight limit ignored_string_examples }
     ensures stops { (limit : Option ℕ) → AreStops limit stop_examples }
+    ensures outside_runs { (limit : Option ℕ) → LeavesTextToRun limit }
     ensures text_ends { AreOpen text_end_examples }
     ensures sequence_ends { AreOpen sequence_end_examples }
     ensures string_ends { AreOpen string_end_examples }

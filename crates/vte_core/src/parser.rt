@@ -26,8 +26,7 @@ mod text;
 mod to_run;
 
 use crate::head::HeadProgress;
-use crate::perform::{Perform, PerformText, PerformThroughText};
-use crate::scan::{CountedPerform, Grain, InRuns, Input, Reader, Singly};
+use crate::scan::{Chunk, CountedPerform, Grain, Looks};
 use crate::utf8::Unfinished;
 use arrayvec::ArrayVec;
 pub use long::LongParser;
@@ -78,7 +77,7 @@ pub(crate) enum State {
 #[derive(Drop)]
 pub struct Parser<const OSC_RAW_BUF_SIZE: usize> {
     machine: Machine<ArrayVec<u8, OSC_RAW_BUF_SIZE>>,
-    reader: Reader<ArrayVec<u8, OSC_RAW_BUF_SIZE>>,
+    looks: Looks,
 }
 
 impl Parser<MAX_OSC_RAW> {
@@ -124,56 +123,8 @@ impl<const OSC_RAW_BUF_SIZE: usize> Parser<OSC_RAW_BUF_SIZE> {
     {
         Parser {
             machine: Machine::new(ArrayVec::new()),
-            reader: Reader::for_limited(),
+            looks: Looks::none(),
         }
-    }
-
-    /// Reads the next bytes of the stream, and performs the events that they add to it.
-    ///
-    /// However calls split the stream, the events are the same. An unfinished character or sequence
-    /// at the end waits for more bytes.
-    pub fn advance<P: Perform>(&mut self, performer: &mut P, bytes: &[u8])
-        ensures { ReadsBytes P.step (P.value_of performer.old)
-            (P.value_of performer.new) bytes.now self.old self.new }
-    {
-        self.drive::<P, Singly, false>(performer, bytes);
-    }
-
-    /// Reads the next bytes of the stream as [`advance`](Self::advance) does, and passes characters
-    /// to print in [runs](crate::PerformText), and the data of device control strings in
-    /// [slices](crate::PerformText::put_slice).
-    pub fn advance_text<P: PerformText>(&mut self, performer: &mut P, bytes: &[u8])
-        ensures { ReadsBytes P.step (P.value_of performer.old)
-            (P.value_of performer.new) bytes.now self.old self.new }
-    {
-        self.drive::<P, InRuns, false>(performer, bytes);
-    }
-
-    /// Reads bytes until the performer is terminated, and returns how many were read.
-    ///
-    /// The performer is asked at the start of the call, and again after each character, malformed
-    /// sequence or byte that was reported. It isn't asked before each byte: where nothing is
-    /// reported, many are read between two questions. A character that an earlier call began is
-    /// finished first. An unfinished one at the end of the bytes counts as read.
-    pub fn advance_until_terminated<P: Perform>(&mut self, performer: &mut P, bytes: &[u8]) -> usize
-        ensures { ReadsUntilTerminated P.step P.is_terminated (P.value_of performer.old)
-            (P.value_of performer.new) bytes.now result self.old self.new }
-    {
-        self.drive::<P, Singly, true>(performer, bytes)
-    }
-
-    /// Reads bytes as [`advance_until_terminated`](Self::advance_until_terminated) does, and passes
-    /// characters to print in [runs](crate::PerformText). Only for performers that nothing in a run
-    /// terminates: they aren't asked there.
-    pub fn advance_text_until_terminated<P: PerformThroughText>(
-        &mut self,
-        performer: &mut P,
-        bytes: &[u8],
-    ) -> usize
-        ensures { ReadsUntilTerminated P.step P.is_terminated (P.value_of performer.old)
-            (P.value_of performer.new) bytes.now result self.old self.new }
-    {
-        self.drive::<P, InRuns, true>(performer, bytes)
     }
 
     /// Returns what is unfinished, if anything is.
@@ -216,24 +167,26 @@ impl<const OSC_RAW_BUF_SIZE: usize> Parser<OSC_RAW_BUF_SIZE> {
 
     /// Reads the bytes of a call, all of them or, if it `MAY_STOP`, until the performer is
     /// terminated, and returns how many were read.
-    fn drive<P: CountedPerform<ArrayVec<u8, OSC_RAW_BUF_SIZE>, G>, G: Grain, const MAY_STOP: bool>(
+    pub(crate) fn drive<P: CountedPerform<G>, G: Grain, const MAY_STOP: bool>(
         &mut self,
         performer: &mut P,
-        bytes: &[u8],
+        chunk: Chunk<'_>,
     ) -> usize
         requires no_stop { G.IN_RUNS ≡ true → MAY_STOP ≡ true
             → NoCharacterStops P.layout P.step P.is_terminated }
         ensures all { MAY_STOP ≡ false
             → ReadsBytes P.step (P.value_of performer.old)
-            (P.value_of performer.new) bytes.now self.old self.new }
+            (P.value_of performer.new) chunk.entry.bytes.now self.old self.new }
         ensures stops { MAY_STOP ≡ true
             → ReadsUntilTerminated P.step P.is_terminated (P.value_of performer.old)
-            (P.value_of performer.new) bytes.now result self.old self.new }
+            (P.value_of performer.new) chunk.entry.bytes.now result self.old self.new }
     {
-        match self
+        let (mut reader, input) = chunk.open();
+        let result = self
             .machine
-            .drive::<P, G, MAY_STOP>(&mut self.reader, performer, Input::new(bytes))
-        {
+            .drive::<P, G, MAY_STOP>(&mut reader, performer, input);
+        self.looks.add(reader);
+        match result {
             Ok(read) => read,
             // Never: with a limit no memory is refused.
             Err(refused) => refused.read,

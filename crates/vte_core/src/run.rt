@@ -13,16 +13,11 @@ use crate::utf8::{is_continuation, is_lead, is_printed_ascii, may_begin_four, ma
 /// to pay for one wasted block.
 const SHORT_RUN: usize = 48;
 
-impl<B> Reader<B> {
+impl Reader {
     /// Returns whether printed ASCII begins a run at a position: four bytes of it, of which the
     /// first was looked at, and `next` too.
     #[inline(always)]
-    pub(crate) fn begins_ascii_run(
-        &mut self,
-        input: Input<'_, B>,
-        at: usize,
-        next: Option<u8>,
-    ) -> bool
+    pub(crate) fn begins_ascii_run(&mut self, input: Input<'_>, at: usize, next: Option<u8>) -> bool
         requires within { at < length input.bytes.now }
         requires printed { IsPrintedAscii (slice_index input.bytes.now at) }
         requires next { IfSome next
@@ -39,10 +34,10 @@ impl<B> Reader<B> {
 
     /// Finds where the run ends that begins with four bytes of ASCII, which were looked at.
     #[inline(never)]
-    pub(crate) fn find_ascii_run_end<P: CountedPerform<B, G>, G: Grain>(
+    pub(crate) fn find_ascii_run_end<P: CountedPerform<G>, G: Grain>(
         &mut self,
         performer: &P,
-        input: Input<'_, B>,
+        input: Input<'_>,
         from: usize,
     ) -> usize
         requires within { from + 4 ≤ length input.bytes.now }
@@ -64,10 +59,10 @@ impl<B> Reader<B> {
     /// first byte of two, the second and that another character follows; after one of three, the
     /// second and the third.
     #[inline(always)]
-    pub(crate) fn find_run_end_at_lead<P: CountedPerform<B, G>, G: Grain>(
+    pub(crate) fn find_run_end_at_lead<P: CountedPerform<G>, G: Grain>(
         &mut self,
         performer: &P,
-        input: Input<'_, B>,
+        input: Input<'_>,
         from: usize,
         first: u8,
     ) -> usize
@@ -102,10 +97,10 @@ impl<B> Reader<B> {
 
     /// Finds where the run ends that has come to a position, for a performer.
     #[inline(never)]
-    pub(crate) fn find_run_end_for<P: CountedPerform<B, G>, G: Grain>(
+    pub(crate) fn find_run_end_for<P: CountedPerform<G>, G: Grain>(
         &mut self,
         performer: &P,
-        input: Input<'_, B>,
+        input: Input<'_>,
         from: usize,
     ) -> usize
         requires { from ≤ length input.bytes.now }
@@ -118,7 +113,7 @@ impl<B> Reader<B> {
     /// Finds where the run ends that has come to a position. With `layout`, HT, LF and CR don't
     /// end it.
     #[inline(always)]
-    pub(crate) fn find_run_end(&mut self, input: Input<'_, B>, from: usize, layout: bool) -> usize
+    pub(crate) fn find_run_end(&mut self, input: Input<'_>, from: usize, layout: bool) -> usize
         requires { from ≤ length input.bytes.now }
         ensures scans { Scans (IsRun layout) input.entry.bytes.now from result self.old self.new }
         ensures ended { HasNoRunAt layout input.entry.bytes.now result }
@@ -135,7 +130,7 @@ impl<B> Reader<B> {
 
     /// Finds where the run ends that has come to a position, or where it comes to or past another.
     #[inline(always)]
-    fn find_end_up_to(&mut self, input: Input<'_, B>, from: usize, to: usize, layout: bool) -> usize
+    fn find_end_up_to(&mut self, input: Input<'_>, from: usize, to: usize, layout: bool) -> usize
         requires range { IsRange input.bytes.now from to }
         ensures scans { Scans (IsRun layout) input.entry.bytes.now from result self.old self.new }
         ensures ended { result < to → HasNoRunAt layout input.entry.bytes.now result }
@@ -161,7 +156,7 @@ impl<B> Reader<B> {
 
     /// Finds where a long run ends that has come to a position.
     #[inline(never)]
-    fn find_run_end_by_blocks(&mut self, input: Input<'_, B>, from: usize, layout: bool) -> usize
+    fn find_run_end_by_blocks(&mut self, input: Input<'_>, from: usize, layout: bool) -> usize
         requires { from ≤ length input.bytes.now }
         ensures scans { Scans (IsRun layout) input.entry.bytes.now from result self.old self.new }
         ensures ended { HasNoRunAt layout input.entry.bytes.now result }
@@ -177,7 +172,7 @@ impl<B> Reader<B> {
     #[inline(always)]
     fn find_other_character_end(
         &mut self,
-        input: Input<'_, B>,
+        input: Input<'_>,
         from: usize,
         first: u8,
         layout: bool,
@@ -219,7 +214,7 @@ impl<B> Reader<B> {
     /// Finds where the printed ASCII ends that has come to a position by a byte. Two more are read
     /// alone, then words are taken.
     #[inline(always)]
-    fn find_ascii_end(&mut self, input: Input<'_, B>, from: usize) -> usize
+    fn find_ascii_end(&mut self, input: Input<'_>, from: usize) -> usize
         requires { from ≤ length input.bytes.now }
         ensures scans { Scans ArePrintedAscii input.entry.bytes.now from result self.old self.new }
         ensures count { 3 * looked self.new + 11 * from ≤ 3 * looked self.old + 11 * result + 8 }
@@ -236,7 +231,7 @@ impl<B> Reader<B> {
     /// Finds the first byte from a position on that is no printed ASCII, or where fewer than eight
     /// bytes are left.
     #[inline(always)]
-    fn find_end_by_words(&mut self, input: Input<'_, B>, from: usize) -> usize
+    fn find_end_by_words(&mut self, input: Input<'_>, from: usize) -> usize
         requires { from ≤ length input.bytes.now }
         ensures scans { Scans ArePrintedAscii input.entry.bytes.now from result self.old self.new }
         ensures count { looked self.new + from ≤ looked self.old + result + 8 }

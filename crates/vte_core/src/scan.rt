@@ -1,16 +1,18 @@
-//! The only module that reads input bytes, and the only way to report events. It counts both, for
-//! contracts alone.
+//! The only module that has the bytes of a call, and the only way to report events. It counts both,
+//! for contracts alone.
 //!
-//! A [`Reader`] is the only way to the bytes of an [`Input`], and a [`CountedPerform`] takes events
-//! with a reader alone. Bytes leave this module one by one, in blocks, as a copy in a buffer, or as
-//! text or data: for a performer, or in a [`Run`] for the caller. Only `for_limited` and `for_long`
-//! make a `Reader<B>`: a function that is generic in the buffer `B` can't replace one, and its
-//! count, by a new one.
-ghost use Rattle.std.specs.Prelude.{◌≡◌, ◌+◌, ◌-◌, ◌<◌, ◌≤◌, ℕ, [], ◌∷◌, ◌++◌, false, length, drop, map, take, slice_index, vec_capacity, MatchOption, IsUtf8};
-ghost use Rattle.vte_core.specs.machine.Prelude.{AreOfKind, ArePut, IsRange, IsRun, IsTaken, PrintsRun, Put, Tells, after, character_event, is_in, looked, malformed_event, from_to};
+//! Each form of `advance` makes a [`Chunk`] of its bytes, and passes nothing else on. The one
+//! [`Reader`] of a chunk is the only way to the bytes of its [`Input`], and a [`CountedPerform`]
+//! takes events with a reader alone. No other module can make one of these. Bytes leave this module
+//! one by one, in blocks, as a copy in a buffer, or as text or data: for a performer, or in a
+//! [`Run`] for the caller.
+ghost use Rattle.std.specs.Prelude.{◌≡◌, ◌+◌, ◌-◌, ◌<◌, ◌≤◌, ℕ, [], ◌∷◌, ◌++◌, false, true, length, drop, map, take, slice_index, vec_capacity, MatchOption, IsUtf8};
+ghost use Rattle.vte_core.specs.machine.Prelude.{AreOfKind, ArePut, IsRange, IsRun, IsTaken, PrintsRun, Put, Tells, after, character_event, counted, is_in, looked, malformed_event, from_to};
 
+mod calls;
 mod counted_perform;
 mod grain;
+mod long_calls;
 mod search;
 mod taken;
 
@@ -19,7 +21,6 @@ pub(crate) use counted_perform::CountedPerform;
 pub(crate) use grain::Grain;
 pub use grain::{InRuns, Singly};
 use std::alloc::{AllocError, Allocator};
-use std::marker::PhantomData;
 use std::snapshot::Snapshot;
 use std::{mem, str};
 pub use taken::{Run, Taken};
@@ -30,39 +31,73 @@ pub(crate) use taken::{RunKind, RunRange};
 enum Trail {
     Start,
     Then(Snapshot<Trail>, usize),
+    Both(Snapshot<Trail>, Snapshot<Trail>),
 }
 
-/// Reads input bytes and reports events, and counts both as looks. It has no bytes at run time.
+/// The looks of all calls of a parser. It has no bytes at run time.
 #[derive(Drop)]
-pub(crate) struct Reader<B> {
+pub(crate) struct Looks {
     trail: Snapshot<Trail>,
-    buffer: PhantomData<B>,
 }
 
-/// The bytes of a call of a parser with the buffer `B`. Only its `Reader` reads them.
-pub(crate) struct Input<'a, B> {
-    bytes: &'a [u8],
-    buffer: PhantomData<B>,
-}
-
-impl<B> Clone for Input<'_, B> {
-    fn clone(&self) -> Result<Self, AllocError> {
-        Ok(*self)
-    }
-}
-
-impl<B> Copy for Input<'_, B> {}
-
-impl<'a, B> Input<'a, B> {
-    pub(crate) fn new(bytes: &'a [u8]) -> Self
-        ensures { result.bytes.now ≡ bytes.now }
+impl Looks {
+    /// Creates the count of a parser that has read nothing.
+    pub(crate) fn none() -> Self
+        ensures { counted result ≡ 0 }
     {
-        Input {
-            bytes,
-            buffer: PhantomData,
+        Looks {
+            trail: Snapshot::of(&Trail::Start),
         }
     }
 
+    /// Adds the looks of a call, whose reader ends.
+    pub(crate) fn add(&mut self, reader: Reader)
+        ensures { counted self.new ≡ counted self.old + looked reader }
+    {
+        let Reader { trail } = reader;
+        let before = mem::replace(&mut self.trail, Snapshot::of(&Trail::Start));
+        self.trail = Snapshot::of(&Trail::Both(before, trail));
+    }
+}
+
+/// The bytes of a call, which has one reader.
+pub(crate) struct Chunk<'a> {
+    bytes: &'a [u8],
+}
+
+impl<'a> Chunk<'a> {
+    fn new(bytes: &'a [u8]) -> Self
+        ensures { result.bytes.now ≡ bytes.now }
+    {
+        Chunk { bytes }
+    }
+
+    /// Returns the call's reader, which has taken no looks, and what it reads.
+    pub(crate) fn open(self) -> (Reader, Input<'a>)
+        ensures looks { looked result.0 ≡ 0 }
+        ensures bytes { result.1.bytes.now ≡ self.entry.bytes.now }
+    {
+        let Chunk { bytes } = self;
+        let reader = Reader {
+            trail: Snapshot::of(&Trail::Start),
+        };
+        (reader, Input { bytes })
+    }
+}
+
+/// Reads the bytes of a call and reports events, and counts both as looks. It has no bytes at run
+/// time. It can't be let go: its looks are added to those of the parser.
+pub(crate) struct Reader {
+    trail: Snapshot<Trail>,
+}
+
+/// The bytes of a call, which only its [`Reader`] reads.
+#[derive(Clone, Copy)]
+pub(crate) struct Input<'a> {
+    bytes: &'a [u8],
+}
+
+impl<'a> Input<'a> {
     pub(crate) fn len(self) -> usize
         ensures { result ≡ length self.entry.bytes.now }
     {
@@ -79,81 +114,53 @@ impl<'a, B> Input<'a, B> {
     {
         Input {
             bytes: &self.bytes[..to],
-            buffer: PhantomData,
-        }
-    }
-
-    /// Returns the text from one position to another, which is whole characters.
-    #[inline(always)]
-    fn text(self, from: usize, to: usize) -> &'a str
-        requires range { IsRange self.bytes.now from to }
-        requires utf8 { IsUtf8 (take (to - from) (drop from self.bytes.now)) }
-        ensures { result.now ≡ take (to - from) (drop from self.entry.bytes.now) }
-    {
-        let bytes = &self.bytes[from..to];
-        unsafe { str::from_utf8_unchecked(bytes) }
-    }
-
-    /// Returns the data from one position to another.
-    #[inline(always)]
-    fn data(self, from: usize, to: usize) -> &'a [u8]
-        requires range { IsRange self.bytes.now from to }
-        ensures { result.now ≡ take (to - from) (drop from self.entry.bytes.now) }
-    {
-        &self.bytes[from..to]
-    }
-
-    /// Returns the run that stands at a position, whose bytes were looked at.
-    pub(crate) fn take_run(self, range: RunRange) -> Run<'a>
-        requires range { IsRange self.bytes.now range.start range.end }
-        requires kind { AreOfKind range.kind
-            (take (range.end - range.start) (drop range.start self.bytes.now)) }
-        ensures start { result.start ≡ range.start }
-        ensures end { result.end ≡ range.end }
-        ensures taken { IsTaken range.kind
-            (take (range.end - range.start) (drop range.start self.entry.bytes.now)) result.taken }
-    {
-        let taken = match range.kind {
-            RunKind::OfText => Taken::Text(self.text(range.start, range.end)),
-            RunKind::OfData => Taken::Data(self.data(range.start, range.end)),
-            RunKind::Empty => Taken::Nothing,
-        };
-        Run {
-            start: range.start,
-            end: range.end,
-            taken,
         }
     }
 }
 
-impl<const N: usize> Reader<ArrayVec<u8, N>> {
-    /// Creates a reader that has taken no looks, for a parser with a limit.
-    pub(crate) fn for_limited() -> Self
-        ensures { looked result ≡ 0 }
-    {
-        Reader::none()
+/// Returns the text from one position to another, which is whole characters.
+#[inline(always)]
+fn text(bytes: &[u8], from: usize, to: usize) -> &str
+    requires range { IsRange bytes.now from to }
+    requires utf8 { IsUtf8 (take (to - from) (drop from bytes.now)) }
+    ensures { result.now ≡ take (to - from) (drop from bytes.now) }
+{
+    let bytes = &bytes[from..to];
+    unsafe { str::from_utf8_unchecked(bytes) }
+}
+
+/// Returns the data from one position to another.
+#[inline(always)]
+fn data(bytes: &[u8], from: usize, to: usize) -> &[u8]
+    requires range { IsRange bytes.now from to }
+    ensures { result.now ≡ take (to - from) (drop from bytes.now) }
+{
+    &bytes[from..to]
+}
+
+/// Returns the run that stands at a position, whose bytes were looked at.
+fn take_run(bytes: &[u8], range: RunRange) -> Run<'_>
+    requires range { IsRange bytes.now range.start range.end }
+    requires kind { AreOfKind range.kind
+        (take (range.end - range.start) (drop range.start bytes.now)) }
+    ensures start { result.start ≡ range.start }
+    ensures end { result.end ≡ range.end }
+    ensures taken { IsTaken range.kind
+        (take (range.end - range.start) (drop range.start bytes.now)) result.taken }
+{
+    let taken = match range.kind {
+        RunKind::OfText => Taken::Text(text(bytes, range.start, range.end)),
+        RunKind::OfData => Taken::Data(data(bytes, range.start, range.end)),
+        RunKind::Empty => Taken::Nothing,
+    };
+    Run {
+        start: range.start,
+        end: range.end,
+        taken,
     }
 }
 
-impl<A: Allocator> Reader<Vec<u8, A>> {
-    /// Creates a reader that has taken no looks, for a parser without a limit.
-    pub(crate) fn for_long() -> Self
-        ensures { looked result ≡ 0 }
-    {
-        Reader::none()
-    }
-}
-
-impl<B> Reader<B> {
-    fn none() -> Self
-        ensures { looked result ≡ 0 }
-    {
-        Reader {
-            trail: Snapshot::of(&Trail::Start),
-            buffer: PhantomData,
-        }
-    }
-
+impl Reader {
     /// Counts looks.
     fn add(&mut self, count: usize)
         ensures { looked self.new ≡ looked self.old + count }
@@ -163,7 +170,7 @@ impl<B> Reader<B> {
     }
 
     /// Returns the byte at an index.
-    pub(crate) fn at(&mut self, input: Input<'_, B>, index: usize) -> u8
+    pub(crate) fn at(&mut self, input: Input<'_>, index: usize) -> u8
         requires { index < length input.bytes.now }
         ensures value { result ≡ slice_index input.entry.bytes.now index }
         ensures count { looked self.new ≡ looked self.old + 1 }
@@ -174,7 +181,7 @@ impl<B> Reader<B> {
 
     /// Returns the byte at an index, or `None` past the end.
     #[inline(always)]
-    pub(crate) fn get(&mut self, input: Input<'_, B>, index: usize) -> Option<u8>
+    pub(crate) fn get(&mut self, input: Input<'_>, index: usize) -> Option<u8>
         ensures { MatchOption result
             ((length input.entry.bytes.now ≤ index) × (looked self.new ≡ looked self.old)) (λ byte.
             (index < length input.entry.bytes.now)
@@ -190,7 +197,7 @@ impl<B> Reader<B> {
     #[inline(always)]
     pub(crate) fn get_block<const N: usize>(
         &mut self,
-        input: Input<'_, B>,
+        input: Input<'_>,
         from: usize,
     ) -> Option<[u8; N]>
         requires { from ≤ length input.bytes.now }
@@ -207,7 +214,11 @@ impl<B> Reader<B> {
     /// Tells a whole character.
     #[inline(always)]
     #[tactic(auto, unfolding(crate::specs::Text::character_event))]
-    pub(crate) fn tell_character<P: CountedPerform<B, G>, G>(&mut self, performer: &mut P, c: char)
+    pub(crate) fn tell_character<P: CountedPerform<G>, G: Grain>(
+        &mut self,
+        performer: &mut P,
+        c: char,
+    )
         ensures { Tells P.step (P.value_of performer.old) (P.value_of performer.new)
             (character_event c) self.old self.new }
     {
@@ -221,7 +232,11 @@ impl<B> Reader<B> {
     /// alone.
     #[inline(always)]
     #[tactic(auto, unfolding(crate::specs::Text::character_event, crate::specs::Text::malformed_event))]
-    pub(crate) fn tell_lone_byte<P: CountedPerform<B, G>, G>(&mut self, performer: &mut P, byte: u8)
+    pub(crate) fn tell_lone_byte<P: CountedPerform<G>, G: Grain>(
+        &mut self,
+        performer: &mut P,
+        byte: u8,
+    )
         requires { is_in (from_to 0x20 0x7f) byte ≡ false }
         ensures control { byte < 0x80
             → P.value_of performer.new ≡ P.step (P.value_of performer.old) (character_event byte) }
@@ -238,13 +253,14 @@ impl<B> Reader<B> {
 
     /// Tells the run of text that stands from one position to another, which counts its bytes.
     #[inline(always)]
-    pub(crate) fn tell_text<P: CountedPerform<B, G>, G>(
+    pub(crate) fn tell_text<P: CountedPerform<G>, G: Grain>(
         &mut self,
         performer: &mut P,
-        input: Input<'_, B>,
+        input: Input<'_>,
         from: usize,
         to: usize,
     )
+        requires in_runs { G.IN_RUNS ≡ true }
         requires some { from < to }
         requires within { to ≤ length input.bytes.now }
         requires run { IsRun P.layout input.bytes.now from to }
@@ -252,18 +268,19 @@ impl<B> Reader<B> {
             (P.value_of performer.new) input.entry.bytes.now from to }
         ensures count { looked self.new + from ≡ looked self.old + to }
     {
-        performer.print_text(self, input.text(from, to));
+        performer.print_text(self, text(input.bytes, from, to));
     }
 
     /// Tells the data that stand from one position to another, which counts them.
     #[inline(always)]
-    pub(crate) fn tell_data<P: CountedPerform<B, G>, G>(
+    pub(crate) fn tell_data<P: CountedPerform<G>, G: Grain>(
         &mut self,
         performer: &mut P,
-        input: Input<'_, B>,
+        input: Input<'_>,
         from: usize,
         to: usize,
     )
+        requires in_runs { G.IN_RUNS ≡ true }
         requires some { from < to }
         requires within { to ≤ length input.bytes.now }
         requires put { ArePut input.bytes.now from to }
@@ -272,13 +289,13 @@ impl<B> Reader<B> {
             (map Put (take (to - from) (drop from input.entry.bytes.now))) }
         ensures count { looked self.new + from ≡ looked self.old + to }
     {
-        performer.put_slice(self, input.data(from, to));
+        performer.put_slice(self, data(input.bytes, from, to));
     }
 
     /// Appends the bytes from one position to another to an array that has room for them.
     pub(crate) fn copy_to_array<const N: usize>(
         &mut self,
-        input: Input<'_, B>,
+        input: Input<'_>,
         from: usize,
         to: usize,
         array: &mut ArrayVec<u8, N>,
@@ -294,11 +311,11 @@ impl<B> Reader<B> {
     }
 }
 
-impl<B> Reader<B> {
+impl Reader {
     /// Appends the bytes from one position to another to a vector that has memory for them.
     pub(crate) fn copy_to_vec<A: Allocator>(
         &mut self,
-        input: Input<'_, B>,
+        input: Input<'_>,
         from: usize,
         to: usize,
         vec: &mut Vec<u8, A>,

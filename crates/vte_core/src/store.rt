@@ -109,8 +109,8 @@ impl<B: Buffer> Store<B> {
     /// none after 16 pieces.
     pub(crate) fn push_data(
         &mut self,
-        reader: &mut Reader<B>,
-        input: Input<'_, B>,
+        reader: &mut Reader,
+        input: Input<'_>,
         from: usize,
         to: usize,
     )
@@ -132,9 +132,9 @@ impl<B: Buffer> Store<B> {
 
     /// Dispatches the command with its pieces.
     #[tactic(auto, using(std::proofs::lemmas::Grind::common_steps))]
-    pub(crate) fn dispatch<P: CountedPerform<B, G>, G: Grain>(
+    pub(crate) fn dispatch<P: CountedPerform<G>, G: Grain>(
         &self,
-        reader: &mut Reader<B>,
+        reader: &mut Reader,
         performer: &mut P,
         bell_terminated: bool,
     )

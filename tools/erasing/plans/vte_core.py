@@ -28,28 +28,26 @@ debug_assert!(is_continuation(third) && is_continuation(fourth));
 
 
 # A `Reader` counts looks for contracts alone, and has no bytes at run time. So it is passed by
-# value, which takes no argument. An `Input` is a slice, of whose length rustc tells LLVM more than
-# of a struct's, and its methods are functions. Neither type says for which buffer `B` a parser
-# counts: a function with another use of its own `B` would no longer compile.
-METHODS_OF_INPUT = ("up_to", "text", "data", "take_run")
+# value, which takes no argument, and a parser keeps no count. A `Chunk` and an `Input` are a slice,
+# of whose length rustc tells LLVM more than of a struct's.
 COUNTS = [
-    ("&mut Reader<B>", "Reader"), ("&mut self.reader", "self.reader"),
-    ("impl<$$x> Reader<$$b> { $$$f }",
+    ("&mut Reader", "Reader"), ("&mut reader", "reader"),
+    ("looks: Looks,", ""), ("looks: Looks::none(),", ""),
+    ("impl Reader { $$$f }",
      lambda names: f"impl Reader {{ {names['f'].replace('&mut self', 'self')} }}"),
-    ("reader: Reader<$$b>,", "reader: Reader,"), ("Reader<B>", "Reader"),
-    ("Input<'_, B>", "&[u8]"), ("Input::new($x)", "$x"),
+    ("Input<'_>", "&[u8]"), ("chunk: Chunk<'_>,", "input: &[u8],"), ("Chunk::new($x)", "$x"),
+    ("let (mut reader, input) = chunk.open();", "let reader = Reader {};"),
+    ("let result = $$e; self.looks.add(reader); result", "$e"), ("self.looks.add(reader);", ""),
     # inlined by rustc before LLVM sees its caller, it would move a branch of the loop over text
     ("reader.tell_text(performer, input, $$p)", "performer.print_text(reader, text(input, $p))"),
-    *((f"input.{name}(", f"{name}(input, ") for name in METHODS_OF_INPUT),
-    ("CountedPerform<B, $g>", "CountedPerform<$g>"), ("fn $f<B>", "fn $f"), ("fn $f<B, ", "fn $f<"),
+    ("input.up_to(", "up_to(input, "),
 ]
 
 
 def functions_of_input(names):
     """The methods of `Input` as functions of a slice."""
     text = names["f"]
-    for old, new in (("(self,", "(input: &[u8],"), ("self", "input"), ("Self", "&[u8]"),
-                     ("&'a ", "&"), ("<'a>", "<'_>")):
+    for old, new in (("(self,", "(input: &[u8],"), ("self", "input"), ("Self", "&[u8]")):
         text = text.replace(old, new)
     return text
 
@@ -65,20 +63,21 @@ def constant(*fronts):
 
 
 VTE_CORE = dict(
-    homes={"vte_core": {"crate::proved::vte_core::scan": "take_run text up_to",
+    homes={"vte_core": {"crate::proved::vte_core::scan": "Reader text up_to",
                         "crate::adapter::array_vec": "Element"}},
     item_conditions={
-        "vte_core": {WITH_MEMORY: "AllocError Vec for_long long"},
+        "vte_core": {WITH_MEMORY: "AllocError Vec long long_calls"},
         "vte_core/lib": {WITH_MEMORY: "LongParser Refused", OWN: "Saved",
                          'feature = "ansi"': "InRuns Singly"},
         # the module has the condition
         "vte_core/parser/long": None,
+        "vte_core/scan/long_calls": None,
         "vte_core/parser": {OWN: "saved"},
     },
     dropped_items={
         # what only contracts read, and what a slice has, or is where it is called
-        "vte_core/scan": ("enum Trail", "struct Input", "impl<B> Copy for Input", "fn new",
-                          "fn len", "fn tell_text"),
+        "vte_core/scan": ("enum Trail", "struct Looks", "impl Looks", "struct Chunk",
+                          "impl<'a> Chunk", "struct Input", "fn len", "fn tell_text"),
         # only proofs use it
         "vte_core/perform": ("trait PerformThroughText",),
         # nobody asks
@@ -94,27 +93,23 @@ VTE_CORE = dict(
         "vte_core": COUNTS
         + [("P: PerformThroughText", "P: PerformText"), (", PerformThroughText", "")],
         "vte_core/scan": [
-            ("trail: $$x, buffer: $$y,", ""),
+            ("trail: Snapshot<Trail>,", ""),
             ("let before = $$a; self.trail = $$b;", "let _ = count;"),
-            ("impl<'a, B> Input<'a, B> { $$$f }", functions_of_input),
-            ("Input { bytes: $$x, buffer: PhantomData, }", "$x"), ("input.bytes", "input"),
+            ("impl<'a> Input<'a> { $$$f }", functions_of_input),
+            ("Input { bytes: $$x, }", "$x"), ("input.bytes", "input"),
             ("fn text(", "pub(crate) fn text("),
             ("input[from..].first_chunk::<N>()", "first_chunk::<N>(&input[from..])"),
-            ("unsafe {", f"{OF_TEXT}unsafe {{"),
-            *constant("pub(crate) fn for_limited", "pub(crate) fn for_long", "fn none")],
+            ("unsafe {", f"{OF_TEXT}unsafe {{")],
         "vte_core/scan/search": [("input.bytes", "input")],
-        "vte_core/scan/counted_perform": [
-            ("impl<P: PerformAs<G>, B, G>", "impl<P: PerformAs<G>, G>")],
         "vte_core/parser": [
             ("struct Parser<const OSC_RAW_BUF_SIZE: usize>",
              "struct Parser<const OSC_RAW_BUF_SIZE: usize = MAX_OSC_RAW>"),
-            ("CountedPerform<$$b>, G>", "CountedPerform<G>"),
-            *private("advance_text_until_terminated"),
             *constant("pub fn new", "pub fn new_with_size"),
         ],
-        "vte_core/parser/long": [*private("advance_text_until_terminated", "stored"),
-                                 *constant("pub fn new")],
+        "vte_core/parser/long": [*private("stored"), *constant("pub fn new")],
         "vte_core/parser/saved": [("T: Copy + Default", "T: Element")],
+        "vte_core/scan/calls": private("advance_text_until_terminated"),
+        "vte_core/scan/long_calls": private("advance_text_until_terminated"),
         **{f"vte_core/{module}": constant("pub(crate) fn new")
            for module in ("parser/machine", "store", "head")},
         "vte_core/perform": [
@@ -134,14 +129,13 @@ VTE_CORE = dict(
     },
     attributes={
         "vte_core/parser/machine": {"#[derive(Clone)]": ["pub(crate) struct Machine"]},
-        "vte_core/parser": {
+        "vte_core/scan/calls": {
             '#[must_use = "the bytes after the stop are still to be read"]': [
                 "pub fn advance_until_terminated"],
             f"#[cfg({OWN_OR_ANSI})]": ["pub(crate) fn advance_text_until_terminated"],
-        },
-        "vte_core/parser/to_run": {
             '#[must_use = "the bytes after the run are still to be read"]': [
-                "pub fn advance_to_run"]},
+                "pub fn advance_to_run"],
+        },
         "vte_core/params": {
             '#[doc = include_str!("../../docs/params.md")]': ["pub struct Params {"],
             "#[derive(Clone, Debug)]": ["pub struct ParamsIter"],
@@ -178,9 +172,10 @@ VTE_CORE = dict(
                                 ("system_command", "system_command"))},
         "vte_core/parser/long": {
             '#[must_use = "the memory may be refused"]': ["pub fn reserve"],
-            f"#[cfg({OWN_OR_ANSI})]": [
-                "pub(crate) fn advance_text_until_terminated", "pub(crate) fn stored"],
+            f"#[cfg({OWN_OR_ANSI})]": ["pub(crate) fn stored"],
         },
+        "vte_core/scan/long_calls": {
+            f"#[cfg({OWN_OR_ANSI})]": ["pub(crate) fn advance_text_until_terminated"]},
     },
     default_bodies={"vte_core/perform": "pub trait Perform {"},
 )

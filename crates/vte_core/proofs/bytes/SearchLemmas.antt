@@ -5,7 +5,7 @@ use Rattle.vte_core.specs.machine.Each.{Each}
 use Rattle.vte_core.proofs.bytes.EachLemmas.{each-both, each-block}
 use Rattle.vte_core.proofs.bytes.Printable.{run-append}
 
-pub scans-run : {B : Type 0} {layout : Bool} {bytes : List ℕ} {i j k : ℕ} {s t u : Reader B}
+pub scans-run : {layout : Bool} {bytes : List ℕ} {i j k : ℕ} {s t u : Reader}
     → Scans (IsRun layout) bytes i j s t → Scans (IsRun layout) bytes j k t u → Scans (IsRun layout) bytes i k s u
 scans-run a b =
     record {
@@ -16,8 +16,8 @@ scans-run a b =
     }
 
 -- over a block, of which the first bytes are such
-pub scans-block : {B : Type 0} (holds : ℕ → Type 0) (bytes : List ℕ) {block : List ℕ} {i j n : ℕ} (m : ℕ)
-    {s t u : Reader B} → Scans (Each holds) bytes i j s t
+pub scans-block : (holds : ℕ → Type 0) (bytes : List ℕ) {block : List ℕ} {i j n : ℕ} (m : ℕ)
+    {s t u : Reader} → Scans (Each holds) bytes i j s t
     → (j + n ≤ length bytes) × (block ≡ take n (drop j bytes)) × (looked u ≡ looked t + n) → m ≤ n
     → Each holds block 0 m → Scans (Each holds) bytes i (j + m) s u
 scans-block holds bytes m a block few all = record {

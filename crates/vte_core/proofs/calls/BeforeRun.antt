@@ -1,11 +1,19 @@
 -- What a call tells before a run is told by no run: nothing at its start, then what an open character is, then
 -- stretches of which each tells none.
-use Rattle.vte_core.proofs.Common.{◌≡◌, ℕ, inl, inr, Option, List, [], ◌++◌, ap, sym, subst, ◌∙◌, All, All-append, All-nil, Event, Machine, HasReadWithLimit, IsSettled, told_before, open_character, AddsOutsideRuns, IsOutsideRuns, TellsOutsideRuns, PrintsNoAscii}
+use Rattle.vte_core.proofs.Common.{◌≡◌, ℕ, inl, inr, Option, List, [], ◌∷◌, ◌++◌, drop, ap, sym, subst, ◌∙◌, All, All-append, All-drop, All-nil, Event, Machine, HasReadWithLimit, IsSettled, told_before, open_character, AddsOutsideRuns, IsOutsideRuns, TellsOutsideRuns, PrintsNoAscii}
 use Rattle.vte_core.specs.machine.Completes.{AddsCharacter}
 use Rattle.vte_core.proofs.calls.CallEnds.{starts-at}
 use Rattle.vte_core.proofs.calls.AddedEvents.{keeping, told-at}
 use Rattle.vte_core.proofs.streams.After.{added-nothing}
 use Rattle.vte_core.proofs.streams.OutsideRuns.{prints_no_ascii, prints_no_ascii-all, prints_no_ascii-character}
+
+abbrev AllAfterFirst : List Event → Type 0
+AllAfterFirst events = All IsOutsideRuns (drop 1 events)
+
+after_first-append : (told events : List Event) → AllAfterFirst told → All IsOutsideRuns events
+    → AllAfterFirst (told ++ events)
+after_first-append [] events first are = All-drop IsOutsideRuns 1 events are
+after_first-append (event ∷ told) events first are = All-append IsOutsideRuns told events first are
 
 -- nothing, at its start
 pub tells-nothing : {B : Type 0} {limit : Option ℕ} {stream bytes : List ℕ} {parser : Machine B}
@@ -15,6 +23,7 @@ tells-nothing {limit} {stream} {bytes} settled h =
     told-at (starts-at {call = keeping limit bytes} settled h) in
     record {
       outside_runs = λ _. subst (All IsOutsideRuns) none (All-nil IsOutsideRuns);
+      after_first = subst AllAfterFirst none (All-nil IsOutsideRuns);
       no_ascii = subst (All PrintsNoAscii) none (All-nil PrintsNoAscii);
     }
 
@@ -26,6 +35,10 @@ tells-open {limit} {stream} {bytes} {j} a opened =
     a.parts ∙ ap (λ (es : List Event). es ++ a.events) (added-nothing limit stream) in
     record {
       outside_runs = λ none. absurd (opened none);
+      after_first = subst AllAfterFirst (sym all) (elim a.events_are [
+        | inl others ↦ All-drop IsOutsideRuns 1 a.events others
+        | inr whole ↦ subst AllAfterFirst (sym whole.same) (All-nil IsOutsideRuns)
+      ]);
       no_ascii = subst (All PrintsNoAscii) (sym all) (elim a.events_are [
         | inl others ↦ prints_no_ascii-all a.events others
         | inr whole ↦
@@ -43,6 +56,9 @@ tells-more {limit} {stream} {bytes} {i} t a = record {
       subst (All IsOutsideRuns) (sym a.parts)
       (All-append IsOutsideRuns (told_before limit stream bytes i) a.events (t.outside_runs none)
       a.events_are);
+  after_first =
+      subst AllAfterFirst (sym a.parts)
+      (after_first-append (told_before limit stream bytes i) a.events t.after_first a.events_are);
   no_ascii =
       subst (All PrintsNoAscii) (sym a.parts)
       (All-append PrintsNoAscii (told_before limit stream bytes i) a.events t.no_ascii

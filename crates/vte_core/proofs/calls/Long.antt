@@ -53,7 +53,7 @@ module _ {A V : Type 0} {step : V → Event → V} {is_terminated : V → Bool} 
   pub advance-refused : (refused : Refused) {drove : Result ℕ Refused}
       → ReadsUntilRefused (chunk_call false step is_terminated None bytes) old new refused.read parser.machine
       next.machine
-      → Costs 5 bytes drove refused.read parser.machine next.machine parser.reader next.reader
+      → Costs 5 bytes drove refused.read parser.machine next.machine (looks_long parser) (looks_long next)
       → ReadsBytesLong step old new bytes (Err refused) parser next
   advance-refused refused refuses costs = record {
     performs = λ stream h. (refuses-inside refuses stream h).has_come.performed;
@@ -65,7 +65,7 @@ module _ {A V : Type 0} {step : V → Event → V} {is_terminated : V → Bool} 
   -- `advance`, if no memory is refused
   pub advance-read : {read : ℕ}
       → ReadsUpTo (chunk_call false step is_terminated None bytes) old new read parser.machine next.machine
-      → Costs 5 bytes (Ok read) read parser.machine next.machine parser.reader next.reader
+      → Costs 5 bytes (Ok read) read parser.machine next.machine (looks_long parser) (looks_long next)
       → ReadsBytesLong step old new bytes (Ok tt) parser next
   advance-read reads costs =
       let all = reads-all _ _ reads.within reads.asked in
@@ -84,7 +84,7 @@ module _ {A V : Type 0} {step : V → Event → V} {is_terminated : V → Bool} 
       → IfErr result
       (λ refused. ReadsUntilRefused (chunk_call true step is_terminated None bytes) old new refused.read
       parser.machine next.machine)
-      → Costs 5 bytes result (read_count result) parser.machine next.machine parser.reader next.reader
+      → Costs 5 bytes result (read_count result) parser.machine next.machine (looks_long parser) (looks_long next)
       → ReadsUntilTerminatedLong step is_terminated old new bytes result parser next
   advance-until {result} reads refuses costs = record {
     within = read_count-by_result result reads refuses (λ read r. r.within) (λ refused r. omega (arith, r.within));
@@ -101,7 +101,7 @@ module _ {A V : Type 0} {step : V → Event → V} {is_terminated : V → Bool} 
   pub to_run-refused : (refused : Refused) {drove : Result RunRange Refused}
       → ReadsUntilRefused (chunk_call true step is_terminated None bytes) old new refused.read parser.machine
       next.machine
-      → Costs 7 bytes drove refused.read parser.machine next.machine parser.reader next.reader
+      → Costs 7 bytes drove refused.read parser.machine next.machine (looks_long parser) (looks_long next)
       → ((stream : List ℕ) → HasReadLong parser stream → TellsOutsideRuns None stream bytes refused.read)
       → ReadsToRunLong step is_terminated old new bytes (Err refused) parser next
   to_run-refused refused refuses costs others = record {
@@ -117,7 +117,7 @@ module _ {A V : Type 0} {step : V → Event → V} {is_terminated : V → Bool} 
   pub to_run-read : (run : Run) {place : RunRange}
       → ComesToRun (chunk_call true step is_terminated None bytes) old new place parser.machine next.machine
       → run.start ≡ place.start → run.end ≡ place.end → IsTaken place.kind (bytes_at bytes place) run.taken
-      → Costs 7 bytes (Ok place) place.end parser.machine next.machine parser.reader next.reader
+      → Costs 7 bytes (Ok place) place.end parser.machine next.machine (looks_long parser) (looks_long next)
       → ((stream : List ℕ) → HasReadLong parser stream → TellsOutsideRuns None stream bytes place.start)
       → ReadsToRunLong step is_terminated old new bytes (Ok run) parser next
   to_run-read run comes starts ends taken costs others = record {

@@ -17,7 +17,7 @@ use Rattle.vte_core.specs.machine.Progress.{ChunkCall, IsRefusedInCommand, IsSet
 -- them: those at the first bytes, by which it chose this function.
 pub record MovesWithin (rate seen : ℕ) {B : Type 0} (bytes : List ℕ) (i j : ℕ)
     (parser next : Machine B)
-    (before after : Reader B) : Type 0 where
+    (before after : Reader) : Type 0 where
   pub low : i ≤ j
   pub progress : i < length bytes → i < j
   pub high : j ≤ length bytes
@@ -28,7 +28,7 @@ pub record MovesWithin (rate seen : ℕ) {B : Type 0} (bytes : List ℕ) (i j : 
 -- The same bounds for a function that may read nothing; `ahead` of its looks may be at bytes left
 -- unread.
 pub record SpendsWithin (rate seen ahead : ℕ) {B : Type 0} (bytes : List ℕ) (i j : ℕ)
-    (parser next : Machine B) (before after : Reader B) : Type 0 where
+    (parser next : Machine B) (before after : Reader) : Type 0 where
   pub low : i ≤ j
   pub high : j ≤ length bytes
   pub count : looked after + rate * i + seen ≤ looked before + rate * j + ahead
@@ -38,7 +38,7 @@ pub record SpendsWithin (rate seen ahead : ℕ) {B : Type 0} (bytes : List ℕ) 
 -- The bounds of a function that handles a byte at which its caller looked: no character is open
 -- afterwards, and it takes at most `most` looks.
 pub record HandlesByte (most : ℕ) {B : Type 0} (parser next : Machine B)
-    (before after : Reader B) : Type 0 where
+    (before after : Reader) : Type 0 where
   pub settled : IsSettled next.state
   pub count : looked after ≤ looked before + most
   pub least : looked before ≤ looked after
@@ -47,17 +47,17 @@ pub record HandlesByte (most : ℕ) {B : Type 0} (parser next : Machine B)
 -- The bounds of a call with this result, which read n of its bytes: at most `rate` looks per byte
 -- read and 8 more. If memory was refused, the bytes left unread count too.
 pub record Costs (rate : ℕ) {Answer B : Type 0} (bytes : List ℕ) (result : Result Answer Refused)
-    (n : ℕ) (parser next : Machine B) (before after : Reader B) : Type 0 where
-  pub count : looked after ≤ looked before + rate * length bytes + 8
-  pub count_if_ok : IfOk result (λ _. looked after ≤ looked before + rate * n + 8)
-  pub least : looked before + n ≤ looked after
+    (n : ℕ) (parser next : Machine B) (before after : ℕ) : Type 0 where
+  pub count : after ≤ before + rate * length bytes + 8
+  pub count_if_ok : IfOk result (λ _. after ≤ before + rate * n + 8)
+  pub least : before + n ≤ after
   pub memory : parser.command.capacity ≤ next.command.capacity
 
 -- The bounds of a function that reads nothing at position i, because memory was refused. It
 -- searched for the end of the data: it took at least one look, and at most one for each byte from
 -- there on.
 pub record Refuses {V B : Type 0} (call : ChunkCall V) (value : V) (i read : ℕ)
-    (parser next : Machine B) (before after : Reader B) : Type 0 where
+    (parser next : Machine B) (before after : Reader) : Type 0 where
   pub stays : read ≡ i
   pub refused : IsRefusedInCommand call.limit next.state next.command call.bytes read
   pub may_go_on : MayGoOn call value

@@ -4,7 +4,7 @@ pub use Rattle.vte_core.specs.EarlyStop.{NoCharacterStops}
 pub use Rattle.vte_core.specs.Event.{CsiDispatch, EscDispatch, Event, Execute, Hook, OscDispatch, Print, Put, Unhook}
 pub use Rattle.vte_core.specs.SequenceKind.{begins_ignored_string}
 pub use Rattle.vte_core.specs.LongParser.{read_count}
-pub use Rattle.vte_core.specs.Looks.{looked}
+pub use Rattle.vte_core.specs.Looks.{counted, looked}
 pub use Rattle.vte_core.specs.OutsideRuns.{TellsOutsideRuns}
 pub use Rattle.vte_core.specs.Parameters.{is_separator}
 pub use Rattle.vte_core.specs.Perform.{after}

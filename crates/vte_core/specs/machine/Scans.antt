@@ -11,8 +11,8 @@ pub record IsRange (bytes : List ℕ) (from to : ℕ) : Type 0 where
 
 -- A search from one position ends at another, takes at least one look for each byte between, and
 -- has found out what these are.
-pub record Scans {B : Type 0} (Are : List ℕ → ℕ → ℕ → Type 0) (bytes : List ℕ) (from to : ℕ)
-    (before after : Reader B) : Type 0 where
+pub record Scans (Are : List ℕ → ℕ → ℕ → Type 0) (bytes : List ℕ) (from to : ℕ)
+    (before after : Reader) : Type 0 where
   pub low : from ≤ to
   pub high : to ≤ length bytes
   pub are : Are bytes from to
@@ -20,8 +20,8 @@ pub record Scans {B : Type 0} (Are : List ℕ → ℕ → ℕ → Type 0) (bytes
 
 -- A search from one position ends at another: at the first byte that `Is` doesn't hold of, or with
 -- the bytes. It looks once at each byte up to there, and at the byte there.
-pub record FindsEnd {B : Type 0} (Is : ℕ → Type 0) (bytes : List ℕ) (from to : ℕ)
-    (before after : Reader B) : Type 0 where
+pub record FindsEnd (Is : ℕ → Type 0) (bytes : List ℕ) (from to : ℕ)
+    (before after : Reader) : Type 0 where
   pub low : from ≤ to
   pub high : to ≤ length bytes
   pub are : Each Is bytes from to
@@ -29,6 +29,6 @@ pub record FindsEnd {B : Type 0} (Is : ℕ → Type 0) (bytes : List ℕ) (from 
   pub count : looked after + from ≡ looked before + min (to + 1) (length bytes)
 
 -- The count of looks grew by at most `most`.
-pub record LooksAtMost {B : Type 0} (most : ℕ) (before after : Reader B) : Type 0 where
+pub record LooksAtMost (most : ℕ) (before after : Reader) : Type 0 where
   pub few : looked after ≤ looked before + most
   pub grows : looked before ≤ looked after

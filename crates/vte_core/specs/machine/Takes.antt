@@ -25,7 +25,7 @@ pub record TakesByte {V B : Type 0} (step : V → Event → V) (old new : V) (li
 -- The performer received a sequence, as one event. The parser stands in a text then, and gave back
 -- no memory.
 pub record Dispatches {V B : Type 0} (step : V → Event → V) (old new : V) (event : Event)
-    (parser next : Machine B) (before after : Reader B) : Type 0 where
+    (parser next : Machine B) (before after : Reader) : Type 0 where
   pub tells : Tells step old new event before after
   pub text : next.state ≡ Text Nothing
   pub memory : parser.command.capacity ≤ next.command.capacity

@@ -15,11 +15,11 @@ impl<B: Buffer> Machine<B> {
     /// at. A byte that breaks it is left unread, and U+FFFD is printed for those before it. If text
     /// is taken in runs, a character of four bytes begins one.
     #[inline(always)]
-    pub(crate) fn read_character<P: CountedPerform<B, G>, G: Grain, const MAY_STOP: bool>(
+    pub(crate) fn read_character<P: CountedPerform<G>, G: Grain, const MAY_STOP: bool>(
         &mut self,
-        reader: &mut Reader<B>,
+        reader: &mut Reader,
         performer: &mut P,
-        input: Input<'_, B>,
+        input: Input<'_>,
         from: usize,
         first: u8,
     ) -> usize
@@ -67,13 +67,13 @@ impl<B: Buffer> Machine<B> {
 
     /// Reads the second and third byte of a character of three. The second was looked at.
     #[inline(always)]
-    pub(crate) fn complete_three<P: CountedPerform<B, G>, G: Grain, const MAY_STOP: bool>(
+    pub(crate) fn complete_three<P: CountedPerform<G>, G: Grain, const MAY_STOP: bool>(
         &mut self,
-        reader: &mut Reader<B>,
+        reader: &mut Reader,
         performer: &mut P,
         first: u8,
         second: u8,
-        input: Input<'_, B>,
+        input: Input<'_>,
         from: usize,
     ) -> usize
         requires may_read { MayReadByte
@@ -106,13 +106,13 @@ impl<B: Buffer> Machine<B> {
     /// Reads the character of four bytes that begins at a position, whose first two were looked at.
     /// If text is taken in runs, it begins one.
     #[inline(always)]
-    pub(crate) fn complete_four<P: CountedPerform<B, G>, G: Grain, const MAY_STOP: bool>(
+    pub(crate) fn complete_four<P: CountedPerform<G>, G: Grain, const MAY_STOP: bool>(
         &mut self,
-        reader: &mut Reader<B>,
+        reader: &mut Reader,
         performer: &mut P,
         first: u8,
         second: u8,
-        input: Input<'_, B>,
+        input: Input<'_>,
         from: usize,
     ) -> usize
         requires may_read { MayReadByte
@@ -171,12 +171,12 @@ impl<B: Buffer> Machine<B> {
     /// Reads the bytes that an unfinished character continues with. A byte that breaks it is left
     /// unread, and U+FFFD is printed for those before it.
     #[inline(always)]
-    pub(crate) fn continue_character<P: CountedPerform<B, G>, G: Grain, const MAY_STOP: bool>(
+    pub(crate) fn continue_character<P: CountedPerform<G>, G: Grain, const MAY_STOP: bool>(
         &mut self,
-        reader: &mut Reader<B>,
+        reader: &mut Reader,
         performer: &mut P,
         begun: Unfinished,
-        input: Input<'_, B>,
+        input: Input<'_>,
         from: usize,
     ) -> usize
         requires in_order { from ≤ length input.bytes.now }

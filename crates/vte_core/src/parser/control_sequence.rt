@@ -14,11 +14,11 @@ impl<B: Buffer> Machine<B> {
     /// most one number: for them this calls nothing before the dispatch. If calls have one byte
     /// each, most bytes of long sequences come this way.
     #[inline(always)]
-    pub(crate) fn read_short_head<P: CountedPerform<B, G>, G: Grain, const MAY_STOP: bool>(
+    pub(crate) fn read_short_head<P: CountedPerform<G>, G: Grain, const MAY_STOP: bool>(
         &mut self,
-        reader: &mut Reader<B>,
+        reader: &mut Reader,
         performer: &mut P,
-        input: Input<'_, B>,
+        input: Input<'_>,
         reached: HeadProgress,
         several: bool,
         from: usize,
@@ -65,11 +65,11 @@ impl<B: Buffer> Machine<B> {
 
     /// Reads the head of a control sequence, which has come so far, and the byte after it.
     #[inline(never)]
-    pub(crate) fn read_control_sequence<P: CountedPerform<B, G>, G: Grain, const MAY_STOP: bool>(
+    pub(crate) fn read_control_sequence<P: CountedPerform<G>, G: Grain, const MAY_STOP: bool>(
         &mut self,
-        reader: &mut Reader<B>,
+        reader: &mut Reader,
         performer: &mut P,
-        input: Input<'_, B>,
+        input: Input<'_>,
         reached: HeadProgress,
         from: usize,
     ) -> usize
@@ -107,9 +107,9 @@ impl<B: Buffer> Machine<B> {
     /// Ends a control sequence at its final byte: dispatches it, unless its head is ill-shaped.
     /// Returns the next position.
     #[inline(always)]
-    fn end_control_sequence<P: CountedPerform<B, G>, G: Grain>(
+    fn end_control_sequence<P: CountedPerform<G>, G: Grain>(
         &mut self,
-        reader: &mut Reader<B>,
+        reader: &mut Reader,
         performer: &mut P,
         progress: HeadProgress,
         byte: u8,
@@ -134,9 +134,9 @@ impl<B: Buffer> Machine<B> {
     /// Dispatches a control sequence at its final byte, and returns the next position, so that
     /// callers need not keep it.
     #[inline(never)]
-    fn dispatch_control_sequence<P: CountedPerform<B, G>, G: Grain>(
+    fn dispatch_control_sequence<P: CountedPerform<G>, G: Grain>(
         &mut self,
-        reader: &mut Reader<B>,
+        reader: &mut Reader,
         performer: &mut P,
         ignore: bool,
         byte: u8,

@@ -14,11 +14,11 @@ const STRING_TERMINATOR: u8 = 0x9c;
 impl<B: Buffer> Machine<B> {
     /// Reads the head of a device control string, which has come so far, and its final byte.
     /// Controls in it are dropped.
-    pub(crate) fn read_device_control<P: CountedPerform<B, G>, G: Grain, const MAY_STOP: bool>(
+    pub(crate) fn read_device_control<P: CountedPerform<G>, G: Grain, const MAY_STOP: bool>(
         &mut self,
-        reader: &mut Reader<B>,
+        reader: &mut Reader,
         performer: &mut P,
-        input: Input<'_, B>,
+        input: Input<'_>,
         reached: HeadProgress,
         from: usize,
     ) -> usize
@@ -45,9 +45,9 @@ impl<B: Buffer> Machine<B> {
     }
 
     /// Hooks the string at the final byte of its head, or ignores it if the head is ill-shaped.
-    fn hook<P: CountedPerform<B, G>, G: Grain>(
+    fn hook<P: CountedPerform<G>, G: Grain>(
         &mut self,
-        reader: &mut Reader<B>,
+        reader: &mut Reader,
         performer: &mut P,
         progress: HeadProgress,
         byte: u8,
@@ -70,11 +70,11 @@ impl<B: Buffer> Machine<B> {
     /// Reads the data of a device control string, and the byte that ends them. For a performer that
     /// takes slices and is never asked, it reads either data up to a byte that isn't put, or such a
     /// byte.
-    pub(crate) fn read_device_data<P: CountedPerform<B, G>, G: Grain, const MAY_STOP: bool>(
+    pub(crate) fn read_device_data<P: CountedPerform<G>, G: Grain, const MAY_STOP: bool>(
         &mut self,
-        reader: &mut Reader<B>,
+        reader: &mut Reader,
         performer: &mut P,
-        input: Input<'_, B>,
+        input: Input<'_>,
         from: usize,
     ) -> usize
         requires { MayRead (chunk_call MAY_STOP P.step P.is_terminated B.limit input.bytes.now)
@@ -107,11 +107,11 @@ impl<B: Buffer> Machine<B> {
 
     /// Reads a byte among the data that isn't put: it ends them, or is dropped.
     #[inline(never)]
-    pub(crate) fn read_other_in_data<P: CountedPerform<B, G>, G: Grain, const MAY_STOP: bool>(
+    pub(crate) fn read_other_in_data<P: CountedPerform<G>, G: Grain, const MAY_STOP: bool>(
         &mut self,
-        reader: &mut Reader<B>,
+        reader: &mut Reader,
         performer: &mut P,
-        input: Input<'_, B>,
+        input: Input<'_>,
         from: usize,
         byte: u8,
     ) -> usize

@@ -1,6 +1,6 @@
 //! The loop over the bytes of a call.
 ghost use Rattle.std.specs.Prelude.{◌≡◌, ◌<◌, true, List, ℕ, length, IfErr, IfOk};
-ghost use Rattle.vte_core.specs.machine.Prelude.{Advances, Costs, HasReadWithLimit, IsOutsideTextAndData, IsSettled, MayReadAt, MovesWithin, NoCharacterStops, ReadsUpTo, Refuses, ReadsUntilRefused, SpendsWithin, StandsAt, TellsOutsideRuns, chunk_call, read_count};
+ghost use Rattle.vte_core.specs.machine.Prelude.{Advances, Costs, HasReadWithLimit, IsOutsideTextAndData, IsSettled, MayReadAt, MovesWithin, NoCharacterStops, ReadsUpTo, Refuses, ReadsUntilRefused, SpendsWithin, StandsAt, TellsOutsideRuns, chunk_call, looked, read_count};
 
 use crate::buffer::Buffer;
 use crate::parser::{Machine, Refused, State};
@@ -9,11 +9,11 @@ use crate::scan::{CountedPerform, Grain, Input, Reader};
 impl<B: Buffer> Machine<B> {
     /// Reads the bytes of a call, as many as there is memory for, and returns how many: all of
     /// them, or up to a stop if `MAY_STOP`.
-    pub(crate) fn drive<P: CountedPerform<B, G>, G: Grain, const MAY_STOP: bool>(
+    pub(crate) fn drive<P: CountedPerform<G>, G: Grain, const MAY_STOP: bool>(
         &mut self,
-        reader: &mut Reader<B>,
+        reader: &mut Reader,
         performer: &mut P,
-        input: Input<'_, B>,
+        input: Input<'_>,
     ) -> Result<usize, Refused>
         requires no_stop { G.IN_RUNS ≡ true → MAY_STOP ≡ true
             → NoCharacterStops P.layout P.step P.is_terminated }
@@ -26,7 +26,8 @@ impl<B: Buffer> Machine<B> {
             (chunk_call MAY_STOP P.step P.is_terminated B.limit input.entry.bytes.now)
             (P.value_of performer.old) (P.value_of performer.new) refused.read self.old self.new) }
         ensures costs { Costs 5 input.entry.bytes.now result
-            (read_count result) self.old self.new reader.old reader.new }
+            (read_count result) self.old self.new
+            (looked reader.old) (looked reader.new) }
     {
         let mut position = self.finish_character::<P, G, MAY_STOP>(reader, performer, input);
         while position < input.len() {
@@ -39,11 +40,11 @@ impl<B: Buffer> Machine<B> {
     }
 
     /// Completes the character that an earlier call began, if one is open.
-    pub(crate) fn finish_character<P: CountedPerform<B, G>, G: Grain, const MAY_STOP: bool>(
+    pub(crate) fn finish_character<P: CountedPerform<G>, G: Grain, const MAY_STOP: bool>(
         &mut self,
-        reader: &mut Reader<B>,
+        reader: &mut Reader,
         performer: &mut P,
-        input: Input<'_, B>,
+        input: Input<'_>,
     ) -> usize
         ensures stands_at { (stream : List ℕ) → HasReadWithLimit B.limit self.old stream →
             StandsAt (chunk_call MAY_STOP P.step P.is_terminated B.limit input.entry.bytes.now)
@@ -68,11 +69,11 @@ impl<B: Buffer> Machine<B> {
     /// Reads at least one byte, before which the performer was asked, or none if memory is refused
     /// for it.
     #[inline]
-    pub(crate) fn read_by_state<P: CountedPerform<B, G>, G: Grain, const MAY_STOP: bool>(
+    pub(crate) fn read_by_state<P: CountedPerform<G>, G: Grain, const MAY_STOP: bool>(
         &mut self,
-        reader: &mut Reader<B>,
+        reader: &mut Reader,
         performer: &mut P,
-        input: Input<'_, B>,
+        input: Input<'_>,
         from: usize,
     ) -> Result<usize, Refused>
         requires may_read { MayReadAt

@@ -10,9 +10,9 @@ use crate::scan::{CountedPerform, Grain, Input, Reader};
 impl<B: Buffer> Machine<B> {
     /// Closes what is open, and then begins an escape sequence, or executes CAN or SUB.
     #[inline(never)]
-    pub(crate) fn end_body<P: CountedPerform<B, G>, G: Grain>(
+    pub(crate) fn end_body<P: CountedPerform<G>, G: Grain>(
         &mut self,
-        reader: &mut Reader<B>,
+        reader: &mut Reader,
         performer: &mut P,
         byte: u8,
     )
@@ -35,11 +35,11 @@ impl<B: Buffer> Machine<B> {
     }
 
     /// Reads a byte that ends what is open, which was looked at. After ESC it reads on.
-    pub(crate) fn read_end<P: CountedPerform<B, G>, G: Grain, const MAY_STOP: bool>(
+    pub(crate) fn read_end<P: CountedPerform<G>, G: Grain, const MAY_STOP: bool>(
         &mut self,
-        reader: &mut Reader<B>,
+        reader: &mut Reader,
         performer: &mut P,
-        input: Input<'_, B>,
+        input: Input<'_>,
         from: usize,
         byte: u8,
     ) -> usize
@@ -62,11 +62,7 @@ impl<B: Buffer> Machine<B> {
     }
 
     /// Reports the end of a string: `unhook`, or the operating system command.
-    fn report_end<P: CountedPerform<B, G>, G: Grain>(
-        &self,
-        reader: &mut Reader<B>,
-        performer: &mut P,
-    )
+    fn report_end<P: CountedPerform<G>, G: Grain>(&self, reader: &mut Reader, performer: &mut P)
         ensures told { (place : Place) → StandsAtPlace B.limit self.now place → IsSettledPlace place
             → P.value_of performer.new
             ≡ after P.step (P.value_of performer.old) (closing_events_at B.limit place) }

@@ -16,11 +16,11 @@ impl<B: Buffer> Machine<B> {
     /// Begins an escape sequence at an ESC in a text, which was looked at, and reads the bytes
     /// after it.
     #[inline(never)]
-    pub(crate) fn read_sequence<P: CountedPerform<B, G>, G: Grain, const MAY_STOP: bool>(
+    pub(crate) fn read_sequence<P: CountedPerform<G>, G: Grain, const MAY_STOP: bool>(
         &mut self,
-        reader: &mut Reader<B>,
+        reader: &mut Reader,
         performer: &mut P,
-        input: Input<'_, B>,
+        input: Input<'_>,
         from: usize,
     ) -> usize
         requires may_read { MayReadAt
@@ -57,11 +57,11 @@ impl<B: Buffer> Machine<B> {
     /// Reads bytes after ESC, up to the one that says what begins; after `[` the control sequence
     /// too.
     #[inline(never)]
-    pub(crate) fn read_escape<P: CountedPerform<B, G>, G: Grain, const MAY_STOP: bool>(
+    pub(crate) fn read_escape<P: CountedPerform<G>, G: Grain, const MAY_STOP: bool>(
         &mut self,
-        reader: &mut Reader<B>,
+        reader: &mut Reader,
         performer: &mut P,
-        input: Input<'_, B>,
+        input: Input<'_>,
         from: usize,
     ) -> usize
         requires { MayRead (chunk_call MAY_STOP P.step P.is_terminated B.limit input.bytes.now)
@@ -97,9 +97,9 @@ impl<B: Buffer> Machine<B> {
     }
 
     /// Reads a byte after ESC, other than `[`.
-    fn read_after_escape<P: CountedPerform<B, G>, G: Grain>(
+    fn read_after_escape<P: CountedPerform<G>, G: Grain>(
         &mut self,
-        reader: &mut Reader<B>,
+        reader: &mut Reader,
         performer: &mut P,
         byte: u8,
     )
@@ -130,9 +130,9 @@ impl<B: Buffer> Machine<B> {
     /// Begins the string that a byte 40..7E other than `[` begins after ESC, or dispatches an
     /// escape sequence that ends with it.
     #[inline(never)]
-    fn begin_or_dispatch<P: CountedPerform<B, G>, G: Grain>(
+    fn begin_or_dispatch<P: CountedPerform<G>, G: Grain>(
         &mut self,
-        reader: &mut Reader<B>,
+        reader: &mut Reader,
         performer: &mut P,
         byte: u8,
     )
@@ -157,11 +157,11 @@ impl<B: Buffer> Machine<B> {
     }
 
     /// Reads the intermediates of an escape sequence and its final byte.
-    pub(crate) fn read_intermediates<P: CountedPerform<B, G>, G: Grain, const MAY_STOP: bool>(
+    pub(crate) fn read_intermediates<P: CountedPerform<G>, G: Grain, const MAY_STOP: bool>(
         &mut self,
-        reader: &mut Reader<B>,
+        reader: &mut Reader,
         performer: &mut P,
-        input: Input<'_, B>,
+        input: Input<'_>,
         from: usize,
     ) -> usize
         requires { MayRead (chunk_call MAY_STOP P.step P.is_terminated B.limit input.bytes.now)
@@ -192,9 +192,9 @@ impl<B: Buffer> Machine<B> {
     }
 
     /// Dispatches an escape sequence at its final byte.
-    fn dispatch_escape<P: CountedPerform<B, G>, G: Grain>(
+    fn dispatch_escape<P: CountedPerform<G>, G: Grain>(
         &mut self,
-        reader: &mut Reader<B>,
+        reader: &mut Reader,
         performer: &mut P,
         byte: u8,
     )

@@ -8,11 +8,11 @@ use crate::scan::{CountedPerform, Grain, Input, Reader};
 
 impl<B: Buffer> Machine<B> {
     /// Reads a string that means nothing, and the byte that ends it.
-    pub(crate) fn read_ignored_string<P: CountedPerform<B, G>, G: Grain, const MAY_STOP: bool>(
+    pub(crate) fn read_ignored_string<P: CountedPerform<G>, G: Grain, const MAY_STOP: bool>(
         &mut self,
-        reader: &mut Reader<B>,
+        reader: &mut Reader,
         performer: &mut P,
-        input: Input<'_, B>,
+        input: Input<'_>,
         from: usize,
     ) -> usize
         requires { MayReadAt (chunk_call MAY_STOP P.step P.is_terminated B.limit input.bytes.now)

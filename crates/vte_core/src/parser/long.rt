@@ -1,6 +1,5 @@
 //! The parser that keeps operating system commands of any length.
-ghost use Rattle.std.specs.Prelude.{◌≡◌, ◌≢◌, ◌+◌, ◌<◌, ◌≤◌, ℕ, true, false, List, [], None, length};
-ghost use Rattle.vte_core.specs.LongParserCalls.{ReadsBytesLong, ReadsToRunLong, ReadsUntilTerminatedLong};
+ghost use Rattle.std.specs.Prelude.{◌≡◌, ◌≢◌, ◌+◌, ◌<◌, ◌≤◌, ℕ, true, false, List, [], None, IfErr, IfOk};
 ghost use Rattle.vte_core.specs.LongParser.{HasReadLong, IsCopyOfLong, LacksMemoryForMore, lost_data_long, memory_of};
 ghost use Rattle.vte_core.specs.LongParser.{open_command_size};
 ghost use Rattle.vte_core.specs.Looks.{looks_long};
@@ -8,10 +7,10 @@ ghost use Rattle.vte_core.specs.Open.{open_at_end};
 ghost use Rattle.vte_core.specs.declared.parser.open.Open.TheVariants.{Nothing};
 ghost use Rattle.vte_core.specs.Outcome.{SaysLoss};
 ghost use Rattle.vte_core.specs.Stream.{IsFinished, IsUnfinished, outcome};
+ghost use Rattle.vte_core.specs.machine.Prelude.{ComesToRun, Costs, NoCharacterStops, ReadsUntilRefused, ReadsUpTo, TellsOutsideRuns, chunk_call, read_before_range, read_count, read_through_range};
 
 use crate::parser::{Machine, Open, Refused, State};
-use crate::perform::{Perform, PerformText, PerformThroughText};
-use crate::scan::{InRuns, Input, Reader, Run, Singly};
+use crate::scan::{Chunk, CountedPerform, Grain, Looks, RunRange, Singly};
 use std::alloc::{AllocError, Allocator};
 
 /// A [`Parser`](crate::Parser) that keeps operating system commands of any length, and whose calls
@@ -33,7 +32,7 @@ use std::alloc::{AllocError, Allocator};
 #[derive(Drop)]
 pub struct LongParser<A: Allocator> {
     machine: Machine<Vec<u8, A>>,
-    reader: Reader<Vec<u8, A>>,
+    looks: Looks,
 }
 
 /// A clone goes on as the parser would. Its looks are counted anew.
@@ -47,7 +46,7 @@ impl<A: Allocator + Clone> Clone for LongParser<A> {
                 collected: self.machine.collected.clone()?,
                 command: self.machine.command.clone()?,
             },
-            reader: Reader::for_long(),
+            looks: Looks::none(),
         })
     }
 }
@@ -60,7 +59,7 @@ impl<A: Allocator> LongParser<A> {
     {
         LongParser {
             machine: Machine::new(Vec::new(alloc)),
-            reader: Reader::for_long(),
+            looks: Looks::none(),
         }
     }
 
@@ -133,84 +132,6 @@ impl<A: Allocator> LongParser<A> {
         self.machine.command.shrink_to_fit();
     }
 
-    /// Reads the next bytes of the stream, and performs the events that they add to it: all of
-    /// them, or as many as there is memory for.
-    pub fn advance<P: Perform>(&mut self, performer: &mut P, bytes: &[u8]) -> Result<(), Refused>
-        ensures { ReadsBytesLong P.step (P.value_of performer.old)
-            (P.value_of performer.new) bytes.now result self.old self.new }
-    {
-        self.machine
-            .drive::<P, Singly, false>(&mut self.reader, performer, Input::new(bytes))?;
-        Ok(())
-    }
-
-    /// Reads the next bytes of the stream as [`advance`](Self::advance) does, and passes characters
-    /// to print in [runs](crate::PerformText), and the data of device control strings in
-    /// [slices](crate::PerformText::put_slice).
-    pub fn advance_text<P: PerformText>(
-        &mut self,
-        performer: &mut P,
-        bytes: &[u8],
-    ) -> Result<(), Refused>
-        ensures { ReadsBytesLong P.step (P.value_of performer.old)
-            (P.value_of performer.new) bytes.now result self.old self.new }
-    {
-        self.machine
-            .drive::<P, InRuns, false>(&mut self.reader, performer, Input::new(bytes))?;
-        Ok(())
-    }
-
-    /// Reads bytes until the performer is terminated or memory is refused, and returns how many
-    /// were read.
-    ///
-    /// The performer is asked as by
-    /// [`Parser::advance_until_terminated`](crate::Parser::advance_until_terminated), and before
-    /// memory is taken: a stop needs none.
-    pub fn advance_until_terminated<P: Perform>(
-        &mut self,
-        performer: &mut P,
-        bytes: &[u8],
-    ) -> Result<usize, Refused>
-        ensures { ReadsUntilTerminatedLong P.step P.is_terminated (P.value_of performer.old)
-            (P.value_of performer.new) bytes.now result self.old self.new }
-    {
-        self.machine
-            .drive::<P, Singly, true>(&mut self.reader, performer, Input::new(bytes))
-    }
-
-    /// Reads bytes as [`advance_until_terminated`](Self::advance_until_terminated) does, and passes
-    /// characters to print in [runs](crate::PerformText). Only for performers that nothing in a run
-    /// terminates: they aren't asked there.
-    pub fn advance_text_until_terminated<P: PerformThroughText>(
-        &mut self,
-        performer: &mut P,
-        bytes: &[u8],
-    ) -> Result<usize, Refused>
-        ensures { ReadsUntilTerminatedLong P.step P.is_terminated (P.value_of performer.old)
-            (P.value_of performer.new) bytes.now result self.old self.new }
-    {
-        self.machine
-            .drive::<P, InRuns, true>(&mut self.reader, performer, Input::new(bytes))
-    }
-
-    /// Reads bytes up to a run of text, or of data of a device control string, and the run itself,
-    /// which it returns instead of performing it, as
-    /// [`Parser::advance_to_run`](crate::Parser::advance_to_run) does.
-    pub fn advance_to_run<'a, P: Perform>(
-        &mut self,
-        performer: &mut P,
-        bytes: &'a [u8],
-    ) -> Result<Run<'a>, Refused>
-        ensures { ReadsToRunLong P.step P.is_terminated (P.value_of performer.old)
-            (P.value_of performer.new) bytes.now result self.old self.new }
-    {
-        let input = Input::new(bytes);
-        let range = self
-            .machine
-            .drive_to_run(&mut self.reader, performer, input)?;
-        Ok(input.take_run(range))
-    }
-
     /// Returns what is unfinished, if anything is.
     ///
     /// It began at the last ESC, or is at most three bytes of a character.
@@ -238,5 +159,61 @@ impl<A: Allocator> LongParser<A> {
             → IsUnfinished None stream }
     {
         !matches!(self.open(), Open::Nothing)
+    }
+    /// Reads the bytes of a call, as many as there is memory for, and returns how many: all of
+    /// them, or up to a stop if `MAY_STOP`.
+    pub(crate) fn drive<P: CountedPerform<G>, G: Grain, const MAY_STOP: bool>(
+        &mut self,
+        performer: &mut P,
+        chunk: Chunk<'_>,
+    ) -> Result<usize, Refused>
+        requires no_stop { G.IN_RUNS ≡ true → MAY_STOP ≡ true
+            → NoCharacterStops P.layout P.step P.is_terminated }
+        ensures reads { IfOk result
+            (λ read. ReadsUpTo
+            (chunk_call MAY_STOP P.step P.is_terminated None chunk.entry.bytes.now)
+            (P.value_of performer.old) (P.value_of performer.new) read self.old.machine
+            self.new.machine) }
+        ensures refuses { IfErr result
+            (λ refused. ReadsUntilRefused
+            (chunk_call MAY_STOP P.step P.is_terminated None chunk.entry.bytes.now)
+            (P.value_of performer.old) (P.value_of performer.new) refused.read self.old.machine
+            self.new.machine) }
+        ensures costs { Costs 5 chunk.entry.bytes.now result (read_count result) self.old.machine
+            self.new.machine (looks_long self.old) (looks_long self.new) }
+    {
+        let (mut reader, input) = chunk.open();
+        let result = self
+            .machine
+            .drive::<P, G, MAY_STOP>(&mut reader, performer, input);
+        self.looks.add(reader);
+        result
+    }
+
+    /// Reads bytes up to a run, and finds the run.
+    pub(crate) fn drive_to_run<P: CountedPerform<Singly>>(
+        &mut self,
+        performer: &mut P,
+        chunk: Chunk<'_>,
+    ) -> Result<RunRange, Refused>
+        ensures comes { IfOk result
+            (λ range. ComesToRun
+            (chunk_call true P.step P.is_terminated None chunk.entry.bytes.now)
+            (P.value_of performer.old) (P.value_of performer.new) range self.old.machine
+            self.new.machine) }
+        ensures refuses { IfErr result
+            (λ refused. ReadsUntilRefused
+            (chunk_call true P.step P.is_terminated None chunk.entry.bytes.now)
+            (P.value_of performer.old) (P.value_of performer.new) refused.read self.old.machine
+            self.new.machine) }
+        ensures costs { Costs 7 chunk.entry.bytes.now result (read_through_range result)
+            self.old.machine self.new.machine (looks_long self.old) (looks_long self.new) }
+        ensures outside_runs { (stream : List ℕ) → HasReadLong self.old stream
+            → TellsOutsideRuns None stream chunk.entry.bytes.now (read_before_range result) }
+    {
+        let (mut reader, input) = chunk.open();
+        let result = self.machine.drive_to_run(&mut reader, performer, input);
+        self.looks.add(reader);
+        result
     }
 }

@@ -22,13 +22,14 @@ struct AsciiRun {
 /// Prints the run of ASCII that stands at a position, whose first byte was looked at. If it is
 /// short, that is the first byte alone.
 #[inline(always)]
-fn print_ascii<B, P: CountedPerform<B, G>, G: Grain>(
-    reader: &mut Reader<B>,
+fn print_ascii<P: CountedPerform<G>, G: Grain>(
+    reader: &mut Reader,
     performer: &mut P,
-    input: Input<'_, B>,
+    input: Input<'_>,
     from: usize,
     first: u8,
 ) -> AsciiRun
+    requires in_runs { G.IN_RUNS ≡ true }
     requires within { from < length input.bytes.now }
     requires looked_at { first ≡ slice_index input.bytes.now from }
     requires printed { IsPrintedAscii first }
@@ -58,11 +59,11 @@ fn print_ascii<B, P: CountedPerform<B, G>, G: Grain>(
 
 impl<B: Buffer> Machine<B> {
     /// Reads text up to an ESC, and then the bytes after that.
-    pub(crate) fn read_text<P: CountedPerform<B, G>, G: Grain, const MAY_STOP: bool>(
+    pub(crate) fn read_text<P: CountedPerform<G>, G: Grain, const MAY_STOP: bool>(
         &mut self,
-        reader: &mut Reader<B>,
+        reader: &mut Reader,
         performer: &mut P,
-        input: Input<'_, B>,
+        input: Input<'_>,
         from: usize,
     ) -> usize
         requires may_read { MayReadAt
@@ -148,11 +149,11 @@ impl<B: Buffer> Machine<B> {
     /// Reads what begins with a lead byte, which was looked at, for a performer that takes runs: a
     /// run, a character or a malformed sequence.
     #[inline(always)]
-    fn read_at_lead<P: CountedPerform<B, G>, G: Grain, const MAY_STOP: bool>(
+    fn read_at_lead<P: CountedPerform<G>, G: Grain, const MAY_STOP: bool>(
         &mut self,
-        reader: &mut Reader<B>,
+        reader: &mut Reader,
         performer: &mut P,
-        input: Input<'_, B>,
+        input: Input<'_>,
         from: usize,
         first: u8,
     ) -> usize

@@ -1,46 +1,38 @@
 //! Runs of text and data in the input, for callers that take them from there.
-ghost use Rattle.std.specs.Prelude.{◌≡◌, ◌+◌, ◌*◌, ◌≤◌, true, false, ℕ, List, IfErr, IfOk, ⊤};
-ghost use Rattle.vte_core.specs.AdvanceToRun.{ReadsToRun};
+ghost use Rattle.std.specs.Prelude.{◌≡◌, ◌+◌, ◌*◌, ◌≤◌, true, false, ℕ, List, Some, IfErr, IfOk, ⊤};
+ghost use Rattle.vte_core.specs.Looks.{looks};
+ghost use Rattle.vte_core.specs.Parser.{HasRead};
 ghost use Rattle.vte_core.specs.machine.Prelude.{Advances, ComesToRun, Costs, HasNoRunAt, HasReadWithLimit, MayReadAt, MovesWithin, Nothing, ReadsUntilRefused, TellsOutsideRuns, Text, chunk_call, looked, read_through_range, read_before_range};
 
 use crate::buffer::Buffer;
 use crate::class::ESCAPE;
 use crate::parser::{Machine, Parser, Refused, State};
-use crate::perform::Perform;
-use crate::scan::{CountedPerform, Input, Reader, Run, RunKind, RunRange, Singly};
+use crate::scan::{Chunk, CountedPerform, Input, Reader, RunKind, RunRange, Singly};
 use crate::utf8::{is_lead, is_printed_ascii};
 
 impl<const OSC_RAW_BUF_SIZE: usize> Parser<OSC_RAW_BUF_SIZE> {
-    /// Reads bytes up to a run of text, or of data of a device control string, and the run itself,
-    /// which it returns instead of performing it.
-    ///
-    /// A caller can take text from its own input in this way, with its position and without a copy:
-    ///
-    /// ```
-    /// let mut parser = Parser::new();
-    /// let bytes = b"\x1b[1mna\xc3\xafve\r\n";
-    /// let run = parser.advance_to_run(&mut performer, bytes); // performs the sequence
-    /// assert_eq!((run.start, run.taken, run.end), (4, Taken::Text("naïve"), 10));
-    /// parser.advance(&mut performer, &bytes[run.end..]); // performs CR and LF
-    /// ```
-    ///
-    /// A run begins where nothing is open and a character stands in the bytes that is printed as it
-    /// is, or at a data byte that is put. It ends before the first control, malformed sequence,
-    /// unfinished character or byte that isn't put. What an earlier call began is performed.
-    /// Without a run the call ends with the bytes, or if the performer is terminated, which is
-    /// asked as by [`advance_until_terminated`](Self::advance_until_terminated).
-    pub fn advance_to_run<'a, P: Perform>(&mut self, performer: &mut P, bytes: &'a [u8]) -> Run<'a>
-        ensures { ReadsToRun P.step P.is_terminated (P.value_of performer.old)
-            (P.value_of performer.new) bytes.now result self.old self.new }
+    /// Reads bytes up to a run, and finds the run.
+    pub(crate) fn drive_to_run<P: CountedPerform<Singly>>(
+        &mut self,
+        performer: &mut P,
+        chunk: Chunk<'_>,
+    ) -> RunRange
+        ensures comes { ComesToRun
+            (chunk_call true P.step P.is_terminated (Some OSC_RAW_BUF_SIZE) chunk.entry.bytes.now)
+            (P.value_of performer.old) (P.value_of performer.new) result self.old.machine
+            self.new.machine }
+        ensures outside_runs { (stream : List ℕ) → HasRead self.old stream
+            → TellsOutsideRuns (Some OSC_RAW_BUF_SIZE) stream chunk.entry.bytes.now result.start }
+        ensures count { looks self.new ≤ looks self.old + 7 * result.end + 8 }
+        ensures least { looks self.old + result.end ≤ looks self.new }
     {
-        let input = Input::new(bytes);
-        match self
-            .machine
-            .drive_to_run(&mut self.reader, performer, input)
-        {
-            Ok(range) => input.take_run(range),
+        let (mut reader, input) = chunk.open();
+        let result = self.machine.drive_to_run(&mut reader, performer, input);
+        self.looks.add(reader);
+        match result {
+            Ok(range) => range,
             // Never: with a limit no memory is refused.
-            Err(refused) => input.take_run(RunRange::empty(refused.read)),
+            Err(refused) => RunRange::empty(refused.read),
         }
     }
 }
@@ -48,11 +40,11 @@ impl<const OSC_RAW_BUF_SIZE: usize> Parser<OSC_RAW_BUF_SIZE> {
 impl<B: Buffer> Machine<B> {
     /// Reads bytes up to a run, and finds the run. The state stays that of the run: its bytes
     /// lead back to it.
-    pub(crate) fn drive_to_run<P: CountedPerform<B, Singly>>(
+    pub(crate) fn drive_to_run<P: CountedPerform<Singly>>(
         &mut self,
-        reader: &mut Reader<B>,
+        reader: &mut Reader,
         performer: &mut P,
-        input: Input<'_, B>,
+        input: Input<'_>,
     ) -> Result<RunRange, Refused>
         ensures comes { IfOk result
             (λ range. ComesToRun
@@ -63,7 +55,8 @@ impl<B: Buffer> Machine<B> {
             (chunk_call true P.step P.is_terminated B.limit input.entry.bytes.now)
             (P.value_of performer.old) (P.value_of performer.new) refused.read self.old self.new) }
         ensures costs { Costs 7 input.entry.bytes.now result
-            (read_through_range result) self.old self.new reader.old reader.new }
+            (read_through_range result) self.old self.new
+            (looked reader.old) (looked reader.new) }
         ensures outside_runs { (stream : List ℕ) → HasReadWithLimit B.limit self.old stream
             → TellsOutsideRuns B.limit stream input.entry.bytes.now (read_before_range result) }
     {
@@ -103,11 +96,11 @@ impl<B: Buffer> Machine<B> {
 
     /// Reads a character that isn't printed or a malformed sequence, or controls and what is
     /// malformed up to where a run may begin, or an escape sequence.
-    fn read_unprinted<P: CountedPerform<B, Singly>>(
+    fn read_unprinted<P: CountedPerform<Singly>>(
         &mut self,
-        reader: &mut Reader<B>,
+        reader: &mut Reader,
         performer: &mut P,
-        input: Input<'_, B>,
+        input: Input<'_>,
         from: usize,
     ) -> usize
         requires may_read { MayReadAt

@@ -1,14 +1,14 @@
 //! Performers that count each event as it is reported.
-ghost use Rattle.std.specs.Prelude.{◌≡◌, ◌<◌, Bool, false, length, map, chars};
+ghost use Rattle.std.specs.Prelude.{◌≡◌, ◌<◌, Bool, false, true, length, map, chars};
 ghost use Rattle.vte_core.specs.machine.Prelude.{CsiDispatch, EscDispatch, Event, Execute, Hook, IsNonEmptyRun, OscDispatch, Print, Put, Tells, TellsAll, Unhook, is_control_character, run_event};
 
 use crate::head::Collected;
 use crate::perform::Perform;
 use crate::scan::Reader;
-use crate::scan::grain::PerformAs;
+use crate::scan::grain::{Grain, PerformAs};
 
 /// A performer, as the functions of a parser see it. Each event counts one.
-pub(crate) trait CountedPerform<B, G> {
+pub(crate) trait CountedPerform<G: Grain> {
     ghost Value: { Type 0 };
 
     ghost value_of: { Self → Value };
@@ -23,55 +23,51 @@ pub(crate) trait CountedPerform<B, G> {
     fn keeps_layout(&self) -> bool
         ensures { result ≡ layout };
 
-    fn print_char(&mut self, reader: &mut Reader<B>, c: char)
+    fn print_char(&mut self, reader: &mut Reader, c: char)
         requires { is_control_character c ≡ false }
         ensures { Tells step (value_of self.old) (value_of self.new)
             (Print c) reader.old reader.new };
 
     /// Counts a text's bytes, which are no fewer than its characters.
-    fn print_text(&mut self, reader: &mut Reader<B>, text: &str)
-        requires { IsNonEmptyRun layout text.now }
+    fn print_text(&mut self, reader: &mut Reader, text: &str)
+        requires in_runs { G.IN_RUNS ≡ true }
+        requires run { IsNonEmptyRun layout text.now }
         ensures { TellsAll step (value_of self.old) (value_of self.new)
             (map (run_event layout) (chars text.now)) (length text.now) reader.old reader.new };
 
-    fn execute_control(&mut self, reader: &mut Reader<B>, byte: u8)
+    fn execute_control(&mut self, reader: &mut Reader, byte: u8)
         ensures { Tells step (value_of self.old) (value_of self.new)
             (Execute byte) reader.old reader.new };
 
-    fn hook(&mut self, reader: &mut Reader<B>, collected: &Collected, ignore: bool, byte: u8)
+    fn hook(&mut self, reader: &mut Reader, collected: &Collected, ignore: bool, byte: u8)
         ensures { Tells step (value_of self.old) (value_of self.new)
             (Hook collected.now.params collected.now.intermediates.items ignore byte) reader.old
             reader.new };
 
-    fn put_byte(&mut self, reader: &mut Reader<B>, byte: u8)
+    fn put_byte(&mut self, reader: &mut Reader, byte: u8)
         ensures { Tells step (value_of self.old) (value_of self.new)
             (Put byte) reader.old reader.new };
 
     /// Counts each byte.
-    fn put_slice(&mut self, reader: &mut Reader<B>, bytes: &[u8])
+    fn put_slice(&mut self, reader: &mut Reader, bytes: &[u8])
+        requires in_runs { G.IN_RUNS ≡ true }
         requires some { 0 < length bytes.now }
         ensures { TellsAll step (value_of self.old) (value_of self.new) (map Put bytes.now)
             (length bytes.now) reader.old reader.new };
 
-    fn unhook(&mut self, reader: &mut Reader<B>)
+    fn unhook(&mut self, reader: &mut Reader)
         ensures { Tells step (value_of self.old) (value_of self.new) Unhook reader.old reader.new };
 
-    fn osc_dispatch(&mut self, reader: &mut Reader<B>, pieces: &[&[u8]], bell: bool)
+    fn osc_dispatch(&mut self, reader: &mut Reader, pieces: &[&[u8]], bell: bool)
         ensures { Tells step (value_of self.old) (value_of self.new)
             (OscDispatch (map (λ piece. piece.now) pieces.now) bell) reader.old reader.new };
 
-    fn csi_dispatch(
-        &mut self,
-        reader: &mut Reader<B>,
-        collected: &Collected,
-        ignore: bool,
-        byte: u8,
-    )
+    fn csi_dispatch(&mut self, reader: &mut Reader, collected: &Collected, ignore: bool, byte: u8)
         ensures { Tells step (value_of self.old) (value_of self.new)
             (CsiDispatch collected.now.params collected.now.intermediates.items ignore byte)
             reader.old reader.new };
 
-    fn esc_dispatch(&mut self, reader: &mut Reader<B>, collected: &Collected, byte: u8)
+    fn esc_dispatch(&mut self, reader: &mut Reader, collected: &Collected, byte: u8)
         ensures { Tells step (value_of self.old) (value_of self.new)
             (EscDispatch collected.now.intermediates.items collected.now.too_many_intermediates
             byte)
@@ -81,7 +77,7 @@ pub(crate) trait CountedPerform<B, G> {
         ensures { result ≡ is_terminated (value_of self.now) };
 }
 
-impl<P: PerformAs<G>, B, G> CountedPerform<B, G> for P {
+impl<P: PerformAs<G>, G: Grain> CountedPerform<G> for P {
     ghost Value = { P.Value };
 
     ghost value_of = { P.value_of };
@@ -98,69 +94,63 @@ impl<P: PerformAs<G>, B, G> CountedPerform<B, G> for P {
     }
 
     #[inline(always)]
-    fn print_char(&mut self, reader: &mut Reader<B>, c: char) {
+    fn print_char(&mut self, reader: &mut Reader, c: char) {
         reader.add(1);
         PerformAs::<G>::print_char(self, c);
     }
 
     #[inline(always)]
-    fn print_text(&mut self, reader: &mut Reader<B>, text: &str) {
+    fn print_text(&mut self, reader: &mut Reader, text: &str) {
         reader.add(text.len());
         PerformAs::<G>::print_text(self, text);
     }
 
     #[inline(always)]
-    fn execute_control(&mut self, reader: &mut Reader<B>, byte: u8) {
+    fn execute_control(&mut self, reader: &mut Reader, byte: u8) {
         reader.add(1);
         PerformAs::<G>::execute_control(self, byte);
     }
 
     #[inline(always)]
-    fn hook(&mut self, reader: &mut Reader<B>, collected: &Collected, ignore: bool, byte: u8) {
+    fn hook(&mut self, reader: &mut Reader, collected: &Collected, ignore: bool, byte: u8) {
         reader.add(1);
         let (intermediates, action) = (collected.intermediates.as_slice(), char::from(byte));
         Perform::hook(self, &collected.params, intermediates, ignore, action);
     }
 
     #[inline(always)]
-    fn put_byte(&mut self, reader: &mut Reader<B>, byte: u8) {
+    fn put_byte(&mut self, reader: &mut Reader, byte: u8) {
         reader.add(1);
         PerformAs::<G>::put_byte(self, byte);
     }
 
     #[inline(always)]
-    fn put_slice(&mut self, reader: &mut Reader<B>, bytes: &[u8]) {
+    fn put_slice(&mut self, reader: &mut Reader, bytes: &[u8]) {
         reader.add(bytes.len());
         PerformAs::<G>::put_slice(self, bytes);
     }
 
     #[inline(always)]
-    fn unhook(&mut self, reader: &mut Reader<B>) {
+    fn unhook(&mut self, reader: &mut Reader) {
         reader.add(1);
         Perform::unhook(self);
     }
 
     #[inline(always)]
-    fn osc_dispatch(&mut self, reader: &mut Reader<B>, pieces: &[&[u8]], bell: bool) {
+    fn osc_dispatch(&mut self, reader: &mut Reader, pieces: &[&[u8]], bell: bool) {
         reader.add(1);
         Perform::osc_dispatch(self, pieces, bell);
     }
 
     #[inline(always)]
-    fn csi_dispatch(
-        &mut self,
-        reader: &mut Reader<B>,
-        collected: &Collected,
-        ignore: bool,
-        byte: u8,
-    ) {
+    fn csi_dispatch(&mut self, reader: &mut Reader, collected: &Collected, ignore: bool, byte: u8) {
         reader.add(1);
         let (intermediates, action) = (collected.intermediates.as_slice(), char::from(byte));
         Perform::csi_dispatch(self, &collected.params, intermediates, ignore, action);
     }
 
     #[inline(always)]
-    fn esc_dispatch(&mut self, reader: &mut Reader<B>, collected: &Collected, byte: u8) {
+    fn esc_dispatch(&mut self, reader: &mut Reader, collected: &Collected, byte: u8) {
         reader.add(1);
         let intermediates = collected.intermediates.as_slice();
         Perform::esc_dispatch(self, intermediates, collected.too_many_intermediates, byte);

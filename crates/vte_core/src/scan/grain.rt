@@ -32,7 +32,7 @@ impl Grain for InRuns {
 }
 
 /// A performer that takes text and data in a grain.
-pub(crate) trait PerformAs<G>: Perform {
+pub(crate) trait PerformAs<G: Grain>: Perform {
     ghost layout: { Bool };
 
     /// Returns whether HT, LF and CR come as text.
@@ -54,12 +54,14 @@ pub(crate) trait PerformAs<G>: Perform {
 
     /// Receives characters to print, at least one.
     fn print_text(&mut self, text: &str)
-        requires { IsNonEmptyRun layout text.now }
+        requires in_runs { G.IN_RUNS ≡ true }
+        requires run { IsNonEmptyRun layout text.now }
         ensures { Self.value_of self.new
             ≡ after Self.step (Self.value_of self.old) (map (run_event layout) (chars text.now)) };
 
     /// Receives data of a device control string, at least one byte.
     fn put_slice(&mut self, bytes: &[u8])
+        requires in_runs { G.IN_RUNS ≡ true }
         requires some { 0 < length bytes.now }
         ensures { Self.value_of self.new
             ≡ after Self.step (Self.value_of self.old) (map Put bytes.now) };
@@ -88,18 +90,14 @@ impl<P: Perform> PerformAs<Singly> for P {
         Perform::put(self, byte);
     }
 
-    // The machine tells a performer that takes single characters no text.
-    fn print_text(&mut self, text: &str) {
-        for c in text.chars() {
-            Perform::print(self, c);
-        }
+    // Never: only performers that take runs are told texts.
+    fn print_text(&mut self, _text: &str) {
+        unreachable!()
     }
 
-    // The machine tells a performer that takes single bytes no slice.
-    fn put_slice(&mut self, bytes: &[u8]) {
-        for byte in bytes {
-            Perform::put(self, *byte);
-        }
+    // Never: only performers that take runs are told slices.
+    fn put_slice(&mut self, _bytes: &[u8]) {
+        unreachable!()
     }
 }
 

@@ -5,19 +5,19 @@
 ghost use Rattle.std.specs.Prelude.{◌≡◌, ◌≢◌, ◌+◌, ◌*◌, ◌<◌, ◌≤◌, ℕ, IsTrue, true, length, min, slice_index};
 ghost use Rattle.vte_core.specs.machine.Prelude.{AreIgnored, FindsEnd, IsCommandData, IsDeviceData, IsRange, Scans, class_of, ends_body, looked};
 
-use crate::class::{ESCAPE, cannot_end, ends_body, is_device_data};
+use crate::class::{ESCAPE, cannot_end, ends_body, is_command_data, is_device_data};
 use crate::scan::{Input, Reader};
 use memchr::memchr;
 
-impl<B> Reader<B> {
+impl Reader {
     /// Finds where the data bytes of an operating system command end that start at a position:
     /// before `;` or a control, or with the input.
-    pub(crate) fn find_command_data_end(&mut self, input: Input<'_, B>, from: usize) -> usize
+    pub(crate) fn find_command_data_end(&mut self, input: Input<'_>, from: usize) -> usize
         requires { from ≤ length input.bytes.now }
         ensures { FindsEnd IsCommandData input.entry.bytes.now from result self.old self.new }
     {
         let mut end = from;
-        while end < input.len() && input.bytes[end] >= 0x20 && input.bytes[end] != b';' {
+        while end < input.len() && is_command_data(input.bytes[end]) {
             end += 1;
         }
         self.add((end - from) + usize::from(end < input.len()));
@@ -26,7 +26,7 @@ impl<B> Reader<B> {
 
     /// Finds where the data of a device control string end that start at a position: before a byte
     /// that isn't put, or with the input.
-    pub(crate) fn find_device_data_end(&mut self, input: Input<'_, B>, from: usize) -> usize
+    pub(crate) fn find_device_data_end(&mut self, input: Input<'_>, from: usize) -> usize
         requires { from ≤ length input.bytes.now }
         ensures { FindsEnd IsDeviceData input.entry.bytes.now from result self.old self.new }
     {
@@ -39,7 +39,7 @@ impl<B> Reader<B> {
     }
 
     /// Returns the position of the first ESC from a position on, or the length if there is none.
-    pub(crate) fn find_escape(&mut self, input: Input<'_, B>, from: usize) -> usize
+    pub(crate) fn find_escape(&mut self, input: Input<'_>, from: usize) -> usize
         requires { from ≤ length input.bytes.now }
         ensures { FindsEnd
             (λ byte. byte ≢ 0x1b) input.entry.bytes.now from result self.old self.new }
@@ -61,7 +61,7 @@ impl<B> Reader<B> {
     /// what was searched.
     pub(crate) fn search_text<const MAY_STOP: bool>(
         &mut self,
-        input: Input<'_, B>,
+        input: Input<'_>,
         from: usize,
         at: usize,
     ) -> usize
@@ -85,7 +85,7 @@ impl<B> Reader<B> {
     }
 
     /// Finds the CAN, SUB or ESC that ends an ignored string, from a position on.
-    pub(crate) fn find_string_end(&mut self, input: Input<'_, B>, from: usize) -> usize
+    pub(crate) fn find_string_end(&mut self, input: Input<'_>, from: usize) -> usize
         requires { from ≤ length input.bytes.now }
         ensures scans { Scans AreIgnored input.entry.bytes.now from result self.old self.new }
         ensures ended { result < length input.entry.bytes.now
@@ -108,7 +108,7 @@ impl<B> Reader<B> {
 
     /// Finds the first CAN, SUB or ESC from one position up to another.
     #[inline(always)]
-    fn find_ending_byte(&mut self, input: Input<'_, B>, from: usize, to: usize) -> usize
+    fn find_ending_byte(&mut self, input: Input<'_>, from: usize, to: usize) -> usize
         requires range { IsRange input.bytes.now from to }
         ensures low { from ≤ result }
         ensures high { result ≤ to }

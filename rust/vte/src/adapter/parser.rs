@@ -60,10 +60,10 @@ impl<const OSC_RAW_BUF_SIZE: usize> Parser<OSC_RAW_BUF_SIZE> {
 
     /// Reads bytes until the performer is terminated, and returns how many were read.
     ///
-    /// The performer is asked at the start of the call, and again after each character, malformed
-    /// sequence or byte that was reported. It isn't asked before each byte: where nothing is
-    /// reported, many are read between two questions. A character that an earlier call began is
-    /// finished first. An unfinished one at the end of the bytes counts as read.
+    /// A character that an earlier call began is finished first. Then the performer is asked, and
+    /// again after each character, malformed sequence or byte that was reported. Where nothing is
+    /// reported, many bytes may be read between two questions. An unfinished character at the end
+    /// of the bytes counts as read.
     #[must_use = "the bytes after the stop are still to be read"]
     pub fn advance_until_terminated<P: Perform + ?Sized>(
         &mut self,

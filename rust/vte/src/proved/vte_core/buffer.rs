@@ -71,6 +71,7 @@ impl Buffer for Vec<u8> {
         self.reserve(more).is_ok()
     }
 
+    #[inline]
     fn append(&mut self, reader: Reader, input: &[u8], from: usize, to: usize) {
         // There is room.
         let _ = reader.copy_to_vec(input, from, to, self);

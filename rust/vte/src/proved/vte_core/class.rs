@@ -31,6 +31,12 @@ pub(crate) fn is_device_data(byte: u8) -> bool {
     (byte >= 0x20 && byte < 0x7f) || is_plain_control(byte)
 }
 
+/// Returns whether a byte is data of an operating system command, and no `;`.
+#[inline(always)]
+pub(crate) fn is_command_data(byte: u8) -> bool {
+    byte >= 0x20 && byte != b';'
+}
+
 /// Returns whether a byte is an intermediate 20..2F.
 pub(crate) fn is_intermediate(byte: u8) -> bool {
     byte >= 0x20 && byte < 0x30

@@ -21,8 +21,7 @@ mod to_run;
 
 use crate::adapter::array_vec::ArrayVec;
 use crate::proved::vte_core::head::HeadProgress;
-use crate::proved::vte_core::perform::{Perform, PerformText};
-use crate::proved::vte_core::scan::{CountedPerform, Grain, InRuns, Reader, Singly};
+use crate::proved::vte_core::scan::{CountedPerform, Grain, Reader};
 use crate::proved::vte_core::utf8::Unfinished;
 #[cfg(any(feature = "std", feature = "ansi"))]
 pub use long::LongParser;
@@ -82,7 +81,6 @@ pub(crate) enum State {
 #[derive(Clone)]
 pub struct Parser<const OSC_RAW_BUF_SIZE: usize = MAX_OSC_RAW> {
     machine: Machine<ArrayVec<u8, OSC_RAW_BUF_SIZE>>,
-    reader: Reader,
 }
 
 impl Parser<MAX_OSC_RAW> {
@@ -105,50 +103,7 @@ impl<const OSC_RAW_BUF_SIZE: usize> Parser<OSC_RAW_BUF_SIZE> {
     pub const fn new_with_size() -> Self {
         Parser {
             machine: Machine::new(ArrayVec::new()),
-            reader: Reader::for_limited(),
         }
-    }
-
-    /// Reads the next bytes of the stream, and performs the events that they add to it.
-    ///
-    /// However calls split the stream, the events are the same. An unfinished character or sequence
-    /// at the end waits for more bytes.
-    pub fn advance<P: Perform + ?Sized>(&mut self, performer: &mut P, bytes: &[u8]) {
-        self.drive::<P, Singly, false>(performer, bytes);
-    }
-
-    /// Reads the next bytes of the stream as [`advance`](Self::advance) does, and passes characters
-    /// to print in [runs](crate::PerformText), and the data of device control strings in
-    /// [slices](crate::PerformText::put_slice).
-    pub fn advance_text<P: PerformText + ?Sized>(&mut self, performer: &mut P, bytes: &[u8]) {
-        self.drive::<P, InRuns, false>(performer, bytes);
-    }
-
-    /// Reads bytes until the performer is terminated, and returns how many were read.
-    ///
-    /// The performer is asked at the start of the call, and again after each character, malformed
-    /// sequence or byte that was reported. It isn't asked before each byte: where nothing is
-    /// reported, many are read between two questions. A character that an earlier call began is
-    /// finished first. An unfinished one at the end of the bytes counts as read.
-    #[must_use = "the bytes after the stop are still to be read"]
-    pub fn advance_until_terminated<P: Perform + ?Sized>(
-        &mut self,
-        performer: &mut P,
-        bytes: &[u8],
-    ) -> usize {
-        self.drive::<P, Singly, true>(performer, bytes)
-    }
-
-    /// Reads bytes as [`advance_until_terminated`](Self::advance_until_terminated) does, and passes
-    /// characters to print in [runs](crate::PerformText). Only for performers that nothing in a run
-    /// terminates: they aren't asked there.
-    #[cfg(any(feature = "__own", feature = "ansi"))]
-    pub(crate) fn advance_text_until_terminated<P: PerformText + ?Sized>(
-        &mut self,
-        performer: &mut P,
-        bytes: &[u8],
-    ) -> usize {
-        self.drive::<P, InRuns, true>(performer, bytes)
     }
 
     /// Returns what is unfinished, if anything is.
@@ -171,15 +126,16 @@ impl<const OSC_RAW_BUF_SIZE: usize> Parser<OSC_RAW_BUF_SIZE> {
 
     /// Reads the bytes of a call, all of them or, if it `MAY_STOP`, until the performer is
     /// terminated, and returns how many were read.
-    fn drive<P: CountedPerform<G> + ?Sized, G: Grain, const MAY_STOP: bool>(
+    pub(crate) fn drive<P: CountedPerform<G> + ?Sized, G: Grain, const MAY_STOP: bool>(
         &mut self,
         performer: &mut P,
-        bytes: &[u8],
+        input: &[u8],
     ) -> usize {
-        match self
+        let reader = Reader {};
+        let result = self
             .machine
-            .drive::<P, G, MAY_STOP>(self.reader, performer, bytes)
-        {
+            .drive::<P, G, MAY_STOP>(reader, performer, input);
+        match result {
             Ok(read) => read,
             // Never: with a limit no memory is refused.
             Err(refused) => refused.read,

@@ -1,8 +1,11 @@
 // Written by tools/erase from crates/vte_core/src/scan.rt: edit that one.
-//! The only module that reads input bytes, and the only way to report events.
+//! The only module that has the bytes of a call, and the only way to report events.
 
+mod calls;
 mod counted_perform;
 mod grain;
+#[cfg(any(feature = "std", feature = "ansi"))]
+mod long_calls;
 mod search;
 mod taken;
 
@@ -19,8 +22,8 @@ pub use grain::{InRuns, Singly};
 pub use taken::{Run, Taken};
 pub(crate) use taken::{RunKind, RunRange};
 
-/// Reads input bytes and reports events. It has no bytes: only Rattle's contracts need its
-/// count.
+/// Reads the bytes of a call and reports events. It has no bytes: only Rattle's contracts need
+/// its count.
 #[derive(Clone, Copy)]
 pub(crate) struct Reader {}
 
@@ -33,8 +36,8 @@ pub(crate) fn up_to(input: &[u8], to: usize) -> &[u8] {
 /// Returns the text from one position to another, which is whole characters.
 #[inline(always)]
 #[allow(unsafe_code)]
-pub(crate) fn text(input: &[u8], from: usize, to: usize) -> &str {
-    let bytes = &input[from..to];
+pub(crate) fn text(bytes: &[u8], from: usize, to: usize) -> &str {
+    let bytes = &bytes[from..to];
     // SAFETY: `to` is where a search found the end of a run that begins at `from`. Searches pass
     // one whole character at a time: a byte of ASCII, or a lead byte with all its continuation
     // bytes, the first of which `may_begin_three` and `may_begin_four` test. The automaton, which
@@ -45,15 +48,15 @@ pub(crate) fn text(input: &[u8], from: usize, to: usize) -> &str {
 
 /// Returns the data from one position to another.
 #[inline(always)]
-fn data(input: &[u8], from: usize, to: usize) -> &[u8] {
-    &input[from..to]
+fn data(bytes: &[u8], from: usize, to: usize) -> &[u8] {
+    &bytes[from..to]
 }
 
 /// Returns the run that stands at a position, whose bytes were looked at.
-pub(crate) fn take_run(input: &[u8], range: RunRange) -> Run<'_> {
+fn take_run(bytes: &[u8], range: RunRange) -> Run<'_> {
     let taken = match range.kind {
-        RunKind::OfText => Taken::Text(text(input, range.start, range.end)),
-        RunKind::OfData => Taken::Data(data(input, range.start, range.end)),
+        RunKind::OfText => Taken::Text(text(bytes, range.start, range.end)),
+        RunKind::OfData => Taken::Data(data(bytes, range.start, range.end)),
         RunKind::Empty => Taken::Nothing,
     };
     Run {
@@ -64,26 +67,6 @@ pub(crate) fn take_run(input: &[u8], range: RunRange) -> Run<'_> {
 }
 
 impl Reader {
-    /// Creates a reader for a parser with a limit.
-    pub(crate) const fn for_limited() -> Self {
-        Reader::none()
-    }
-}
-
-#[cfg(any(feature = "std", feature = "ansi"))]
-impl Reader {
-    /// Creates a reader for a parser without a limit.
-    #[inline]
-    pub(crate) const fn for_long() -> Self {
-        Reader::none()
-    }
-}
-
-impl Reader {
-    const fn none() -> Self {
-        Reader {}
-    }
-
     /// Only Rattle's contracts count.
     fn add(self, count: usize) {
         let _ = count;
@@ -113,7 +96,7 @@ impl Reader {
 
     /// Tells a whole character.
     #[inline(always)]
-    pub(crate) fn tell_character<P: CountedPerform<G> + ?Sized, G>(
+    pub(crate) fn tell_character<P: CountedPerform<G> + ?Sized, G: Grain>(
         self,
         performer: &mut P,
         c: char,
@@ -127,7 +110,7 @@ impl Reader {
     /// Tells a byte that is neither printed nor a lead byte: a control, or a malformed sequence
     /// alone.
     #[inline(always)]
-    pub(crate) fn tell_lone_byte<P: CountedPerform<G> + ?Sized, G>(
+    pub(crate) fn tell_lone_byte<P: CountedPerform<G> + ?Sized, G: Grain>(
         self,
         performer: &mut P,
         byte: u8,
@@ -140,7 +123,7 @@ impl Reader {
 
     /// Tells the data that stand from one position to another.
     #[inline(always)]
-    pub(crate) fn tell_data<P: CountedPerform<G> + ?Sized, G>(
+    pub(crate) fn tell_data<P: CountedPerform<G> + ?Sized, G: Grain>(
         self,
         performer: &mut P,
         input: &[u8],

@@ -5,12 +5,12 @@ use Rattle.vte_core.proofs.calls.Heads.{reads_head-byte, reads_head-nothing, rea
 use Rattle.vte_core.proofs.head.Collected.read_head.Goals as goal
 
 pub loop-position-init : goal.loop-position-init
-loop-position-init g c =
+loop-position-init c =
     record { reads = reads_head-nothing c.requires; count = omega arith; least = omega arith; none = refl }
 
 -- Parameters, of which at least the first byte is read.
 pub loop-position-preserved-then-may_have_parameters : goal.loop-position-preserved-then-may_have_parameters
-loop-position-preserved-then-may_have_parameters g c =
+loop-position-preserved-then-may_have_parameters c =
     let v = c.loop-position.invariant in
     let numbers = c.read_numbers-numbers.ensures in
     let further =
@@ -26,7 +26,7 @@ loop-position-preserved-then-may_have_parameters g c =
 
 -- A marker, an intermediate, or a byte that makes the head ill-shaped.
 pub loop-position-preserved : goal.loop-position-preserved
-loop-position-preserved g c =
+loop-position-preserved c =
     let v = c.loop-position.invariant in
     let is = sym c.is_head_byte.ensures ∙ c.if-not-is_head_byte.false in
     record {
@@ -39,7 +39,7 @@ loop-position-preserved g c =
     }
 
 pub returns-after-loop-position-clause-reads : goal.returns-after-loop-position-clause-reads
-returns-after-loop-position-clause-reads g c =
+returns-after-loop-position-clause-reads c =
     let v = c.loop-position.invariant in
     let high = v.reads.high in
     record { head = v.reads; next = rw v.none (omega arith) }

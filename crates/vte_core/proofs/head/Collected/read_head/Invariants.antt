@@ -3,7 +3,7 @@ use Rattle.vte_core.proofs.Common.{◌≡◌, ◌+◌, ◌-◌, ◌*◌, ◌≤�
 use Rattle.vte_core.proofs.head.Collected.read_head.Given as goal
 
 abbrev pub invariant-loop-position : goal.invariant-loop-position
-invariant-loop-position g l = record {
+invariant-loop-position l = record {
   reads : ReadsHead l.input.bytes.now l.from l.position l.fn.reached l.progress l.initial.self l.self;
   count : looked l.reader + 3 * l.from ≤ looked l.initial.reader + 3 * l.position;
   least : looked l.initial.reader + l.position ≤ looked l.reader + l.from;
@@ -11,4 +11,4 @@ invariant-loop-position g l = record {
 }
 
 abbrev pub decreases-loop-position : goal.decreases-loop-position
-decreases-loop-position g l = length l.input.bytes.now - l.position
+decreases-loop-position l = length l.input.bytes.now - l.position

@@ -8,7 +8,7 @@ use Rattle.vte_core.proofs.head.Collected.read_numbers.Goals as goal
 
 -- No byte is read.
 pub loop-position-init : goal.loop-position-init
-loop-position-init g c = record {
+loop-position-init c = record {
   reads =
       rw (progress_after-none c.args.reached refl, c.from-number.ensures)
       (reads_head-nothing c.requires.in_order);
@@ -19,7 +19,7 @@ loop-position-init g c = record {
 
 -- A digit, or a separator that is no first byte.
 pub loop-position-preserved : goal.loop-position-preserved
-loop-position-preserved g c =
+loop-position-preserved c =
     let v = c.loop-position.invariant in
     let held = c.loop-position.self in
     record {
@@ -55,7 +55,7 @@ loop-position-preserved g c =
 
 -- No byte was read: the part of the head stays.
 pub returns-then-from-position-clause-reads : goal.returns-then-from-position-clause-reads
-returns-then-from-position-clause-reads g c =
+returns-then-from-position-clause-reads c =
     let v = c.loop-position.invariant in
     let high = v.reads.high in
     record {
@@ -69,7 +69,7 @@ returns-then-from-position-clause-reads g c =
 
 -- Some were: it is that of parameters.
 pub returns-else-from-position-clause-reads : goal.returns-else-from-position-clause-reads
-returns-else-from-position-clause-reads g c =
+returns-else-from-position-clause-reads c =
     let v = c.loop-position.invariant in
     let high = v.reads.high in
     let low = v.reads.low in

@@ -5,7 +5,7 @@ use Rattle.vte_core.specs.machine.Reading.{with_open_number}
 use Rattle.vte_core.proofs.head.Collected.read_numbers.Given as goal
 
 abbrev pub invariant-loop-position : goal.invariant-loop-position
-invariant-loop-position g l = record {
+invariant-loop-position l = record {
   reads : ReadsHead l.input.bytes.now l.from l.position l.reached
       (progress_after l.reached l.from l.position) l.initial.self (with_open_number l.self l.number);
   count : looked l.reader + l.from ≡ looked l.initial.reader + l.position;
@@ -14,4 +14,4 @@ invariant-loop-position g l = record {
 }
 
 abbrev pub decreases-loop-position : goal.decreases-loop-position
-decreases-loop-position g l = length l.input.bytes.now - l.position
+decreases-loop-position l = length l.input.bytes.now - l.position

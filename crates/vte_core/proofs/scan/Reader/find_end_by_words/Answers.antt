@@ -4,7 +4,7 @@ use Rattle.vte_core.proofs.bytes.SearchLemmas.{scans-block}
 use Rattle.vte_core.proofs.scan.Reader.find_end_by_words.Goals as goal
 
 pub loop-word-preserved : goal.loop-word-preserved
-loop-word-preserved g c =
+loop-word-preserved c =
     let v = c.loop-word.invariant in
     record {
       scans = scans-block IsPrintedAscii _ 8 v.scans c.in-Some.ensures
@@ -13,7 +13,7 @@ loop-word-preserved g c =
     }
 
 pub returns-in-Some-first_unprinted-clause-scans : goal.returns-in-Some-first_unprinted-clause-scans
-returns-in-Some-first_unprinted-clause-scans g c =
+returns-in-Some-first_unprinted-clause-scans c =
     let position = c.in-Some-first_unprinted.ensures in
     scans-block IsPrintedAscii _ c.in-Some-first_unprinted.position c.loop-word.invariant.scans c.in-Some.ensures
     (omega (arith, position.0)) position.1

@@ -6,7 +6,7 @@ use Rattle.vte_core.proofs.bytes.SearchLemmas.{scans-run}
 use Rattle.vte_core.proofs.scan.Reader.find_end_up_to.Goals as goal
 
 pub loop-end-init : goal.loop-end-init
-loop-end-init g c = record {
+loop-end-init c = record {
   scans =
       record {
         low = omega arith;
@@ -19,7 +19,7 @@ loop-end-init g c = record {
 
 -- ASCII that is printed, as far as it goes.
 pub loop-end-preserved-then-is_printed_ascii : goal.loop-end-preserved-then-is_printed_ascii
-loop-end-preserved-then-is_printed_ascii g c =
+loop-end-preserved-then-is_printed_ascii c =
     let v = c.loop-end.invariant in
     let bytes = c.args.input.bytes.now in
     let ascii = c.find_ascii_end-end.ensures in
@@ -39,7 +39,7 @@ loop-end-preserved-then-is_printed_ascii g c =
 
 -- What else a run goes on by.
 pub loop-end-preserved : goal.loop-end-preserved
-loop-end-preserved g c =
+loop-end-preserved c =
     let v = c.loop-end.invariant in
     let other = c.in-Some.ensures in
     record {

@@ -8,7 +8,7 @@ rest-byte bytes from i k is =
     ap (λ rest. get_or rest i 0) (take_rest bytes from) ∙ get_or-drop from bytes i 0 ∙ ap (λ k. get_or bytes k 0) is
 
 pub returns-in-Some : goal.returns-in-Some
-returns-in-Some g c =
+returns-in-Some c =
     let first = c.in-Some.ensures in
     record {
       low = omega arith;
@@ -24,7 +24,7 @@ returns-in-Some g c =
     }
 
 pub returns-in-None : goal.returns-in-None
-returns-in-None g c = record {
+returns-in-None c = record {
   low = omega (arith, c.requires);
   high = search rules;
   are = λ k low high is.

@@ -11,14 +11,14 @@ use Rattle.vte_core.proofs.scan.Reader.find_other_character_end.Goals as goal
 
 -- HT, LF or CR, if the performer keeps them: a run of one byte.
 pub returns-then-is_layout-clause-run : goal.returns-then-is_layout-clause-run
-returns-then-is_layout-clause-run g c =
+returns-then-is_layout-clause-run c =
     let layout : is_layout (slice_index c.args.input.bytes.now c.args.from) ≡ true =
     ap is_layout (sym c.requires.looked_at) ∙ sym c.is_layout.ensures ∙ c.if-is_layout.true in
     rw c.if-layout.true (run-layout c.args.input.bytes.now c.args.from _ c.requires.within refl layout)
 
 -- A character of two bytes, whose second one continues it; after C2 it is no control.
 pub returns-then-is_printed_pair-clause-run : goal.returns-then-is_printed_pair-clause-run
-returns-then-is_printed_pair-clause-run g c =
+returns-then-is_printed_pair-clause-run c =
     let second = c.in_ok-second.ensures in
     let pair = c.if-is_printed_pair.ensures in
     let lead = in_range-bounds (from_to 0xc2 0xf4) c.args.first (sym c.is_lead.ensures ∙ c.if-not-is_lead.false) in
@@ -28,7 +28,7 @@ returns-then-is_printed_pair-clause-run g c =
 
 -- A character of three bytes, all in their ranges.
 pub returns-then-is_continuation-clause-run : goal.returns-then-is_continuation-clause-run
-returns-then-is_continuation-clause-run g c =
+returns-then-is_continuation-clause-run c =
     let third = c.in_ok-get.ensures in
     run-three c.args.input.bytes.now c.args.from
     (omega (arith, third.0)) c.requires.looked_at c.in_ok-second.ensures.1
@@ -37,7 +37,7 @@ returns-then-is_continuation-clause-run g c =
 
 -- A character of four bytes, all in their ranges.
 pub returns-then-is_continuation-3-clause-run : goal.returns-then-is_continuation-3-clause-run
-returns-then-is_continuation-3-clause-run g c =
+returns-then-is_continuation-3-clause-run c =
     let third = c.in_ok-get-2.ensures in
     let fourth = c.in_ok-get-3.ensures in
     let lead = in_range-bounds (from_to 0xc2 0xf4) c.args.first (sym c.is_lead.ensures ∙ c.if-not-is_lead.false) in
@@ -49,7 +49,7 @@ returns-then-is_continuation-3-clause-run g c =
 
 -- A byte that begins no longer character and is not kept: it is no run.
 pub returns-then-not-is_lead-clause-ended : goal.returns-then-not-is_lead-clause-ended
-returns-then-not-is_lead-clause-ended g c none =
+returns-then-not-is_lead-clause-ended c none =
     ends-single c.args.layout _ c.args.from c.args.first c.requires.within c.requires.looked_at c.requires.other
     (sym c.is_lead.ensures ∙ c.if-not-is_lead.true) (λ layout. elim c.else-layout.branch [
       | else-layout-via-then-layout+else-is_layout w ↦ sym w.is_layout.ensures ∙ w.if-is_layout.false
@@ -58,30 +58,30 @@ returns-then-not-is_lead-clause-ended g c none =
 
 -- The bytes end after the first one, the second or the third: too few for the character.
 pub returns-in_err-second-clause-ended : goal.returns-in_err-second-clause-ended
-returns-in_err-second-clause-ended g c none =
+returns-in_err-second-clause-ended c none =
     ends-long c.args.layout _ c.args.from c.args.first c.requires.within c.requires.looked_at
     (sym c.is_lead.ensures ∙ c.if-not-is_lead.false) (λ more. absurd (omega (arith, more, c.in_err-second.ensures.0)))
 
 pub returns-in_err-get-clause-ended : goal.returns-in_err-get-clause-ended
-returns-in_err-get-clause-ended g c none =
+returns-in_err-get-clause-ended c none =
     ends-three c.args.layout _ c.args.from c.args.first c.requires.within c.requires.looked_at c.if-first-lt224.false
     c.if-first-lt240.true (λ more second third. absurd (omega (arith, more, c.in_err-get.ensures.0)))
 
 pub returns-in_err-get-2-clause-ended : goal.returns-in_err-get-2-clause-ended
-returns-in_err-get-2-clause-ended g c none =
+returns-in_err-get-2-clause-ended c none =
     ends-four c.args.layout _ c.args.from c.args.first c.requires.within c.requires.looked_at c.if-first-lt240.false
     (sym c.is_lead.ensures ∙ c.if-not-is_lead.false) (λ more second third fourth.
     absurd (omega (arith, more, c.in_err-get-2.ensures.0)))
 
 pub returns-in_err-get-3-clause-ended : goal.returns-in_err-get-3-clause-ended
-returns-in_err-get-3-clause-ended g c none =
+returns-in_err-get-3-clause-ended c none =
     ends-four c.args.layout _ c.args.from c.args.first c.requires.within c.requires.looked_at c.if-first-lt240.false
     (sym c.is_lead.ensures ∙ c.if-not-is_lead.false) (λ more second third fourth.
     absurd (omega (arith, more, c.in_err-get-3.ensures.0)))
 
 -- A second byte that does not continue the first one, or gives a control of C1.
 pub returns-else-is_printed_pair-clause-ended : goal.returns-else-is_printed_pair-clause-ended
-returns-else-is_printed_pair-clause-ended g c none =
+returns-else-is_printed_pair-clause-ended c none =
     let lead = in_range-bounds (from_to 0xc2 0xf4) c.args.first (sym c.is_lead.ensures ∙ c.if-not-is_lead.false) in
     let second = c.in_ok-second.ensures.1 in
     ends-two c.args.layout _ c.args.from c.args.first c.requires.within c.requires.looked_at lead.0
@@ -94,7 +94,7 @@ returns-else-is_printed_pair-clause-ended g c none =
 
 -- Of three bytes, the third does not continue or the second does not fit the first.
 pub returns-else-may_begin_three-clause-ended : goal.returns-else-may_begin_three-clause-ended
-returns-else-may_begin_three-clause-ended g c none =
+returns-else-may_begin_three-clause-ended c none =
     ends-three c.args.layout _ c.args.from c.args.first c.requires.within c.requires.looked_at c.if-first-lt224.false
     c.if-first-lt240.true (λ more second third. elim c.else-may_begin_three.branch [
       -- The third.
@@ -111,7 +111,7 @@ returns-else-may_begin_three-clause-ended g c none =
 
 -- Of four bytes, the fourth or third does not continue or the second does not fit the first.
 pub returns-else-may_begin_four-clause-ended : goal.returns-else-may_begin_four-clause-ended
-returns-else-may_begin_four-clause-ended g c none =
+returns-else-may_begin_four-clause-ended c none =
     ends-four c.args.layout _ c.args.from c.args.first c.requires.within c.requires.looked_at c.if-first-lt240.false
     (sym c.is_lead.ensures ∙ c.if-not-is_lead.false) (λ more second third fourth. elim c.else-may_begin_four.branch [
       -- The fourth.

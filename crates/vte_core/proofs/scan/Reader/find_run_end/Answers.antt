@@ -6,11 +6,11 @@ use Rattle.vte_core.proofs.scan.Reader.find_run_end.Goals.{then-end-to, else-end
 use Rattle.vte_core.proofs.scan.Reader.find_run_end.Goals as goal
 
 pub returns-else-end-len-clause-scans : goal.returns-else-end-len-clause-scans
-returns-else-end-len-clause-scans g c = scans-run c.find_end_up_to-end.ensures.scans
+returns-else-end-len-clause-scans c = scans-run c.find_end_up_to-end.ensures.scans
     c.find_run_end_by_blocks.ensures.scans
 
 pub returns-then-end-len-clause-ended : goal.returns-then-end-len-clause-ended
-returns-then-end-len-clause-ended g c = elim c.if-end-to.branch [
+returns-then-end-len-clause-ended c = elim c.if-end-to.branch [
   | then-end-to w ↦ c.find_end_up_to-end.ensures.ended (omega (arith, w.if-end-to.true))
   | else-end-to w ↦
       ends-all _ _ _

@@ -4,7 +4,7 @@ use Rattle.vte_core.proofs.bytes.SearchLemmas.{scans-block}
 use Rattle.vte_core.proofs.scan.Reader.find_string_end.Goals as goal
 
 pub loop-block-preserved : goal.loop-block-preserved
-loop-block-preserved g c =
+loop-block-preserved c =
     let v = c.loop-block.invariant in
     record {
       far = omega (arith, v.far);

@@ -3,11 +3,11 @@ use Rattle.vte_core.proofs.Common.{◌≡◌, ◌+◌, ◌-◌, ◌≤◌, lengt
 use Rattle.vte_core.proofs.scan.Reader.find_string_end.Given as goal
 
 abbrev pub invariant-loop-block : goal.invariant-loop-block
-invariant-loop-block g l = record {
+invariant-loop-block l = record {
   far : l.from + 8 ≤ l.end;
   scans : Scans AreIgnored l.input.bytes.now l.from l.end l.fn.self l.self;
   count : looked l.self + l.from ≡ looked l.fn.self + l.end;
 }
 
 abbrev pub decreases-loop-block : goal.decreases-loop-block
-decreases-loop-block g l = length l.input.bytes.now - l.end
+decreases-loop-block l = length l.input.bytes.now - l.end

@@ -8,7 +8,7 @@ use Rattle.vte_core.proofs.scan.Reader.last_end.Goals as goal
 
 -- Between characters: the text ends here.
 pub returns-then-state-eq-BETWEEN : goal.returns-then-state-eq-BETWEEN
-returns-then-state-eq-BETWEEN g c = record {
+returns-then-state-eq-BETWEEN c = record {
   last =
       last_end-here c.requires.read.within
       (state_code-between _ (sym c.requires.read.state_is ∙ c.if-state-eq-BETWEEN.true));
@@ -35,7 +35,7 @@ not_yet bytes from at state end b read inside s low is short = elim (cases_lt s.
 
 -- A byte that continues a character is not the first of the bytes, so one stands before it.
 pub overflow_sub-end-in-loop-end : goal.overflow_sub-end-in-loop-end
-overflow_sub-end-in-loop-end g c =
+overflow_sub-end-in-loop-end c =
     let bytes = c.args.input.bytes.now in
     let s = so_far-all (drop c.args.from bytes) c.args.at c.requires.read.within c.requires.read.going in
     omega (
@@ -46,8 +46,8 @@ overflow_sub-end-in-loop-end g c =
     )
 
 pub loop-end-preserved : goal.loop-end-preserved
-loop-end-preserved g c =
-    let some : 1 ≤ c.loop-end.end = overflow_sub-end-in-loop-end g c in
+loop-end-preserved c =
+    let some : 1 ≤ c.loop-end.end = overflow_sub-end-in-loop-end c in
     record {
       before = omega (arith, c.loop-end.invariant.before);
       from = λ s. omega (
@@ -60,11 +60,11 @@ loop-end-preserved g c =
     }
 
 pub loop-end-smaller : goal.loop-end-smaller
-loop-end-smaller g c = omega (arith, overflow_sub-end-in-loop-end g c)
+loop-end-smaller c = omega (arith, overflow_sub-end-in-loop-end c)
 
 -- The byte that began the last character, or none is left.
 pub returns : goal.returns
-returns g c =
+returns c =
     let bytes = c.args.input.bytes.now in
     let text = drop c.args.from bytes in
     let s = so_far-all text c.args.at c.requires.read.within c.requires.read.going in

@@ -5,7 +5,7 @@ use Rattle.vte_core.proofs.automaton_states.Scanned.{ReadSoFar}
 use Rattle.vte_core.proofs.scan.Reader.last_end.Given as goal
 
 abbrev pub invariant-loop-end : goal.invariant-loop-end
-invariant-loop-end g l = record {
+invariant-loop-end l = record {
   before : l.end < l.at;
   from : (s : ReadSoFar (drop l.from l.input.bytes.now) l.at
       (state_after Between (take l.at (drop l.from l.input.bytes.now)))) → s.end ≤ l.end;
@@ -13,4 +13,4 @@ invariant-loop-end g l = record {
 }
 
 abbrev pub decreases-loop-end : goal.decreases-loop-end
-decreases-loop-end g l = l.end
+decreases-loop-end l = l.end

@@ -7,7 +7,7 @@ use Rattle.vte_core.proofs.scan.Reader.skip_run_blocks.Goals.{else-not-layout-vi
 use Rattle.vte_core.proofs.scan.Reader.skip_run_blocks.Goals as goal
 
 pub loop-block-preserved : goal.loop-block-preserved
-loop-block-preserved g c =
+loop-block-preserved c =
     let bytes = c.args.input.bytes.now in
     let text = drop c.args.from bytes in
     let v = c.loop-block.invariant in
@@ -31,7 +31,7 @@ loop-block-preserved g c =
     }
 
 pub returns : goal.returns
-returns g c =
+returns c =
     let text = drop c.args.from c.args.input.bytes.now in
     let v = c.loop-block.invariant in
     let last = c.last_end.ensures.last in

@@ -5,7 +5,7 @@ use Rattle.vte_core.specs.machine.Each.{Each}
 use Rattle.vte_core.proofs.scan.Reader.skip_run_blocks.Given as goal
 
 abbrev pub invariant-loop-block : goal.invariant-loop-block
-invariant-loop-block g l = record {
+invariant-loop-block l = record {
   read : HasScanned (drop l.from l.input.bytes.now) l.at l.state;
   kept : l.layout ≡ false → Each (λ byte. 0x20 ≤ byte) (drop l.from l.input.bytes.now) 0 l.at;
   whole : l.at < 16 → l.at ≡ 0;
@@ -13,4 +13,4 @@ invariant-loop-block g l = record {
 }
 
 abbrev pub decreases-loop-block : goal.decreases-loop-block
-decreases-loop-block g l = length l.input.bytes.now - l.at
+decreases-loop-block l = length l.input.bytes.now - l.at

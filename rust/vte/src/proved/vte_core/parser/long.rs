@@ -3,8 +3,7 @@
 
 use crate::prelude::Vec;
 use crate::proved::vte_core::parser::{Machine, Open, Refused, State};
-use crate::proved::vte_core::perform::{Perform, PerformText};
-use crate::proved::vte_core::scan::{take_run, InRuns, Reader, Run, Singly};
+use crate::proved::vte_core::scan::{CountedPerform, Grain, Reader, RunRange, Singly};
 
 /// A parser whose calls return an error if they are refused memory.
 ///
@@ -34,7 +33,6 @@ use crate::proved::vte_core::scan::{take_run, InRuns, Reader, Run, Singly};
 #[derive(Clone)]
 pub struct LongParser {
     machine: Machine<Vec<u8>>,
-    reader: Reader,
 }
 
 impl LongParser {
@@ -43,7 +41,6 @@ impl LongParser {
     pub const fn new() -> Self {
         LongParser {
             machine: Machine::new(Vec::new()),
-            reader: Reader::for_long(),
         }
     }
 
@@ -88,72 +85,6 @@ impl LongParser {
         self.machine.command.shrink_to_fit();
     }
 
-    /// Reads the next bytes of the stream, and performs the events that they add to it: all of
-    /// them, or as many as there is memory for.
-    pub fn advance<P: Perform + ?Sized>(
-        &mut self,
-        performer: &mut P,
-        bytes: &[u8],
-    ) -> Result<(), Refused> {
-        self.machine
-            .drive::<P, Singly, false>(self.reader, performer, bytes)?;
-        Ok(())
-    }
-
-    /// Reads the next bytes of the stream as [`advance`](Self::advance) does, and passes characters
-    /// to print in [runs](crate::PerformText), and the data of device control strings in
-    /// [slices](crate::PerformText::put_slice).
-    pub fn advance_text<P: PerformText + ?Sized>(
-        &mut self,
-        performer: &mut P,
-        bytes: &[u8],
-    ) -> Result<(), Refused> {
-        self.machine
-            .drive::<P, InRuns, false>(self.reader, performer, bytes)?;
-        Ok(())
-    }
-
-    /// Reads bytes until the performer is terminated or memory is refused, and returns how many
-    /// were read.
-    ///
-    /// The performer is asked as by
-    /// [`Parser::advance_until_terminated`](crate::Parser::advance_until_terminated), and before
-    /// memory is taken: a stop needs none.
-    pub fn advance_until_terminated<P: Perform + ?Sized>(
-        &mut self,
-        performer: &mut P,
-        bytes: &[u8],
-    ) -> Result<usize, Refused> {
-        self.machine
-            .drive::<P, Singly, true>(self.reader, performer, bytes)
-    }
-
-    /// Reads bytes as [`advance_until_terminated`](Self::advance_until_terminated) does, and passes
-    /// characters to print in [runs](crate::PerformText). Only for performers that nothing in a run
-    /// terminates: they aren't asked there.
-    #[cfg(any(feature = "__own", feature = "ansi"))]
-    pub(crate) fn advance_text_until_terminated<P: PerformText + ?Sized>(
-        &mut self,
-        performer: &mut P,
-        bytes: &[u8],
-    ) -> Result<usize, Refused> {
-        self.machine
-            .drive::<P, InRuns, true>(self.reader, performer, bytes)
-    }
-
-    /// Reads bytes up to a run of text, or of data of a device control string, and the run itself,
-    /// which it returns instead of performing it, as
-    /// [`Parser::advance_to_run`](crate::Parser::advance_to_run) does.
-    pub fn advance_to_run<'a, P: Perform + ?Sized>(
-        &mut self,
-        performer: &mut P,
-        bytes: &'a [u8],
-    ) -> Result<Run<'a>, Refused> {
-        let input = bytes;
-        let range = self.machine.drive_to_run(self.reader, performer, input)?;
-        Ok(take_run(input, range))
-    }
-
     /// Returns what is unfinished, if anything is.
     ///
     /// It began at the last ESC, or is at most three bytes of a character.
@@ -166,5 +97,26 @@ impl LongParser {
     #[inline]
     pub fn is_open(&self) -> bool {
         !matches!(self.open(), Open::Nothing)
+    }
+    /// Reads the bytes of a call, as many as there is memory for, and returns how many: all of
+    /// them, or up to a stop if `MAY_STOP`.
+    pub(crate) fn drive<P: CountedPerform<G> + ?Sized, G: Grain, const MAY_STOP: bool>(
+        &mut self,
+        performer: &mut P,
+        input: &[u8],
+    ) -> Result<usize, Refused> {
+        let reader = Reader {};
+        self.machine
+            .drive::<P, G, MAY_STOP>(reader, performer, input)
+    }
+
+    /// Reads bytes up to a run, and finds the run.
+    pub(crate) fn drive_to_run<P: CountedPerform<Singly> + ?Sized>(
+        &mut self,
+        performer: &mut P,
+        input: &[u8],
+    ) -> Result<RunRange, Refused> {
+        let reader = Reader {};
+        self.machine.drive_to_run(reader, performer, input)
     }
 }

@@ -4,39 +4,22 @@
 use crate::proved::vte_core::buffer::Buffer;
 use crate::proved::vte_core::class::ESCAPE;
 use crate::proved::vte_core::parser::{Machine, Parser, Refused, State};
-use crate::proved::vte_core::perform::Perform;
-use crate::proved::vte_core::scan::{
-    take_run, CountedPerform, Reader, Run, RunKind, RunRange, Singly,
-};
+use crate::proved::vte_core::scan::{CountedPerform, Reader, RunKind, RunRange, Singly};
 use crate::proved::vte_core::utf8::{is_lead, is_printed_ascii};
 
 impl<const OSC_RAW_BUF_SIZE: usize> Parser<OSC_RAW_BUF_SIZE> {
-    /// Reads bytes up to a run of text, or of data of a device control string, and the run itself,
-    /// which it returns instead of performing it.
-    ///
-    /// Text comes in two ways: by the returned run, and by [`print`](Perform::print) a
-    /// character that was divided between two calls, and U+FFFD for malformed bytes. A
-    /// performer without `print` loses these.
-    ///
-    /// A caller can take text from its own input in this way, with its position and without a
-    /// copy.
-    ///
-    /// A run begins where nothing is open and a character stands in the bytes that is printed as it
-    /// is, or at a data byte that is put. It ends before the first control, malformed sequence,
-    /// unfinished character or byte that isn't put. What an earlier call began is performed.
-    /// Without a run the call ends with the bytes, or if the performer is terminated, which is
-    /// asked as by [`advance_until_terminated`](Self::advance_until_terminated).
-    #[must_use = "the bytes after the run are still to be read"]
-    pub fn advance_to_run<'a, P: Perform + ?Sized>(
+    /// Reads bytes up to a run, and finds the run.
+    pub(crate) fn drive_to_run<P: CountedPerform<Singly> + ?Sized>(
         &mut self,
         performer: &mut P,
-        bytes: &'a [u8],
-    ) -> Run<'a> {
-        let input = bytes;
-        match self.machine.drive_to_run(self.reader, performer, input) {
-            Ok(range) => take_run(input, range),
+        input: &[u8],
+    ) -> RunRange {
+        let reader = Reader {};
+        let result = self.machine.drive_to_run(reader, performer, input);
+        match result {
+            Ok(range) => range,
             // Never: with a limit no memory is refused.
-            Err(refused) => take_run(input, RunRange::empty(refused.read)),
+            Err(refused) => RunRange::empty(refused.read),
         }
     }
 }

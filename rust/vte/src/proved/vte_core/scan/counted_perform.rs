@@ -3,11 +3,11 @@
 
 use crate::proved::vte_core::head::Collected;
 use crate::proved::vte_core::perform::Perform;
-use crate::proved::vte_core::scan::grain::PerformAs;
+use crate::proved::vte_core::scan::grain::{Grain, PerformAs};
 use crate::proved::vte_core::scan::Reader;
 
 /// A performer, as the functions of a parser see it.
-pub(crate) trait CountedPerform<G> {
+pub(crate) trait CountedPerform<G: Grain> {
     /// Returns whether HT, LF and CR come as text.
     fn keeps_layout(&self) -> bool;
 
@@ -36,7 +36,7 @@ pub(crate) trait CountedPerform<G> {
     fn terminated(&self) -> bool;
 }
 
-impl<P: PerformAs<G> + ?Sized, G> CountedPerform<G> for P {
+impl<P: PerformAs<G> + ?Sized, G: Grain> CountedPerform<G> for P {
     #[inline(always)]
     fn keeps_layout(&self) -> bool {
         PerformAs::<G>::keeps_layout(self)

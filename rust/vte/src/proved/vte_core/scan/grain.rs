@@ -25,7 +25,7 @@ impl Grain for InRuns {
 }
 
 /// A performer that takes text and data in a grain.
-pub(crate) trait PerformAs<G>: Perform {
+pub(crate) trait PerformAs<G: Grain>: Perform {
     /// Returns whether HT, LF and CR come as text.
     fn keeps_layout(&self) -> bool;
 
@@ -66,18 +66,14 @@ impl<P: Perform + ?Sized> PerformAs<Singly> for P {
         Perform::put(self, byte);
     }
 
-    // The machine tells a performer that takes single characters no text.
-    fn print_text(&mut self, text: &str) {
-        for c in text.chars() {
-            Perform::print(self, c);
-        }
+    // Never: only performers that take runs are told texts.
+    fn print_text(&mut self, _text: &str) {
+        unreachable!()
     }
 
-    // The machine tells a performer that takes single bytes no slice.
-    fn put_slice(&mut self, bytes: &[u8]) {
-        for byte in bytes {
-            Perform::put(self, *byte);
-        }
+    // Never: only performers that take runs are told slices.
+    fn put_slice(&mut self, _bytes: &[u8]) {
+        unreachable!()
     }
 }
 

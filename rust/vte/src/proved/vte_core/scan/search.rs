@@ -5,7 +5,9 @@
 //! begun with single bytes, so that no byte is read often.
 
 use crate::prelude::memchr;
-use crate::proved::vte_core::class::{cannot_end, ends_body, is_device_data, ESCAPE};
+use crate::proved::vte_core::class::{
+    cannot_end, ends_body, is_command_data, is_device_data, ESCAPE,
+};
 use crate::proved::vte_core::scan::{up_to, Reader};
 
 impl Reader {
@@ -13,7 +15,7 @@ impl Reader {
     /// before `;` or a control, or with the input.
     pub(crate) fn find_command_data_end(self, input: &[u8], from: usize) -> usize {
         let mut end = from;
-        while end < input.len() && input[end] >= 0x20 && input[end] != b';' {
+        while end < input.len() && is_command_data(input[end]) {
             end += 1;
         }
         self.add((end - from) + usize::from(end < input.len()));

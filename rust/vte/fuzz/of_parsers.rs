@@ -1,6 +1,6 @@
 //! Every way to read a stream by a parser.
 
-use vte::{LongParser, Parser, Perform, PerformText, Run, Taken};
+use vte::{LongParser, Open, Parser, Perform, PerformText, Run, Taken};
 
 use crate::event_lines::{EventLines, Stop};
 
@@ -14,7 +14,7 @@ trait Read: Sized {
     fn advance_text<P: PerformText>(&mut self, performer: &mut P, bytes: &[u8]);
     fn advance_until_terminated<P: Perform>(&mut self, performer: &mut P, bytes: &[u8]) -> usize;
     fn advance_to_run<'a, P: Perform>(&mut self, performer: &mut P, bytes: &'a [u8]) -> Run<'a>;
-    fn is_open(&self) -> bool;
+    fn open(&self) -> Open;
 }
 
 macro_rules! read {
@@ -48,8 +48,8 @@ macro_rules! read {
                 self.advance_to_run(performer, bytes)$(.$granted())?
             }
 
-            fn is_open(&self) -> bool {
-                self.is_open()
+            fn open(&self) -> Open {
+                self.open()
             }
         }
     };
@@ -59,7 +59,7 @@ read!(Parser<LIMIT>, new_with_size);
 read!(LongParser, new, unwrap);
 
 /// The lines of a stream, and whether it ends in the middle of something.
-type Outcome = (String, bool);
+type Outcome = (String, Open);
 
 fn whole<R: Read>(stream: &[u8]) -> Outcome {
     in_pieces::<R>(&[stream])
@@ -70,7 +70,7 @@ fn in_pieces<R: Read>(pieces: &[&[u8]]) -> Outcome {
     for piece in pieces {
         parser.advance(&mut lines, piece);
     }
-    (lines.text, parser.is_open())
+    (lines.text, parser.open())
 }
 
 fn in_runs<R: Read, const KEEPS: bool>(pieces: &[&[u8]]) -> Outcome {
@@ -82,7 +82,7 @@ fn in_runs<R: Read, const KEEPS: bool>(pieces: &[&[u8]]) -> Outcome {
     let text = ["09", "0a", "0d"].iter().fold(lines.text, |text, byte| {
         text.replace(&format!("print 00{byte}\n"), &format!("execute {byte}\n"))
     });
-    (text, parser.is_open())
+    (text, parser.open())
 }
 
 /// With a stop after each character, or after each escape sequence.
@@ -98,7 +98,7 @@ fn with_stops<R: Read>(pieces: &[&[u8]], stop: Stop) -> Outcome {
             rest = &rest[read..];
         }
     }
-    (text, parser.is_open())
+    (text, parser.open())
 }
 
 /// With runs that are taken from the bytes.
@@ -123,7 +123,7 @@ fn to_runs<R: Read>(pieces: &[&[u8]]) -> Outcome {
             rest = after;
         }
     }
-    (lines.text, parser.is_open())
+    (lines.text, parser.open())
 }
 
 fn compare_with<R: Read>(stream: &[u8], pieces: &[&[u8]]) -> Outcome {

@@ -1,10 +1,7 @@
 """Tests of plain text."""
 import itertools
-import subprocess
-import sys
 
-import pytest
-from common import EXAMPLES, STREAM, text_of
+from common import STREAM, text_of
 
 import vte
 
@@ -68,13 +65,3 @@ def test_bytes_that_are_not_utf8_stay():
         text, wanted_text = (it.decode(errors="surrogateescape") for it in (data, wanted))
         found = vte.strip_lines([data, text], errors="surrogateescape")
         assert list(found) == [wanted, wanted_text]
-
-
-def test_example(tmp_path):
-    file = tmp_path / "stream"
-    file.write_bytes(STREAM * 9)
-    words = [sys.executable, EXAMPLES / "strip_files.py", file]
-    said = subprocess.run(words, stdout=subprocess.PIPE, check=True).stdout
-    text = vte.strip(STREAM * 9)
-    assert said.decode() == f"{file}: {len(STREAM * 9)} bytes, {len(text)} of them text\n"
-    assert (tmp_path / "stream.txt").read_bytes() == text

@@ -11,6 +11,8 @@ parser.feed_until(b"", {"Osc"})  # wrong
 vte.strip(b"", errors="ignore")  # wrong
 vte.open(0).size  # wrong
 next(vte.strip_lines(["a"])) + b""  # wrong
+vte.parts(["a"], 9)  # wrong
+next(vte.parts("file", size=9)).start  # wrong
 for event in parser.feed(b"", kinds={vte.Osc, vte.Csi}):
     if isinstance(event, vte.Osc):
         print(event.pieces, event.title)  # wrong

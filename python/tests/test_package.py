@@ -27,7 +27,8 @@ def test_names():
     modules = {name for name, value in vars(vte).items() if isinstance(value, type(vte))}
     assert set(vte.__all__) == {name for name in vars(vte) if name[0] != "_"} - modules | {"calls"}
     for name in set(vte.__all__) - {"calls", "Event"}:
-        assert getattr(vte, name).__module__ in ("vte", "vte._reader", "vte._vte")
+        assert getattr(vte, name).__module__.removeprefix("vte.") in (
+            "vte", "_parts", "_reader", "_vte")
     assert importlib.metadata.version("naqshuve-vte") == vte.__version__
     assert [made.limit for made in (*parsers(), vte.Parser(1024))] == [None, 1024, 1024]
 

@@ -1,11 +1,9 @@
 """Tests of plain text."""
 import copy
 import itertools
-import subprocess
-import sys
 
 import pytest
-from common import EXAMPLES, STREAM, cut, text_of
+from common import STREAM, cut, text_of
 
 import vte
 
@@ -100,13 +98,3 @@ def test_a_stream_ends(front, end, shown, kept):
         if errors == "surrogateescape":
             assert vte.strip(data, errors).encode(errors=errors) == text + wanted
             assert stripper.strip(data, True).encode(errors=errors) == text + wanted
-
-
-def test_example(tmp_path):
-    file = tmp_path / "stream"
-    file.write_bytes(STREAM * 9)
-    words = [sys.executable, EXAMPLES / "strip_files.py", file]
-    said = subprocess.run(words, stdout=subprocess.PIPE, check=True).stdout
-    text = vte.strip(STREAM * 9)
-    assert said.decode() == f"{file}: {len(STREAM * 9)} bytes, {len(text)} of them text\n"
-    assert (tmp_path / "stream.txt").read_bytes() == text

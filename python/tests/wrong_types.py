@@ -18,6 +18,8 @@ vte.open(0, kinds={vte.Put}).__enter__().__next__().data  # wrong
 next(vte.open(0, kinds={vte.Put, vte.Hook})).final  # wrong
 vte.open(0).size  # wrong
 next(vte.strip_lines(["a"])) + b""  # wrong
+vte.parts(["a"], 9)  # wrong
+next(vte.parts("file", size=9)).start  # wrong
 for event in parser.feed(b"", kinds={vte.Osc, vte.Csi}):
     if isinstance(event, vte.Osc):
         print(event.pieces, event.title)  # wrong

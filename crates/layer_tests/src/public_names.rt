@@ -13,7 +13,8 @@ use vte::ansi::{
     TabulationClearMode, TakeCall, TakeText, Timeout,
 };
 use vte::{
-    LongParser, Open, Params, ParamsIter, Parser, Perform, Refused, Run, Saved, Taken, ansi, laws,
+    LongParser, Open, Params, ParamsIter, Parser, Parts, Perform, Refused, Run, Saved, Taken, ansi,
+    laws, parts,
 };
 
 fn hash_of<T: Hash>(value: &T) -> u64 {
@@ -319,10 +320,24 @@ fn a_processor_may_have_any_limit(rt: HostRuntime) {
 }
 
 #[test]
+fn parts_meet_at_an_escape(rt: HostRuntime) {
+    let mut iterator: Parts<'_> = parts(b"one \x1b[1mtwo \x1b[mthree", 6);
+    assert!(rt; iterator.next() == Some(b"one \x1b[1mtwo \x1b"));
+    assert!(rt; iterator.next() == Some(b"\x1b[mthree"));
+    assert!(rt; iterator.next().is_none() && iterator.next().is_none());
+    assert_eq!(rt;
+        (parts(b"", 0).count(), parts(b"a\x1b\x1b", 0).count()),
+        (0, 3)
+    );
+}
+
+#[test]
 fn laws_do_nothing(rt: HostRuntime) {
     laws::empty_stream();
     laws::events_grow();
     laws::resync();
+    laws::events_of_parts();
+    event_log::laws::text_of_parts();
     laws::debug_dispatch();
     laws::worked_examples();
     ansi::laws::worked_examples();

@@ -15,4 +15,4 @@ pub mod Calling
 pub mod ColorReadings
 pub mod ColorTexts
 pub mod Joining
-pub mod Parts
+pub mod TextParts

@@ -8,8 +8,8 @@
 #![tactic(auto)]
 
 pub use vte_core::{
-    LongParser, Open, Params, ParamsIter, Parser, Perform, PerformText, PerformThroughText,
-    Refused, Run, Saved, Taken, laws,
+    LongParser, Open, Params, ParamsIter, Parser, Parts, Perform, PerformText, PerformThroughText,
+    Refused, Run, Saved, Taken, laws, parts,
 };
 
 pub mod ansi;

@@ -7,6 +7,7 @@ pub mod OutsideRuns
 pub mod Performing
 pub mod After
 pub mod StreamSteps
+pub mod PartsLemmas
 -- The data of commands, and streams that go on after a broken character.
 pub mod CommandSizes
 pub mod Resuming

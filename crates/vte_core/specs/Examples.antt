@@ -9,6 +9,7 @@ use Rattle.vte_core.specs.Event.{Event, Print, Execute, Hook, Put, Unhook, OscDi
 use Rattle.vte_core.specs.Open.{open_at_end}
 use Rattle.vte_core.specs.Outcome.{ToClose, CommandToClose}
 use Rattle.vte_core.specs.OutsideRuns.{TellsOutsideRuns}
+use Rattle.vte_core.specs.Parts.{parts_of}
 use Rattle.vte_core.specs.Stream.{events, outcome}
 
 -- A stream and its events.
@@ -354,3 +355,46 @@ string_end_examples =
 abbrev pub LeavesTextToRun : Option ℕ → Type 0
 LeavesTextToRun limit =
     TellsOutsideRuns limit (0xe4 ∷ []) (0xbf ∷ 0x99 ∷ 0xe6 ∷ 0x97 ∷ 0xa5 ∷ []) 5 → ⊥
+
+-- A stream, a size, and the parts of this size, each with its events.
+pub record PartsExample : Type 0 where
+  pub stream : List ℕ
+  pub size : ℕ
+  pub parts : List Example
+
+abbrev pub divides : List ℕ → ℕ → List Example → PartsExample
+divides stream size parts = record { stream = stream; size = size; parts = parts }
+
+abbrev pub AreDivided : Option ℕ → List PartsExample → Type 0
+AreDivided limit examples =
+    map (λ it. map (λ part. gives part (events limit part)) (parts_of it.size it.stream)) examples
+    ≡ map (λ it. it.parts) examples
+
+abbrev pub parts_examples : List PartsExample
+parts_examples =
+    divides [] 1 []
+    ∷ divides (codes "ab") 1 (gives (codes "ab") (Print 0x61 ∷ Print 0x62 ∷ []) ∷ [])
+    -- the ESC at the end of the first part breaks its open character
+    ∷ divides (codes "a" ++ 0xc3 ∷ codes "\u{1b}[1mb") 1
+    (gives (codes "a" ++ 0xc3 ∷ codes "\u{1b}") (Print 0x61 ∷ Print 0xfffd ∷ [])
+    ∷ gives (codes "\u{1b}[1mb") (CsiDispatch ((1 ∷ []) ∷ []) [] false 0x6d ∷ Print 0x62 ∷ [])
+    ∷ [])
+    -- it dispatches a command, and unhooks a string
+    ∷ divides (codes "\u{1b}]0;t\u{1b}\\") 2
+    (gives (codes "\u{1b}]0;t\u{1b}") (OscDispatch (codes "0" ∷ codes "t" ∷ []) false ∷ [])
+    ∷ gives (codes "\u{1b}\\") (EscDispatch [] false 0x5c ∷ [])
+    ∷ [])
+    ∷ divides (codes "\u{1b}Pqd\u{1b}\\") 4
+    (gives (codes "\u{1b}Pqd\u{1b}") (Hook ((0 ∷ []) ∷ []) [] false 0x71 ∷ Put 0x64 ∷ Unhook ∷ [])
+    ∷ gives (codes "\u{1b}\\") (EscDispatch [] false 0x5c ∷ [])
+    ∷ [])
+    -- a sequence that is cut short gives nothing
+    ∷ divides (codes "\u{1b}[1\u{1b}c") 0
+    (gives (codes "\u{1b}[1\u{1b}") [] ∷ gives (codes "\u{1b}c") (EscDispatch [] false 0x63 ∷ [])
+    ∷ [])
+    -- the first ESC is too near to the start, and the last is the end
+    ∷ divides (codes "a\u{1b}b\u{1b}") 2
+    (gives (codes "a\u{1b}b\u{1b}") (Print 0x61 ∷ EscDispatch [] false 0x62 ∷ [])
+    ∷ gives (codes "\u{1b}") []
+    ∷ [])
+    ∷ []

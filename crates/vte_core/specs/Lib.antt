@@ -40,6 +40,7 @@ pub mod EventBounds
 pub mod Division
 pub mod Laws
 pub mod EarlyStopLaws
+pub mod Parts
 -- A parser as plain data.
 pub mod Saved
 -- Examples, worked out by hand.

@@ -7,11 +7,12 @@ ghost use Rattle.vte_core.specs.EventBounds.{IsBounded, AreFromOneByte};
 ghost use Rattle.vte_core.specs.Division.{AreRightSegments, IsAllDivided};
 ghost use Rattle.vte_core.specs.Examples.{AreRight, text_examples, escape_examples, control_sequence_examples, device_control_examples, system_command_examples, full_store_examples};
 ghost use Rattle.vte_core.specs.Examples.{store_of_five_examples, store_of_two_examples, empty_store_examples, ignored_string_examples};
-ghost use Rattle.vte_core.specs.Examples.{AreLeft, AreStops, LeavesTextToRun, open_command_examples, stop_examples};
+ghost use Rattle.vte_core.specs.Examples.{AreDivided, AreLeft, AreStops, LeavesTextToRun, open_command_examples, parts_examples, stop_examples};
 ghost use Rattle.vte_core.specs.Examples.{AreOpen, text_end_examples, sequence_end_examples, string_end_examples};
 ghost use Rattle.vte_core.specs.Laws.{AreParameters, AreWellFormed, Resyncs, CountsData, DispatchesShown, GivesCharacters, Grows, IsDecoded, IsEncoding, OpensLate, OpensSilently};
 ghost use Rattle.vte_core.specs.Perform.{after};
 ghost use Rattle.vte_core.specs.EarlyStopLaws.{GoesOnFromPositions, TellsUnits};
+ghost use Rattle.vte_core.specs.Parts.{AreCuts, EndsWithEscape, GiveEvents, parts_at};
 ghost use Rattle.vte_core.specs.Stream.{added, events, usual_limit};
 ghost use Rattle.vte_core.specs.Utf8.{is_well_formed, segments};
 
@@ -100,6 +101,16 @@ pub fn resync()
     ensures { (limit : Option ℕ) → Resyncs limit }
 {}
 
+/// The events of a stream are those of its parts, one part after another, if an ESC is the end of
+/// each part and the start of the next. That ESC closes what is open before it, and makes nothing
+/// else.
+#[tactic(auto, using(crate::proofs::streams::PartsLemmas::parts_give_events, crate::proofs::streams::PartsLemmas::ends_with_escape))]
+pub fn events_of_parts()
+    ensures parts { (limit : Option ℕ) (stream cuts : List ℕ) → AreCuts stream 0 cuts
+        → GiveEvents limit (parts_at cuts stream) stream }
+    ensures escape { (limit : Option ℕ) (part : List ℕ) → EndsWithEscape limit part }
+{}
+
 /// A text is divided as Unicode recommends: each segment is the well-formed sequence that starts
 /// there, else the longest truncated one, else one byte. No other division has this property.
 #[tactic(auto, using(crate::proofs::dividing::DivisionLemmas::all_divided, crate::proofs::dividing::MaximalSubparts::are_right_segments, crate::proofs::dividing::MaximalSubparts::only_division))]
@@ -146,4 +157,5 @@ pub fn worked_examples()
     ensures text_ends { AreOpen text_end_examples }
     ensures sequence_ends { AreOpen sequence_end_examples }
     ensures string_ends { AreOpen string_end_examples }
+    ensures parts { AreDivided usual_limit parts_examples }
 {}

@@ -13,6 +13,7 @@
 mod automaton;
 mod buffer;
 mod class;
+mod cuts;
 mod head;
 pub mod laws;
 mod params;
@@ -23,6 +24,8 @@ mod scan;
 mod store;
 mod utf8;
 
+pub use cuts::iter::Parts;
+pub use cuts::parts;
 pub use params::{Params, ParamsIter};
 pub use parser::{Open, Parser};
 // for C alone

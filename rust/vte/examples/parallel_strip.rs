@@ -6,8 +6,6 @@ use std::{env, fs, thread};
 
 use vte::{Parser, Perform, PerformText};
 
-const ESCAPE: u8 = 0x1b;
-
 /// The text so far.
 #[derive(Default)]
 struct Text(String);
@@ -40,31 +38,10 @@ fn text_of(stream: &[u8]) -> String {
     text.0
 }
 
-/// Divides a stream into so many parts, or fewer. An ESC is the end of one and the start of the
-/// next.
-///
-/// From each ESC on, bytes mean what they mean as a stream of their own, and an ESC ends what is
-/// open before it, such as a truncated character. So the texts of the parts are that of the stream.
-fn parts(stream: &[u8], count: usize) -> Vec<&[u8]> {
-    let (mut parts, mut start) = (Vec::new(), 0);
-    for part in 1..count {
-        let wanted = (stream.len() / count * part).max(start + 1);
-        let after = stream.get(wanted..).unwrap_or_default();
-        if let Some(distance) = after.iter().position(|byte| *byte == ESCAPE) {
-            let end = wanted + distance;
-            parts.push(&stream[start..=end]);
-            start = end;
-        }
-    }
-    parts.push(&stream[start..]);
-    parts
-}
-
 /// Writes the text of a stream, of which each thread reads a part.
 pub fn strip(stream: &[u8], threads: usize, mut output: impl Write) -> io::Result<()> {
     thread::scope(|scope| {
-        let parts = parts(stream, threads).into_iter();
-        let readers: Vec<_> = parts
+        let readers: Vec<_> = vte::parts(stream, stream.len() / threads.max(1) + 1)
             .map(|part| scope.spawn(move || text_of(part)))
             .collect();
         for reader in readers {

@@ -119,9 +119,9 @@ pub use adapter::parser::Parser;
 #[cfg(not(feature = "std"))]
 pub use proved::vte_core::Parser;
 pub use proved::vte_core::Parser as BoundedParser;
+pub use proved::vte_core::{parts, Open, Params, ParamsIter, Parts, Perform, PerformText, Run, Taken};
 #[cfg(any(feature = "std", feature = "ansi"))]
 pub use proved::vte_core::{LongParser, Refused};
-pub use proved::vte_core::{Open, Params, ParamsIter, Perform, PerformText, Run, Taken};
 #[cfg(feature = "__own")]
 #[doc(hidden)]
 pub use {adapter::own::Own, proved::vte_core::Saved};

@@ -143,6 +143,7 @@ VTE_CORE = dict(
                      "fn next"],
             f"#[cfg({OWN})]": ["pub(crate) fn parts", "pub(crate) fn from_parts", "fn are_lengths"],
         },
+        "vte_core/cuts/iter": {"#[derive(Clone, Debug)]": ["pub struct Parts"]},
         "vte_core/store": {
             f"#[cfg({OWN})]": ["impl<const N: usize> Store<ArrayVec<u8, N>>", "fn are_piece_ends"],
             f"#[cfg({OWN_OR_ANSI})]": ["pub(crate) fn len"],

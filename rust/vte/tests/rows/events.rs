@@ -3,7 +3,7 @@
 //! In an `until`, `stop` says when the performer is terminated, `before` has bytes that were read
 //! before, and `answer` is what `advance_until_terminated` returns.
 
-use vte::{BoundedParser, Parser, PerformText};
+use vte::{parts, BoundedParser, Parser, PerformText};
 
 use crate::block::{blocks, cuttings, Block};
 use crate::event_lines::{EventLines, Stop};
@@ -200,6 +200,38 @@ fn commands_are_kept_up_to_a_limit() {
             _ => panic!("no parser of {size} bytes here"),
         }
     }
+}
+
+/// Each part of a stream is read by a parser of its own.
+#[test]
+fn parts_give_the_events_of_their_stream() {
+    let rows = streams_for_all();
+    for row in &rows {
+        let stream = row.pieces().concat();
+        for size in 0..stream.len().min(40) {
+            let lines: String = parts(&stream, size)
+                .map(|part| events_of(&[part]))
+                .collect();
+            assert_eq!(lines, row.all("event"), "{}, {size}", row.name);
+        }
+    }
+    assert!(rows
+        .iter()
+        .any(|row| parts(&row.pieces().concat(), 1).count() > 2));
+}
+
+/// A cut before the ESC isn't enough: nothing says to the first part that its character is broken.
+#[test]
+fn a_part_without_the_next_escape_lacks_events() {
+    let stream = b"caf\xc3\x1b[1m!";
+    assert_eq!(
+        events_of(&[&stream[..5]]),
+        "print 0063\nprint 0061\nprint 0066\nprint fffd\n"
+    );
+    assert_eq!(
+        events_of(&[&stream[..4]]),
+        "print 0063\nprint 0061\nprint 0066\n"
+    );
 }
 
 #[test]

@@ -1,8 +1,17 @@
--- The events of the stream are those of its parts (`resync`), and the text of joined events is joined.
-use Rattle.event_log.proofs.Common.{◌∙◌, ap, flat_map, flat_map-append}
-use Rattle.event_log.specs.Plain.{plain_text_of}
+-- The events of the stream are those of its parts (`events_of_parts`), and the text of joined events is joined.
+use Rattle.event_log.proofs.Common.{List, [], ◌∷◌, ◌++◌, ◌≡◌, ℕ, ◌∙◌, ap, flat_map, flat_map-append, refl, sym}
+use Rattle.event_log.specs.Plain.{plain_text, plain_text_of}
+use Rattle.vte_core.specs.Event.{Event}
+use Rattle.vte_core.specs.Stream.{events}
 use Rattle.event_log.proofs.laws.text_of_parts.Goals as goal
 
+text-joined : (told : List ℕ → List Event) (parts : List (List ℕ))
+    → flat_map (λ part. plain_text (told part)) parts ≡ plain_text (flat_map told parts)
+text-joined told [] = refl
+text-joined told (part ∷ parts) =
+    ap (λ text. plain_text (told part) ++ text) (text-joined told parts)
+    ∙ sym (flat_map-append plain_text_of (told part) (flat_map told parts))
+
 pub returns : goal.returns
-returns c = λ limit stream more.
-    ap (flat_map plain_text_of) ((c.resync.ensures limit).escape stream more) ∙ flat_map-append plain_text_of _ _
+returns c = λ limit stream cuts are.
+    text-joined (events limit) _ ∙ ap plain_text (c.events_of_parts.ensures.parts limit stream cuts are)

@@ -9,6 +9,7 @@
 mod automaton;
 mod buffer;
 mod class;
+mod cuts;
 mod head;
 mod params;
 mod parser;
@@ -18,6 +19,8 @@ mod scan;
 mod store;
 mod utf8;
 
+pub use cuts::iter::Parts;
+pub use cuts::parts;
 pub use params::{Params, ParamsIter};
 pub use parser::{Open, Parser};
 // for C alone

@@ -28,16 +28,18 @@ def limit_readings(monkeypatch, most):
     monkeypatch.setattr(definition.Reader, "read_next", counted)
 
 
-# what is left of a long stream may be about a rule again, byte after byte
-@pytest.mark.parametrize("stream, rule", [
+# what is left of a long stream may be about its rules again, byte after byte
+@pytest.mark.parametrize("stream, rules", [
     (b"\xe4" * 4000, "unfinished"), (b"\xe4\xbd" * 2000 + b"\x1b7", "unfinished"),
     (b"\x1b" * 2000 + b"7" * 2000, "escape-sequence"), (b"\xff" * 4000, "malformed"),
     (b"\xe4" * 1000 + b"a" + b"\xbd\xa0" * 1000, "text"), (b"a\x7f" * 2000, "delete"),
-    (b"\x1bPq" + b"a\x1b7" * 1333, "device-cut-short"), (b"\x1b]" + b"\n" * 4000, "command")])
-def test_a_long_stream_is_freed_in_one_pass(monkeypatch, stream, rule):
+    (b"\x1bPq" + b"a\x1b7" * 1333, "device-cut-short"), (b"\x1b]" + b"\n" * 4000, "command"),
+    (b"\xed\xa0q\xa0" * 1000, "text surrogate"), (b"\xf0\x80\x80\x7f\xbd", "delete overlong")])
+def test_a_long_stream_is_freed_in_one_pass(monkeypatch, stream, rules):
+    rules = {*rules.split()}
     limit_readings(monkeypatch, 10 * len(stream))
-    left = b"".join(classes.freed([stream], {rule}, house.DEFAULT))
-    assert rule not in {name for step in definition.steps_of(left) for name in step.rules}
+    left = b"".join(classes.freed([stream], rules, house.DEFAULT))
+    assert not rules & {name for step in definition.steps_of(left) for name in step.rules}
 
 
 # a parser that says more about an open character at the end, one that forgets a cut one, and a

@@ -226,26 +226,19 @@ def test_what_depends_on_a_cut_between_steps():
     assert result.findings["cut:between/extra"].streams == result.different
 
 
-def test_what_depends_on_other_streams():
-    def shifted(pieces, history):
-        lines = definition.lines_of(b"".join(pieces))
-        was_shifted = history and b"\x0e" in b"".join(history[-1])
-        return [line for line in lines if not (was_shifted and line.startswith("print"))]
-    found = judged(shifted).findings
-    assert [*found] == ["kept-state"]
-    assert report.shown_case(found["kept-state"].difference) == "0e / 61"
-
-
-def test_what_depends_on_other_streams_beside_another_fault():
+# alone, and in streams that have another fault
+@pytest.mark.parametrize("some, lost, names", [
+    (CASES, "", ["kept-state"]), ([cases.Case("", [it]) for it in (b"\x0e", *[b"a\x0f"] * 9)],
+                                  "execute 0f", ["control/missing", "kept-state"])])
+def test_what_depends_on_other_streams(some, lost, names):
     def shifted(pieces, history):
         lines = definition.lines_of(b"".join(pieces))
         was_shifted = any(b"\x0e" in b"".join(before) for before in history)
-        return [line for line in lines if line != "execute 0f" and not (
-            was_shifted and line == "print 0062")]
-    some = [b"\x0e", *[b"b\x0f"] * 9]
-    found = judged(shifted, [cases.Case("", [stream]) for stream in some]).findings
-    assert sorted(found) == ["control/missing", "kept-state"]
-    assert report.shown_case(found["kept-state"].difference) == "0e / 62"
+        return [line for line in lines if line != lost and not (
+            was_shifted and line.startswith("print"))]
+    found = judged(shifted, some).findings
+    assert sorted(found) == names
+    assert report.shown_case(found["kept-state"].difference) == "0e / 61"
 
 
 def test_what_is_by_chance():

@@ -78,36 +78,33 @@ class SlowSide(Side):
         return [candidate.HANG] if wanted >= self.timeout else self.answer(pieces, [])
 
 
-@pytest.mark.parametrize("seconds, sizes", [
-    (0, [2, 4, 8, 16, 32, 50, 50, 50, 50, 50, 50, 38]), (3, [2] + [1] * 9),
-    (0.4, [2, 4, 8, 4, 8, 4, 8, 4, 8, 4])])
-def test_a_batch_that_takes_long_is_followed_by_a_smaller_one(monkeypatch, seconds, sizes):
-    side = SlowSide(monkeypatch, right, seconds)
-    result = judge_of(side).run([cases.Case("", [b"a"])] * sum(sizes))
-    assert (side.asked, result.streams, result.status()) == ([1, *sizes], sum(sizes), 0)
+# how long a byte takes, the sizes of batches, the end, and how many streams are left then
+@pytest.mark.parametrize("seconds, sizes, deadline, left", [
+    (0, [2, 4, 8, 16, 32, 50, 50, 50, 50, 50, 50, 38], None, 0), (3, [2] + [1] * 9, None, 0),
+    (0.4, [2, 4, 8, 4, 8, 4, 8, 4, 8, 4], None, 0), (3, [2, 1], 13, 0), (3, [2, 1], 13, 9)])
+def test_long_batches_are_followed_by_smaller_ones(monkeypatch, seconds, sizes, deadline, left):
+    side = SlowSide(monkeypatch, right, seconds, deadline)
+    result = judge_of(side).run([cases.Case("", [b"a"])] * (sum(sizes) + left))
+    assert side.asked == [1, *sizes, *[1] * bool(left)]
+    assert (result.streams, result.status()) == (sum(sizes), 3 if left else 0)
+    assert bool(result.ended_early) == bool(left)
 
 
-# a stream, of which a program that takes 0.3 s for a byte forgets all lines but 27, and the class
-# that is told of it when the time is over
-@pytest.mark.parametrize("stream, name", [
-    (b"a" * 40, "text/hang"), (b"\x1b[" + b"1;" * 20 + b"m", "numbers/hang"),
-    (b"a" * 30, "text/missing")])
-def test_a_slow_program_has_an_example(monkeypatch, stream, name):
-    side = SlowSide(monkeypatch, lambda *it: right(*it)[:27], 0.3, deadline=60)
-    result = judge_of(side).run([cases.Case("", [stream])] * 40)
-    assert [*result.findings] == [name] and result.ended_early
-    assert side.now <= 60 + judgement.GRACE + side.timeout
+# a stream, of which a program that takes so many seconds for a byte forgets all lines but 27, how
+# often it comes, and the class that is told of it when the time is over
+@pytest.mark.parametrize("stream, seconds, count, name", [
+    (b"a" * 40, 0.3, 40, "text/hang"), (b"\x1b[" + b"1;" * 20 + b"m", 0.3, 40, "numbers/hang"),
+    (b"a" * 30, 0.3, 40, "text/missing"), (b"b" * 30, 0.05, 1, "text/missing")])
+def test_a_slow_program_has_an_example(monkeypatch, stream, seconds, count, name):
+    end = 60 if count > 1 else 30
+    side = SlowSide(monkeypatch, lambda *it: right(*it)[:27], seconds, deadline=end)
+    result = judge_of(side).run([cases.Case("", [stream])] * count)
+    assert [*result.findings] == [name] and bool(result.ended_early) == (count > 1)
+    assert end <= side.now <= end + judgement.GRACE + side.timeout
     assert "not shrunk to the end" in report.shown_finding(result.findings[name], str)
     junit = formats.as_junit(result, "1", str)
-    assert f'name="all streams are judged"><failure message="{result.streams} were"' in junit
-
-
-@pytest.mark.parametrize("count, status", [(40, 3), (2, 0)])
-def test_an_end_before_all_streams_were_judged(monkeypatch, count, status):
-    side = SlowSide(monkeypatch, right, 1, deadline=10)
-    result = judge_of(side).run([cases.Case("", [b"aa"])] * count)
-    assert (result.status(), bool(result.ended_early)) == (status, status == 3)
-    assert result.streams <= 5 and result.different == 0
+    told = f'name="all streams are judged"><failure message="{result.streams} were"'
+    assert (told in junit) == (count > 1)
 
 
 # ---- programs

@@ -1,7 +1,7 @@
 // Tries a parser on events.json: cc run.c my_parser.c && ./a.out [WORD ..] <events.json
 //
-// Each vector is tried as it is, in one piece, and byte by byte. A word is a level, a rule, or a
-// house rule (docs/VECTORS.md): vectors that have it are left out.
+// Each vector is tried as it is, in one piece, and byte by byte. A word is a level, a rule, a house
+// rule, or strongest=LEVEL (docs/VECTORS.md): vectors that have it are left out.
 #include <signal.h>
 #include <stdio.h>
 #include <stdlib.h>
@@ -114,8 +114,11 @@ int main(int count, char **words) {
         if (limit == NULL || sscanf(row.text, "{\"id\": \"%199[^\"]", id) != 1) continue;
         int left_out = 0;
         for (int i = 1; i < count; i++) {
-            snprintf(word, sizeof word, "\"%s\"", words[i]);
-            left_out |= strstr(row.text, word) != NULL && strstr(row.text, word) < limit;
+            int of_strongest = strncmp(words[i], "strongest=", 10) == 0;
+            snprintf(word, sizeof word, of_strongest ? "\"strongest\": \"%s\"" : "\"%s\"",
+                     words[i] + 10 * of_strongest);
+            char *found = strstr(row.text, word);
+            left_out |= found != NULL && (found < limit || of_strongest);
         }
         if (left_out) continue;
         wanted.length = 0;

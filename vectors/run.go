@@ -1,8 +1,8 @@
 // Tries a parser on events.json: go run run.go my_parser.go [WORD ..] <events.json
 //
 // my_parser.go, of package main, has parsePieces, a function from pieces to event lines. Each
-// vector is tried as it is, in one piece, and byte by byte. A word is a level, a rule, or a house
-// rule (docs/VECTORS.md): vectors that have it are left out.
+// vector is tried as it is, in one piece, and byte by byte. A word is a level, a rule, a house
+// rule, or strongest=LEVEL (docs/VECTORS.md): vectors that have it are left out.
 package main
 
 import (
@@ -14,10 +14,10 @@ import (
 )
 
 type vector struct {
-	ID, Level      string
-	Rules, House   []string
-	Pieces, Events []any
-	Limit          *int
+	ID, Level, Strongest string
+	Rules, House         []string
+	Pieces, Events       []any
+	Limit                *int
 }
 
 // writtenOut is the text of bytes in hex or, with a line feed as the end, of lines.
@@ -65,7 +65,7 @@ func main() {
 	wrong, tried, leftOut := 0, 0, "\n"+strings.Join(os.Args[1:], "\n")+"\n"
 	for _, v := range append(file.Vectors, file.Long...) {
 		skip := v.Limit == nil || *v.Limit != 1024
-		for _, word := range append(append(v.Rules, v.House...), v.Level) {
+		for _, word := range append(append(v.Rules, v.House...), v.Level, "strongest="+v.Strongest) {
 			skip = skip || strings.Contains(leftOut, "\n"+word+"\n")
 		}
 		if skip {

@@ -1,8 +1,8 @@
 // Tries a parser on events.json: node run.js MY_PARSER.js [WORD ..]
 //
 // MY_PARSER.js exports a function from pieces, which are buffers, to event lines. Each vector is
-// tried as it is, in one piece, and byte by byte. A word is a level, a rule, or a house rule
-// (docs/VECTORS.md): vectors that have it are left out.
+// tried as it is, in one piece, and byte by byte. A word is a level, a rule, a house rule, or
+// strongest=LEVEL (docs/VECTORS.md): vectors that have it are left out.
 const fs = require("fs");
 const path = require("path");
 const parsePieces = require(path.resolve(process.argv[2]));
@@ -26,8 +26,10 @@ const file = JSON.parse(fs.readFileSync(path.join(__dirname, "events.json")));
 const leftOut = new Set(process.argv.slice(3));
 let wrong = 0;
 let tried = 0;
-for (const { id, level, rules, house, limit, pieces, events } of [...file.vectors, ...file.long]) {
-  if (limit !== 1024 || [level, ...rules, ...house].some((word) => leftOut.has(word))) continue;
+for (const vector of [...file.vectors, ...file.long]) {
+  const { id, level, strongest, rules, house, limit, pieces, events } = vector;
+  const words = [level, `strongest=${strongest}`, ...rules, ...house];
+  if (limit !== 1024 || words.some((word) => leftOut.has(word))) continue;
   const cut = pieces.map((piece) => Buffer.from(writtenOut(piece), "hex"));
   const stream = Buffer.concat(cut);
   const wanted = writtenOut(events, "\n");

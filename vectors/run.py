@@ -2,8 +2,8 @@
 """Tries a parser on events.json: run.py [WORD ..]
 
 Import it here as `parse_pieces`, a function from pieces to event lines. Each vector is tried as it
-is, in one piece, and byte by byte. A word is a level, a rule, or a house rule (docs/VECTORS.md):
-vectors that have it are left out.
+is, in one piece, and byte by byte. A word is a level, a rule, a house rule, or strongest=LEVEL
+(docs/VECTORS.md): vectors that have it are left out.
 """
 import json
 import sys
@@ -34,7 +34,8 @@ def answer(pieces):
 file = json.loads((Path(__file__).parent / "events.json").read_text())
 wrong = tried = 0
 for vector in file["vectors"] + file["long"]:
-    words = {vector["level"], *vector["rules"], *vector["house"]}
+    words = {vector["level"], f"strongest={vector['strongest']}", *vector["rules"],
+             *vector["house"]}
     if vector["limit"] != 1024 or words & set(sys.argv[1:]):
         continue
     pieces = [bytes.fromhex(written_out(piece)) for piece in vector["pieces"]]

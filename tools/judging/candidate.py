@@ -112,6 +112,11 @@ class Program:
             answers += self.answers_of_process(some)
         return answers
 
+    def answer_aloud(self, pieces):
+        """Gives a stream to a process whose standard error is shown."""
+        self.how["stderr"] = None
+        self.answers([pieces])
+
     def answer(self, pieces):
         """What a process prints until it ends."""
         output, until, mark = bytearray(), time.monotonic() + self.timeout, ""

@@ -5,11 +5,11 @@ The class of a difference is the name of a rule, `/`, and the kind of the differ
 rule of what a cut divides.
 """
 from bisect import bisect_left, bisect_right
-from itertools import accumulate
+from itertools import accumulate, chain
 from typing import NamedTuple
 
 from generating.random_text import cut_at
-from judging.definition import NEAR, steps_of
+from judging.definition import LOOKAHEAD, NEAR, Reader, steps_of
 from judging.kinds import FAILURES, FIELDS, KINDS
 from judging.rules import ALONE, CUT, MALFORMED, MUST, ORDER, RULES, most_special
 from judging.shrinking import cuts_of
@@ -119,25 +119,41 @@ def nearest(pieces, same, rules, house):
 
 def freed(pieces, rules, house):
     """The case without what these rules are about: their bytes, or the cuts that divide them."""
-    while rules:
-        after = freed_once(pieces, rules, house)
-        if after == pieces:
-            break
-        pieces = after
-    return pieces
-
-
-def freed_once(pieces, rules, house):
     stream, cuts = b"".join(pieces), cuts_of(pieces)
-    steps = steps_of(stream, house)
+    steps = steps_of(stream, house) if rules else []
+    if any(rules.intersection(step.rules) for step in steps):
+        places = kept_places(stream.decode("latin-1"), rules, house)
+        stream, cuts = bytes(stream[it] for it in places), [bisect_left(places, it) for it in cuts]
+        steps = steps_of(stream, house)
     divided = {name[len(CUT_PREFIX):] for name in rules if name.startswith(CUT_PREFIX)}
     unwanted = {cut for cut, index in steps_at_cuts(steps, cuts if divided else []).items()
                 if (BETWEEN in rules if index is None
                     else divided.intersection(steps[index].rules))}
-    dropped = {place for step in steps if rules.intersection(step.rules)
-               for place in range(step.start, step.end)}
-    if not unwanted and not dropped:
-        return pieces
-    kept = [place for place in range(len(stream)) if place not in dropped]
-    cuts = [bisect_left(kept, cut) for cut in cuts if cut not in unwanted]
-    return cut_at(bytes(stream[place] for place in kept), cuts)
+    return cut_at(stream, [cut for cut in cuts if cut not in unwanted])
+
+
+def kept_places(text, rules, house):
+    """The places of what is left of a text without what rules are about, in one pass: where
+    something goes, only the last that was read before is read again, without what followed it."""
+    # the reader has what stands at the places `front`, and then all from `rest` on
+    reader, front, rest, read = Reader(text, house), [], 0, []
+    while True:
+        start, state = reader.place, reader.state
+        steps = reader.read_next()
+        if not steps:
+            return [place for places, _ in read for place in places]
+        dropped = {place for step in steps if rules.intersection(step.rules)
+                   for place in range(step.start, step.end)}
+        # the ESC that ends data of a device control string is read twice
+        end = max(reader.place, start + bool(dropped))
+        first, after = (rest + max(0, place - len(front)) for place in (start, end))
+        places = [*front[start:end], *range(first, after)]
+        if not dropped:
+            read.append((places, state))
+            continue
+        again, read[-LOOKAHEAD:] = read[-LOOKAHEAD:], []
+        kept = [place for place, at in zip(places, range(start, end)) if at not in dropped]
+        front = [*chain.from_iterable(places for places, _ in again), *kept, *front[end:]]
+        rest = after
+        reader = Reader("".join(map(text.__getitem__, front)) + text[rest:], house,
+                        again[0][1] if again else state)

@@ -23,6 +23,9 @@ PIECE = re.compile("[\xc2-\xdf][\x80-\xbf]?|[\xe1-\xec\xee\xef][\x80-\xbf]{0,2}"
 # before the name of a rule about a limit that isn't at work, but would be for a parser with a lower
 # one
 NEAR = "near:"
+# so many readings may have looked at a byte that comes after them: that of a character looks at
+# four bytes, and that of a sequence at two bytes after it
+LOOKAHEAD = 3
 
 
 class Step(NamedTuple):
@@ -40,7 +43,8 @@ def lines_of(stream, house=DEFAULT):
 
 
 def steps_of(stream, house=DEFAULT):
-    return Reader(stream.decode("latin-1"), house).steps
+    return [step for steps in iter(Reader(stream.decode("latin-1"), house).read_next, [])
+            for step in steps]
 
 
 def piece_at(text, place, house):
@@ -71,14 +75,27 @@ def hex_of(text):
 
 
 class Reader:
-    """Reads the steps of a text, each from where the one before it ends."""
+    """Reads the steps of a text: those of a character, of a sequence, of a string, or of a byte of
+    a device control string at a time."""
 
-    def __init__(self, text, house):
+    def __init__(self, text, house, state=(False, False)):
         self.text, self.house, self.steps, self.place = text, house, [], 0
-        # whether ESC has just ended a string, of which a backslash makes it the terminator
-        self.is_open = False
-        while self.place < len(text):
-            (self.body if text[self.place] == ESC else self.character)(self.place)
+        # whether ESC has just ended a string, of which a backslash makes it the terminator; and
+        # whether data of a device control string come
+        self.is_open, self.is_hooked = state
+
+    @property
+    def state(self):
+        return self.is_open, self.is_hooked
+
+    def read_next(self):
+        """The steps of what stands at the place; none at the end."""
+        self.steps = []
+        if self.place < len(self.text):
+            is_body = self.text[self.place] == ESC
+            (self.device_byte if self.is_hooked else self.body if is_body else self.character)(
+                self.place)
+        return self.steps
 
     def add(self, rules, start, end, *lines):
         self.steps.append(Step(tuple(rules), start, end, lines))
@@ -121,7 +138,7 @@ class Reader:
         length = length_by(piece)
         is_formed = "\xc0" <= piece[0] < "\xf8" and re.fullmatch(
             f"[\x80-\xbf]{{{length - 1}}}", self.text[start + 1:start + length])
-        is_cut_short = begun and re.fullmatch(f"[{ESC}{ENDS}]?", self.at(end))
+        is_cut_short = begun and self.at(end) in ("", ESC, *ENDS)
         lines = {"subparts": ["print fffd"], "bytes": ["print fffd"] * len(piece), "drop": []}
         # at the end of the stream it is open
         is_told = end < len(self.text) or not begun
@@ -206,23 +223,22 @@ class Reader:
             if not rules:
                 return self.dropped_string(escape, final + 1, "malformed-device-head")
             self.add(rules, escape, final + 1, *lines)
-            self.device_data(final + 1)
+            self.is_hooked = True
 
-    def device_data(self, start):
-        stop = self.first(ST * (self.house.device_9c == "ends"), start)
-        for place, byte in enumerate(self.text[start:stop], start):
-            if byte < "\x7f":
-                self.add(["device-data"], place, place + 1, f"put {hex_of(byte)}")
-            else:
-                rule = "byte-9c" if byte == ST else "dropped-in-device-data"
-                self.add([rule], place, place + 1)
-        last = self.at(stop)
-        is_ended = last == ESC and self.at(stop + 1) == "\\"
-        if last:
-            rule = "byte-9c" if last == ST else "device-end" if is_ended else "device-cut-short"
-            self.add([rule], stop, stop + 1, "unhook", *executed(last))
-        if last == ESC:
-            self.place, self.is_open = stop, True
+    def device_byte(self, start):
+        """A byte of data, or the end. If that is ESC, it also begins what comes next."""
+        byte = self.text[start]
+        if byte < "\x7f" and byte not in ESC + ENDS:
+            self.add(["device-data"], start, start + 1, f"put {hex_of(byte)}")
+        elif byte in ESC + ENDS or byte == ST and self.house.device_9c == "ends":
+            is_ended = byte == ESC and self.at(start + 1) == "\\"
+            rule = "byte-9c" if byte == ST else "device-end" if is_ended else "device-cut-short"
+            self.add([rule], start, start + 1, "unhook", *executed(byte))
+            self.is_hooked, self.is_open = False, byte == ESC
+            self.place -= self.is_open
+        else:
+            rule = "byte-9c" if byte == ST else "dropped-in-device-data"
+            self.add([rule], start, start + 1)
 
     def ignored_string(self, escape, key):
         self.dropped_string(escape, key + 1, "ignored-string")

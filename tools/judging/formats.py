@@ -42,7 +42,8 @@ def tests(result, again):
         yield name, bool(found and found[0].is_new), told
     left = result.unexplained
     yield "each difference has a class", left > 0, f"{left} streams have none" * (left > 0)
-    yield "streams are judged", not result.streams, "none was" * (not result.streams)
+    is_partial = not result.streams or bool(result.ended_early)
+    yield "all streams are judged", is_partial, f"{result.streams} were" * is_partial
 
 
 def as_junit(result, seed, again):

@@ -4,26 +4,29 @@ import re
 import time
 from collections import Counter
 from dataclasses import dataclass, field
-from itertools import count, islice
+from itertools import islice
 
 from judging.candidate import OutOfTime, mark_of
 from judging.cases import Case
 from judging.classes import INSTEAD, Difference, freed, nearest, rule_needed
 from judging.definition import NEAR
 from judging.kinds import FAILURES, differences_of
-from judging.rules import ALONE
+from judging.rules import ALONE, RULES
 from judging.shrinking import shrunk
 
 # how many differences are shrunk that turn out to be of a class that was found before, and for one
 # rule and kind
 MOST_AGAIN, MOST_TRIES = 20, 3
-# how many cases are tried to shrink one
-MOST_CASES = 2000
+# how many cases are tried to shrink one, and one at which the program passes a limit
+MOST_CASES, MOST_OVER_LIMIT = 2000, 200
 # how often a case is tried again before it is told
 MORE_TRIES = 6
 NOT_DETERMINISTIC, KEPT_STATE, PROTOCOL = ALONE
 # the seconds after the end of the time in which what is found is tried once more
 GRACE = 3
+OUT_OF_TIME = "the time was over before all streams were judged"
+# a batch that takes so many seconds is followed by a smaller one
+LONG_BATCH = 2
 # what a program passes when it doesn't end, the first of them
 LIMITS = {"hang", "memory", "output"}
 
@@ -64,8 +67,9 @@ class Judgement:
         return [finding for finding in self.findings.values() if finding.is_new]
 
     def status(self):
-        """0 if nothing is new, else 1, also if no stream was judged."""
-        return int(bool(self.new() or self.unexplained or not self.streams))
+        """1 if something is new, or no stream was judged; 3 if streams are left; else 0."""
+        is_bad = self.new() or self.unexplained or not self.streams
+        return 1 if is_bad else 3 if self.ended_early else 0
 
 
 def is_alike(one, other):
@@ -88,6 +92,8 @@ class Judge:
         self.left_out, self.known, self.report = frozenset(left_out), known, report
         self.result = Judgement()
         self.again, self.is_over, self.end = 0, False, candidate.deadline
+        # the case that is examined, and the smallest difference that was found of it
+        self.at_hand = None
         # for a rule and a kind, the number of tries to find their class
         self.tries = Counter()
 
@@ -99,12 +105,13 @@ class Judge:
                 while batch := list(islice(cases, size)):
                     start = time.monotonic()
                     self.judge_batch(batch)
-                    if self.is_over:
+                    if self.is_over and next(cases, None):
                         raise OutOfTime
-                    is_fast = time.monotonic() - start < 2
+                    is_fast = time.monotonic() - start < LONG_BATCH
                     size = min(2 * size, self.candidate.batch) if is_fast else max(1, size // 2)
         except OutOfTime:
-            self.result.ended_early = "the time was over"
+            self.result.ended_early = OUT_OF_TIME
+            self.tell_at_hand()
         return self.result
 
     def probe(self, case):
@@ -112,6 +119,7 @@ class Judge:
         reference, answer = self.both_answers([case.pieces])[0]
         kind = mark_of(answer)
         if kind:
+            self.candidate.answer_aloud(case.pieces)
             name = PROTOCOL if self.candidate.takes_pieces or kind == PROTOCOL else f"text/{kind}"
             self.result.streams = self.result.different = 1
             self.add(name, Difference(case.pieces, reference, answer), case)
@@ -121,7 +129,7 @@ class Judge:
     def judge_case(self, streams):
         """Judges the last of some streams, which one process gets in a row. Both answers."""
         *before, pieces = [freed(pieces, self.left_out, self.house) for pieces in streams]
-        reference, answer = self.both_answers([*before, pieces])[-1]
+        reference, answer = self.last_answers([*before, pieces])
         self.result.streams, self.result.different = 1, int(reference != answer)
         if reference != answer:
             case, difference = Case("--case", pieces), Difference(pieces, reference, answer, before)
@@ -139,27 +147,33 @@ class Judge:
                 differing.append((batch[index], difference))
         self.result.streams += len(batch)
         self.result.different += len(differing)
+        self.at_hand = next(iter(differing), None)
         explained = self.explained([difference for _, difference in differing])
-        for (case, difference), is_explained in zip(differing, explained):
-            before = self.result.unexplained
+        for self.at_hand, is_explained in zip(differing, explained):
+            before, (case, difference) = self.result.unexplained, self.at_hand
             steady = difference if is_explained else self.steady(case, difference)
             if steady:
                 self.examine(case, steady, is_explained)
             elif self.result.unexplained == before:  # it was only slow
                 self.result.different -= 1
+        self.at_hand = None
 
     # ---- both answers
 
-    def both_answers(self, streams):
+    def both_answers(self, streams, before=()):
+        """Both answers to streams, which new processes get after others."""
         if self.candidate.deadline is not None and time.monotonic() >= self.candidate.deadline:
             raise OutOfTime
         references = self.reference.answers([b"".join(pieces) for pieces in streams])
-        answers = self.candidate.answers(streams)
+        answers = self.candidate.answers([*before, *streams])[len(before):]
         return [tuple(map(self.view.of, pair)) for pair in zip(references, answers)]
 
+    def last_answers(self, streams):
+        return self.both_answers(streams[-1:], streams[:-1])[0]
+
     def difference(self, pieces, before=()):
-        """The difference at a stream, which new processes get, or None."""
-        reference, answer = self.both_answers([*before, pieces])[-1]
+        """The difference at a stream, which new processes get after others, or None."""
+        reference, answer = self.last_answers([*before, pieces])
         return None if reference == answer else Difference(pieces, reference, answer)
 
     def difference_without(self, rules, kind, pieces):
@@ -235,19 +249,20 @@ class Judge:
 
     def find(self, case, left, excluded, kind=None):
         """Shrinks a difference without some rules, and reports its class if it is new."""
-        tries, most = count(), MOST_CASES // (4 if kind else 1)
+        most = (MOST_OVER_LIMIT if mark_of(left.candidate) in LIMITS else
+                MOST_CASES // 4 if kind else MOST_CASES)
+        tries = iter(range(most))
 
         def asked(streams):
-            try:
-                is_asked = not self.is_over and next(tries) < most
-                return self.difference_without(excluded, kind, *streams) if is_asked else None
-            except OutOfTime:
-                # what was found so far is tried alone
-                self.is_over, self.candidate.deadline = True, self.end + GRACE
+            return self.in_time(tries, self.difference_without, excluded, kind, *streams)
 
         difference = shrunk([left.pieces], asked, self.candidate.at_once)
         # a kind that doesn't show alone comes from several differences in a row
         is_mixed = difference and kind and len(kinds_of(difference)) > 1
+        if self.is_over:
+            self.at_hand = case, difference or left
+        if self.is_over and not difference:
+            raise OutOfTime
         if not difference or is_mixed or not self.steady(
                 case, difference, 1 if self.is_over else MORE_TRIES):
             return
@@ -256,7 +271,28 @@ class Judge:
         if self.count(name):
             self.again += 1
         else:
-            self.add(name, difference, case, not self.is_over and next(tries) < most)
+            self.add(name, difference, case, not self.is_over and next(tries, None) is not None)
+
+    def in_time(self, tries, ask, *about):
+        """What is answered about something as long as there are tries and time, then None."""
+        try:
+            return None if self.is_over or next(tries, None) is None else ask(*about)
+        except OutOfTime:
+            # what was found so far is tried alone
+            self.is_over, self.candidate.deadline = True, self.end + GRACE
+            return None
+
+    def tell_at_hand(self):
+        """Tells of the difference that there was no time to examine, if nothing was found or there
+        is no answer. Its rule is that of where it is."""
+        if not self.at_hand:
+            return
+        case, difference = self.at_hand
+        place, kind = differences_of(difference.reference, difference.candidate)[0]
+        if kind in FAILURES or not self.result.findings:
+            rule, _ = nearest(difference.pieces, place, {*RULES}, self.house)
+            name = PROTOCOL if kind == PROTOCOL else f"{rule}/{kind}"
+            self.count(name) or self.add(name, difference, case, is_smallest=False)
 
     def named(self, difference):
         """The class of a difference that is shrunk."""
@@ -312,17 +348,20 @@ class Judge:
         """The smallest streams of which the last is answered so after the others alone, or None."""
         if KEPT_STATE in self.result.findings:
             return difference
-        tries = iter(range(1, MOST_CASES // 10))
+        def changed(streams):
+            *before, pieces = streams
+            found = before and self.difference(pieces, before)
+            alone = found and self.difference(pieces)
+            is_alone = alone and is_alike(alone, found)
+            return found._replace(before=before) if found and not is_alone else None
 
         def wrong(streams):
-            *before, pieces = streams
-            found = next(tries, 0) and before and self.difference(pieces, before)
-            if found and not self.difference(pieces):
-                return found._replace(before=before)
-            return None
+            return self.in_time(tries, changed, streams)
 
-        streams = [*difference.before, difference.pieces]
+        tries, streams = iter(range(MOST_CASES // 10)), [*difference.before, difference.pieces]
         found = wrong(streams) and wrong(streams) and shrunk(streams, wrong)
-        tries = iter(range(1, 9))
+        if self.is_over and not found:
+            raise OutOfTime
         streams = found and [*found.before, found.pieces]
-        return found if found and all(wrong(streams) for _ in range(4)) else None
+        is_sure = found and (self.is_over or all(changed(streams) for _ in range(4)))
+        return found if is_sure else None

@@ -24,15 +24,22 @@ class Reference:
         self.vtlog, self.house = vtlog, house
         self.threads = concurrent.futures.ThreadPoolExecutor(os.cpu_count())
 
+    def check(self):
+        """Raises NoReference for a program that isn't vtlog."""
+        if self.answer(b"a\x1b[m\xff") != ["print 0061", "csi [0] - false 6d", "print fffd"]:
+            raise NoReference(f"{self.vtlog} isn't vtlog: it prints other lines")
+
     def answer(self, stream):
         try:
             done = subprocess.run([self.vtlog], input=stream, capture_output=True, timeout=SECONDS)
         except subprocess.TimeoutExpired:
             raise NoReference(f"{self.vtlog} gave no answer in {SECONDS} s") from None
+        except OSError as error:
+            raise NoReference(f"{self.vtlog} can't be run: {error.strerror}") from None
         if done.returncode != 0:
             said = done.stderr.decode(errors="replace")[:200]
             raise NoReference(f"{self.vtlog} failed with status {done.returncode}: {said}")
-        lines = done.stdout.decode().splitlines()
+        lines = done.stdout.decode(errors="backslashreplace").splitlines()
         if self.house == DEFAULT:
             return lines
         if lines != lines_of(stream):

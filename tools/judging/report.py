@@ -61,7 +61,11 @@ def shown_answers(one, other):
     if max(len(one), len(other)) > MOST_LINES or longest > LONGEST:
         one, other = one[same:], other[same:]
     at = first_difference(one[0], other[0]) if one and other else 0
-    return shown_lines(one, at), shown_lines(other, at)
+    shown = shown_lines(one, at), shown_lines(other, at)
+    # long lines of which one begins as the other look the same
+    is_front = longest > LONGEST and one and other and at in (len(one[0]), len(other[0]))
+    return (f"{len(one[0])} characters: {shown[0]}",
+            f"{len(other[0])} characters: {shown[1]}") if is_front else shown
 
 
 def shown_finding(finding, again):

@@ -36,7 +36,7 @@ def shrunk(streams, asked, at_once=1):
         return None
 
     case = NEXT.join(CUT.join(piece.decode("latin-1") for piece in pieces) for pieces in streams)
-    case, before = first([case.replace(CUT, "")]) or case, None
+    case, before = first([case.replace(CUT, ""), case]) or case, None
     while case != before:
         before, case = case, smallest(case, first)
         for place in places_of(case):

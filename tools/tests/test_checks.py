@@ -13,6 +13,7 @@ from types import SimpleNamespace
 import pytest
 from erasing.plan import Plan
 
+from tests.missing import miss
 from tests.support import write
 
 TOOLS = Path(__file__).resolve().parents[1]
@@ -118,12 +119,17 @@ def test_trust_in_all_files_and_handles(folder):
     write(".gitignore", "out/\n")
     for place in "crates/x/specs/A.antt", "crates/x/out/A.rt", "bench/b.rs", "c/d.rt", "e.md":
         write(place, "unsafe one\n")
+    long = {"f.py": 101, "crates/x/src/g.rt": 101, "crates/x/proofs/G.antt": 121, "h.md": 151}
+    for place, length in long.items():
+        write(place, ("ab " * 60)[:length] + "\n")
     handles = write("HANDLES", "Handles allowed: none.\n")
     status, said = Tool("check_trust").run()
     lines = said.splitlines()
-    assert (status, lines[-1]) == (1, "2 files, 2 places that are refused")
-    assert sorted(line.partition(":")[0] for line in lines[:-1]) == ["bench/b.rs", "c/d.rt"]
-    write("c/d.rt", "")
+    assert (status, lines[-1]) == (1, "3 files, 5 places that are refused")
+    assert sorted(line.partition(":")[0] for line in lines[:-1]) == [
+        "bench/b.rs", "c/d.rt", "crates/x/proofs/G.antt", "crates/x/src/g.rt", "f.py"]
+    for place in "c/d.rt", *long:
+        write(place, "")
     tool = Tool("check_trust", files=lambda: ["c/d.rt"])
     assert tool.run() == (0, "1 files, 0 places that are refused\n")
     handles.write_text("Handles allowed: some.\n")
@@ -149,6 +155,8 @@ def failures(text, run=True):
     ("[a](page.md) [b](#some-heading) [c](https://example.org/x)\n## Some *heading*", None),
     ("[a](page.md#no-heading)", "no such heading: page.md#no-heading"),
     ("[a](#no-heading)", "no such heading: #no-heading"),
+    ("[a](#an-osc-and-more) [b](#c1)\n# An OSC, and more\n### `C1`", None),
+    ("[a](#An-OSC)\n## An OSC", "no such heading: #An-OSC"),
     ("See docs/GONE.md.", "no such page: docs/GONE.md"),
     ("`src/known.rt`, `./a/src/known`, `src/*.rt`, `out/gone.rt`", None),
     ("`a/target/gone`, `src/NAME.rt`, `/gone/file`", None),
@@ -401,6 +409,93 @@ def test_what_the_eraser_refuses_is_told(words, folder):
     told = "tools/erase: crates/c/src/lib.rt:2: unknown attribute: test"
     assert erase(*words) == (told, "")
     assert not (folder / "w").exists()
+
+
+# ---- check_public_items
+
+ITEMS = """pub fn f(a: u8) -> u8 { a }
+pub struct S<A> { pub b: A, pub c: u8 }
+impl<A> S<A> { pub fn g(&self, d: u8) {} }
+impl<A: Clone> Clone for S<A> { fn clone(&self) -> Self { todo!() } }
+pub const N: u8 = 1;
+pub type Y = u8;
+pub trait T { fn h(&self); fn i(&self) {} }
+pub enum E { I(u8) }
+"""
+# an edit of these, and the item in which it differs
+EDITS = [("f(a: u8)", "f(b: u8)", None), ("f(a: u8)", "f(a: u16)", "f"), ("-> u8 { a", "{ ", "f"),
+         ("S<A> { pub b: A", "S<A> { b: A", "S::b"), ("pub c: u8", "pub c: u16", "S::c"),
+         ("d: u8", "d: u16", "S::g"), ("&self, d", "self, d", "S::g"), ("u8 = 1", "u8 = 2", "N"),
+         (re.search("impl<A: Clone.*", ITEMS)[0], "", "S: Clone"), ("Y = u8", "Y = u16", "Y"),
+         ("h(&self);", "h(&self) {}", "T::h"), ("I(u8)", "I(u16)", "E::I"),
+         ("pub enum E { I(u8) }", "", "E"), ("pub struct S<A>", "#[repr(C)] pub struct S<A>", "S")]
+
+
+def test_which_public_items_differ(folder):
+    version = subprocess.run(["rustdoc", "--version"], capture_output=True, text=True).stdout
+    if " 1.95." not in version:
+        miss("rustdoc 1.95, whose pages tools/check_public_items reads")
+    texts = [ITEMS, *(ITEMS.replace(old, new) for old, new, _ in EDITS)]
+    modules = (f"pub mod m{at} {{ {text} }}\n" for at, text in enumerate(texts))
+    lines = write("lib.rs", "".join(modules))
+    subprocess.run(["rustdoc", lines, "--crate-name", "vte", "-o", "doc"], check=True)
+    found = Tool("check_public_items").parts["items_of_pages"](folder / "doc" / "vte")
+    sides = [{path.partition("::")[2]: text for path, text in found.items()
+              if path.startswith(f"m{at}::")} for at in range(len(texts))]
+    for (old, new, item), side in zip(EDITS, sides[1:]):
+        texts = {path: text for path, text in sides[0].items() if text != side.get(path)}
+        assert [*texts][:1] == [item] * bool(item), (old, new, texts)
+
+
+# ---- check_builds, release
+
+def run_here(tool, *words, **programs):
+    """The status and the lines of a tool of the shell, which stands in this folder and finds these
+    programs before others."""
+    write(f"tools/{tool}", (TOOLS / tool).read_text(), 0o755)
+    for name, text in programs.items():
+        write(f"bin/{name}", f"#!/bin/sh\n{text}\n", 0o755)
+    done = subprocess.run([f"tools/{tool}", *words], stdout=subprocess.PIPE, text=True,
+                          env={**os.environ, "PATH": f"{Path.cwd()}/bin:{os.environ['PATH']}"})
+    return done.returncode, done.stdout.splitlines()
+
+
+# a function that calls a panic, and whether it is known
+@pytest.mark.parametrize("function, is_known", [
+    ("<vte::Parser>::drive", True), ("vte::scan::find_escape", True), ("vte::any::drive_on", False),
+    ("vte::Store<8>::dispatch", True), ("vte::Store::dispatch_all", False),
+    ("<vte::ParamsIter as Iterator>::next", True), ("vte::Params::next", False),
+    ("vte::Engine<P>::stop", True), ("vte::Engine<P>::stops", False), ("other::f", True)])
+def test_functions_that_may_panic(function, is_known):
+    shown = (f"0000 <{function}::h0123456789abcdef>:\n 1:\tcall 2 <core::panicking::panic>\n"
+             "0001 <vte::quiet>:\n 2:\tcall 3 <core::slice::len>\n")
+    write("shown", shown)
+    status, lines = run_here("check_builds", "panics", cargo="", objdump="cat shown")
+    told = [it for it in lines if "::" in it]
+    assert (status, told) == ((0, []) if is_known else (1, [function] * 3))
+
+
+VERSIONS = {"rust/vte/Cargo.toml": "0.15.0+naqshuve.1.2.3", "rust/vtlog/Cargo.toml": "0.15.0",
+            "rust/vte_c/Cargo.toml": "0.15.0", "python/pyproject.toml": "0.15.0"}
+
+
+# what stands in a file instead, and what is told
+@pytest.mark.parametrize("place, text, told", [
+    ("x", "", None), *((it, 'version = "0.15.1"', f"{it} has another") for it in [*VERSIONS][1:]),
+    *((it, text, f"{it} begins with {text[3:]}") for it in ("CHANGELOG.md", "rust/vte/CHANGELOG.md")
+      for text in ("## 1.2.4, unreleased", "## 1.2.3, soon")),
+    ("CHANGELOG.md", "## 1.2.3, 2026-01-02", None)])
+def test_versions_of_a_release(place, text, told):
+    for name, version in VERSIONS.items():
+        write(name, f'[package]\nversion = "{version}"\n')
+    for name in "CHANGELOG.md", "rust/vte/CHANGELOG.md":
+        write(name, "# Changes\n\n## 1.2.3, unreleased\n\n## 1.2.2, 2026-01-01\n")
+    write(place, f"{text}\n")
+    packed = 'mkdir -p "$CARGO_TARGET_DIR/package"; cd "$CARGO_TARGET_DIR/package"; ' \
+        'for it in naqshuve-vte-1.2.3 vte-0.15.0+naqshuve.1.2.3; do tar -cf $it.crate .; done'
+    status, lines = run_here("release", "--check", cargo=packed, git="tar -cC rust/vte Cargo.toml")
+    wanted = [f"versions: {told}"] * bool(told)
+    assert (status, lines) == (len(wanted), [*wanted, f"{len(wanted)} faults"])
 
 
 # ---- test

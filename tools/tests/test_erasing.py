@@ -206,14 +206,16 @@ def test_what_is_refused(text, line, given):
     assert (caught.value.line or 1) == line, caught.value
 
 
-def test_which_files_are_written():
+@pytest.mark.parametrize("is_reversed", [False, True])
+def test_which_files_are_written(is_reversed):
     made = {"a": {"y/tests.rt": "#[x]", "x.rt": "#[x]", "y.rt": "#[cfg(test)] mod tests;",
-                  "lib.rt": "#[cfg(test)] mod x; mod y; mod z; mod left;", "z/lib.rt": "",
-                  "z/laws/b.rt": "#[x]",
+                  "lib.rt": "#[cfg(test)] mod x; #[cfg(test)] mod c; mod y; mod z; mod left;",
+                  "z/lib.rt": "", "z/laws/b.rt": "#[x]", "c.rt": "#[x]", "c/d.rt": "#[x]",
                   "left.rt": "#[x]", "left/over.rt": "#[x]", "leftover.rt": ""},
-            "b": {"main.rt": "#[cfg(test)] mod x;", "x.rt": "#[x]", "old.rt": "fn f() {}"}}
+            "b": {"main.rt": "#[cfg(test)] mod x; #[cfg(test)] mod c;", "x.rt": "#[x]",
+                  "c.rt": "#[x]", "old.rt": "fn f() {}"}}
     given = plan(dropped_files={"a/left"}, crate_conditions={"b": "x"}, allowed_lints=("y", "z"))
-    files = write_crate(given, lambda crate: dict(sorted(made[crate].items(), reverse=True)))
+    files = write_crate(given, lambda crate: dict(sorted(made[crate].items(), reverse=is_reversed)))
     assert sorted(files) == ["a/leftover.rs", "a/mod.rs", "a/y.rs", "a/z/lib.rs",
                              "b/mod.rs", "b/old.rs", "mod.rs"]
     assert files["b/old.rs"] == ("// Written by tools/erase from crates/b/src/old.rt: "

@@ -3,7 +3,10 @@ import json
 import subprocess
 import sys
 from pathlib import Path
+from types import SimpleNamespace
 
+from judging import definition, house, views
+from judging.judgement import Judge
 from tests.support import write
 
 TOOLS = Path(__file__).resolve().parents[2]
@@ -27,3 +30,25 @@ def run_python(*words, **how):
 def program_in(folder, line):
     """A program in a folder, of a line for the shell."""
     return write(folder / "program", f"#!/bin/sh\n{line}\n", 0o755)
+
+
+class Side:
+    """A function of the pieces of a stream, and of the streams before it, as a program."""
+
+    takes_pieces, batch, at_once, deadline = True, 50, 1, None
+
+    def __init__(self, answer):
+        self.answer = answer
+
+    def answers(self, streams):
+        return [self.answer(pieces, streams[:index]) for index, pieces in enumerate(streams)]
+
+    def answer_aloud(self, pieces):
+        self.answers([pieces])
+
+
+def judge_of(answer, **given):
+    """A judge of a function, or of a side. The definition is the reference."""
+    defined = SimpleNamespace(answers=lambda streams: [*map(definition.lines_of, streams)])
+    side = answer if isinstance(answer, Side) else Side(answer)
+    return Judge(defined, side, views.View(), house.DEFAULT, **given)

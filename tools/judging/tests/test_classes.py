@@ -1,27 +1,14 @@
 """Tests of the judge on functions of this process: which classes it finds."""
 import random
 import re
-from types import SimpleNamespace
 
 import pytest
-from judging import (candidate, cases, classes, definition, house, judgement, kinds, report,
-                     shrinking, views)
+from judging import (candidate, cases, classes, definition, house, judgement, kinds,
+                     report, shrinking)
 from judging.classes import Difference
-from judging.judgement import Judge, is_alike
+from judging.judgement import is_alike
 from judging.rules import CUT, LEVELS, RULES
-from support import FILES
-
-
-class Side:
-    """A function of the pieces of a stream, and of the streams before it, as a program."""
-
-    takes_pieces, batch, at_once, deadline = True, 50, 1, None
-
-    def __init__(self, answer):
-        self.answer = answer
-
-    def answers(self, streams):
-        return [self.answer(pieces, streams[:index]) for index, pieces in enumerate(streams)]
+from support import FILES, judge_of
 
 
 # there are enough to find several differences in a row, which are no class of their own; in the
@@ -29,12 +16,6 @@ class Side:
 CASES = [case for case in cases.all_cases(("vectors", "random"), "1", 240)
          if sum(map(len, case.pieces)) < 3000] + [
     cases.Case("", [b"\x1b]" + front + b"\x9c\xa0\x1b"]) for front in (b";" * 16, b"a" * 1024)]
-
-
-def judge_of(answer, **given):
-    # the definition is the reference
-    defined = SimpleNamespace(answers=lambda streams: [*map(definition.lines_of, streams)])
-    return Judge(defined, Side(answer), views.View(), house.DEFAULT, **given)
 
 
 def judged(answer, some=CASES, **given):
@@ -245,13 +226,18 @@ def test_what_depends_on_a_cut_between_steps():
     assert result.findings["cut:between/extra"].streams == result.different
 
 
-def test_what_depends_on_other_streams():
+# alone, and in streams that have another fault
+@pytest.mark.parametrize("some, lost, names", [
+    (CASES, "", ["kept-state"]), ([cases.Case("", [it]) for it in (b"\x0e", *[b"a\x0f"] * 9)],
+                                  "execute 0f", ["control/missing", "kept-state"])])
+def test_what_depends_on_other_streams(some, lost, names):
     def shifted(pieces, history):
         lines = definition.lines_of(b"".join(pieces))
-        was_shifted = history and b"\x0e" in b"".join(history[-1])
-        return [line for line in lines if not (was_shifted and line.startswith("print"))]
-    found = judged(shifted).findings
-    assert [*found] == ["kept-state"]
+        was_shifted = any(b"\x0e" in b"".join(before) for before in history)
+        return [line for line in lines if line != lost and not (
+            was_shifted and line.startswith("print"))]
+    found = judged(shifted, some).findings
+    assert sorted(found) == names
     assert report.shown_case(found["kept-state"].difference) == "0e / 61"
 
 

@@ -178,7 +178,7 @@ def test_the_vtlog_of_this_repository_is_built(tmp_path, monkeypatch, capsys):
 
 
 def test_untold_fields_are_left_out():
-    lines = ["print 0061", "csi [1:2;3] 3f true 6d", "osc true 2 - 61", "hook [0] - false 71",
+    lines = ["print 0061", "csi [1:2;3] 3f true 6d", "osc true 2 - 61", "hook [0:1] - false 71",
              "put 61", "unhook", "osc false 1 61"]
     view = views.View(["ignore", "groups", "bell", "pieces", "dcs"])
     assert view.of(lines) == ["print 0061", "csi [1;2;3] 3f - 6d", "osc - 1 3b61", "osc - 1 61"]
@@ -189,8 +189,8 @@ def test_untold_fields_are_left_out():
         hidden = methods.get(word, [word])
         assert views.View([word]).of(lines) == [it for it in lines if it.split()[0] not in hidden]
     changes = {"bell": {3: "osc - 2 - 61"}, "pieces": {3: "osc true 1 3b61"},
-               "ignore": {2: "csi [1:2;3] 3f - 6d", 4: "hook [0] - - 71", 7: "esc 28 - 41"},
-               "groups": {2: "csi [1;2;3] 3f true 6d"}}
+               "ignore": {2: "csi [1:2;3] 3f - 6d", 4: "hook [0:1] - - 71", 7: "esc 28 - 41"},
+               "groups": {2: "csi [1;2;3] 3f true 6d", 4: "hook [0;1] - false 71"}}
     for word, changed in changes.items():
         assert views.View([word]).of(lines) == [changed.get(at, it) for at, it in enumerate(lines)]
 
@@ -213,7 +213,10 @@ DIGITS = "".join(f"{number:04}" for number in range(75))
      [f".. {DIGITS[81:200]}x", f".. {DIGITS[81:200]}y / " + "z" * 120 + " .."]),
     ([DIGITS], [DIGITS[:99] + "x" + DIGITS[100:]],
      [f".. {DIGITS[39:159]} ..", f".. {DIGITS[39:99]}x{DIGITS[100:159]} .."]),
-    ([DIGITS], ["x"], [f"{DIGITS[:120]} ..", "x"])])
+    ([DIGITS], ["x"], [f"{DIGITS[:120]} ..", "x"]),
+    # a line that goes on where the other ends, whose parts look the same
+    (["6" * 400], ["6" * 300], ["400 characters: .. " + "6" * 120 + " ..",
+                                "300 characters: .. " + "6" * 120])])
 def test_long_answers_are_shown_where_they_differ(one, other, shown):
     assert [*report.shown_answers(one, other)] == shown
     assert [*report.shown_answers(other, one)] == shown[::-1]
@@ -293,8 +296,8 @@ def result(is_new=True, **given):
 
 @pytest.mark.parametrize("status, judgement", [
     (0, Judgement(streams=1)), (1, Judgement()), (1, result()), (0, result(False)),
-    (1, Judgement(9, 1)), (1, result(False, different=4)),
-    (0, result(False, ended_early="the time was over"))])
+    (1, Judgement(9, 1)), (1, result(False, different=4)), (1, Judgement(ended_early="x")),
+    (3, result(False, ended_early="x")), (1, result(ended_early="x"))])
 def test_statuses(status, judgement):
     assert judgement.status() == status
 
@@ -325,13 +328,13 @@ def formatted(kind, **given):
 
 @pytest.mark.parametrize("given, others", [
     ({}, []), ({"different": 4}, ["each difference has a class"]),
-    ({"streams": 0}, ["streams are judged"])])
+    *((it, ["all streams are judged"]) for it in ({"streams": 0}, {"ended_early": "a < b"}))])
 def test_junit_is_read_by_its_library(given, others):
     try:
         import junitparser
     except ImportError:
         miss("there is no python3-junitparser")
-    told = formatted("junit", ended_early="a < b", **given)
+    told = formatted("junit", **given)
     suite = junitparser.JUnitXml.fromstring(told.encode())
     results = {case.name: case.result for case in suite}
     assert len(results) == len(formats.TESTS) + 2

@@ -106,15 +106,23 @@ LEFT_OUT = {"py": "delete", "c": "differs", "js": "colon", "go": "should"}
 def test_a_runner_counts_what_is_wrong(language, tmp_path):
     """The example gets all vectors wrong but those of text and C0. Nothing tried is no success."""
     built(tmp_path, language)
-    left_out = LEFT_OUT[language]
-    (status, said), none = (
-        run("sh", "-c", f"{RUNNERS[language][1]} {words} <events.json", cwd=tmp_path)
-        for words in (left_out, "must should differs"))
-    some = [vector for vector in EVENTS if vector["limit"] == 1024
-            and left_out not in [vector["level"], *vector["rules"], *vector["house"]]]
-    wrong = sum("\n".join(my_parser.parse_pieces(map(bytes_of, vector["pieces"])))
-                != "\n".join(lines_of(vector["events"])) for vector in some)
-    assert status == 1 and re.search(rf"(?m)^{wrong} of {len(some)} wrong$", said), said
+    levels = {name: rule["level"] for name, rule in FILES[0]["rules"].items()}
+
+    def words_of(vector):
+        own = {levels[rule] for rule in vector["rules"]}
+        strongest = next((it for it in ("must", "should", "differs") if it in own), "must")
+        return {vector["level"], f"strongest={strongest}", *vector["rules"], *vector["house"]}
+
+    for left_out in LEFT_OUT[language], "strongest=should strongest=differs":
+        status, said = run("sh", "-c", f"{RUNNERS[language][1]} {left_out} <events.json",
+                           cwd=tmp_path)
+        some = [vector for vector in EVENTS if vector["limit"] == 1024
+                and not words_of(vector) & {*left_out.split()}]
+        wrong = sum("\n".join(my_parser.parse_pieces(map(bytes_of, vector["pieces"])))
+                    != "\n".join(lines_of(vector["events"])) for vector in some)
+        assert 1 < len(some) < len(EVENTS)
+        assert status == 1 and re.search(rf"(?m)^{wrong} of {len(some)} wrong$", said), said
+    none = run("sh", "-c", f"{RUNNERS[language][1]} must should differs <events.json", cwd=tmp_path)
     assert none[0] == 1 and none[1].startswith("0 of 0 wrong\n")
 
 

@@ -1,0 +1,65 @@
+"""The differences of tools/stand_ins/vte, which the targets of rust/vte/fuzz must find: for each
+the words with which the target tells of it, and an input from which it does."""
+
+BEGIN, END = b"\x1b[?2026h", b"\x1b[?2026l"
+# the first bytes of an input: pieces of 0 and 1 bytes, and of up to 4, 8 and 128
+SINGLE, FOUR, EIGHT, WHOLE = b"\0\0", b"\2\0", b"\3\0", b"\7\0"
+OVERFLOW = "AddressSanitizer: heap-buffer-overflow"
+ABORT = "deadly signal"
+
+PARSER = [
+    ("after an ESC", "in pieces", SINGLE + b"a\x1bcb"),
+    ("inside a character", "in pieces", SINGLE + b"\xe4\xbd\xa0b"),
+    ("after a semicolon", "in pieces", SINGLE + b"\x1b[1;2m"),
+    ("after five bytes", "in pieces", EIGHT + bytes(range(0x20, 0x60))),
+    ("empty", "in pieces", SINGLE + b"a" * 8),
+    ("closed by a cut", "in pieces", SINGLE + b"ab\x1b["),
+    ("in runs", "in runs", WHOLE + b"a~b"),
+    ("with line ends", "in runs with line ends", WHOLE + b"a\n~"),
+    ("after a character", "with stops after characters", WHOLE + b"ab"),
+    ("after an escape", "with stops after escapes", WHOLE + b"\x1bca"),
+    ("with an early end", "an early end", WHOLE + b"\x1b[1m"),
+    ("to text", "of_parsers.rs", WHOLE + b"a"),
+    ("to data", "of_parsers.rs", WHOLE + b"\x1bPqab"),
+    ("to nothing", "no run", WHOLE + b"\x1bc"),
+    ("closed", "both parsers", WHOLE + b"\x1b[")]
+PROCESSOR = [
+    ("in pieces", "in pieces", SINGLE + b"ab~"),
+    ("in runs", "in runs", SINGLE + b"a~"),
+    ("held in runs", "in runs", SINGLE + b"a"),
+    ("in an update", "with updates", SINGLE + BEGIN + b"~~" + END),
+    ("at a stop", "with updates", SINGLE + BEGIN + b"~"),
+    ("after a stop", "with updates", FOUR + BEGIN + b"~" * 30),
+    ("in an update in runs", "with updates, in runs", SINGLE + BEGIN + b"~~" + END),
+    ("at a stop in runs", "with updates, in runs", SINGLE + BEGIN + b"~"),
+    ("always", "both processors", SINGLE + b"a~")]
+BESIDE_VTE = [
+    ("Parser whole", SINGLE + b"ab~"), ("Processor whole", SINGLE + b"ab~"),
+    # with a text that may be a colour which only `vte` reads, and with another colour
+    ("Processor whole", SINGLE + b"ab~#"),
+    ("Processor whole", SINGLE + b"\x1b]4;1;rgb:70/00/00\7"),
+    ("Processor in pieces", SINGLE + b"ab~"), ("Processor held", SINGLE + b"ab"),
+    ("Processor in an update", SINGLE + BEGIN + b"~~"),
+    ("Processor at a stop", FOUR + BEGIN + b"~" * 30),
+    ("Processor expired", FOUR + BEGIN + b"~" * 30)]
+LIBRARY = [
+    ("vte_feed in pieces", ABORT, b"\0\0\0a~"),
+    ("vte_feed in little room", ABORT, b"\xff\0\0a\x1b[mb"),
+    ("vte_feed with stops", ABORT, b"\xff\xff\xffa\x1b[m"),
+    ("vte_feed of some kinds", ABORT, b"\xff\xff\1ab"),
+    ("vte_feed of any parser", ABORT, b"\xff\xff\1any\x1b[m"),
+    ("vte_strip in pieces", ABORT, b"\0\0\0a~"),
+    ("vte_strip in little room", ABORT, b"\xff\0\0ab"),
+    *((f"vte_feed of too many {what}", ABORT, b"\0\0\0a") for what in ("events", "data")),
+    *((f"{function} that reads {what}", ABORT, b"\0\0\0a")
+      for function in ("vte_feed", "vte_strip") for what in ("nothing", "too much")),
+    *((f"{function} beyond its {what}", OVERFLOW, b"\0\0\0a")
+      for function, what in (("vte_feed", "bytes"), ("vte_feed", "events"), ("vte_feed", "data"),
+                             ("vte_strip", "bytes"), ("vte_strip", "text")))]
+DIFFERENCES = {
+    "readings": [(f"{name} {difference}", *rest)
+                 for names, rows in ((("Parser", "LongParser"), PARSER),
+                                     (("Processor", "LongProcessor"), PROCESSOR))
+                 for name in names for difference, *rest in rows],
+    "beside_vte": [(difference, "left == right", given) for difference, given in BESIDE_VTE],
+    "c_library": LIBRARY}

@@ -1,6 +1,6 @@
 -- A processor with a limit of its own stands where its engine does. The engine keeps the room for texts that it has, so
 -- no memory is refused.
-use Rattle.vte.proofs.Common.{ℕ, List, Some, length, Result, Ok, Err, refl, Bor, Refused, EngineView, Meaning, State, HasTextRoom, HasParsedAndHoldsWithin, IsAt, ReadsInTurns, EngineReads, EngineStandsAt, EngineStops, StopsSync, limited_parser_view, engine_view, stop, [], arith}
+use Rattle.vte.proofs.Common.{ℕ, List, Some, length, Result, Ok, Err, refl, Bor, Refused, EngineView, Meaning, State, HasTextRoom, HasParsedAndHoldsWithin, IsAt, ReadsInTurns, EngineReads, EngineStandsAt, EngineStops, StopsSync, limited_parser_view, engine_view, stop, []}
 use Rattle.vte_core.specs.declared.parser.Parser.{Parser}
 use Rattle.vte.proofs.replays.Standings.{reads_in_turns}
 use Rattle.vte.proofs.turns.EngineTurns.{taken-to}

@@ -230,9 +230,17 @@ fn the_default_timeout_is_pending_until_it_is_told() {
     assert_eq!(processor.sync_timeout().sync_timeout(), Some(first));
     processor.advance(&mut calls, b"c");
     assert_eq!((calls.0.len(), processor.sync_bytes_count()), (1, 2));
+    assert_eq!(processor.sync_timeout().sync_timeout(), Some(first));
     processor.advance(&mut calls, b"\x1b[?2026h");
     let second = processor.sync_timeout().sync_timeout().unwrap();
     assert!(second - first >= std::time::Duration::from_millis(151));
+    // once it is told, the next bytes are passed on at once
+    processor.stop_sync(&mut calls);
+    assert_eq!(processor.sync_timeout().sync_timeout(), None);
+    processor.advance(&mut calls, b"d");
+    assert_eq!(processor.sync_bytes_count(), 0);
+    let wanted = ["input a", "input b", "input c", "unset 2026", "input d"];
+    assert_eq!(calls.0, wanted);
 }
 
 #[cfg(feature = "std")]

@@ -9,33 +9,55 @@ use crate::block::{blocks, cuttings, Block};
 use crate::event_lines::{EventLines, Stop};
 
 const ROWS: &str = include_str!("events.txt");
+/// What follows each stream.
+const NEXT: &[u8] = b"z\x1bc";
 
-/// The events of a stream in pieces, by a parser that is passed one piece after the other.
+/// The events of `NEXT` after a row, which are others if something is open.
+fn events_of_next(row: &str) -> String {
+    let of_z = match row {
+        "unfinished character at the end" | "unfinished character 50,000 times" => {
+            "print fffd\nprint 007a"
+        }
+        "32 colons" | "more than 16 OSC pieces" | "unfinished character 50,000 times, then ESC" => {
+            "esc - false 7a"
+        }
+        "unfinished CSI at the end" => "csi [1] - false 7a",
+        "DCS with more than 32 numbers" | "hooked DCS at the end of input" => "put 7a\nunhook",
+        "OSC at the end of input" => "osc false 2 32 617a",
+        _ => "print 007a",
+    };
+    format!("{of_z}\nesc - false 63\n")
+}
+
+/// The events of a stream in pieces, by a parser that is passed one piece after the other, and then
+/// those of `NEXT`.
 fn events_by<const KEEPS: bool>(
     mut advance: impl FnMut(&mut EventLines<KEEPS>, &[u8]),
     pieces: &[&[u8]],
-) -> String {
+) -> [String; 2] {
     let mut lines = EventLines::new(Stop::Never);
     for piece in pieces {
         advance(&mut lines, piece);
     }
-    lines.text
+    let events = lines.text.split_off(0);
+    advance(&mut lines, NEXT);
+    [events, lines.text]
 }
 
-fn events_of(pieces: &[&[u8]]) -> String {
+fn events_of(pieces: &[&[u8]]) -> [String; 2] {
     let mut parser = Parser::new();
     let read = |lines: &mut EventLines, piece: &[u8]| parser.advance(lines, piece);
     events_by(read, pieces)
 }
 
-fn events_in_runs_of(pieces: &[&[u8]]) -> String {
+fn events_in_runs_of(pieces: &[&[u8]]) -> [String; 2] {
     let mut parser = Parser::new();
     let read = |lines: &mut EventLines, piece: &[u8]| parser.advance_text(lines, piece);
     events_by(read, pieces)
 }
 
 /// The same by a performer of which the parser knows only the trait, in each of two ways.
-fn events_by_object_of<const IN_RUNS: bool>(pieces: &[&[u8]]) -> String {
+fn events_by_object_of<const IN_RUNS: bool>(pieces: &[&[u8]]) -> [String; 2] {
     let mut parser = Parser::new();
     let read = |lines: &mut EventLines, piece: &[u8]| {
         let lines: &mut dyn PerformText = lines;
@@ -49,27 +71,27 @@ fn events_by_object_of<const IN_RUNS: bool>(pieces: &[&[u8]]) -> String {
     events_by(read, pieces)
 }
 
-fn bounded_events_of<const N: usize>(pieces: &[&[u8]]) -> String {
+fn bounded_events_of<const N: usize>(pieces: &[&[u8]]) -> [String; 2] {
     let mut parser = BoundedParser::<N>::default();
     let read = |lines: &mut EventLines, piece: &[u8]| parser.advance(lines, piece);
     events_by(read, pieces)
 }
 
-fn bounded_events_in_runs_of<const N: usize>(pieces: &[&[u8]]) -> String {
+fn bounded_events_in_runs_of<const N: usize>(pieces: &[&[u8]]) -> [String; 2] {
     let mut parser = BoundedParser::<N>::default();
     let read = |lines: &mut EventLines, piece: &[u8]| parser.advance_text(lines, piece);
     events_by(read, pieces)
 }
 
 /// The same by a performer that keeps HT, LF and CR in its runs.
-fn events_in_lines_of(pieces: &[&[u8]]) -> String {
+fn events_in_lines_of(pieces: &[&[u8]]) -> [String; 2] {
     let mut parser = Parser::new();
     let read = |lines: &mut EventLines<true>, piece: &[u8]| parser.advance_text(lines, piece);
     events_by(read, pieces)
 }
 
 /// The same by both methods in turn, which leave the parser in the same state.
-fn events_in_turn_of(pieces: &[&[u8]]) -> String {
+fn events_in_turn_of(pieces: &[&[u8]]) -> [String; 2] {
     let (mut parser, mut is_in_runs) = (Parser::new(), false);
     let read = |lines: &mut EventLines, piece: &[u8]| {
         is_in_runs = !is_in_runs;
@@ -82,7 +104,7 @@ fn events_in_turn_of(pieces: &[&[u8]]) -> String {
     events_by(read, pieces)
 }
 
-fn unterminated_events_of(pieces: &[&[u8]]) -> String {
+fn unterminated_events_of(pieces: &[&[u8]]) -> [String; 2] {
     let mut parser = Parser::new();
     let read = |lines: &mut EventLines, piece: &[u8]| {
         assert_eq!(parser.advance_until_terminated(lines, piece), piece.len());
@@ -91,23 +113,24 @@ fn unterminated_events_of(pieces: &[&[u8]]) -> String {
 }
 
 #[cfg(any(feature = "std", feature = "ansi"))]
-fn long_events_of(pieces: &[&[u8]]) -> String {
+fn long_events_of(pieces: &[&[u8]]) -> [String; 2] {
     let mut parser = vte::LongParser::new();
     let read = |lines: &mut EventLines, piece: &[u8]| parser.advance(lines, piece).unwrap();
     events_by(read, pieces)
 }
 
 #[cfg(any(feature = "std", feature = "ansi"))]
-fn long_events_in_runs_of(pieces: &[&[u8]]) -> String {
+fn long_events_in_runs_of(pieces: &[&[u8]]) -> [String; 2] {
     let mut parser = vte::LongParser::new();
     let read = |lines: &mut EventLines, piece: &[u8]| parser.advance_text(lines, piece).unwrap();
     events_by(read, pieces)
 }
 
-fn check_stream(row: &Block<'_>, events_of: fn(&[&[u8]]) -> String) {
+fn check_stream(row: &Block<'_>, events_of: fn(&[&[u8]]) -> [String; 2]) {
     let (pieces, events) = (row.pieces(), row.all("event"));
     let pieces: Vec<&[u8]> = pieces.iter().map(Vec::as_slice).collect();
     let stream = pieces.concat();
+    let events = [events, events_of_next(row.name)];
     assert!(events_of(&pieces) == events, "{}", row.name);
     assert!(events_of(&[&stream]) == events, "{}, whole", row.name);
     for cutting in cuttings(&stream) {

@@ -215,6 +215,7 @@ fn parsers_are_made_in_every_way(rt: HostRuntime) {
         Ok(()) => assert_eq!(rt; counts.numbers, 4),
         Err(Refused { read }) => assert_eq!(rt; read, usize::MAX),
     }
+    assert_eq!(rt; long.open(), Open::Nothing);
 }
 
 #[test]
@@ -299,6 +300,7 @@ fn a_processor_makes_calls(rt: HostRuntime) {
 fn laws_do_nothing(rt: HostRuntime) {
     laws::empty_stream();
     laws::events_grow();
+    laws::opens_late();
     laws::resync();
     laws::debug_dispatch();
     laws::worked_examples();

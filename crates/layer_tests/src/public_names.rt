@@ -216,6 +216,7 @@ fn parsers_are_made_in_every_way(rt: HostRuntime) {
         Ok(()) => assert_eq!(rt; counts.numbers, 4),
         Err(Refused { read }) => assert_eq!(rt; read, usize::MAX),
     }
+    assert_eq!(rt; long.open(), Open::Nothing);
 }
 
 #[test]
@@ -335,6 +336,7 @@ fn parts_meet_at_an_escape(rt: HostRuntime) {
 fn laws_do_nothing(rt: HostRuntime) {
     laws::empty_stream();
     laws::events_grow();
+    laws::opens_late();
     laws::resync();
     laws::events_of_parts();
     event_log::laws::text_of_parts();

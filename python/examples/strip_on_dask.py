@@ -90,11 +90,11 @@ def strip_files(client, files, out, size):
         raise ValueError("two files have the same name")
     pieces = [piece for file, folder in zip(files, folders)
               for piece in missing_pieces(file, folder, size)]
-    print(f"{len(pieces)} pieces are missing", flush=True)
+    print(f"missing pieces: {len(pieces)}", flush=True)
     if pieces:
         futures = client.map(strip_part, *zip(*pieces), pure=False)
         progress(futures)
-        print(f"{sum(client.gather(futures))} bytes of text were written")
+        print(f"bytes of text: {sum(client.gather(futures))}")
     for folder in folders:
         remove_unfinished(folder)
 

@@ -130,11 +130,11 @@ def test_a_second_run_does_what_is_missing(cluster, tmp_path, file, capsys):
     (folder / ".unfinished").write_bytes(b"of a worker that has died")
     total = len(list(vte.parts(MANY, 500)))
     cluster.strip(*words)
-    assert capsys.readouterr().out.startswith(f"{total - len(before)} pieces are missing\n")
+    assert capsys.readouterr().out.startswith(f"missing pieces: {total - len(before)}\n")
     assert joined(folder) == text_of(MANY) and len(pieces_of(folder)) == total > len(before)
     assert before == {piece: piece.stat().st_mtime_ns for piece in before}
     cluster.strip(*words)
-    assert capsys.readouterr().out == "0 pieces are missing\n"
+    assert capsys.readouterr().out == "missing pieces: 0\n"
 
 
 @contextlib.contextmanager

@@ -15,6 +15,7 @@ import argparse
 import os
 import sys
 import uuid
+from concurrent.futures import CancelledError
 from contextlib import nullcontext, suppress
 
 import fsspec
@@ -114,6 +115,8 @@ def main(words=None):
             strip_files(client, given.files, given.out, given.size)
     except (OSError, EOFError, ImportError, ValueError, KilledWorker) as error:
         sys.exit(f"strip_on_dask: {error}")
+    except CancelledError:
+        sys.exit("strip_on_dask: the scheduler was lost")
 
 
 if __name__ == "__main__":

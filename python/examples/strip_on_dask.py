@@ -15,6 +15,7 @@ import argparse
 import os
 import sys
 import uuid
+from concurrent.futures import CancelledError
 from contextlib import nullcontext, suppress
 
 import fsspec
@@ -90,11 +91,11 @@ def strip_files(client, files, out, size):
         raise ValueError("two files have the same name")
     pieces = [piece for file, folder in zip(files, folders)
               for piece in missing_pieces(file, folder, size)]
-    print(f"{len(pieces)} pieces are missing", flush=True)
+    print(f"missing pieces: {len(pieces)}", flush=True)
     if pieces:
         futures = client.map(strip_part, *zip(*pieces), pure=False)
         progress(futures)
-        print(f"{sum(client.gather(futures))} bytes of text were written")
+        print(f"bytes of text: {sum(client.gather(futures))}")
     for folder in folders:
         remove_unfinished(folder)
 
@@ -114,6 +115,8 @@ def main(words=None):
             strip_files(client, given.files, given.out, given.size)
     except (OSError, EOFError, ImportError, ValueError, KilledWorker) as error:
         sys.exit(f"strip_on_dask: {error}")
+    except CancelledError:
+        sys.exit("strip_on_dask: the scheduler was lost")
 
 
 if __name__ == "__main__":

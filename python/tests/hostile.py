@@ -1,7 +1,10 @@
 """Streams that are hard to divide into parts, by name."""
+import json
 import random
 
-from test_vectors import FOLDER, vectors
+from common import EXAMPLES
+
+FOLDER = EXAMPLES.parent.parent / "vectors"
 
 LONG = b"long " * 300
 # what begins a sequence, what ends one, and text that an ESC may cut
@@ -20,6 +23,16 @@ def long_commands(end):
         b"a\x1b]52;c;", b"b\x1bP1$q", b"c\x1b_", b"d\x1b[1;"))
 
 
+def vectors(file):
+    return json.loads((FOLDER / file).read_text())["vectors"]
+
+
+def stream_of(row):
+    """All bytes of a test vector."""
+    steps = [step.get("bytes") or step.get("advance") or "" for step in row.get("steps", ())]
+    return bytes.fromhex("".join([*row.get("pieces", ()), row.get("before", ""), *steps]))
+
+
 STREAMS = {
     "random": random_stream(),
     "updates": b"".join(b"\x1b[?2026h%d\x1b[%dm\xc3\xbc\x1b[?2026l\r\n" % (it, it)
@@ -31,9 +44,5 @@ STREAMS = {
     "empty": b"",
 }
 if FOLDER.is_dir():
-    # those of an sdist are elsewhere
-    STREAMS["vectors"] = b"".join(
-        bytes.fromhex(piece)
-        for file, kind in [("events.json", "events"), ("calls.json", "text"),
-                           ("calls.json", "calls")]
-        for row in vectors(file, kind) for piece in row["pieces"])
+    # an sdist doesn't have them
+    STREAMS["vectors"] = b"".join(map(stream_of, vectors("events.json") + vectors("calls.json")))

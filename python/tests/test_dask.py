@@ -56,7 +56,8 @@ class Cluster:
     def started(self, *words):
         """The program as a process of its own."""
         command = [sys.executable, EXAMPLES / "strip_on_dask.py", "--scheduler", self.address]
-        return subprocess.Popen([*command, *words], stdout=subprocess.DEVNULL)
+        return subprocess.Popen([*command, *words], stdout=subprocess.DEVNULL,
+                                stderr=subprocess.PIPE, text=True)
 
     def end(self):
         for process in self.processes:
@@ -111,7 +112,8 @@ def test_a_worker_that_is_killed_costs_nothing(cluster, tmp_path, file):
     until(lambda: len(pieces_of(folder)) > 20)
     cluster.processes[1].kill()
     there = len(pieces_of(folder))
-    assert run.wait(timeout=60) == 0
+    said = run.communicate(timeout=60)[1]
+    assert run.returncode == 0, said
     assert 20 < there < len(pieces_of(folder))
     assert joined(folder) == text_of(MANY)
 
@@ -122,7 +124,7 @@ def test_a_second_run_does_what_is_missing(cluster, tmp_path, file, capsys):
     run = cluster.started(*words)
     until(lambda: len(pieces_of(folder)) > 20)
     run.kill()
-    run.wait()
+    run.communicate()
     # what a worker has begun it may end
     until(lambda: [count := len(pieces_of(folder)), time.sleep(0.5)]
           and count == len(pieces_of(folder)))
@@ -130,11 +132,11 @@ def test_a_second_run_does_what_is_missing(cluster, tmp_path, file, capsys):
     (folder / ".unfinished").write_bytes(b"of a worker that has died")
     total = len(list(vte.parts(MANY, 500)))
     cluster.strip(*words)
-    assert capsys.readouterr().out.startswith(f"{total - len(before)} pieces are missing\n")
+    assert capsys.readouterr().out.startswith(f"missing pieces: {total - len(before)}\n")
     assert joined(folder) == text_of(MANY) and len(pieces_of(folder)) == total > len(before)
     assert before == {piece: piece.stat().st_mtime_ns for piece in before}
     cluster.strip(*words)
-    assert capsys.readouterr().out == "0 pieces are missing\n"
+    assert capsys.readouterr().out == "missing pieces: 0\n"
 
 
 @contextlib.contextmanager
@@ -178,3 +180,13 @@ def test_what_can_not_be_read_or_written_is_named(cluster, tmp_path, file):
             cluster.strip(*words)
         assert ended.value.code == f"strip_on_dask: {wanted}"
     assert pieces_of(folder) == [folder / "other"]
+
+
+def test_a_lost_scheduler_is_named(cluster, tmp_path, file):
+    # the last of these tests, since the others need it
+    folder = tmp_path / "out" / "many"
+    run = cluster.started(file, "--out", tmp_path / "out", "--size", "100")
+    until(lambda: len(pieces_of(folder)) > 20)
+    cluster.processes[0].kill()
+    assert run.communicate(timeout=60)[1].endswith("strip_on_dask: the scheduler was lost\n")
+    assert run.returncode == 1

@@ -119,7 +119,9 @@ pub use adapter::parser::Parser;
 #[cfg(not(feature = "std"))]
 pub use proved::vte_core::Parser;
 pub use proved::vte_core::Parser as BoundedParser;
-pub use proved::vte_core::{parts, Open, Params, ParamsIter, Parts, Perform, PerformText, Run, Taken};
+pub use proved::vte_core::{
+    parts, Open, Params, ParamsIter, Parts, Perform, PerformText, Run, Taken,
+};
 #[cfg(any(feature = "std", feature = "ansi"))]
 pub use proved::vte_core::{LongParser, Refused};
 #[cfg(feature = "__own")]

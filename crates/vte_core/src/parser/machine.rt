@@ -9,8 +9,8 @@ use crate::head::Collected;
 use crate::parser::{Open, State, Unfinished};
 use crate::store::Store;
 
-/// A parser without its reader, over any buffer for operating system commands. The state
-/// functions are its methods.
+/// A parser without the count of its looks, over any buffer for operating system commands. The
+/// state functions are its methods.
 #[derive(Drop)]
 pub(crate) struct Machine<B: Buffer> {
     pub(crate) state: State,

@@ -30,5 +30,5 @@ for name in "install_layout", "prefix_option":
 # not in an sdist
 if CRATE.is_dir():
     for name in "LICENSE-APACHE", "LICENSE-MIT", "NOTICE":
-        shutil.copy(CRATE / name, HERE)
+        shutil.copy(HERE.parent / name, HERE)
 setup(cmdclass={"sdist": WithCrate})

@@ -476,27 +476,40 @@ def test_functions_that_may_panic(function, is_known):
     assert (status, told) == ((0, []) if is_known else (1, [function] * 3))
 
 
-VERSIONS = {"rust/vte/Cargo.toml": "0.15.0+naqshuve.1.2.3", "rust/vtlog/Cargo.toml": "0.15.0",
-            "rust/vte_c/Cargo.toml": "0.15.0", "python/pyproject.toml": "0.15.0"}
+MANIFESTS = ("rust/vtlog/Cargo.toml", "rust/vte_c/Cargo.toml", "python/pyproject.toml",
+             "python/Cargo.toml")
+# what else of a release of version 1.2.3 names it, or the version of the C interface
+RELEASE = {
+    "rust/vte/Cargo.toml": 'version = "0.15.0+naqshuve.1.2.3"',
+    "crates/vte_c/include/vte.h": "#define VTE_VERSION 7", "docs/C.md": "libvte_c = 7",
+    "crates/vtlog/src/main.rt": r'"vtlog 1.2.3\n"', "docs/vtlog.1": '"Naqshuve 1.2.3"',
+    "vectors/events.json": "of Naqshuve 1.2.3 for", "vectors/calls.json": "of Naqshuve 1.2.3 for",
+    **{place: 'version = "1.2.3"' for place in MANIFESTS},
+    "rust/vte/CHANGELOG.md": "## 1.2.3, unreleased\n## 1.2.2, 2026-01-01",
+    "CHANGELOG.md": "## Versions\n| 1.2.3 | the crate\n| 0.15.0+naqshuve.1.2.3 | the same\n"
+                    "`VTE_VERSION`, 7 |\n## 1.2.3, unreleased\n## 1.2.2, 2026-01-01"}
 
 
 # what stands in a file instead, and what is told
-@pytest.mark.parametrize("place, text, told", [
-    ("x", "", None), *((it, 'version = "0.15.1"', f"{it} has another") for it in [*VERSIONS][1:]),
-    *((it, text, f"{it} begins with {text[3:]}") for it in ("CHANGELOG.md", "rust/vte/CHANGELOG.md")
-      for text in ("## 1.2.4, unreleased", "## 1.2.3, soon")),
-    ("CHANGELOG.md", "## 1.2.3, 2026-01-02", None)])
-def test_versions_of_a_release(place, text, told):
-    for name, version in VERSIONS.items():
-        write(name, f'[package]\nversion = "{version}"\n')
-    for name in "CHANGELOG.md", "rust/vte/CHANGELOG.md":
-        write(name, "# Changes\n\n## 1.2.3, unreleased\n\n## 1.2.2, 2026-01-01\n")
-    write(place, f"{text}\n")
-    packed = 'mkdir -p "$CARGO_TARGET_DIR/package"; cd "$CARGO_TARGET_DIR/package"; ' \
-        'for it in naqshuve-vte-1.2.3 vte-0.15.0+naqshuve.1.2.3; do tar -cf $it.crate .; done'
-    status, lines = run_here("release", "--check", cargo=packed, git="tar -cC rust/vte Cargo.toml")
-    wanted = [f"versions: {told}"] * bool(told)
-    assert (status, lines) == (len(wanted), [*wanted, f"{len(wanted)} faults"])
+@pytest.mark.parametrize("place, old, new, told", [
+    ("CHANGELOG.md", "unreleased", "2026-01-02", None),
+    *((it, "1.2.3", "1.2.4", f"{it} has 1.2.4") for it in MANIFESTS),
+    *((it, old, new, f"{it} begins with {shown}") for it in ("CHANGELOG.md", "rust/vte/CHANGELOG.md")
+      for old, new, shown in (("## 1.2.3", "## 1.2.4", "1.2.4, unreleased"),
+                              ("unreleased", "soon", "1.2.3, soon"))),
+    *((it, old, "1.2.4", f'{it} has no "{RELEASE[it]}"') for it, old in (
+        ("crates/vtlog/src/main.rt", "1.2.3"), ("docs/vtlog.1", "1.2.3"), ("docs/C.md", "7"),
+        ("vectors/events.json", "1.2.3"), ("vectors/calls.json", "1.2.3"))),
+    ("CHANGELOG.md", "| 1.2.3", "| 1.2.4", 'CHANGELOG.md has no "| 1.2.3 | the crate"'),
+    ("CHANGELOG.md", "+naqshuve", "", 'CHANGELOG.md has no "| 0.15.0+naqshuve.1.2.3 | the same"'),
+    ("CHANGELOG.md", ", 7", ", 6", 'CHANGELOG.md has no "`VTE_VERSION`, 7 |"')])
+def test_versions_of_a_release(place, old, new, told):
+    for name, text in RELEASE.items():
+        write(name, (text.replace(old, new) if name == place else text) + "\n")
+    # with all versions right, the release would be made
+    status, lines = run_here("release", "--check", git="exit 1")
+    wanted = f"versions: {told}" if told else "release: it was not made"
+    assert (status, lines) == (1, [wanted, "1 faults"])
 
 
 # ---- test

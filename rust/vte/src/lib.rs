@@ -86,6 +86,21 @@
 //! the program to say. Then `execute` is called with CAN, which wasn't in the stream. A processor
 //! may also hold bytes back: call `stop_sync` at the end.
 //!
+//! # Beyond `vte`
+//!
+//! These items aren't in `vte` 0.15, and a minor version of ours may change them (`CHANGELOG.md`).
+//! All others have the names, signatures and behaviour of `vte`.
+//!
+//! - Text in runs: [`PerformText`], [`Parser::advance_text`], `ansi::HandlerText`; runs of your own
+//!   input: [`Parser::advance_to_run`], [`Run`], [`Taken`]
+//! - Streams that aren't trusted: [`BoundedParser`], `ansi::BoundedProcessor`,
+//!   [`Parser::command_lost_data`]
+//! - Refused memory: `LongParser`, `Refused`, `ansi::lent::LongProcessor`, `ansi::NoMemory`; memory
+//!   given back: `shrink`
+//! - What is unfinished: [`Parser::open`], [`Open`], [`Parser::is_open`]
+//! - A stream in parts, for threads: [`parts()`], [`Parts`]
+//! - Texts that aren't copied: `ansi::lent`
+//!
 //! # Performers that panic
 //!
 //! A parser whose [`Perform`] panics is safe to use and to drop, but it is unknown how many bytes

@@ -494,7 +494,8 @@ RELEASE = {
 @pytest.mark.parametrize("place, old, new, told", [
     ("CHANGELOG.md", "unreleased", "2026-01-02", None),
     *((it, "1.2.3", "1.2.4", f"{it} has 1.2.4") for it in MANIFESTS),
-    *((it, old, new, f"{it} begins with {shown}") for it in ("CHANGELOG.md", "rust/vte/CHANGELOG.md")
+    *((it, old, new, f"{it} begins with {shown}")
+      for it in ("CHANGELOG.md", "rust/vte/CHANGELOG.md")
       for old, new, shown in (("## 1.2.3", "## 1.2.4", "1.2.4, unreleased"),
                               ("unreleased", "soon", "1.2.3, soon"))),
     *((it, old, "1.2.4", f'{it} has no "{RELEASE[it]}"') for it, old in (

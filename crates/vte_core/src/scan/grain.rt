@@ -54,14 +54,12 @@ pub(crate) trait PerformAs<G: Grain>: Perform {
 
     /// Receives characters to print, at least one.
     fn print_text(&mut self, text: &str)
-        requires in_runs { G.IN_RUNS ≡ true }
-        requires run { IsNonEmptyRun layout text.now }
+        requires { IsNonEmptyRun layout text.now }
         ensures { Self.value_of self.new
             ≡ after Self.step (Self.value_of self.old) (map (run_event layout) (chars text.now)) };
 
     /// Receives data of a device control string, at least one byte.
     fn put_slice(&mut self, bytes: &[u8])
-        requires in_runs { G.IN_RUNS ≡ true }
         requires some { 0 < length bytes.now }
         ensures { Self.value_of self.new
             ≡ after Self.step (Self.value_of self.old) (map Put bytes.now) };
@@ -90,14 +88,18 @@ impl<P: Perform> PerformAs<Singly> for P {
         Perform::put(self, byte);
     }
 
-    // Never: only performers that take runs are told texts.
-    fn print_text(&mut self, _text: &str) {
-        unreachable!()
+    // Never called: a `CountedPerform` is told texts only if it takes runs (`in_runs`).
+    fn print_text(&mut self, text: &str) {
+        for c in text.chars() {
+            Perform::print(self, c);
+        }
     }
 
-    // Never: only performers that take runs are told slices.
-    fn put_slice(&mut self, _bytes: &[u8]) {
-        unreachable!()
+    // Never called, for the same reason.
+    fn put_slice(&mut self, bytes: &[u8]) {
+        for byte in bytes {
+            Perform::put(self, *byte);
+        }
     }
 }
 

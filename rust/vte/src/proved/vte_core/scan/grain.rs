@@ -66,14 +66,18 @@ impl<P: Perform + ?Sized> PerformAs<Singly> for P {
         Perform::put(self, byte);
     }
 
-    // Never: only performers that take runs are told texts.
-    fn print_text(&mut self, _text: &str) {
-        unreachable!()
+    // Never called: a `CountedPerform` is told texts only if it takes runs (`in_runs`).
+    fn print_text(&mut self, text: &str) {
+        for c in text.chars() {
+            Perform::print(self, c);
+        }
     }
 
-    // Never: only performers that take runs are told slices.
-    fn put_slice(&mut self, _bytes: &[u8]) {
-        unreachable!()
+    // Never called, for the same reason.
+    fn put_slice(&mut self, bytes: &[u8]) {
+        for byte in bytes {
+            Perform::put(self, *byte);
+        }
     }
 }
 

@@ -22,7 +22,8 @@ PARSER = [
     ("to text", "of_parsers.rs", WHOLE + b"a"),
     ("to data", "of_parsers.rs", WHOLE + b"\x1bPqab"),
     ("to nothing", "no run", WHOLE + b"\x1bc"),
-    ("closed", "both parsers", WHOLE + b"\x1b[")]
+    ("closed", "both parsers", WHOLE + b"\x1b["),
+    ("open as another", "both parsers", WHOLE + b"\x1b[")]
 PROCESSOR = [
     ("in pieces", "in pieces", SINGLE + b"ab~"),
     ("in runs", "in runs", SINGLE + b"a~"),

@@ -2,7 +2,7 @@
 
 use std::convert::identity;
 
-use real::{Perform, PerformText, Refused, Run, Taken};
+use real::{Open, Perform, PerformText, Refused, Run, Taken};
 
 use crate::{has, read_by};
 
@@ -70,12 +70,16 @@ macro_rules! parser {
                 Self::default()
             }
 
-            pub fn advance<P: Perform>(&mut self, performer: &mut P, bytes: &[u8]) -> $outcome<()> {
+            pub fn advance<P: Perform + ?Sized>(
+                &mut self,
+                performer: &mut P,
+                bytes: &[u8],
+            ) -> $outcome<()> {
                 let bytes = read_by(has($of, "whole"), self.cut.read($of, bytes));
                 $made(self.real.advance(performer, &bytes)$(.$granted())?)
             }
 
-            pub fn advance_text<P: PerformText>(
+            pub fn advance_text<P: PerformText + ?Sized>(
                 &mut self,
                 performer: &mut P,
                 bytes: &[u8],
@@ -86,7 +90,7 @@ macro_rules! parser {
                 $made(self.real.advance_text(performer, &bytes)$(.$granted())?)
             }
 
-            pub fn advance_until_terminated<P: Perform>(
+            pub fn advance_until_terminated<P: Perform + ?Sized>(
                 &mut self,
                 performer: &mut P,
                 bytes: &[u8],
@@ -100,7 +104,7 @@ macro_rules! parser {
                 $made((read + usize::from(is_late)).min(bytes.len().max(read)))
             }
 
-            pub fn advance_to_run<'a, P: Perform>(
+            pub fn advance_to_run<'a, P: Perform + ?Sized>(
                 &mut self,
                 performer: &mut P,
                 bytes: &'a [u8],
@@ -108,9 +112,17 @@ macro_rules! parser {
                 $made(run_of($of, self.real.advance_to_run(performer, bytes)$(.$granted())?))
             }
 
-            pub fn is_open(&self) -> bool {
+            pub fn open(&self) -> Open {
                 let is_cut = has($of, "closed by a cut") && self.cut.is_second;
-                self.real.is_open() && !is_cut && !has($of, "closed")
+                match self.real.open() {
+                    _ if is_cut || has($of, "closed") => Open::Nothing,
+                    Open::ControlSequence if has($of, "open as another") => Open::EscapeSequence,
+                    open => open,
+                }
+            }
+
+            pub fn is_open(&self) -> bool {
+                self.open() != Open::Nothing
             }
         }
     };
@@ -129,3 +141,9 @@ parser!(
     Ok,
     unwrap
 );
+
+impl Parser {
+    pub fn new() -> Self {
+        Self::default()
+    }
+}

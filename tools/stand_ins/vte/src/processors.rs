@@ -1,6 +1,6 @@
 //! Both processors.
 
-use real::ansi::{lent, Handler, HandlerText, Timeout};
+use real::ansi::{lent, Handler, HandlerText, NoMemory, Timeout};
 use real::Refused;
 
 use crate::{has, read_by};
@@ -36,13 +36,17 @@ macro_rules! processor {
         }
 
         impl<T: Timeout> $name<T> {
-            pub fn advance<H: $handler>(&mut self, handler: &mut H, bytes: &[u8]) -> $outcome {
+            pub fn advance<H: $handler + ?Sized>(
+                &mut self,
+                handler: &mut H,
+                bytes: &[u8],
+            ) -> $outcome {
                 let held = self.real.sync_bytes_count();
                 let is_different = self.turns.is_different($of, held, false);
                 self.real.advance(handler, &read_by(is_different, bytes))
             }
 
-            pub fn advance_text<H: HandlerText + $handler>(
+            pub fn advance_text<H: HandlerText + $handler + ?Sized>(
                 &mut self,
                 handler: &mut H,
                 bytes: &[u8],
@@ -53,7 +57,7 @@ macro_rules! processor {
                     .advance_text(handler, &read_by(is_different, bytes))
             }
 
-            pub fn stop_sync<H: $handler>(&mut self, handler: &mut H) {
+            pub fn stop_sync<H: $handler + ?Sized>(&mut self, handler: &mut H) {
                 let is_expired = !self.real.sync_timeout().pending_timeout();
                 let is_lost = has($of, "at a stop") || has($of, "expired") && is_expired;
                 self.turns.is_after_stop |= self.real.sync_bytes_count() > 0;
@@ -62,7 +66,7 @@ macro_rules! processor {
                 }
             }
 
-            pub fn stop_sync_text<H: HandlerText + $handler>(&mut self, handler: &mut H) {
+            pub fn stop_sync_text<H: HandlerText + $handler + ?Sized>(&mut self, handler: &mut H) {
                 if self.real.sync_bytes_count() == 0 || !has($of, "at a stop in runs") {
                     self.real.stop_sync_text(handler);
                 }
@@ -107,7 +111,7 @@ impl<T: Timeout + Default> Default for Processor<T> {
 }
 
 impl<T: Timeout> LongProcessor<T> {
-    pub fn new(timeout: T) -> Result<Self, T> {
+    pub fn new(timeout: T) -> Result<Self, NoMemory<T>> {
         let real = lent::LongProcessor::new(timeout)?;
         Ok(LongProcessor {
             real,

@@ -48,6 +48,11 @@ class Tool:
     ("crates/vte_core/src/scan.rt", "fn text() {} fn g() { unsafe { h() } }", "1 g", "1 text"),
     ("crates/vte_core/src/scan.rt", "fn text() { unsafe { unsafe } }", "2 text", "1 text"),
     ("crates/vte_core/src/scan.rt", "", "0", "1 text"),
+    # a call of `text` says why it is right, so `text` isn't safe to call
+    ("rust/vte/src/proved/vte_core/scan.rs", "fn text() { unsafe {} } unsafe fn take_run() { "
+     "unsafe { text() } }", "3 text take_run", "4 text take_run"),
+    ("rust/vte/src/proved/vte_core/scan/calls.rs", "fn advance_to_run() { take_run(bytes, range) }",
+     "0", "1 advance_to_run"),
     ("a.rs", "unsafe #[unsafe(no_mangle)]\npub extern \"C\" fn f() {} unsafe impl T for U {} "
      "pub unsafe extern \"C\" fn g(h: unsafe fn()) { unsafe {} } macro_rules! m { unsafe }",
      "7 - f T g m", "0"),
@@ -255,6 +260,12 @@ def differences(source, written, place="c/mod.rs", **given):
      "fn f() { two(); g(reader, a, up_to(input, b)); }", []),
     ("fn f() { let (mut reader, input) = chunk.open(); self.looks.add(reader); g(); }",
      "fn f() { let reader = Reader {}; g(); }", []),
+    ("fn f() { g(text(a, b.c)); take_run(a); }",
+     "fn f() { g(unsafe { text(a, b.c) }); unsafe { take_run(a) }; }", []),
+    ("fn f() { text(a); }", "fn f() { unsafe { text(b) }; }", ["fn f: { text ( b ) ; }", "fn f"]),
+    *(("fn f() { g(a); }", f"fn f() {{ unsafe {{ {made} }} }}", [f"fn f: {{ unsafe {{ {made} }} }}",
+                                                                 "fn f"])
+      for made in ("g ( a ) ;", "text ( a ) ; g ( a ) ;", "h ( text ( a ) )")),
     ("fn f() { match a { A => b(1), _ => c } }",
      "fn f() { match a { A => { b(1) } _ => c, } }", []),
     ("fn f() { input.up_to(a); }", "fn f() { up_to(input, b); }",

@@ -108,7 +108,8 @@
 //! a new one.
 #![cfg_attr(not(feature = "std"), no_std)]
 #![cfg_attr(docsrs, feature(doc_cfg))]
-#![deny(unsafe_code, unconditional_recursion)]
+#![deny(unsafe_code, unsafe_op_in_unsafe_fn, unconditional_recursion)]
+#![deny(clippy::undocumented_unsafe_blocks)]
 #![warn(missing_debug_implementations, missing_docs)]
 // the first example is a whole program, which compiles where it is pasted
 #![allow(clippy::needless_doctest_main)]

@@ -6,26 +6,44 @@ WITH_MEMORY = 'any(feature = "std", feature = "ansi")'
 OWN = 'feature = "__own"'
 OWN_OR_ANSI = f'any({OWN}, feature = "ansi")'
 
+UNSAFE = "#[allow(unsafe_code)]"
 # Why `unsafe` is right, said where it stands; tests run with the assertions.
 OF_TEXT = """\
-// SAFETY: `to` is where a search found the end of a run that begins at `from`. Searches pass
-// one whole character at a time: a byte of ASCII, or a lead byte with all its continuation
-// bytes, the first of which `may_begin_three` and `may_begin_four` test. The automaton, which
-// passes blocks, goes back to where no character is open.
 debug_assert!(str::from_utf8(bytes).is_ok());
+// SAFETY: this is what the caller promises.
 """
 OF_THREE = """\
+debug_assert!(may_begin_three(first, second) && is_continuation(third));
 // SAFETY: the remainders leave at most FFFF. Callers have tested `may_begin_three`, by which the
 // number is no surrogate's, D800 to DFFF.
-debug_assert!(may_begin_three(first, second) && is_continuation(third));
 """
 OF_FOUR = """\
-// SAFETY: callers have tested `may_begin_four`, by which the front of the number is 10000 to
-// 10F000, and the remainders leave at most FFF for its rest.
 debug_assert!(may_begin_four(first, second));
 debug_assert!(is_continuation(third) && is_continuation(fourth));
+// SAFETY: callers have tested `may_begin_four`, by which the front of the number is 10000 to
+// 10F000, and the remainders leave at most FFF for its rest.
 """
 
+# Calls of `text` and `take_run`, whose contracts rustc doesn't know: what stands before a call, and
+# why it is right.
+TELL = ("reader.tell_text(performer, input, $$p);",
+        # inlined by rustc before LLVM sees its caller, it would move a branch of the loop over text
+        "performer.print_text(reader, unsafe { text(input, $p) });")
+TAKE = ("take_run(bytes, range)", "unsafe { take_run(bytes, range) }")
+TAKE_OK = tuple(f"Ok({call})" for call in TAKE)
+FOUND = "`drive_to_run` found the range in these bytes"
+PROMISED = [
+    (f"{before} {call}", f"{before.replace('$$', '$')}\n// SAFETY: {reason}.\n{made}")
+    for before, (call, made), reason in (
+        ("let end = reader.find_ascii_run_end($$a);", TELL,
+         "ASCII stands at `from`, and the search passes whole characters"),
+        ("if end > from {", TELL,
+         "the search has passed the character at `from`, and passes whole characters"),
+        ("let end = reader.find_run_end_for($$a);", TELL,
+         "the character at `from` is whole, and the search passes whole characters"),
+        ("let range = self.drive_to_run($$a);", TAKE, FOUND),
+        ("let range = self.drive_to_run($$a)?;", TAKE_OK, FOUND),
+    )]
 
 # A `Reader` counts looks for contracts alone, and has no bytes at run time. So it is passed by
 # value, which takes no argument, and a parser keeps no count. A `Chunk` and an `Input` are a slice,
@@ -38,9 +56,10 @@ COUNTS = [
     ("Input<'_>", "&[u8]"), ("chunk: Chunk<'_>,", "input: &[u8],"), ("Chunk::new($x)", "$x"),
     ("let (mut reader, input) = chunk.open();", "let reader = Reader {};"),
     ("let result = $$e; self.looks.add(reader); result", "$e"), ("self.looks.add(reader);", ""),
-    # inlined by rustc before LLVM sees its caller, it would move a branch of the loop over text
-    ("reader.tell_text(performer, input, $$p)", "performer.print_text(reader, text(input, $p))"),
-    ("input.up_to(", "up_to(input, "),
+    ("input.up_to(", "up_to(input, "), *PROMISED,
+    ("RunKind::OfText => Taken::Text(text($$a))",
+     "// SAFETY: this is what the caller promises.\n"
+     "RunKind::OfText => Taken::Text(unsafe { text($a) })"),
 ]
 
 
@@ -97,7 +116,7 @@ VTE_CORE = dict(
             ("let before = $$a; self.trail = $$b;", "let _ = count;"),
             ("impl<'a> Input<'a> { $$$f }", functions_of_input),
             ("Input { bytes: $$x, }", "$x"), ("input.bytes", "input"),
-            ("fn text(", "pub(crate) fn text("),
+            ("fn text(", "pub(crate) unsafe fn text("), ("fn take_run(", "unsafe fn take_run("),
             ("input[from..].first_chunk::<N>()", "first_chunk::<N>(&input[from..])"),
             ("unsafe {", f"{OF_TEXT}unsafe {{")],
         "vte_core/scan/search": [("input.bytes", "input")],
@@ -135,6 +154,7 @@ VTE_CORE = dict(
             f"#[cfg({OWN_OR_ANSI})]": ["pub(crate) fn advance_text_until_terminated"],
             '#[must_use = "the bytes after the run are still to be read"]': [
                 "pub fn advance_to_run"],
+            UNSAFE: ["pub fn advance_to_run"],
         },
         "vte_core/params": {
             '#[doc = include_str!("../../docs/params.md")]': ["pub struct Params {"],
@@ -157,13 +177,15 @@ VTE_CORE = dict(
             '#[doc = include_str!("../../docs/perform.md")]': ["pub trait Perform {"],
             '#[doc = include_str!("../../docs/perform_text.md")]': ["pub trait PerformText: "]},
         "vte_core/scan": {
-            "#[allow(unsafe_code)]": ["pub(crate) fn text"],
+            UNSAFE: ["pub(crate) unsafe fn text", "unsafe fn take_run"],
             "#[derive(Clone, Copy)]": ["pub(crate) struct Reader"]},
-        "vte_core/utf8": {"#[allow(unsafe_code)]": [
+        "vte_core/utf8": {UNSAFE: [
             "pub(crate) fn character_of_three", "pub(crate) fn character_of_four"]},
+        "vte_core/parser/character": {UNSAFE: ["pub(crate) fn complete_four"]},
         # the loops over bytes: rustc compiles modules apart, and so would keep them from the
         # performer that they call. The search would make the loop over bytes longer
-        "vte_core/parser/text": {INLINE: ["pub(crate) fn read_text"]},
+        "vte_core/parser/text": {
+            INLINE: ["pub(crate) fn read_text"], UNSAFE: ["fn print_ascii", "fn read_at_lead"]},
         "vte_core/scan/search": {"#[inline(never)]": ["pub(crate) fn search_text"]},
         # as a part of a program's own function, its loops would keep their places on the stack
         "vte_core/parser/drive": {"#[inline(never)]": ["pub(crate) fn drive<"]},
@@ -176,6 +198,7 @@ VTE_CORE = dict(
             f"#[cfg({OWN_OR_ANSI})]": ["pub(crate) fn stored"],
         },
         "vte_core/scan/long_calls": {
+            UNSAFE: ["pub fn advance_to_run"],
             f"#[cfg({OWN_OR_ANSI})]": ["pub(crate) fn advance_text_until_terminated"]},
     },
     default_bodies={"vte_core/perform": "pub trait Perform {"},

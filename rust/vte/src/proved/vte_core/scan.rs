@@ -33,16 +33,21 @@ pub(crate) fn up_to(input: &[u8], to: usize) -> &[u8] {
     &input[..to]
 }
 
-/// Returns the text from one position to another, which is whole characters.
+/// Returns the text from one position to another.
+///
+/// # Safety
+///
+/// The bytes between them must be whole characters. They are if a search for the end of a run,
+/// begun at `from` or after whole characters that stand there, ended at `to`: it passes one
+/// whole character at a time, a byte of ASCII, or a lead byte with all its continuation bytes,
+/// the first of which `may_begin_three` and `may_begin_four` test. The automaton, which passes
+/// blocks, goes back to where no character is open.
 #[inline(always)]
 #[allow(unsafe_code)]
-pub(crate) fn text(bytes: &[u8], from: usize, to: usize) -> &str {
+pub(crate) unsafe fn text(bytes: &[u8], from: usize, to: usize) -> &str {
     let bytes = &bytes[from..to];
-    // SAFETY: `to` is where a search found the end of a run that begins at `from`. Searches pass
-    // one whole character at a time: a byte of ASCII, or a lead byte with all its continuation
-    // bytes, the first of which `may_begin_three` and `may_begin_four` test. The automaton, which
-    // passes blocks, goes back to where no character is open.
     debug_assert!(str::from_utf8(bytes).is_ok());
+    // SAFETY: this is what the caller promises.
     unsafe { str::from_utf8_unchecked(bytes) }
 }
 
@@ -53,9 +58,15 @@ fn data(bytes: &[u8], from: usize, to: usize) -> &[u8] {
 }
 
 /// Returns the run that stands at a position, whose bytes were looked at.
-fn take_run(bytes: &[u8], range: RunRange) -> Run<'_> {
+///
+/// # Safety
+///
+/// The bytes of a run of text must be whole characters, as [`text`] says.
+#[allow(unsafe_code)]
+unsafe fn take_run(bytes: &[u8], range: RunRange) -> Run<'_> {
     let taken = match range.kind {
-        RunKind::OfText => Taken::Text(text(bytes, range.start, range.end)),
+        // SAFETY: this is what the caller promises.
+        RunKind::OfText => Taken::Text(unsafe { text(bytes, range.start, range.end) }),
         RunKind::OfData => Taken::Data(data(bytes, range.start, range.end)),
         RunKind::Empty => Taken::Nothing,
     };

@@ -133,9 +133,9 @@ pub(crate) fn character_of_two(first: u8, second: u8) -> char {
 #[inline(always)]
 #[allow(unsafe_code)]
 pub(crate) fn character_of_three(first: u8, second: u8, third: u8) -> char {
+    debug_assert!(may_begin_three(first, second) && is_continuation(third));
     // SAFETY: the remainders leave at most FFFF. Callers have tested `may_begin_three`, by which the
     // number is no surrogate's, D800 to DFFF.
-    debug_assert!(may_begin_three(first, second) && is_continuation(third));
     unsafe { char::from_u32_unchecked(number_of_three(first, second, third)) }
 }
 
@@ -143,9 +143,9 @@ pub(crate) fn character_of_three(first: u8, second: u8, third: u8) -> char {
 #[inline(always)]
 #[allow(unsafe_code)]
 pub(crate) fn character_of_four(first: u8, second: u8, third: u8, fourth: u8) -> char {
-    // SAFETY: callers have tested `may_begin_four`, by which the front of the number is 10000 to
-    // 10F000, and the remainders leave at most FFF for its rest.
     debug_assert!(may_begin_four(first, second));
     debug_assert!(is_continuation(third) && is_continuation(fourth));
+    // SAFETY: callers have tested `may_begin_four`, by which the front of the number is 10000 to
+    // 10F000, and the remainders leave at most FFF for its rest.
     unsafe { char::from_u32_unchecked(number_of_four(first, second, third, fourth)) }
 }

@@ -74,6 +74,7 @@ impl<B: Buffer> Machine<B> {
     /// Reads the character of four bytes that begins at a position, whose first two were looked at.
     /// If text is taken in runs, it begins one.
     #[inline(always)]
+    #[allow(unsafe_code)]
     pub(crate) fn complete_four<P: CountedPerform<G> + ?Sized, G: Grain, const MAY_STOP: bool>(
         &mut self,
         reader: Reader,
@@ -109,7 +110,8 @@ impl<B: Buffer> Machine<B> {
         }
         if G::IN_RUNS {
             let end = reader.find_run_end_for(performer, input, next + 3);
-            performer.print_text(reader, text(input, from, end));
+            // SAFETY: the character at `from` is whole, and the search passes whole characters.
+            performer.print_text(reader, unsafe { text(input, from, end) });
             return end;
         }
         reader.tell_character(performer, character_of_four(first, second, third, fourth));

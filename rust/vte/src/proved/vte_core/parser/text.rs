@@ -21,6 +21,7 @@ struct AsciiRun {
 /// Prints the run of ASCII that stands at a position, whose first byte was looked at. If it is
 /// short, that is the first byte alone.
 #[inline(always)]
+#[allow(unsafe_code)]
 fn print_ascii<P: CountedPerform<G> + ?Sized, G: Grain>(
     reader: Reader,
     performer: &mut P,
@@ -31,7 +32,8 @@ fn print_ascii<P: CountedPerform<G> + ?Sized, G: Grain>(
     let next = reader.get(input, from + 1);
     if reader.begins_ascii_run(input, from, next) {
         let end = reader.find_ascii_run_end(performer, input, from);
-        performer.print_text(reader, text(input, from, end));
+        // SAFETY: ASCII stands at `from`, and the search passes whole characters.
+        performer.print_text(reader, unsafe { text(input, from, end) });
         return AsciiRun { end, next: None };
     }
     performer.print_char(reader, char::from(first));
@@ -124,6 +126,7 @@ impl<B: Buffer> Machine<B> {
     /// Reads what begins with a lead byte, which was looked at, for a performer that takes runs: a
     /// run, a character or a malformed sequence.
     #[inline(always)]
+    #[allow(unsafe_code)]
     fn read_at_lead<P: CountedPerform<G> + ?Sized, G: Grain, const MAY_STOP: bool>(
         &mut self,
         reader: Reader,
@@ -134,7 +137,8 @@ impl<B: Buffer> Machine<B> {
     ) -> usize {
         let end = reader.find_run_end_at_lead(performer, input, from, first);
         if end > from {
-            performer.print_text(reader, text(input, from, end));
+            // SAFETY: the search has passed the character at `from`, and passes whole characters.
+            performer.print_text(reader, unsafe { text(input, from, end) });
             return end;
         }
         self.read_character::<P, G, MAY_STOP>(reader, performer, input, from, first)

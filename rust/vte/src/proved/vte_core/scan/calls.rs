@@ -64,12 +64,14 @@ impl<const OSC_RAW_BUF_SIZE: usize> Parser<OSC_RAW_BUF_SIZE> {
     /// Without a run the call ends with the bytes, or if the performer is terminated, which is
     /// asked as by [`advance_until_terminated`](Self::advance_until_terminated).
     #[must_use = "the bytes after the run are still to be read"]
+    #[allow(unsafe_code)]
     pub fn advance_to_run<'a, P: Perform + ?Sized>(
         &mut self,
         performer: &mut P,
         bytes: &'a [u8],
     ) -> Run<'a> {
         let range = self.drive_to_run(performer, bytes);
-        take_run(bytes, range)
+        // SAFETY: `drive_to_run` found the range in these bytes.
+        unsafe { take_run(bytes, range) }
     }
 }

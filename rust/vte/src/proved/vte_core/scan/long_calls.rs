@@ -58,12 +58,14 @@ impl LongParser {
     /// Reads bytes up to a run of text, or of data of a device control string, and the run itself,
     /// which it returns instead of performing it, as
     /// [`Parser::advance_to_run`](crate::Parser::advance_to_run) does.
+    #[allow(unsafe_code)]
     pub fn advance_to_run<'a, P: Perform + ?Sized>(
         &mut self,
         performer: &mut P,
         bytes: &'a [u8],
     ) -> Result<Run<'a>, Refused> {
         let range = self.drive_to_run(performer, bytes)?;
-        Ok(take_run(bytes, range))
+        // SAFETY: `drive_to_run` found the range in these bytes.
+        Ok(unsafe { take_run(bytes, range) })
     }
 }

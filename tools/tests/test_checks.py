@@ -86,6 +86,10 @@ def test_files_that_are_not_trusted(place, text, told):
     ("scan/long_calls.rt", "Ok(take_run(bytes, range))", ""),
     ("scan/calls.rt", "for byte in bytes {}", "the bytes of a call are used"),
     ("scan/long_calls.rt", "f(bytes); Chunk::new(bytes)", "the bytes of a call are used"),
+    ("scan/calls.rt", "let (reader, input) = Chunk::new(bytes).open();",
+     "the bytes of a call are used"),
+    ("scan/calls.rt", "let run = take_run(bytes, range);", "the bytes of a call are used"),
+    ("scan/calls.rt", "    pub fn advance(&mut self, data: &[u8])", "the bytes of a call are used"),
 ])
 def test_reading_uncounted(place, line, told):
     place = f"crates/vte_core/src/{place}"

@@ -24,9 +24,8 @@ pub record HasTaken (session : Session) (steps : List Step) : Type 0 where
       session.page.0.rung state
 
 -- The bell has rung, or not, by the calls of a beginning of the given bytes. The others are held.
-pub record RangBy (given : List ℕ) (rung : Bool) : Type 0 where
+pub record RangBy (given held : List ℕ) (rung : Bool) : Type 0 where
   pub parsed : List ℕ
-  pub held : List ℕ
   pub stops : List ℕ
   pub each_once : given ≡ parsed ++ held
   pub in_order : AreInOrder 0 stops (length parsed)

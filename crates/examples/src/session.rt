@@ -3,6 +3,7 @@
 ghost use Rattle.examples.specs.Session.{HasTaken, RangBy};
 ghost use Rattle.std.specs.Prelude.{List, [], ◌++◌, ◌∷◌, IfOk};
 ghost use Rattle.vte.specs.Processor.{given_bytes};
+ghost use Rattle.vte.specs.ProcessorCalls.{held_in};
 ghost use Rattle.vte.specs.declared.ansi.laws.replays.Step.{Step};
 ghost use Rattle.vte.specs.declared.ansi.laws.replays.Step.TheVariants.{Advance, StopSync};
 
@@ -58,7 +59,7 @@ impl Session {
     /// Whether the terminal was to ring.
     pub fn has_rung(&self) -> bool
         ensures { (steps : List Step) → HasTaken self.now steps
-            → RangBy (given_bytes steps) result }
+            → RangBy (given_bytes steps) (held_in self.now.processor) result }
     {
         laws::calls_are_told::<ByCall<Page>, UntilEnded>();
         self.page.0.rung

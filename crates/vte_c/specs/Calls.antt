@@ -1,5 +1,5 @@
 -- What the calls of the library ensure.
-use Rattle.std.specs.Prelude.{◌≡◌, ◌<◌, ◌≤◌, ℕ, false, List, ◌++◌, length, drop, take}
+use Rattle.std.specs.Prelude.{◌≡◌, ◌<◌, ◌≤◌, ◌+◌, ℕ, false, List, ◌++◌, length, drop, take}
 use Rattle.vte_core.specs.Event.{Event}
 use Rattle.vte_core.specs.Saved.{HasReadSaved}
 use Rattle.vte_core.specs.Stream.{added, usual_limit}
@@ -10,11 +10,13 @@ use Rattle.vte_c.specs.declared.event.VteEvent.{VteEvent}
 use Rattle.vte_c.specs.declared.feed.VteCounts.{VteCounts}
 
 -- The result says that there was less than the least room, and nothing was read or written.
-pub record FeedsNothing (parser next : Saved) (counts : VteCounts) (result : ℕ) : Type 0 where
+pub record FeedsNothing (parser next : Saved) (old_records records : List VteEvent)
+    (old_area area : List ℕ) (counts : VteCounts) (result : ℕ) : Type 0 where
   pub says : result ≡ no_room
   pub events : counts.events ≡ 0
   pub bytes : counts.bytes ≡ 0
   pub same : next ≡ parser
+  pub unwritten : (records ≡ old_records) × (area ≡ old_area)
 
 -- `vte_feed`
 pub record Feeds (kinds stops : ℕ) (parser next : Saved) (bytes : List ℕ)
@@ -36,8 +38,10 @@ pub record Feeds (kinds stops : ℕ) (parser next : Saved) (bytes : List ℕ)
   -- Whatever the parser's bytes are, what was written is in the buffers.
   pub room : (counts.events ≤ length events) × (counts.bytes ≤ length area)
   -- With less than the least room nothing is read or written.
-  pub few : length old_events < 4 → FeedsNothing parser next counts result
-  pub little : length old_area < 2112 → FeedsNothing parser next counts result
+  pub few : length old_events < 4
+      → FeedsNothing parser next old_events events old_area area counts result
+  pub little : length old_area < 2112
+      → FeedsNothing parser next old_events events old_area area counts result
   -- With enough room, it reads at least one byte, unless it writes a record among the stops.
   pub progress : (told : List Event) (stream rest : List ℕ) →
       HasTold kinds parser told stream (bytes ++ rest) →
@@ -61,6 +65,9 @@ pub record Strips (parser next : Saved) (bytes old_text text : List ℕ)
   pub within : fed_count result ≤ length bytes
   -- With enough room, it reads at least one byte, whatever the parser's bytes are.
   pub progress : 16 ≤ length old_text → 0 < length bytes → 0 < result
+  -- It stops early only where the text of one more byte may not fit.
+  pub fills : (given stream rest : List ℕ) → HasStripped parser given stream (bytes ++ rest) →
+      16 ≤ length old_text → result < length bytes → length text < written + 8
   -- Whatever text was written before, the text written now comes next, and nothing else.
   pub exact : (given stream rest : List ℕ) → HasStripped parser given stream (bytes ++ rest) →
       HasStripped next (given ++ take written text) stream (drop (fed_count result) bytes ++ rest)
@@ -68,3 +75,4 @@ pub record Strips (parser next : Saved) (bytes old_text text : List ℕ)
   pub room : written ≤ length text
   -- With less than the least room the result says so, and nothing is read or written.
   pub little : length old_text < 16 → (result ≡ no_room) × (written ≡ 0) × (next ≡ parser)
+      × (text ≡ old_text)

@@ -1,5 +1,5 @@
 //! From bytes to the text that is left without the sequences.
-ghost use Rattle.std.specs.Prelude.{◌≡◌, ◌<◌, ◌≤◌, ◌-◌, ◌++◌, ℕ, List, true, false, drop, length, take};
+ghost use Rattle.std.specs.Prelude.{◌≡◌, ◌<◌, ◌≤◌, ◌+◌, ◌-◌, ◌++◌, ℕ, List, true, false, drop, length, take};
 ghost use Rattle.vte_c.specs.Calls.{Strips};
 ghost use Rattle.vte_c.specs.Told.{HasStripped, StripsMore};
 ghost use Rattle.vte_c.specs.Text.{StartsText, TextRoom, text_room_of, with_text, with_text_of};
@@ -149,6 +149,8 @@ fn read_into(saved: &mut Saved, bytes: &[u8], room: &mut Text<'_>) -> usize
     requires starts { StartsText (text_room_of room.old) }
     ensures within { result ≤ length bytes.now }
     ensures progress { 0 < length bytes.now → 0 < result }
+    ensures fills { result < length bytes.now
+        → (text_room_of room.new).size < (text_room_of room.new).used + 8 }
     ensures strips { (text stream rest : List ℕ) →
         HasStripped saved.old text stream (bytes.now ++ rest) →
         StripsMore room.old room.new saved.new text stream bytes.now rest result }

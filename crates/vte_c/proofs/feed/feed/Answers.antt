@@ -45,9 +45,20 @@ returns c =
           rw (a.same_count, a.same_used, a.same_records, a.same_area)
           (rw whole at ((feeds told stream rest h).encodes (drop m bytes)));
       room = (omega (arith, c.min.ensures, c.events-1.given.1.0), omega (arith, c.min-2.ensures, c.area-1.given.1.0));
-      few = λ few. record { says = search rules; events = search rules; bytes = search rules; same = search rules };
-      little =
-          λ little. record { says = search rules; events = search rules; bytes = search rules; same = search rules };
+      few = λ few. record {
+        says = search rules;
+        events = search rules;
+        bytes = search rules;
+        same = search rules;
+        unwritten = search rules;
+      };
+      little = λ little. record {
+        says = search rules;
+        events = search rules;
+        bytes = search rules;
+        same = search rules;
+        unwritten = search rules;
+      };
       progress = λ told stream rest h most size others some.
           let a = are told stream rest h in
           let there : 0 < length (take m bytes) = omega (arith, c.min-end.ensures, length-take m bytes, some) in

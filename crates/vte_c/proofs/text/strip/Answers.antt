@@ -11,6 +11,13 @@ returns c =
       enough = λ size. sym count;
       within = omega (arith, count, read.ensures.within);
       progress = search rules;
+      fills = λ text stream rest h size less.
+          let strips = read.ensures.strips text stream rest h in
+          let used : ℕ = read.new.room.used in
+          let held : c.room-1.given.0 ≡ read.new.room.room.now = c.room-1.given.1.1 (sym strips.name) in
+          let few : used ≤ length c.args.room.now =
+          omega (arith, strips.number, length-take used read.new.room.room.now, ap length held, c.room-1.given.1.0) in
+          omega (arith, read.ensures.fills less, ap length held, c.min.ensures, few);
       exact = λ text stream rest h.
           let strips = read.ensures.strips text stream rest h in
           let used : ℕ = read.new.room.used in

@@ -1,7 +1,7 @@
 -- What calls of a processor without a limit ensure: the same as those of `Processor`, unless memory
 -- is refused.
 use Rattle.std.specs.Prelude.{◌≡◌, ℕ, ◌+◌, ◌-◌, ◌<◌, Bool, true, false, List, length, None, IsOk, IfErr, IfOk, Result, Ok, Err}
-use Rattle.vte_core.specs.LongParser.{HasReadLong}
+use Rattle.vte_core.specs.LongParser.{HasReadLong, lost_data_long}
 use Rattle.vte_core.specs.Stream.{events}
 use Rattle.vte_core.specs.declared.parser.refused.Refused.{Refused}
 use Rattle.vte.specs.Calls.{last_printed}
@@ -28,6 +28,8 @@ pub record IsCopyOfLong {T A W : Type 0} (is_clone : T → T → Type 0) (timeou
       → (parsed held : List ℕ) (timeout : W)
       → HasParsedAndHoldsLong timeout_of processor parsed held timeout
       → HasParsedAndHoldsLong timeout_of copy parsed held timeout
+  -- It says the same of the last command's data.
+  pub lost : lost_data_long copy.engine.parser ≡ lost_data_long processor.engine.parser
   pub memory : KeepsMemory (HasMemory processor) (HasMemory copy)
 
 -- `reserve`, of memory for the held bytes and `more` others

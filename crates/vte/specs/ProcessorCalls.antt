@@ -2,7 +2,7 @@
 -- after one call and after a list of calls, and then what each function promises.
 use Rattle.std.specs.Prelude.{◌≡◌, ℕ, List, ◌++◌, length, drop, [], ◌∷◌, Bool, false, ◌≤◌, None, Option, ⊤}
 use Rattle.vte_core.specs.Outcome.{SaysLoss}
-use Rattle.vte_core.specs.Parser.{HasRead}
+use Rattle.vte_core.specs.Parser.{HasRead, lost_data}
 use Rattle.vte_core.specs.Stream.{events, outcome, usual_limit}
 use Rattle.vte_handler.specs.Handler.{after}
 use Rattle.vte_handler.specs.Timeout.{IsSteady}
@@ -139,6 +139,8 @@ pub record IsCopyOf {T A W : Type 0} (is_clone : T → T → Type 0) (timeout_of
       → (parsed held : List ℕ) (timeout : W)
       → HasParsedAndHolds timeout_of processor parsed held timeout
       → HasParsedAndHolds timeout_of copy parsed held timeout
+  -- It says the same of the last command's data.
+  pub lost : lost_data copy.engine.parser ≡ lost_data processor.engine.parser
 
 -- `sync_bytes_count`
 pub record CountsHeld (held : List ℕ) (result : ℕ) : Type 0 where

@@ -65,6 +65,16 @@ impl<B: Buffer> Store<B> {
         self.lost = false;
     }
 
+    /// Removes the items of a command that has ended, but not whether it lost data.
+    pub(crate) fn remove_items(&mut self)
+        ensures none { self.new.bytes ≡ [] }
+        ensures lost { self.new.lost ≡ self.old.lost }
+        ensures memory { self.new.capacity ≡ self.old.capacity }
+    {
+        self.ends = ArrayVec::new();
+        self.bytes.clear();
+    }
+
     /// Returns whether data bytes were dropped.
     pub(crate) fn has_lost_data(&self) -> bool
         ensures { result ≡ self.now.lost }
@@ -218,6 +228,7 @@ impl<A: Allocator> Store<Vec<u8, A>> {
     pub(crate) fn shrink_to_fit(&mut self)
         ensures same { SameItems self.old self.new }
         ensures frees { length self.old.bytes ≡ 0 → self.new.capacity ≡ 0 }
+        ensures less { self.new.capacity ≤ self.old.capacity }
     {
         self.bytes.shrink_to_fit();
     }

@@ -211,7 +211,7 @@ fn a_parser_knows_of_a_command_that_lost_data() {
 
 #[cfg(feature = "std")]
 #[test]
-fn what_a_parser_knows_of_a_command_that_has_ended_goes_with_its_memory() {
+fn what_a_parser_knows_of_a_command_that_has_ended_outlives_its_memory() {
     let command = format!("\x1b]{}b", ";".repeat(16));
     let mut parser = Parser::new();
     parser.advance(&mut Runs::default(), command.as_bytes());
@@ -220,6 +220,8 @@ fn what_a_parser_knows_of_a_command_that_has_ended_goes_with_its_memory() {
     parser.advance(&mut Runs::default(), b"\x07");
     assert!(parser.command_lost_data());
     parser.shrink();
+    assert!(parser.command_lost_data());
+    parser.advance(&mut Runs::default(), b"\x1b]0;title");
     assert!(!parser.command_lost_data());
 }
 

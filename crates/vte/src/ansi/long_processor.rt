@@ -82,8 +82,6 @@ impl<T: Timeout + Drop, A: Allocator> LongProcessor<T, A> {
 
     /// Returns whether data bytes are in no piece of the operating system command that is open, or
     /// else ended last: those after the 16th piece. Bytes that are held back don't count.
-    ///
-    /// [`reserve`](Self::reserve) and [`shrink`](Self::shrink) forget it if the command has ended.
     pub fn command_lost_data(&self) -> bool
         ensures lost { result ≡ lost_data_long self.now.engine.parser }
         ensures open { SaysParsedLoss None (HasParsedAndHoldsLong T.value_of self.now) result }
@@ -110,6 +108,8 @@ impl<T: Timeout + Drop, A: Allocator> LongProcessor<T, A> {
             → HasParsedAndHoldsLong T.value_of self.old parsed [] timeout
             → open_command_size parsed ≡ 0
             → HasFreedMemory self.new }
+        // It says the same of the last command's data.
+        ensures lost { lost_data_long self.new.engine.parser ≡ lost_data_long self.old.engine.parser }
     {
         if self.engine.hold.len() == 0 {
             self.engine.parser.shrink();

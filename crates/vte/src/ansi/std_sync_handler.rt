@@ -36,6 +36,7 @@ impl<C: Clock + Drop> StdSyncHandler<C> {
     /// Creates a timeout that isn't pending.
     pub fn new(clock: C) -> Self
         ensures none { expiry_in result ≡ None }
+        ensures clock { clock_in result ≡ clock }
         // A timeout stays pending until it is cleared, whatever the clock tells.
         ensures steady { IsSteady pending_meaning }
         ensures not_pending { AllowsOnly pending_meaning (is_pending result) false }

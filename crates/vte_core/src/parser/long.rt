@@ -83,8 +83,6 @@ impl<A: Allocator> LongParser<A> {
 
     /// Returns whether data bytes are in no piece of the operating system command that is open, or
     /// else ended last: those after the 16th piece.
-    ///
-    /// [`reserve`](Self::reserve) and [`shrink`](Self::shrink) forget it if the command has ended.
     pub fn command_lost_data(&self) -> bool
         ensures lost { result ≡ lost_data_long self.now }
         ensures open { (stream : List ℕ) → HasReadLong self.now stream
@@ -106,11 +104,13 @@ impl<A: Allocator> LongParser<A> {
         // Memory is refused only if the bytes don't fit: of a command that has ended none count.
         ensures lacks_open { result ≡ false → (stream : List ℕ) → HasReadLong self.new stream
             → memory_of self.new < open_command_size stream + more }
+        // It says the same of the last command's data.
+        ensures lost { lost_data_long self.new ≡ lost_data_long self.old }
         ensures count { looks_long self.new ≡ looks_long self.old }
     {
         // A command that has ended needs no memory.
         if !matches!(self.machine.state, State::SystemCommand) {
-            self.machine.command.clear();
+            self.machine.command.remove_items();
         }
         self.machine.command.reserve(more)
     }
@@ -123,11 +123,14 @@ impl<A: Allocator> LongParser<A> {
         ensures frees { (stream : List ℕ) → HasReadLong self.old stream
             → open_command_size stream ≡ 0
             → memory_of self.new ≡ 0 }
+        ensures less { memory_of self.new ≤ memory_of self.old }
+        // It says the same of the last command's data.
+        ensures lost { lost_data_long self.new ≡ lost_data_long self.old }
         ensures count { looks_long self.new ≡ looks_long self.old }
     {
         // A command that has ended needs no memory.
         if !matches!(self.machine.state, State::SystemCommand) {
-            self.machine.command.clear();
+            self.machine.command.remove_items();
         }
         self.machine.command.shrink_to_fit();
     }

@@ -38,6 +38,12 @@ impl<B: Buffer> Store<B> {
         self.lost = false;
     }
 
+    /// Removes the items of a command that has ended, but not whether it lost data.
+    pub(crate) fn remove_items(&mut self) {
+        self.ends = ArrayVec::new();
+        self.bytes.clear();
+    }
+
     /// Returns whether data bytes were dropped.
     pub(crate) fn has_lost_data(&self) -> bool {
         self.lost

@@ -44,10 +44,6 @@ impl<T: Timeout> LongProcessor<T> {
 
     /// Returns whether data bytes are in no piece of the operating system command that is open, or
     /// else ended last: those after the 16th piece. Bytes that are held back don't count.
-    ///
-    /// Ask after the call in which the command ended: [`reserve`](Self::reserve),
-    /// [`shrink`](Self::shrink) and the next `advance` forget what it lost, and so does that
-    /// call if it goes on for more than 65,536 bytes.
     pub fn command_lost_data(&self) -> bool {
         self.engine.parser.command_lost_data()
     }

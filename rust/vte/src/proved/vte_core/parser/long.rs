@@ -56,8 +56,6 @@ impl LongParser {
 
     /// Returns whether data bytes are in no piece of the operating system command that is open, or
     /// else ended last: those after the 16th piece.
-    ///
-    /// [`reserve`](Self::reserve) and [`shrink`](Self::shrink) forget it if the command has ended.
     #[inline]
     pub fn command_lost_data(&self) -> bool {
         self.machine.command_lost_data()
@@ -70,7 +68,7 @@ impl LongParser {
     pub fn reserve(&mut self, more: usize) -> bool {
         // A command that has ended needs no memory.
         if !matches!(self.machine.state, State::SystemCommand) {
-            self.machine.command.clear();
+            self.machine.command.remove_items();
         }
         self.machine.command.reserve(more)
     }
@@ -80,7 +78,7 @@ impl LongParser {
     pub fn shrink(&mut self) {
         // A command that has ended needs no memory.
         if !matches!(self.machine.state, State::SystemCommand) {
-            self.machine.command.clear();
+            self.machine.command.remove_items();
         }
         self.machine.command.shrink_to_fit();
     }

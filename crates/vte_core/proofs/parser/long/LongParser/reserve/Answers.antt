@@ -1,7 +1,7 @@
 -- What is stored is the open command (`open_is_stored`), so room for what is stored is room for it. Without an open
 -- command the store was cleared first.
 use Rattle.vte_core.proofs.Common.{◌≤◌, length, ap, sym, ◌∙◌, arith, false≢true, open_command_size}
-use Rattle.vte_core.proofs.calls.Refusals.{nothing_stored, open_is_stored, stored_is_open}
+use Rattle.vte_core.proofs.calls.Refusals.{open_is_stored, stored_is_open}
 use Rattle.vte_core.proofs.parser.long.LongParser.reserve.Goals.{then-not-matches, else-not-matches, in-SystemCommand, in_default}
 use Rattle.vte_core.proofs.parser.long.LongParser.reserve.Goals as goal
 
@@ -15,7 +15,7 @@ returns-clause-lacks_open g c = λ refused stream h.
       | then-not-matches w ↦
           omega (
             arith,
-            nothing_stored w.clear.ensures.holds,
+            ap length w.remove_items.ensures.none,
             ap length c.reserve.ensures.same.bytes,
             ap
                 (λ self. length self.machine.command.bytes) w.self-is,

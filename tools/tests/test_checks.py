@@ -531,11 +531,12 @@ def test_versions_of_a_release(place, old, new, told):
 # ---- test
 
 # parts in the place of those of tools/test: those at once, and those after them
-PARTS = [
-    "part first bash try first\npart lacking 'bash no-such-command' try lacking\n"
-    "part far 'rust=1.0 no-such-program' try far\n",
-    "part second 'bash crates rust-1.2 +no-such-tool' try second 'missing: a thing: not tried'\n"
-    "part proofs rt rt ci\n"]
+PARTS = {
+    "FIRST": [("first", "bash", "try first", "try again"),
+              ("lacking", "bash no-such-command", "try lacking"),
+              ("far", "rust=1.0 no-such-program", "try far")],
+    "LATER": [("second", "bash crates rust-1.2 +no-such-tool",
+               "try second 'missing: a thing: not tried'"), ("proofs", "rt", "rt ci")]}
 PROGRAMS = {
     "bin/try": '#!/bin/sh\necho $1 >>asked\necho said by $1\necho $2\n'
                '[ $1 != "$FAILS" ] && [ "$CARGO_HOME" = next ]\n',
@@ -543,7 +544,6 @@ PROGRAMS = {
     # it has its crates only from there
     "bin/cargo": '#!/bin/sh\n[ "$CARGO_HOME" = next ]\n',
     "tools/next_release": '#!/bin/sh\n[ "$FAILS" != crates ] && echo export CARGO_HOME=next\n',
-    "bin/python3": "#!/bin/sh\nexit 1\n",
     "bin/rustc": "#!/bin/sh\necho rustc 1.63.0\n",
 }
 FAR, LACKING = "far: it needs rustc 1.0, no-such-program", "lacking: it needs no-such-command"
@@ -575,9 +575,9 @@ THING, WAITS = "a thing: not tried", "{}: it needs all parts before it to pass"
       for front, name in (("", "unknown"), ("first ", "unknown"), ("", "fir.t"), ("", "bash"))),
 ])
 def test_what_is_run_and_listed(folder, words, fails, ran, left, packages, status, counts):
-    parts = iter(PARTS)
-    text = re.sub(r"^(?:part (?:.*\\\n)*.*\n)+", lambda _: next(parts),
-                  (TOOLS / "test").read_text(), flags=re.M)
+    text = (TOOLS / "test").read_text()
+    for name, parts in PARTS.items():
+        text = re.sub(rf"^{name} = \[$.*?^\]$", f"{name} = {parts}", text, flags=re.M | re.S)
     test = write("tools/test", text, 0o755)
     for name, text in PROGRAMS.items():
         write(name, text, 0o755)
@@ -585,8 +585,11 @@ def test_what_is_run_and_listed(folder, words, fails, ran, left, packages, statu
     asked = write("asked", "")
     given = {**os.environ, "PATH": f"{folder}/bin:{os.environ['PATH']}",
              "TMPDIR": f"{folder}/temporary", "FAILS": fails}
-    done = subprocess.run([test, *words.split()], env=given, capture_output=True, text=True)
-    assert (done.returncode, sorted(asked.read_text().split())) == (status, sorted(ran.split()))
+    done = subprocess.run([sys.executable, test, *words.split()], env=given, capture_output=True,
+                          text=True)
+    # after a command that failed, the others of a part are run
+    tried = [*ran.split(), *["again"] * ("first" in ran)]
+    assert (done.returncode, sorted(asked.read_text().split())) == (status, sorted(tried))
     assert not any((folder / "temporary").iterdir())
     lines = [re.sub(r"^ *\d+ s ", "", line) for line in done.stdout.splitlines()]
     if status == 2:

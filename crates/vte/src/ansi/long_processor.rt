@@ -109,7 +109,8 @@ impl<T: Timeout + Drop, A: Allocator> LongProcessor<T, A> {
             → open_command_size parsed ≡ 0
             → HasFreedMemory self.new }
         // It says the same of the last command's data.
-        ensures lost { lost_data_long self.new.engine.parser ≡ lost_data_long self.old.engine.parser }
+        ensures lost { lost_data_long self.new.engine.parser
+            ≡ lost_data_long self.old.engine.parser }
     {
         if self.engine.hold.len() == 0 {
             self.engine.parser.shrink();

@@ -15,7 +15,7 @@
  *
  * The calls are those of the whole stream, in order, however you split it, apart from how often
  * unset_private_mode comes with 2026: each stop of an update adds one, and where you split the
- * stream, and time, decide how many stops there are (docs/UPDATES.md). A text is passed in runs, of
+ * stream, and time, decide how many stops there are (docs/CALLS.md). A text is passed in runs, of
  * which there may be several one after another, and which aren't terminated by 0; a text that a
  * call passes is valid until the call returns. A call must return, and not by an exception or
  * longjmp. The calls come in the thread that calls vte_processor_advance or

@@ -1,6 +1,7 @@
 """Tests that tools/erase, tools/mutate, tools/test and the checks refuse what they say."""
 import contextlib
 import io
+import json
 import os
 import re
 import shutil
@@ -526,6 +527,40 @@ def test_versions_of_a_release(place, old, new, told):
     status, lines = run_here("release", "--check", git="exit 1")
     wanted = f"versions: {told}" if told else "release: it was not made"
     assert (status, lines) == (1, [wanted, "1 faults"])
+
+
+
+def edge(name, *kinds):
+    return {"pkg": name, "dep_kinds": [{"kind": kind} for kind in kinds]}
+
+
+def test_contents_of_a_release(monkeypatch):
+    monkeypatch.setenv("SOURCE_DATE_EPOCH", "86400")
+    # those that only tests or builds need aren't linked
+    edges = {"ours": [edge("both", "dev", None), edge("of-tests", "dev"), edge("build", "build")],
+             "both": [edge("in_both", None)], "of-tests": [], "build": [], "in_both": []}
+    write("described", json.dumps({
+        "packages": [{"id": name, "name": name, "version": "1.0", "license": "MIT/X",
+                      "source": None if name == "ours" else "there"} for name in edges],
+        "resolve": {"root": "ours", "nodes": [{"id": name, "deps": edges[name]} for name in edges]}}
+    ))
+    for name in "a.crate", "b.deb", "c.whl":
+        write(f"out/{name}", "")
+    assert run_here("releasing/contents", "out", "1.2.3", "manifest", cargo="cat described",
+                    rustc="echo rustc 1.99.0; echo host: here") == (0, [])
+    told = json.loads(Path("out/naqshuve-1.2.3.spdx.json").read_text())
+    assert told["creationInfo"]["created"] == "1970-01-02T00:00:00Z"
+    assert [(it["name"], it["versionInfo"], it["licenseDeclared"]) for it in told["packages"]] == [
+        ("naqshuve-vte", "1.2.3", "Apache-2.0 OR MIT"),
+        ("rust-standard-library", "1.99.0", "MIT OR Apache-2.0"),
+        ("both", "1.0", "MIT OR X"), ("in_both", "1.0", "MIT OR X"),
+        *((f"file-{number}", "1.2.3", "Apache-2.0 OR MIT") for number in range(3))]
+    names = {it["SPDXID"]: it.get("packageFileName") for it in told["packages"]}
+    held = [(names[it["spdxElementId"]], it["relatedSpdxElement"]) for it in told["relationships"]]
+    wanted = {"a.crate": [], "b.deb": ["rust-standard-library"],
+              "c.whl": ["rust-standard-library", "both", "in-both"]}
+    assert held == [(file, f"SPDXRef-{name}") for file, more in wanted.items()
+                    for name in ["naqshuve-vte", *more]]
 
 
 # ---- test

@@ -563,6 +563,25 @@ def test_contents_of_a_release(monkeypatch):
                     for name in ["naqshuve-vte", *more]]
 
 
+# ---- fuzz
+
+# what a target does at a difference, or always
+@pytest.mark.parametrize("does, is_found", [
+    ('[ -z "$DIFFERENCE" ] || ! echo told', True), ('[ -z "$DIFFERENCE" ] || ! echo more', False),
+    ("! echo told", False), ("echo told", False)])
+def test_a_difference_is_found(does, is_found):
+    program = write("program", f"#!/bin/sh\n{{ {does}; }} >&2\n", 0o755)
+    fuzz = Tool("fuzz", FOLDER=Path.cwd(), DIFFERENCES={"target": [("it", "told", b"")]})
+    assert fuzz.parts["finds"]("target", program) == is_found
+
+
+@pytest.mark.parametrize("is_clean, finds", [(True, True), (True, False), (False, True)])
+def test_status_of_fuzz(is_clean, finds):
+    given = {"missing": lambda: (), "build": print, "build_different": print,
+             "fuzz": lambda *_: is_clean, "finds": lambda *_: finds}
+    assert Tool("fuzz", **given).run()[0] == (not (is_clean and finds))
+
+
 # ---- test
 
 # parts in the place of those of tools/test: those at once, and those after them

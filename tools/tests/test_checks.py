@@ -252,6 +252,8 @@ def differences(source, written, place="c/mod.rs", **given):
 @pytest.mark.parametrize("source, written, wanted", [
     ("/// F.\npub fn f() { laws::x(); g(alloc, c::X); }", "/// F. More.\npub fn f() { g(X); }", []),
     ("trait T { fn f(); fn g() -> bool; }", "trait T { fn f() {} fn g() -> bool { false } }", []),
+    ("trait T { fn f() -> bool; }", "trait T { fn f() -> bool { true } }",
+     ["fn f: { true }", "fn f"]),
     ("fn f() { g(); }", "", ["fn f"]), ("trait T { fn f(); }", "trait T {}", ["fn f"]),
     ("", "fn f() { g(); }", ["fn f: { g ( ) ; }"]),
     ("fn f() { g(1); }", "fn f() { g(2); }", ["fn f: { g ( 2 ) ; }", "fn f"]),

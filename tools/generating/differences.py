@@ -2,8 +2,7 @@
 the words with which the target tells of it, and an input from which it does."""
 
 BEGIN, END = b"\x1b[?2026h", b"\x1b[?2026l"
-# the first bytes of an input: pieces of 0 and 1 bytes, and of up to 4, 8 and 128. The second byte
-# decides that there is one of five bytes
+# the first bytes of an input: pieces of 0 and 1 bytes, and of up to 4, 8 (5 among them) and 128
 SINGLE, FOUR, EIGHT, WHOLE = b"\0\0", b"\2\0", b"\3\7", b"\7\0"
 OVERFLOW = "AddressSanitizer: heap-buffer-overflow"
 ABORT = "deadly signal"

@@ -17,8 +17,7 @@ static int has(const char *difference) {
     return named != NULL && strcmp(named, difference) == 0;
 }
 
-/* Changes a field of an event, or its data. Other groups or pieces have the same numbers or bytes.
- */
+/* Changes a field of an event, or its data, which other groups or pieces divide otherwise. */
 static void change(vte_event *event, uint8_t *data) {
     uint8_t *items = data + event->start;
     event->kind ^= has("vte_feed of another kind");

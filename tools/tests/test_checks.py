@@ -259,7 +259,7 @@ def differences(source, written, place="c/mod.rs", **given):
     ("fn f() { g(); }", "fn f() {}", ["fn f: { }", "fn f"]),
     ("impl S { fn f() { g(); } } impl T { fn f() { h(); } }",
      "impl S { fn f() { h(); } } impl T { fn f() { g(); } }", ["fn f: { g ( ) ; }", "fn f"]),
-    ("pub const N: u8 = 1;", "pub const N: u8 = 2;", ["const N: : u8 = 2 ;", "const N"]),
+    ("pub static N: u8 = 1;", "pub static N: u8 = 2;", ["static N: : u8 = 2 ;", "static N"]),
     ("impl S { const N: u8 = 1; }", "impl S {}", ["const N"]),
     ("fn f<const N: u8>() -> *const u8 { N }", "fn f<const N: u8>() -> *const u8 { N }", []),
     ("fn f() { one(); g(&mut reader, Chunk::new(a), input.up_to(b)); }",

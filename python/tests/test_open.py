@@ -5,6 +5,8 @@ import pytest
 from common import EXAMPLES, parsers
 from test_vectors import vectors
 
+from vte import Osc
+
 TOOLS = EXAMPLES.parent.parent / "tools"
 WORDS = [None, "character", "esc", "csi", "dcs", "osc", "ignored"]
 
@@ -14,6 +16,10 @@ def assert_open(stream, wanted):
         for end, code in enumerate(wanted):
             assert parser.open == WORDS[code], stream[:end]
             parser.feed(stream[end:end + 1])
+            for other in parsers():
+                # what is no command is skipped
+                other.feed(stream[:end], Osc)
+                assert other.open == WORDS[code], stream[:end]
 
 
 @pytest.mark.parametrize("stream, codes", [

@@ -152,16 +152,25 @@ static void test_data(void) {
           "the place of data");
 }
 
-/* What is open is known at each byte. */
+/* What is open is known at each byte, and also if what is no command was skipped. */
 static void test_open(void) {
     static const uint8_t sent[] =
-        "a\303\274\033[1m\033]2;t\a\033Pq+\030\377b\033_x\033P1?q\234\032";
-    static const char open[] = "010233025555024440002662444660";
+        "a\360\237\216\211\033[1m\033]2;t\a\033Pq+\030\377b\033_x\033P1?q\234\032";
+    static const char open[] = "01110233025555024440002662444660";
     vte_parser parser = new_parser;
     for (size_t at = 0; at < sizeof sent - 1; at++) {
         vte_counts counts;
         feed(&parser, sent + at, 1, 0, 0, &counts);
         holds(counts.events == 0 && vte_is_open(&parser) == open[at] - '0', "what is open");
+#ifdef WITH_LONG
+        vte_long_parser *skips = vte_long_parser_new();
+        const uint8_t *area;
+        for (size_t read = 0, more = 1; more > 0; read += more)
+            more = vte_long_feed(skips, sent + read, at + 1 - read, VTE_KIND(VTE_OSC), 0, events,
+                                 64, &area, &counts);
+        holds(vte_long_is_open(skips) == open[at] - '0', "what is open after what was skipped");
+        vte_long_parser_free(skips);
+#endif
     }
     holds(VTE_OPEN_NOTHING == 0 && VTE_OPEN_CHARACTER == 1 && VTE_OPEN_ESC == 2 && VTE_OPEN_CSI == 3
               && VTE_OPEN_DCS == 4 && VTE_OPEN_OSC == 5 && VTE_OPEN_IGNORED == 6,

@@ -2,8 +2,8 @@
 the words with which the target tells of it, and an input from which it does."""
 
 BEGIN, END = b"\x1b[?2026h", b"\x1b[?2026l"
-# the first bytes of an input: pieces of 0 and 1 bytes, and of up to 4, 8 and 128
-SINGLE, FOUR, EIGHT, WHOLE = b"\0\0", b"\2\0", b"\3\0", b"\7\0"
+# the first bytes of an input: pieces of 0 and 1 bytes, and of up to 4, 8 (5 among them) and 128
+SINGLE, FOUR, EIGHT, WHOLE = b"\0\0", b"\2\0", b"\3\7", b"\7\0"
 OVERFLOW = "AddressSanitizer: heap-buffer-overflow"
 ABORT = "deadly signal"
 
@@ -11,35 +11,40 @@ PARSER = [
     ("after an ESC", "in pieces", SINGLE + b"a\x1bcb"),
     ("inside a character", "in pieces", SINGLE + b"\xe4\xbd\xa0b"),
     ("after a semicolon", "in pieces", SINGLE + b"\x1b[1;2m"),
-    ("after five bytes", "in pieces", EIGHT + bytes(range(0x20, 0x60))),
+    ("after five bytes", "in pieces", EIGHT + b"abcdefghi"),
     ("empty", "in pieces", SINGLE + b"a" * 8),
     ("closed by a cut", "in pieces", SINGLE + b"ab\x1b["),
-    ("in runs", "in runs", WHOLE + b"a~b"),
+    ("in runs", ": in runs\n", WHOLE + b"a~b"), ("closed in runs", ": in runs\n", WHOLE + b"\x1b["),
     ("with line ends", "in runs with line ends", WHOLE + b"a\n~"),
     ("after a character", "with stops after characters", WHOLE + b"ab"),
     ("after an escape", "with stops after escapes", WHOLE + b"\x1bca"),
+    ("closed with stops", "with stops after characters", WHOLE + b"\x1b["),
     ("with an early end", "an early end", WHOLE + b"\x1b[1m"),
     ("to text", "of_parsers.rs", WHOLE + b"a"),
     ("to data", "of_parsers.rs", WHOLE + b"\x1bPqab"),
-    ("to nothing", "no run", WHOLE + b"\x1bc"),
-    ("closed", "both parsers", WHOLE + b"\x1b["),
+    ("to nothing", "no run", WHOLE + b"\x1bc"), ("closed to a run", "to runs", WHOLE + b"\x1b["),
+    # the longest stream that both read alike
+    ("closed", "both parsers", WHOLE + b"a" * 62 + b"\x1b["),
     ("open as another", "both parsers", WHOLE + b"\x1b[")]
 PROCESSOR = [
-    ("in pieces", "in pieces", SINGLE + b"ab~"),
-    ("in runs", "in runs", SINGLE + b"a~"),
-    ("held in runs", "in runs", SINGLE + b"a"),
-    ("in an update", "with updates", SINGLE + BEGIN + b"~~" + END),
-    ("at a stop", "with updates", SINGLE + BEGIN + b"~"),
-    ("after a stop", "with updates", FOUR + BEGIN + b"~" * 30),
+    # a call that is nearly the end of an update
+    ("in pieces", "in pieces", SINGLE + b"ab\x1b[?9l"),
+    ("in runs", ": in runs\n", SINGLE + b"a~"),
+    ("held in runs", ": in runs\n", SINGLE + b"a"),
+    ("in an update", ": with updates\n", SINGLE + BEGIN + b"\x1b[?9l" + END),
+    ("at a stop", ": with updates\n", SINGLE + BEGIN + b"~"),
+    ("after a stop", ": with updates\n", FOUR + BEGIN + b"~" * 30),
     ("in an update in runs", "with updates, in runs", SINGLE + BEGIN + b"~~" + END),
     ("at a stop in runs", "with updates, in runs", SINGLE + BEGIN + b"~"),
-    ("always", "both processors", SINGLE + b"a~")]
+    ("always", "both processors", WHOLE + b"a" * 1023 + b"~")]
 BESIDE_VTE = [
-    ("Parser whole", SINGLE + b"ab~"), ("Processor whole", SINGLE + b"ab~"),
+    ("Parser whole", WHOLE + b"a" * 1023 + b"~"), ("Processor whole", SINGLE + b"ab~"),
     # with a text that may be a colour which only `vte` reads, and with another colour
-    ("Processor whole", SINGLE + b"ab~#"),
-    ("Processor whole", SINGLE + b"\x1b]4;1;rgb:70/00/00\7"),
-    ("Processor in pieces", SINGLE + b"ab~"), ("Processor held", SINGLE + b"ab"),
+    ("Processor whole", SINGLE + b"#\x1b]50;CursorShape=~1\7"),
+    ("Processor whole", SINGLE + b"#\x1b]104;9\7"),
+    ("Processor whole", SINGLE + b"\x1b]4;1;rgb:90/00/00\7"),
+    ("Processor in pieces", SINGLE + b"ab~"), ("Processor held", SINGLE + BEGIN + b"b"),
+    ("Processor held after a stop", SINGLE + BEGIN + b"b"),
     ("Processor in an update", SINGLE + BEGIN + b"~~"),
     ("Processor at a stop", FOUR + BEGIN + b"~" * 30),
     ("Processor expired", FOUR + BEGIN + b"~" * 30)]
@@ -51,6 +56,12 @@ LIBRARY = [
     ("vte_feed of any parser", ABORT, b"\xff\xff\1any\x1b[m"),
     ("vte_strip in pieces", ABORT, b"\0\0\0a~"),
     ("vte_strip in little room", ABORT, b"\xff\0\0ab"),
+    *((f"vte_feed {what}", ABORT, b"\0\0\0" + stream) for what, stream in (
+        ("of another kind", b"\x1bc"), ("with another flag", b"\x1bc"),
+        ("with another final byte", b"\x1bc"), ("with another intermediate", b"\x1b(B"),
+        ("with another number", b"\x1b[1m"), ("with another number", b"\x1bP1q"),
+        ("with other groups", b"\x1b[1:2;3m"), ("with another byte", b"\x1b]ab;c\7"),
+        ("with other pieces", b"\x1b]ab;c\7"))),
     *((f"vte_feed of too many {what}", ABORT, b"\0\0\0a") for what in ("events", "data")),
     *((f"{function} that reads {what}", ABORT, b"\0\0\0a")
       for function in ("vte_feed", "vte_strip") for what in ("nothing", "too much")),
@@ -62,5 +73,6 @@ DIFFERENCES = {
                  for names, rows in ((("Parser", "LongParser"), PARSER),
                                      (("Processor", "LongProcessor"), PROCESSOR))
                  for name in names for difference, *rest in rows],
-    "beside_vte": [(difference, "left == right", given) for difference, given in BESIDE_VTE],
+    "beside_vte": [("Parser inside a character", "programs.rs", SINGLE), *(
+        (difference, "beside_vte.rs", given) for difference, given in BESIDE_VTE)],
     "c_library": LIBRARY}

@@ -1,6 +1,7 @@
 """Tests that tools/erase, tools/mutate, tools/test and the checks refuse what they say."""
 import contextlib
 import io
+import json
 import os
 import re
 import shutil
@@ -251,13 +252,14 @@ def differences(source, written, place="c/mod.rs", **given):
 @pytest.mark.parametrize("source, written, wanted", [
     ("/// F.\npub fn f() { laws::x(); g(alloc, c::X); }", "/// F. More.\npub fn f() { g(X); }", []),
     ("trait T { fn f(); fn g() -> bool; }", "trait T { fn f() {} fn g() -> bool { false } }", []),
+    ("fn f() -> bool;", "fn f() -> bool { true }", ["fn f: { true }", "fn f"]),
     ("fn f() { g(); }", "", ["fn f"]), ("trait T { fn f(); }", "trait T {}", ["fn f"]),
     ("", "fn f() { g(); }", ["fn f: { g ( ) ; }"]),
     ("fn f() { g(1); }", "fn f() { g(2); }", ["fn f: { g ( 2 ) ; }", "fn f"]),
     ("fn f() { g(); }", "fn f() {}", ["fn f: { }", "fn f"]),
     ("impl S { fn f() { g(); } } impl T { fn f() { h(); } }",
      "impl S { fn f() { h(); } } impl T { fn f() { g(); } }", ["fn f: { g ( ) ; }", "fn f"]),
-    ("pub const N: u8 = 1;", "pub const N: u8 = 2;", ["const N: : u8 = 2 ;", "const N"]),
+    ("pub static N: u8 = 1;", "pub static N: u8 = 2;", ["static N: : u8 = 2 ;", "static N"]),
     ("impl S { const N: u8 = 1; }", "impl S {}", ["const N"]),
     ("fn f<const N: u8>() -> *const u8 { N }", "fn f<const N: u8>() -> *const u8 { N }", []),
     ("fn f() { one(); g(&mut reader, Chunk::new(a), input.up_to(b)); }",
@@ -526,6 +528,54 @@ def test_versions_of_a_release(place, old, new, told):
     status, lines = run_here("release", "--check", git="exit 1")
     wanted = f"versions: {told}" if told else "release: it was not made"
     assert (status, lines) == (1, [wanted, "1 faults"])
+
+
+
+def test_contents_of_a_release(monkeypatch):
+    monkeypatch.setenv("SOURCE_DATE_EPOCH", "86400")
+    # what only builds need isn't linked
+    edges = {"ours": {"both": ["dev", None], "build": ["build"]}, "both": {"in_both": [None]},
+             "build": {}, "in_both": {}}
+    packages = [{"id": name, "name": name, "version": "1.0", "license": "MIT/X",
+                 "source": name != "ours" or None} for name in edges]
+    nodes = [{"id": name, "deps": [{"pkg": it, "dep_kinds": [{"kind": kind} for kind in kinds]}
+                                   for it, kinds in its.items()]} for name, its in edges.items()]
+    described = {"packages": packages, "resolve": {"root": "ours", "nodes": nodes}}
+    write("described", json.dumps(described))
+    for name in "a.crate", "b.deb", "c.whl":
+        write(f"out/{name}", "")
+    assert run_here("releasing/contents", "out", "1.2.3", "manifest", cargo="cat described",
+                    rustc="echo rustc 1.99.0; echo host: here") == (0, [])
+    told = json.loads(Path("out/naqshuve-1.2.3.spdx.json").read_text())
+    assert told["creationInfo"]["created"] == "1970-01-02T00:00:00Z"
+    assert [(it["name"], it["versionInfo"], it["licenseDeclared"]) for it in told["packages"]] == [
+        ("naqshuve-vte", "1.2.3", "Apache-2.0 OR MIT"),
+        ("rust-standard-library", "1.99.0", "MIT OR Apache-2.0"),
+        ("both", "1.0", "MIT OR X"), ("in_both", "1.0", "MIT OR X"),
+        *((f"file-{number}", "1.2.3", "Apache-2.0 OR MIT") for number in range(3))]
+    assert [it["packageFileName"] for it in told["packages"][4:]] == ["a.crate", "b.deb", "c.whl"]
+    held = [it["spdxElementId"][-1] + it["relatedSpdxElement"][7:] for it in told["relationships"]]
+    assert held == ["0-naqshuve-vte", "1-naqshuve-vte", "1-rust-standard-library", "2-naqshuve-vte",
+                    "2-rust-standard-library", "2-both", "2-in-both"]
+
+
+# ---- fuzz
+
+# what a target does at a difference, or always
+@pytest.mark.parametrize("does, is_found", [
+    ('[ -z "$DIFFERENCE" ] || ! echo told', True), ('[ -z "$DIFFERENCE" ] || ! echo more', False),
+    ("! echo told", False), ("echo told", False)])
+def test_a_difference_is_found(does, is_found):
+    program = write("program", f"#!/bin/sh\n{{ {does}; }} >&2\n", 0o755)
+    fuzz = Tool("fuzz", FOLDER=Path.cwd(), DIFFERENCES={"target": [("it", "told", b"")]})
+    assert fuzz.parts["finds"]("target", program) == is_found
+
+
+@pytest.mark.parametrize("is_clean, finds", [(True, True), (True, False), (False, True)])
+def test_status_of_fuzz(is_clean, finds):
+    fuzz = Tool("fuzz", missing=lambda: (), build=print, build_different=print,
+                fuzz=lambda *_: is_clean, finds=lambda *_: finds)
+    assert fuzz.run()[0] == (not (is_clean and finds))
 
 
 # ---- test

@@ -193,6 +193,7 @@ def test_comments_are_reworded():
     ("fn f() {}\n", 1, dict(rules={"a/x": [("g()", "")]})),
     ("trait Handler {}\n", 1, dict(handler={"a/x": [("g()", "")]})),
     ("\nenum E {\n/// A.\nA }\n", 2, dict(members={"a/x": {"enum E {": {"A": "One."}}})),
+    ("\nenum E { A }\n", 2, dict(members={"a/x": {"enum E {": {"A": "One.", "*": "Any."}}})),
     ("trait H {}\n", 1, dict(default_bodies={"a/x": "trait I {"})),
     ("const M: u8 = 1;\n", 1, dict(dropped_items={"a/x": ("const N",)})),
     ("mod z;\n", 1, dict(dropped_files={"a/x/y"})),

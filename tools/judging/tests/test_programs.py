@@ -117,9 +117,11 @@ def test_programs_that_never_answer_fail(judge):
 
 
 def test_nothing_survives_the_judge(vtlog):
-    mark = f"hang,{os.getpid()}"
-    words = [TOOLS / "judge", "--vtlog", vtlog, "--timeout", 60, *toy(mark)]
-    running = subprocess.Popen([sys.executable, *map(str, words)], stdout=subprocess.DEVNULL)
+    mark = f"sleep 7532.{os.getpid()}"
+    # it hangs once most of what it prints was read, so that the guard was told of it
+    words = ["--vtlog", vtlog, "--timeout", "600", "sh", "-c", "yes | head -c 200000; exec $MARK"]
+    running = subprocess.Popen([sys.executable, TOOLS / "judge", *words],
+                               stdout=subprocess.DEVNULL, env={**os.environ, "MARK": mark})
     try:
         wait_until(lambda: processes(mark) and running.poll() is None)
     finally:

@@ -17,6 +17,19 @@ static int has(const char *difference) {
     return named != NULL && strcmp(named, difference) == 0;
 }
 
+/* Changes a field of an event, or its data, which other groups or pieces divide otherwise. */
+static void change(vte_event *event, uint8_t *data) {
+    uint8_t *items = data + event->start;
+    event->kind ^= has("vte_feed of another kind");
+    event->flag ^= has("vte_feed with another flag");
+    event->code ^= has("vte_feed with another final byte");
+    event->intermediates[0] ^= has("vte_feed with another intermediate");
+    if (has("vte_feed with another number")) items[1] ^= 1;
+    if (has("vte_feed with other groups")) memcpy(items, "\1\1\0\2\2\0\3", 8);
+    if (has("vte_feed with another byte")) items[4] ^= 1;
+    if (has("vte_feed with other pieces")) memcpy(items, "\1\0\0\0a\2\0\0\0bc", 11);
+}
+
 size_t __wrap_vte_feed(vte_parser *parser, const uint8_t *bytes, size_t length, uint32_t kinds,
                        uint32_t stops, vte_event *events, size_t event_room, uint8_t *data,
                        size_t data_room, vte_counts *counts) {
@@ -32,6 +45,7 @@ size_t __wrap_vte_feed(vte_parser *parser, const uint8_t *bytes, size_t length, 
         || (has("vte_feed of some kinds") && kinds != VTE_ALL_KINDS)
         || (has("vte_feed of any parser") && is_other && stops != 0))
         counts->events -= counts->events > 0;
+    if (event_room < LITTLE && counts->events > 0) change(events, data);
     if (has("vte_feed that reads nothing")) return counts->events = 0;
     if (has("vte_feed of too many events")) counts->events = event_room + 1;
     if (has("vte_feed of too many data")) counts->data = data_room + 1;

@@ -32,7 +32,7 @@ fn read_by(is_different: bool, bytes: &[u8]) -> Cow<'_, [u8]> {
         true => bytes
             .iter()
             .copied()
-            .filter(|byte| !b"~7".contains(byte))
+            .filter(|byte| !b"~9".contains(byte))
             .collect(),
     }
 }

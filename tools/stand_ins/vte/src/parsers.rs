@@ -6,12 +6,13 @@ use real::{Open, Perform, PerformText, Refused, Run, Taken};
 
 use crate::{has, read_by};
 
-/// Where a piece begins, by the bytes before it.
+/// Where a piece begins, by the bytes before it, and how the last was read.
 #[derive(Default)]
 struct Cut {
     last: Option<u8>,
     was_of_five: bool,
     is_second: bool,
+    way: &'static str,
 }
 
 impl Cut {
@@ -84,6 +85,7 @@ macro_rules! parser {
                 performer: &mut P,
                 bytes: &[u8],
             ) -> $outcome<()> {
+                self.cut.way = "in runs";
                 let is_different = has($of, "in runs")
                     || has($of, "with line ends") && performer.keeps_layout();
                 let bytes = read_by(is_different, bytes);
@@ -95,6 +97,7 @@ macro_rules! parser {
                 performer: &mut P,
                 bytes: &[u8],
             ) -> $outcome<usize> {
+                self.cut.way = "with stops";
                 let is_early = has($of, "with an early end") && bytes.len() > 1;
                 let given = &bytes[..bytes.len() - usize::from(is_early)];
                 let read = self.real.advance_until_terminated(performer, given)$(.$granted())?;
@@ -109,13 +112,16 @@ macro_rules! parser {
                 performer: &mut P,
                 bytes: &'a [u8],
             ) -> $outcome<Run<'a>> {
+                self.cut.way = "to a run";
                 $made(run_of($of, self.real.advance_to_run(performer, bytes)$(.$granted())?))
             }
 
             pub fn open(&self) -> Open {
-                let is_cut = has($of, "closed by a cut") && self.cut.is_second;
+                let is_closed = has($of, "closed")
+                    || has($of, "closed by a cut") && self.cut.is_second
+                    || has($of, &format!("closed {}", self.cut.way));
                 match self.real.open() {
-                    _ if is_cut || has($of, "closed") => Open::Nothing,
+                    _ if is_closed => Open::Nothing,
                     Open::ControlSequence if has($of, "open as another") => Open::EscapeSequence,
                     open => open,
                 }

@@ -77,8 +77,11 @@ macro_rules! processor {
             }
 
             pub fn sync_bytes_count(&self) -> usize {
-                let is_more = has($of, "held") || has($of, "held in runs") && self.turns.is_in_runs;
-                self.real.sync_bytes_count() + usize::from(is_more)
+                let held = self.real.sync_bytes_count();
+                let is_more = has($of, "held") && held > 0
+                    || has($of, "held after a stop") && self.turns.is_after_stop
+                    || has($of, "held in runs") && self.turns.is_in_runs;
+                held + usize::from(is_more)
             }
         }
     };

@@ -165,6 +165,7 @@ VTE_CORE = dict(
         },
         "vte_core/cuts/iter": {"#[derive(Clone, Debug)]": ["pub struct Parts"]},
         "vte_core/store": {
+            f"#[cfg({WITH_MEMORY})]": ["pub(crate) fn remove_items"],
             f"#[cfg({OWN})]": ["impl<const N: usize> Store<ArrayVec<u8, N>>", "fn are_piece_ends"],
             f"#[cfg({OWN_OR_ANSI})]": ["pub(crate) fn len"],
         },

@@ -39,6 +39,7 @@ impl<B: Buffer> Store<B> {
     }
 
     /// Removes the items of a command that has ended, but not whether it lost data.
+    #[cfg(any(feature = "std", feature = "ansi"))]
     pub(crate) fn remove_items(&mut self) {
         self.ends = ArrayVec::new();
         self.bytes.clear();

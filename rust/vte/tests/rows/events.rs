@@ -15,6 +15,7 @@ const NEXT: &[u8] = b"z\x1bc";
 /// The events of `NEXT` after a row, which are others if something is open.
 fn events_of_next(row: &str) -> String {
     let of_z = match row {
+        "PM that doesn't end" => return "esc - false 63\n".to_owned(),
         "unfinished character at the end" | "unfinished character 50,000 times" => {
             "print fffd\nprint 007a"
         }
@@ -22,8 +23,11 @@ fn events_of_next(row: &str) -> String {
             "esc - false 7a"
         }
         "unfinished CSI at the end" => "csi [1] - false 7a",
-        "DCS with more than 32 numbers" | "hooked DCS at the end of input" => "put 7a\nunhook",
+        "DCS with more than 32 numbers"
+        | "hooked DCS at the end of input"
+        | "device string that doesn't end" => "put 7a\nunhook",
         "OSC at the end of input" => "osc false 2 32 617a",
+        "command that doesn't end" => "osc false 2 30 6162637a",
         _ => "print 007a",
     };
     format!("{of_z}\nesc - false 63\n")

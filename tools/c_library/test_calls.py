@@ -165,19 +165,19 @@ def cuttings(pieces):
 
 def scripts():
     for row in all_rows():
-        if row["kind"] in ("calls", "order"):
-            for cutting in cuttings([bytes_of(piece) for piece in row["pieces"]]):
-                step = Step(advances(cutting), lines_of(row["expect"]))
-                yield Script(f"{row['name']}, in {len(cutting)}", [step], row["kind"] == "order")
-        elif row["kind"] == "run" and row["timeout"] in ("counting", "expiring"):
+        if row["kind"] == "calls":
+            for cutting in cuttings(list(map(bytes_of, row["pieces"]))):
+                step = Step(advances(cutting), lines_of(row["calls"]))
+                yield Script(f"{row['name']}, in {len(cutting)}", [step], "timeouts" in row)
+        elif row["kind"] == "updates" and row["timeout"] in ("counting", "expiring"):
             yield Script(row["name"], list(map(step_of, row["steps"])))
 
 
 def step_of(step):
     """An act of a row. If an update expires, it is stopped."""
-    if "expire" in step:
+    if step.get("act") == "expire":
         return Step(["stop_sync"], lines_of(step["calls"]), (0, 0, None))
-    sets = step["timeout"].count("set") if "timeout" in step else None
+    sets = step["timeouts"].count("set") if "timeouts" in step else None
     is_pending = min(1, step["count"]) if "count" in step else None
     acts = advances([bytes_of(step["advance"])]) if "advance" in step else ["stop_sync"]
     return Step(acts, lines_of(step["calls"]), (step.get("held"), is_pending, sets))

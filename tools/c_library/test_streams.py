@@ -1,7 +1,7 @@
 """Rows and streams, by the C programs: however a stream is cut, they write the same."""
 from c_library.library import TOOLS, at_once, output_of
 from generating.hostile_streams import OF_TEXT, hostile_stream
-from generating.rows import all_rows, bytes_of, lines_of
+from generating.rows import bytes_of, lines_of, vectors
 from judging import definition, house
 
 # arguments of the C program: pieces of one byte, of 4,096, and of random sizes in random room
@@ -61,14 +61,14 @@ def test_rows(library):
     def test_row(row):
         stream, name = bytes_of(row["pieces"]), f"row: {row['name']}"
         compare_losses(library, name, stream)
-        if row["kind"] == "lines":
-            lines = "".join(f"{line}\n" for line in lines_of(row["expect"])).encode()
+        if row["kind"] == "events":
+            lines = "".join(f"{line}\n" for line in lines_of(row["events"])).encode()
             compare_lines(library, name, stream, lines, [WAYS[0], WAYS[2]])
         else:
-            compare(library, name, stream, bytes_of(row["expect"]), [STRIP_WAYS[0], STRIP_WAYS[2]])
+            compare(library, name, stream, bytes_of(row["text"]), [STRIP_WAYS[0], STRIP_WAYS[2]])
 
-    at_once(test_row, [row for row in all_rows()
-                       if row["kind"] in ("lines", "plain") and row.get("size") == LIMIT])
+    at_once(test_row, [row for row in vectors()
+                       if row["kind"] in ("events", "text") and row["limit"] == LIMIT])
 
 
 def all_streams(given):

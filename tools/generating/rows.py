@@ -1,13 +1,28 @@
-"""The rows of tools/rows: streams with their events or calls, worked out by hand. docs/TESTING.md
-says how one is added."""
+"""The rows: the vectors of vectors/, and private rows, which have their form. docs/TESTING.md says
+how one is added."""
 import json
+from pathlib import Path
 
 from generating.files import TOP
 
+PRIVATE = Path(__file__).with_name("private_rows.json")
+
+
+def vectors():
+    for name in ("events", "calls"):
+        file = json.loads((TOP / "vectors" / f"{name}.json").read_text())
+        yield from file["vectors"] + file["long"]
+
 
 def all_rows():
-    return [row for file in sorted((TOP / "tools/rows").glob("*.json"), reverse=True)
-            for row in json.loads(file.read_text())]
+    return [*vectors(), *json.loads(PRIVATE.read_text())]
+
+
+def pieces_of(row):
+    """The stream of a row, in pieces; a text alone has none."""
+    steps = [step.get("advance", step.get("bytes", "")) for step in row.get("steps", [])]
+    pieces = [*row.get("pieces", []), row.get("before", ""), *steps]
+    return [bytes_of(piece) for piece in pieces if piece] or [b""]
 
 
 def parts(value):

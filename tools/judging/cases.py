@@ -1,17 +1,14 @@
 """The streams on which a parser is judged: vectors, recorded, random and hostile ones, in pieces.
 """
-import json
 import random
-from pathlib import Path
 from typing import NamedTuple
 
 from generating.hostile_streams import OF_TEXT, hostile_stream
 from generating.random_text import cut_at_random
-from generating.rows import bytes_of
+from generating.rows import pieces_of, vectors
 from generating.streams import recorded
 
 SOURCES = ("vectors", "random", "recorded")
-VECTORS = Path(__file__).resolve().parents[2] / "vectors"
 
 
 class Case(NamedTuple):
@@ -23,18 +20,9 @@ class Case(NamedTuple):
 
 def from_vectors():
     """The streams of all vectors but those of texts, which are no streams."""
-    for name in ("events", "calls"):
-        file = json.loads((VECTORS / f"{name}.json").read_text())
-        for vector in file["vectors"] + file["long"]:
-            if "text" not in vector or "pieces" in vector:
-                yield Case(f"vector {vector['id']}", pieces_of(vector))
-
-
-def pieces_of(vector):
-    """The stream of a vector, in pieces; a text alone has none."""
-    steps = [step.get("advance", step.get("bytes", "")) for step in vector.get("steps", [])]
-    pieces = [*vector.get("pieces", []), vector.get("before", ""), *steps]
-    return [bytes_of(piece) for piece in pieces if piece] or [b""]
+    for vector in vectors():
+        if "text" not in vector or "pieces" in vector:
+            yield Case(f"vector {vector['id']}", pieces_of(vector))
 
 
 def from_recordings(seed):

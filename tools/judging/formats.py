@@ -18,7 +18,7 @@ def finding_object(finding, again):
     return {"class": finding.name, "rule": finding.rule,
             "kind": mark_of(candidate) or finding.name.partition("/")[2],
             "level": level_of(finding.name), "source": rule.source, "says": rule.says,
-            "page": f"docs/EVENTS.md#{rule.heading}", "pieces": [piece.hex() for piece in pieces],
+            "page": rule.page, "pieces": [piece.hex() for piece in pieces],
             "before": [[piece.hex() for piece in stream] for stream in before],
             "case": case, "again": again(case),
             first: reference, "yours": candidate, "found_in": finding.found_in.name,

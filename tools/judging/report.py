@@ -83,7 +83,7 @@ def shown_finding(finding, again):
              *(f"  {name:10} {answer}" for name, answer in answers)]
     lines += [f"  kind       {KINDS[kind]}"] if kind else []
     for rule in rule_of(finding.name):
-        lines += [f"  rule       {rule.says} (docs/EVENTS.md#{rule.heading})",
+        lines += [f"  rule       {rule.says} ({rule.page})",
                   f"  source     {rule.source}"]
     return "\n".join([*lines, f"  level      {level_of(finding.name)}",
                       f"  known      {'no' if finding.is_new else 'yes'}",

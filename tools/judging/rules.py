@@ -1,9 +1,9 @@
-"""The rules by which a stream has its events: what each says, where, what binds a parser, and the
-source.
+"""The rules by which a stream has its events: what each says, what binds a parser, where it stands,
+and the source.
 
-The name of a rule is the first half of the name of a class. rules.json goes from general rules to
-special ones: a difference belongs to the most special rule that its smallest stream needs. The
-levels:
+The name of a rule is the first half of the name of a class. vectors/events.json goes from general
+rules to special ones: a difference belongs to the most special rule that its smallest stream needs.
+The levels:
 
 - must: a standard says shall or must, in the sentence that the source quotes
 - should: a standard or the VT500 parser, which terminals follow, has it so
@@ -13,28 +13,39 @@ A class has the level of its rule, with three exceptions that are must: no answe
 depends on a cut, and malformed text that is read as characters, or with the bytes after it.
 """
 import json
-from pathlib import Path
 from typing import NamedTuple
+
+from generating.files import TOP
 
 MUST, SHOULD, DIFFERS = LEVELS = ("must", "should", "differs")
 
 
 class Rule(NamedTuple):
-    """What a rule says, its heading in docs/EVENTS.md, its level, and its source."""
+    """What a rule says, its level, its page with the heading, and its source."""
 
     says: str
-    heading: str
     level: str
+    page: str
     source: str
 
 
-FILE = Path(__file__).with_suffix(".json")
-RULES = {name: Rule(**rule) for name, rule in json.loads(FILE.read_text()).items()}
+FILE = TOP / "vectors" / "events.json"
+RULES = {name: Rule(**rule) for name, rule in json.loads(FILE.read_text())["rules"].items()}
 # how many U+FFFD stand for what is malformed is recommended; what Unicode demands is in the sources
 MALFORMED = ("unfinished", "malformed", "surrogate", "overlong")
-# cuts, and what isn't about a rule of streams, stand at the end
-CUT = RULES.pop("cut")
-ALONE = {name: RULES.pop(name) for name in ("not-deterministic", "kept-state", "protocol")}
+# cuts, and what isn't about a rule of streams
+CUT = Rule("The events of a stream don't depend on how it is cut into pieces.", MUST,
+           "docs/EVENTS.md#prefixes-and-resynchronisation", "each cut must give the same")
+ALONE = {
+    "not-deterministic": Rule("A stream has the same events each time.", MUST,
+                              "docs/EVENTS.md#events", "each run must give the same"),
+    "kept-state": Rule("The events of a stream don't depend on the streams before it.", MUST,
+                       "docs/EVENTS.md#events",
+                       "docs/JUDGE.md: each stream must have a new parser"),
+    "protocol": Rule("A program prints one line per event, and nothing else.", MUST,
+                     "docs/EVENTS.md#events-and-their-lines",
+                     "docs/JUDGE.md: it must answer each stream"),
+}
 ORDER = {name: index for index, name in enumerate(RULES)}
 
 

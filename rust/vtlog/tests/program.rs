@@ -10,12 +10,11 @@ use std::process::{Command, Output, Stdio};
 use std::time::Duration;
 
 #[allow(dead_code)]
-#[path = "../../vte/tests/rows/block.rs"]
-mod block;
+#[path = "../../vte/tests/rows/vectors.rs"]
+mod vectors;
 
-use block::blocks;
+use vectors::{vectors, Value};
 
-const ROWS: &str = include_str!("../../vte/tests/rows/events.txt");
 const HINT: &str = "it reads standard input, as in vtlog text <FILE; see vtlog --help";
 
 /// The program that is tested instead of the one that cargo builds.
@@ -62,25 +61,21 @@ fn failure(verb: &str, stream: &str, why: &str) -> String {
 #[test]
 fn rows_give_their_lines() {
     let mut count = 0;
-    for row in blocks(ROWS) {
-        let (arguments, wanted): (&[&str], _) = match (row.kind, row.value("size")) {
-            ("lines", Some("1024")) => (&[], row.all("event").into_bytes()),
-            ("plain", _) => {
-                let text = row.lines().find(|line| line.word == "text");
-                (&["text"], text.map_or(vec![], |line| line.bytes()))
-            }
+    for row in vectors() {
+        let (arguments, wanted): (&[&str], _) = match (row.text("kind"), row.number("limit")) {
+            ("events", Some(1024)) => (&[], row.events().into_bytes()),
+            ("text", _) => (&["text"], row.get("text").map_or(vec![], Value::bytes)),
             _ => continue,
         };
-        let output = run(arguments, &row.pieces().concat());
-        assert!(output.stdout == wanted, "{}", row.name);
+        let (output, name) = (run(arguments, &row.pieces().concat()), row.text("name"));
+        assert!(output.stdout == wanted, "{name}");
         assert!(
             output.status.success() && output.stderr.is_empty(),
-            "{}",
-            row.name
+            "{name}"
         );
         count += 1;
     }
-    assert!(count > 90, "{count} rows");
+    assert!(count > 190, "{count} rows");
 }
 
 #[test]

@@ -12,7 +12,8 @@ from tests.support import write
 TOOLS = Path(__file__).resolve().parents[2]
 VECTORS = TOOLS.parent / "vectors"
 TOY = Path(__file__).with_name("toy.py")
-FILES = [json.loads((VECTORS / name).read_text()) for name in ("events.json", "calls.json")]
+NAMES = ["events", "calls"]
+FILES = [json.loads((VECTORS / f"{name}.json").read_text()) for name in NAMES]
 EVENTS = FILES[0]["vectors"] + FILES[0]["long"]
 
 

@@ -12,7 +12,7 @@ from judging.cases import Case
 from judging.classes import Difference
 from judging.judgement import Finding, Judgement
 from judging.rules import ALONE, CUT, RULES
-from support import TOOLS, program_in
+from support import FILES, TOOLS, program_in
 from tests.missing import miss
 
 
@@ -77,9 +77,8 @@ def test_each_house_rule_is_tested_and_on_the_page():
 
 def test_headings_of_rules_are_there():
     Page = run_path(str(TOOLS / "check_docs"))["Page"]
-    links = [f"docs/EVENTS.md#{it.heading}" for it in [*RULES.values(), *ALONE.values(), CUT]]
-    own = json.loads((TOOLS / "rows/for_vectors/rules.json").read_text())
-    links += [it["page"] for it in own["rules"].values()]
+    links = [it.page for it in [*RULES.values(), *ALONE.values(), CUT]]
+    links += [it["page"] for it in FILES[1]["rules"].values()]
     for page, _, heading in (link.partition("#") for link in links):
         assert heading in Page(TOOLS.parent / page).headings(), heading
 

@@ -1,4 +1,5 @@
 """Tests of vectors/: the files, and the runners in each language."""
+import hashlib
 import json
 import os
 import re
@@ -7,18 +8,62 @@ import sys
 
 import my_parser
 import pytest
-from generating.rows import bytes_of, lines_of
+from generating.rows import PRIVATE, bytes_of, lines_of
+from heads import head_of
 from judging import definition
 from judging.house import House
-from support import EVENTS, FILES, TOOLS, TOY, VECTORS, run, run_python
+from support import EVENTS, FILES, NAMES, TOOLS, TOY, VECTORS, run, run_python
 from tests.missing import miss, need
 
+each_file = pytest.mark.parametrize("file", FILES, ids=NAMES)
+# how many vectors of each list were released, and a sum of their ids: new ones stand at its end
+RELEASED = [(198, "2ab134ab7ac8190f"), (6, "ba7ddb15de71999a"),
+            (636, "b0c14a0e851373f5"), (1, "a188b83b953547bb")]
 
-def test_files_are_up_to_date():
-    assert run_python(TOOLS / "make_vectors", "--check") == (0, "")
+
+def test_ids_stay_and_differ():
+    ids = [[vector["id"] for vector in file[name]]
+           for file in FILES for name in ("vectors", "long")]
+    sums = [hashlib.sha256(" ".join(some[:count]).encode()).hexdigest()[:16]
+            for some, (count, _) in zip(ids, RELEASED)]
+    assert sums == [wanted for _, wanted in RELEASED]
+    assert len({*sum(ids, [])}) == sum(map(len, ids))
 
 
-@pytest.mark.parametrize("file", FILES, ids=["events", "calls"])
+@each_file
+def test_heads_follow_from_vectors(file):
+    """Where a head is wrong, this prints the right one."""
+    for vector in file["vectors"] + file["long"]:
+        head = head_of(vector, file["rules"])
+        assert {name: vector.get(name) for name in head} == head, (
+            f"{vector['id']}: {json.dumps(head)}")
+
+
+@each_file
+def test_rules_are_those_of_the_vectors(file):
+    used = {name for vector in file["vectors"] + file["long"] for name in vector["rules"]}
+    assert used == file["rules"].keys()
+    events = FILES[0]["rules"]
+    assert all(rule == events.get(name, rule) for name, rule in file["rules"].items())
+
+
+@pytest.mark.parametrize("name", NAMES)
+def test_a_vector_is_a_line(name):
+    lines = (VECTORS / f"{name}.json").read_text().splitlines()
+    file = FILES[NAMES.index(name)]
+    wanted = [json.dumps(vector) for vector in file["vectors"] + file["long"]]
+    assert [line.rstrip(",") for line in lines if line.startswith('{"id": ')] == wanted
+
+
+def test_private_rows_are_tested():
+    """tools/make_rows reads those of updates; the others name their test."""
+    for row in json.loads(PRIVATE.read_text()):
+        if row["kind"] != "updates":
+            path, name = row["test"].split()
+            assert f"fn {name}(" in (TOOLS.parent / path).read_text(), row["name"]
+
+
+@each_file
 def test_files_match_the_schema(file):
     try:
         import jsonschema

@@ -6,17 +6,9 @@
 //! | line | meaning |
 //! |---|---|
 //! | `advance HEX`, `advances N HEX` | a call of `advance` with these bytes, or N copies |
-//! | `event LINE`, `events N LINE` | an event, or N; `\|` divides what is repeated together |
 //! | `call LINE`, `calls N LINE` | a handler call, or N of them |
-//! | `size N` | how many data bytes of an operating system command are kept, or `unlimited` |
-//! | `stop WORD`, `before HEX`, `until HEX`, `answer N` | see `events.rs` |
 //! | `timeout WORD`, `stop_sync`, `expire`, `held N`, `count N` | see `acts.rs` |
 //! | `sets N`, `clears N` | see `acts.rs` |
-//!
-//! In `events.txt`, `{UNIT*N}` in bytes and lines stands for N copies of UNIT.
-
-/// Calls of `advance` with more bytes than this aren't cut at every place.
-pub const MOST_CUT: usize = 2048;
 
 /// A row.
 #[derive(Clone, Copy)]
@@ -50,13 +42,6 @@ impl<'a> Block<'a> {
         })
     }
 
-    /// The rest of the line with this word.
-    pub fn value(&self, word: &str) -> Option<&'a str> {
-        self.lines()
-            .find(|line| line.word == word)
-            .map(|line| line.rest)
-    }
-
     /// The bytes of each call of `advance`.
     pub fn pieces(&self) -> Vec<Vec<u8>> {
         self.lines()
@@ -82,7 +67,6 @@ impl Line<'_> {
 
     pub fn bytes(&self) -> Vec<u8> {
         let (times, text) = self.repeated();
-        let text = expanded(text);
         let bytes: Vec<u8> = (0..text.len())
             .step_by(2)
             .map(|at| u8::from_str_radix(&text[at..at + 2], 16).expect("hex digits"))
@@ -92,11 +76,6 @@ impl Line<'_> {
 
     pub fn text(&self) -> String {
         let (times, text) = self.repeated();
-        let text = if self.is("event") {
-            expanded(text).replace('|', "\n")
-        } else {
-            text.to_owned()
-        };
         format!("{text}\n").repeat(times)
     }
 
@@ -111,28 +90,4 @@ impl Line<'_> {
         let (times, text) = self.rest.split_once(' ').expect("a number and a text");
         (times.parse().expect("a number"), text)
     }
-}
-
-/// A text with its repetition written out.
-fn expanded(text: &str) -> String {
-    let parts = text.split_once('{').and_then(|(front, rest)| {
-        let (inside, back) = rest.split_once('}')?;
-        let (unit, times) = inside.rsplit_once('*')?;
-        Some([front, &unit.repeat(times.parse().ok()?), back].concat())
-    });
-    parts.unwrap_or_else(|| text.to_owned())
-}
-
-/// The ways to cut a stream: byte by byte, and in two at every place.
-pub fn cuttings(stream: &[u8]) -> impl Iterator<Item = Vec<&[u8]>> {
-    let places = if stream.len() > MOST_CUT {
-        0
-    } else {
-        stream.len()
-    };
-    let in_two = (0..=places).map(move |place| {
-        let (front, back) = stream.split_at(place);
-        vec![front, back]
-    });
-    std::iter::once(stream.chunks(1).collect()).chain(in_two)
 }

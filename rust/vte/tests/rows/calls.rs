@@ -6,11 +6,12 @@
 //! the timeout, in pieces of every length.
 
 use crate::acts::check_acts;
-use crate::block::{blocks, cuttings, Block};
+use crate::block::{blocks, Block};
 use crate::call_lines::CallLines;
 #[cfg(feature = "__own")]
 use crate::reader::CallsInRuns;
 use crate::reader::{ByObject, LentTexts, LentTextsInRuns, OwnedTexts, OwnedTextsInRuns, Reader};
+use crate::vectors::cuttings;
 
 const ROWS: &str = include_str!("../../../../crates/call_rows/stdin");
 const LONGEST_PIECE: usize = 32;

@@ -22,9 +22,9 @@ impl Stop {
     pub fn named(name: &str) -> Self {
         match name {
             "never" => Stop::Never,
-            "start" => Stop::FromTheStart,
-            "print" => Stop::AfterPrint,
-            "esc" => Stop::AfterEscape,
+            "from the start" => Stop::FromTheStart,
+            "after print 1" => Stop::AfterPrint,
+            "after esc 1" => Stop::AfterEscape,
             _ => panic!("no such stop: {name}"),
         }
     }

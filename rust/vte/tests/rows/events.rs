@@ -1,20 +1,17 @@
-//! Rows of events: `lines` are streams, `until` are calls that stop early.
-//!
-//! In an `until`, `stop` says when the performer is terminated, `before` has bytes that were read
-//! before, and `answer` is what `advance_until_terminated` returns.
+//! Vectors of events, and of stops, which are calls that stop early.
 
 use vte::{parts, BoundedParser, Parser, PerformText};
 
-use crate::block::{blocks, cuttings, Block};
 use crate::event_lines::{EventLines, Stop};
+use crate::vectors::{cuttings, vectors, Value};
 
-const ROWS: &str = include_str!("events.txt");
 /// What follows each stream.
 const NEXT: &[u8] = b"z\x1bc";
 
 /// The events of `NEXT` after a row, which are others if something is open.
 fn events_of_next(row: &str) -> String {
     let of_z = match row {
+        "PM that doesn't end" => return "esc - false 63\n".to_owned(),
         "unfinished character at the end" | "unfinished character 50,000 times" => {
             "print fffd\nprint 007a"
         }
@@ -22,8 +19,11 @@ fn events_of_next(row: &str) -> String {
             "esc - false 7a"
         }
         "unfinished CSI at the end" => "csi [1] - false 7a",
-        "DCS with more than 32 numbers" | "hooked DCS at the end of input" => "put 7a\nunhook",
+        "DCS with more than 32 numbers"
+        | "hooked DCS at the end of input"
+        | "device string that doesn't end" => "put 7a\nunhook",
         "OSC at the end of input" => "osc false 2 32 617a",
+        "command that doesn't end" => "osc false 2 30 6162637a",
         _ => "print 007a",
     };
     format!("{of_z}\nesc - false 63\n")
@@ -126,13 +126,13 @@ fn long_events_in_runs_of(pieces: &[&[u8]]) -> [String; 2] {
     events_by(read, pieces)
 }
 
-fn check_stream(row: &Block<'_>, events_of: fn(&[&[u8]]) -> [String; 2]) {
-    let (pieces, events) = (row.pieces(), row.all("event"));
+fn check_stream(row: &Value, events_of: fn(&[&[u8]]) -> [String; 2]) {
+    let (pieces, name) = (row.pieces(), row.text("name"));
     let pieces: Vec<&[u8]> = pieces.iter().map(Vec::as_slice).collect();
     let stream = pieces.concat();
-    let events = [events, events_of_next(row.name)];
-    assert!(events_of(&pieces) == events, "{}", row.name);
-    assert!(events_of(&[&stream]) == events, "{}, whole", row.name);
+    let events = [row.events(), events_of_next(name)];
+    assert!(events_of(&pieces) == events, "{name}");
+    assert!(events_of(&[&stream]) == events, "{name}, whole");
     for cutting in cuttings(&stream) {
         let (count, first) = (
             cutting.len(),
@@ -140,32 +140,36 @@ fn check_stream(row: &Block<'_>, events_of: fn(&[&[u8]]) -> [String; 2]) {
         );
         assert!(
             events_of(&cutting) == events,
-            "{} in {count} pieces, the first of {first} bytes",
-            row.name
+            "{name} in {count} pieces, the first of {first} bytes"
         );
     }
 }
 
 /// Whether a stream may have a command with more data bytes than are kept.
-fn may_reach(stream: &[u8], size: &str) -> bool {
-    let size = size.parse().unwrap_or(usize::MAX);
+fn may_reach(stream: &[u8], size: Option<usize>) -> bool {
+    let size = size.unwrap_or(usize::MAX);
     stream.len() > size && stream.windows(2).any(|bytes| bytes == b"\x1b]")
 }
 
-fn streams() -> impl Iterator<Item = (Block<'static>, &'static str)> {
-    blocks(ROWS)
-        .filter(|row| row.kind == "lines")
-        .map(|row| (row, row.value("size").expect("a size")))
+fn vectors_of(kind: &'static str) -> impl Iterator<Item = Value> {
+    vectors().filter(move |vector| vector.text("kind") == kind)
+}
+
+fn streams() -> impl Iterator<Item = (Value, Option<usize>)> {
+    vectors_of("events").map(|row| {
+        let limit = row.number("limit");
+        (row, limit)
+    })
 }
 
 /// The streams whose events don't depend on the parameter of the parser.
-fn streams_for_all() -> Vec<Block<'static>> {
+fn streams_for_all() -> Vec<Value> {
     let rows: Vec<_> = streams()
-        .filter(|(row, size)| !may_reach(&row.pieces().concat(), size))
-        .filter(|(_, size)| cfg!(feature = "std") || *size != "unlimited")
+        .filter(|(row, size)| !may_reach(&row.pieces().concat(), *size))
+        .filter(|(_, size)| cfg!(feature = "std") || size.is_some())
         .map(|(row, _)| row)
         .collect();
-    assert!(rows.len() > 85, "{} rows", rows.len());
+    assert!(rows.len() > 190, "{} rows", rows.len());
     rows
 }
 
@@ -195,7 +199,7 @@ fn streams_give_their_events_in_runs() {
 #[cfg(any(feature = "std", feature = "ansi"))]
 #[test]
 fn commands_without_a_limit_are_kept() {
-    let rows: Vec<_> = streams().filter(|(_, size)| *size == "unlimited").collect();
+    let rows: Vec<_> = streams().filter(|(_, size)| size.is_none()).collect();
     assert!(!rows.is_empty());
     for (row, _) in rows {
         check_stream(&row, long_events_of);
@@ -203,7 +207,7 @@ fn commands_without_a_limit_are_kept() {
     }
 }
 
-fn check_both<const N: usize>(row: &Block<'_>) {
+fn check_both<const N: usize>(row: &Value) {
     check_stream(row, bounded_events_of::<N>);
     check_stream(row, bounded_events_in_runs_of::<N>);
 }
@@ -212,15 +216,15 @@ fn check_both<const N: usize>(row: &Block<'_>) {
 fn commands_are_kept_up_to_a_limit() {
     for (row, size) in streams() {
         match size {
-            "0" => check_both::<0>(&row),
-            "1" => check_both::<1>(&row),
-            "2" => check_both::<2>(&row),
-            "5" => check_both::<5>(&row),
-            "30" => check_both::<30>(&row),
-            "32" => check_both::<32>(&row),
-            "1024" => check_both::<1024>(&row),
-            "unlimited" => {}
-            _ => panic!("no parser of {size} bytes here"),
+            Some(0) => check_both::<0>(&row),
+            Some(1) => check_both::<1>(&row),
+            Some(2) => check_both::<2>(&row),
+            Some(5) => check_both::<5>(&row),
+            Some(30) => check_both::<30>(&row),
+            Some(32) => check_both::<32>(&row),
+            Some(1024) => check_both::<1024>(&row),
+            Some(size) => panic!("no parser of {size} bytes here"),
+            None => {}
         }
     }
 }
@@ -238,7 +242,7 @@ fn parts_give_the_events_of_their_stream() {
                     events
                 })
                 .collect();
-            assert_eq!(lines, row.all("event"), "{}, {size}", row.name);
+            assert_eq!(lines, row.events(), "{}, {size}", row.text("name"));
         }
     }
     assert!(rows
@@ -262,22 +266,25 @@ fn a_part_without_the_next_escape_lacks_events() {
 
 #[test]
 fn stops_are_early() {
-    let rows: Vec<_> = blocks(ROWS).filter(|row| row.kind == "until").collect();
+    let rows: Vec<_> = vectors_of("stops").collect();
     assert!(!rows.is_empty());
     for row in rows {
-        let stop = Stop::named(row.value("stop").expect("a stop"));
-        let mut lines: EventLines = EventLines::new(stop);
-        let (mut parser, mut read, mut events) = (Parser::new(), 0, String::new());
-        for line in row.lines() {
-            match line.word {
-                "stop" => {}
-                "before" => parser.advance(&mut <EventLines>::new(Stop::Never), &line.bytes()),
-                "until" => read = parser.advance_until_terminated(&mut lines, &line.bytes()),
-                "advance" => parser.advance(&mut lines, &line.bytes()),
-                "answer" => assert_eq!(read, line.number(), "{}", row.name),
-                _ => events.push_str(&line.text()),
+        let name = row.text("name");
+        let mut lines: EventLines = EventLines::new(Stop::named(row.text("terminated")));
+        let (mut parser, mut events) = (Parser::new(), String::new());
+        let before = row.get("before").map_or(vec![], Value::bytes);
+        parser.advance(&mut <EventLines>::new(Stop::Never), &before);
+        for step in row.items("steps") {
+            let bytes = step.get("bytes").map_or(vec![], Value::bytes);
+            match step.number("read") {
+                Some(read) => {
+                    let found = parser.advance_until_terminated(&mut lines, &bytes);
+                    assert_eq!(found, read, "{name}");
+                }
+                None => parser.advance(&mut lines, &bytes),
             }
+            events.push_str(&step.events());
+            assert_eq!(lines.text, events, "{name}");
         }
-        assert_eq!(lines.text, events, "{}", row.name);
     }
 }

@@ -1,15 +1,17 @@
 //! Rows worked out by hand: streams with their events and their handler calls.
 //!
-//! `events.txt` is written by tools/make_rows; the rows of calls are those of
-//! crates/call_rows/stdin.
+//! Those of events are read from `vectors/`, those of calls from crates/call_rows/stdin, which
+//! tools/make_rows writes.
 
-mod block;
 mod event_lines;
 mod events;
 mod open;
+mod vectors;
 
 #[cfg(feature = "ansi")]
 mod acts;
+#[cfg(feature = "ansi")]
+mod block;
 #[cfg(all(feature = "ansi", feature = "__own"))]
 mod by_call;
 #[cfg(feature = "ansi")]

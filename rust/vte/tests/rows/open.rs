@@ -3,9 +3,7 @@ use std::str;
 use vte::Open::*;
 use vte::{BoundedParser, Open, Parser, Perform};
 
-use crate::block::blocks;
-
-const ROWS: &str = include_str!("events.txt");
+use crate::vectors::vectors;
 
 /// Worked out by hand: streams, and what is open after each of their bytes, by its letter.
 const BY_HAND: &[(&[u8], &str)] = &[
@@ -161,11 +159,11 @@ fn examples_by_hand() {
 
 #[test]
 fn each_prefix_of_a_row() {
-    let rows: Vec<_> = blocks(ROWS)
+    let rows: Vec<_> = vectors()
         .map(|row| row.pieces().concat())
         .filter(|stream| stream.len() < 256)
         .collect();
-    assert!(rows.len() > 90);
+    assert!(rows.len() > 800);
     for stream in rows {
         check(&stream, |end| open_by_grammar(&stream[..end]));
     }

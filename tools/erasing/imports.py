@@ -5,6 +5,8 @@ from collections import Counter
 from erasing.passes import add_above
 from erasing.tokens import WORD
 
+# What is by hand in a crate for cargo, as marks name it.
+BY_HAND = ("adapter::", "prelude::")
 # Modules of std that Rust's `core` has with the same meaning.
 OF_CORE = {"cmp", "fmt", "iter", "marker", "mem", "ops", "str", "time"}
 
@@ -24,7 +26,7 @@ def renamed(source, at, path, crate, plan):
             source.refuse(f"unknown module of std: {module}", at)
         root = f"core::{module}" if module in OF_CORE else plan.of_std[module]
         source.used.add((module, root))
-    else:
+    elif not (root == "crate" and rest.startswith(BY_HAND)):
         roots = {**plan.modules, **plan.other_crates, "crate": plan.modules[crate]}
         source.used.add((root, roots.get(root)))
         root = roots.get(root, root)
@@ -121,11 +123,11 @@ def _lines(source, visibility, paths, plan):
     """The imports of these paths: one for each module and set of conditions."""
     groups = {}
     for path in paths:
-        root, _, name = path.rpartition("::")
-        groups.setdefault((_conditions(source, path, plan), root), []).append(name)
+        root, sign, name = path.rpartition("::")
+        groups.setdefault((_conditions(source, path, plan), root + sign), []).append(name)
     lines = []
     for (conditions, root), names in groups.items():
         lines += [f"#[cfg({condition})]" for condition in conditions]
         listed = names[0] if len(names) == 1 else "{" + ", ".join(sorted(names)) + "}"
-        lines.append(f"{visibility}use {root + '::' if root else ''}{listed};")
+        lines.append(f"{visibility}use {root}{listed};")
     return "\n".join(lines)

@@ -12,8 +12,9 @@ def table():
 
 @dataclass(frozen=True)
 class Plan:
-    """A Rust crate. Tables are by file, unless they say something else. What they say can't be seen
-    in the sources, which know one prover and one library, no features and no other users."""
+    """A Rust crate. Tables are by file, unless they say something else. They say what differs in
+    kind: the sources know one prover and one library, no features and no oldest Rust. What differs
+    in one place is a mark there (marks.py)."""
 
     folder: str  # what is written; nothing else stands there
     modules: dict  # the Rattle crates: the path of each, seen from anywhere in the Rust crate
@@ -29,23 +30,8 @@ class Plan:
     crate_conditions: dict = table()  # of the crates' modules
     item_conditions: dict = table()  # by crate too: conditions, and words of items that have them
 
-    # what goes: it is by hand in the Rust crate, rustc derives it, or only proofs, tests or other
-    # crates use it
-    dropped_files: frozenset = frozenset()
-    dropped_items: dict = table()  # items and functions, by their first words
-
-    # what changes, and what comes: the interface of `vte`, what rustc asks for, and what was
-    # measured to be as fast as the crate
+    # the reader, the allocator, old Rust, unsized performers: what a mark in each place would say
     rules: dict = table()  # by crate and "" for all, too: patterns, and what stands in their place
-    first_lines: dict = table()  # lines above the first item
-    attributes: dict = table()  # attributes, and the first words of what has them
-    default_bodies: dict = table()  # traits whose methods do nothing by default
-    handler: dict = table()  # by the file of the trait `Handler`, rules for arguments it copies
-
-    # comments: what readers of the Rust crate look for in docs
-    comments: dict = table()  # words of comments, and what stands in their place
-    members: dict = table()  # docs of members that have none, by the first words of their type
-    examples: dict = table()  # hidden lines before examples, and after "..", or None to drop these
 
     def conditions_of(self, source, words):
         """The conditions of an item with these words. Those of a file with None have none."""

@@ -25,10 +25,12 @@ ALLOCATORS = [
     ("Vec::with_capacity(alloc,", "Vec::with_capacity("),
 ]
 
-# What the oldest Rust lacks: `is_sorted`, `let .. else`, and ranges of patterns without their last
-# number.
+# What the oldest Rust lacks: `is_sorted`, `first_chunk`, `let .. else`, and ranges of patterns
+# without their last number.
 OLDER = [
     ("$v.is_sorted()", "$v.windows(2).all(|pair| pair[0] <= pair[1])"),
+    ("$v$range.first_chunk::<$n>()", "first_chunk::<$n>(&$v$range)",
+     lambda names: names["range"][0] == "["),
     ("let $v($$p) = $$e else { $$$body };", lambda names: _match(**names)),
     ("$a..$b =>", lambda names: f"{names['a']}..={_before(names['b'])} =>",
      lambda names: names["b"][0].isdigit()),

@@ -27,6 +27,7 @@ const ESC_DISPATCH: u64 = 8 << 32;
 /// With a sum in the place of the exclusive or, LLVM would fold several events at once where it
 /// sees them together.
 #[derive(Drop)]
+// cargo: #[derive(Default)]
 pub(crate) struct Checksum {
     parity: u64,
     sum: u64,

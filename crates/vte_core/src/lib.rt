@@ -4,10 +4,9 @@
 //!
 //! [`Parser`] reads a stream in chunks of any length and calls a [`Perform`] for each of its
 //! events. [`LongParser`] is a parser without a limit on the text of operating system commands.
-//!
-//! The meaning of a performer is one function from a value and an event to a value. What the events
-//! of a stream are is defined in specs/, without states; the contract of [`Parser::advance`] says
-//! that the performer takes exactly these. [`laws`] has what holds of all streams.
+// proof: The meaning of a performer is one function from a value and an event to a value. What the
+// events of a stream are is defined in specs/, without states; the contract of [`Parser::advance`]
+// says that the performer takes exactly these. [`laws`] has what holds of all streams.
 #![tactic(auto)]
 
 mod automaton;
@@ -32,5 +31,6 @@ pub use parser::{Open, Parser};
 pub use parser::Saved;
 // takes memory
 pub use parser::{LongParser, Refused};
+// cargo instead: pub use perform::{Perform, PerformText};
 pub use perform::{Perform, PerformText, PerformThroughText};
 pub use scan::{InRuns, Run, Singly, Taken};

@@ -43,6 +43,7 @@ impl<B: Buffer> Model for Store<B> {
 
 impl<B: Buffer> Store<B> {
     /// Creates a store without items, over a buffer.
+    // cargo instead: pub(crate) const fn new(bytes: B) -> Self
     pub(crate) fn new(bytes: B) -> Self
         requires { B.held bytes ≡ [] }
         ensures holds { HoldsItems B.limit result [] }
@@ -177,6 +178,7 @@ impl<B: Buffer> Store<B> {
     }
 }
 
+// cargo: #[cfg(feature = "__own")]
 impl<const N: usize> Store<ArrayVec<u8, N>> {
     /// Returns the data bytes, the ends of the first 16 pieces in them, and whether data bytes were
     /// dropped.
@@ -211,6 +213,7 @@ impl<const N: usize> Store<ArrayVec<u8, N>> {
 
 impl<A: Allocator> Store<Vec<u8, A>> {
     /// Returns for how many data bytes there is memory.
+    // cargo lacks: nobody asks
     pub(crate) fn capacity(&self) -> usize
         ensures { result ≡ self.now.capacity }
     {
@@ -218,6 +221,7 @@ impl<A: Allocator> Store<Vec<u8, A>> {
     }
 
     /// Returns how many data bytes it has.
+    // cargo: #[cfg(any(feature = "__own", feature = "ansi"))]
     pub(crate) fn len(&self) -> usize
         ensures { result ≡ length self.now.bytes }
     {
@@ -251,6 +255,7 @@ impl<A: Allocator + Clone> Clone for Store<Vec<u8, A>> {
 
 /// Returns whether pieces with this many bytes in all can end at these positions, of which there
 /// are at most 16.
+// cargo: #[cfg(feature = "__own")]
 fn are_piece_ends(ends: &[usize], count: usize) -> bool
     ensures { IsTrue result ↔ (IsNonDecreasing ends.now × All (λ end. end ≤ count) ends.now) }
 {

@@ -1,11 +1,12 @@
 //! Handlers: what a program can ask of a terminal, one method per request.
 //!
-//! A [`Handler`] has one method per call. Its ghost members say what value it stands for, and how
-//! each call changes that value. Texts and bytes are borrowed for the duration of the call. If only
-//! a few calls matter to you, [`ByCall`] passes each on as a [`HandlerCall`], and one `match` picks
-//! those.
+//! A [`Handler`] has one method per call. Texts and bytes are borrowed for the duration of the
+//! call. If only a few calls matter to you, [`ByCall`] passes each on as a [`HandlerCall`], and one
+//! `match` picks those.
+// proof: its ghost members say what value it stands for, and how each call changes that value.
 #![tactic(auto)]
 
+// cargo: pub(crate) use handler::owned;
 mod by_call;
 mod handler;
 mod hyperlink;

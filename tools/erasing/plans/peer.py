@@ -2,7 +2,6 @@
 `vte` or ours. tools/building erases these files when it builds.
 """
 from erasing.plan import Plan
-from erasing.plans.ansi import HINTED
 
 PEER = Plan(
     folder="",
@@ -10,12 +9,6 @@ PEER = Plan(
     other_crates={"vte_core": "vte", "vte_types": "vte::ansi"},
     item_conditions={"examples/performer": {"runs": "PerformText"},
                      "vte_handler/by_call": {"runs": "HandlerText"}},
-    # the parser and the processor are those of tools/peer
-    dropped_items={
-        "race/screens": [
-            f"{front}{racer}" for racer in ("ScreenRacer", "TerminalRacer") for front in (
-            "struct ", "impl<const IN_RUNS: bool> ", "impl<const IN_RUNS: bool> Racer for ")],
-    },
     imports={"": {
         **{f"examples::{name}": f"crate::{module}::{name}"
            for module, name in (("cell", "Cell"), ("screen", "ROWS"), ("screen", "Screen"))},
@@ -38,8 +31,7 @@ PEER = Plan(
         "examples/screen": [
             ("for (place, byte) in bytes.iter().enumerate() { cells[place].show$x; }",
              "for (cell, byte) in cells.iter_mut().zip(bytes) { cell.show$x; }")],
-        "race/screens": [("fn shown", "pub(crate) fn shown")],
-        "vte_handler/by_call": HINTED + [
+        "vte_handler/by_call": [
             ("title: Option<&str>", "title: Option<String>"),
             ("SetTitle(title)", "SetTitle(title.as_deref())"),
             ("prefix: &str", "prefix: String"),
@@ -49,7 +41,4 @@ PEER = Plan(
              "SetHyperlink(link.as_ref().map(|link| "
              "Hyperlink { id: link.id.as_deref(), uri: &link.uri }))")],
     },
-    attributes={"race/checksum": {"#[derive(Default)]": ["pub(crate) struct Checksum"]},
-                "race/until_cleared": {"#[derive(Default)]": ["pub(crate) struct UntilCleared"]}},
-    examples={"vte_handler/by_call": None},
 )

@@ -1,7 +1,6 @@
 """The crate rust/vte: the parser, and with `ansi` the processor and its types."""
-from erasing import wording
 from erasing.plan import Plan, joined
-from erasing.plans import ansi
+from erasing.plans.ansi import ANSI
 from erasing.plans.vte_core import VTE_CORE
 from erasing.rules import ALLOCATORS
 
@@ -19,19 +18,8 @@ VTE = Plan(
              for name in ("vte_core", "vte_types", "vte_handler", "vte")},
     of_std={"alloc": "crate::prelude"},
     crate_conditions={name: 'feature = "ansi"' for name in ("vte_types", "vte_handler", "vte")},
-    dropped_files=frozenset({
-        # the crate's own timeout is over `std::time::Instant`
-        "vte/ansi/clock", "vte/ansi/std_sync_handler",
-        # `BoundedProcessor` has its limit too
-        "vte/ansi/processor",
-        # the crate `cursor-icon`
-        "vte_types/cursor_icon",
-    }),
-    comments=wording.VTE,
-    members=wording.MEMBERS,
-    examples=wording.EXAMPLES,
     **joined(
         dict(homes={"": {"crate::prelude": "String Vec first_chunk"}},
              rules={"": ALLOCATORS + UNSIZED}),
-        VTE_CORE, ansi.VTE_TYPES, ansi.VTE_HANDLER, ansi.PROCESSOR),
+        VTE_CORE, ANSI),
 )

@@ -8,6 +8,7 @@ use vte_handler::Handler;
 use vte_types::{CharsetIndex, StandardCharset};
 
 /// Makes the calls of an executed byte.
+#[allow(clippy::manual_range_patterns)]
 pub(crate) fn perform_execute<H: Handler>(handler: &mut H, byte: u8)
     ensures { H.value_of handler.new ≡ after H.step (H.value_of handler.old) (execute_calls byte) }
 {

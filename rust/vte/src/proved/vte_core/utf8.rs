@@ -134,8 +134,8 @@ pub(crate) fn character_of_two(first: u8, second: u8) -> char {
 #[allow(unsafe_code)]
 pub(crate) fn character_of_three(first: u8, second: u8, third: u8) -> char {
     debug_assert!(may_begin_three(first, second) && is_continuation(third));
-    // SAFETY: the remainders leave at most FFFF. Callers have tested `may_begin_three`, by which the
-    // number is no surrogate's, D800 to DFFF.
+    // SAFETY: the remainders leave at most FFFF. Callers have tested `may_begin_three`, by which
+    // the number is no surrogate's, D800 to DFFF.
     unsafe { char::from_u32_unchecked(number_of_three(first, second, third)) }
 }
 

@@ -95,7 +95,6 @@ def erase(text, crate, name, plan):
     passes.derive_clones(source)
     passes.join_derives(source)
     passes.inline(source)
-    apply(source, plan.rules.get(name, ()), are_needed=True)
     apply(source, plan.rules.get(crate, []) + plan.rules.get("", []) + GENERAL + OLDER)
     passes.complete_examples(source)
     rename_paths(source, crate, plan)

@@ -55,8 +55,7 @@ def imported(source, at, end):
     word = source.without_visibility(at)
     if not source.is_word(word, "use"):
         return []
-    texts = (token.text for token in source.tokens[word + 1:end] if not token.is_blank)
-    path = "".join(" as " if text == "as" else text for text in texts)
+    path = "".join(token.text for token in source.tokens[word + 1:end] if not token.is_blank)
     root, _, listed = path.rstrip("},").partition("{")
     return [(source.between(at, word - 1), root + name) for name in listed.split(",")]
 

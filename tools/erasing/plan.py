@@ -31,7 +31,7 @@ class Plan:
     item_conditions: dict = table()  # by crate too: conditions, and words of items that have them
 
     # the reader, the allocator, old Rust, unsized performers: what a mark in each place would say
-    rules: dict = table()  # by crate and "" for all, too: patterns, and what stands in their place
+    rules: dict = table()  # by crate, or "" for all: patterns, and what stands in their place
 
     def conditions_of(self, source, words):
         """The conditions of an item with these words. Those of a file with None have none."""

@@ -11,6 +11,7 @@ from runpy import run_path
 from types import SimpleNamespace
 
 import pytest
+from building import builder
 from erasing.plan import Plan
 
 from tests.missing import miss
@@ -623,3 +624,13 @@ def test_what_is_run_and_listed(folder, words, fails, ran, left, packages, statu
     for name in ran.split():
         assert f"test: {name} begins" in lines
         assert (f"said by {name}" in lines) == (name in (fails, "proofs"))
+
+
+# ---- peer
+
+@pytest.mark.skipif(os.environ.get("HAS_CRATES") != "yes", reason="without the crates of rust/vte")
+def test_it_compiles(tmp_path):
+    version = subprocess.check_output(["cargo", "--version"], text=True).split()[1]
+    if [*map(int, version.split(".")[:2])] < [1, 85]:
+        pytest.skip("cargo 1.85 or later")
+    builder.placed_peers(True, tmp_path, "checked", 1)

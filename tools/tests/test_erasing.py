@@ -1,11 +1,8 @@
 """Tests of tools/erase."""
-import os
 import re
-import subprocess
 from dataclasses import fields, replace
 
 import pytest
-from building import builder
 from erasing.crate import Failure, erase, write_crate
 from erasing.patterns import rewrite
 from erasing.plan import Plan
@@ -124,7 +121,7 @@ TEXTS = [
     ({}, "#[derive(Debug«, Eq, Hash»)]\n‹// cargo: #[derive(Eq)]\n›#[allow(a)]\n"
      "‹// cargo: #[derive(Hash)]\n›pub struct S;\n"
      "‹#[derive(Drop)]\n// cargo: ›#[derive(Clone)]\nstruct T;"),
-    (dict(imports={"a": {"c::D": "e::D"}}), "use ‹c::D›«e::D»; use c::{I as J, K};"),
+    (dict(imports={"a": {"c::D": "e::D"}}), "use ‹c::D›«e::D»; use c::{I, K};"),
     (dict(homes={"a": {"q": "find g"}}), "«use q::find;\n»// why\nuse c::D; fn g() { find(x) }"),
     (dict(homes={"a": {"q": "find"}}), "«use q::find;\n»pub use q::l; fn f() { find() }"),
     (dict(homes={"a": {"q": "find Big g h D"}}), "use q::‹k›«{Big, find, k}»; pub use q::l; "
@@ -143,7 +140,7 @@ TEXTS = [
     ({}, "//! ```\n//! # a;\n//! f(‹alloc›);\n//! ```\n\n/// F.\nfn f() {}"),
     ({}, "‹//! ```rattle\n//! f();\n//! ```\n\n›"
      "/// F.\n‹///\n/// ```rattle\n/// f();\n/// ```\n›/// G.\nfn f() {}"),
-    (dict(rules={"a/x": [("$x.b", "k($x)")]}), "fn f() { ‹g\n.b›«k(g)»; }"),
+    (dict(rules={"a": [("$x.b", "k($x)")]}), "fn f() { ‹g\n.b›«k(g)»; }"),
     ({}, "fn f() { ‹a[b..].first_chunk::<2>()›«first_chunk::<2>(&a[b..])»; a.first_chunk::<2>() }"),
     ({}, "fn f() { ‹let A(x) = g(1) else {\n// why\nreturn };›"
      "«let x = match g(1) { A(x) => x, _ => {\n// why\nreturn } };»"
@@ -187,11 +184,6 @@ def test_what_is_refused(text, line):
     assert (caught.value.line or 1) == line, caught.value
 
 
-def test_a_rule_for_a_file_is_needed():
-    with pytest.raises(Refused, match="a rule that nothing here needs: g()"):
-        erased("fn f() {}\n", plan(rules={"a/x": [("g()", "")]}))
-
-
 @pytest.mark.parametrize("is_reversed", [False, True])
 def test_which_files_are_written(is_reversed):
     made = {"a": {"y/tests.rt": "#[x]", "x.rt": "#[x]", "y.rt": "#[cfg(test)] mod tests;",
@@ -210,14 +202,6 @@ def test_which_files_are_written(is_reversed):
     assert "#![allow(y, z)]\n" in files["mod.rs"]
     assert files["mod.rs"].splitlines()[-3:] == [
         "pub(crate) mod a;", "#[cfg(x)]", "pub(crate) mod b;"]
-
-
-@pytest.mark.skipif(os.environ.get("HAS_CRATES") != "yes", reason="without the crates of rust/vte")
-def test_what_the_benchmark_shares_compiles(tmp_path):
-    version = subprocess.check_output(["cargo", "--version"], text=True).split()[1]
-    if [*map(int, version.split(".")[:2])] < [1, 85]:
-        pytest.skip("cargo 1.85 or later")
-    builder.placed_peers(True, tmp_path, "checked", 1)
 
 
 def test_failures_name_file_and_line():

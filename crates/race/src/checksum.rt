@@ -1,6 +1,6 @@
 //! A performer that folds all events into a checksum, as cheaply as possible.
 //!
-//! tools/building erases this file for the crate too, so that both do the same work.
+//! tools/peer does the same for the crate.
 use std::fmt;
 use vte::{Params, Perform};
 
@@ -27,7 +27,6 @@ const ESC_DISPATCH: u64 = 8 << 32;
 /// With a sum in the place of the exclusive or, LLVM would fold several events at once where it
 /// sees them together.
 #[derive(Drop)]
-// cargo: #[derive(Default)]
 pub(crate) struct Checksum {
     parity: u64,
     sum: u64,

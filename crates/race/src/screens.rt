@@ -13,13 +13,11 @@ use vte::ansi::{ByCall, Color, Processor, Rgb};
 
 /// A parser with a screen. Text comes in runs or character by character.
 #[derive(Drop)]
-// cargo lacks: tools/peer has its own
 pub(crate) struct ScreenRacer<const IN_RUNS: bool> {
     parser: Parser<1024>,
     screen: Screen,
 }
 
-// cargo lacks: tools/peer has its own
 impl<const IN_RUNS: bool> ScreenRacer<IN_RUNS> {
     pub(crate) fn new() -> Self {
         ScreenRacer {
@@ -29,7 +27,6 @@ impl<const IN_RUNS: bool> ScreenRacer<IN_RUNS> {
     }
 }
 
-// cargo lacks: tools/peer has its own
 impl<const IN_RUNS: bool> Racer for ScreenRacer<IN_RUNS> {
     #[inline]
     fn read(&mut self, bytes: &[u8]) {
@@ -47,13 +44,11 @@ impl<const IN_RUNS: bool> Racer for ScreenRacer<IN_RUNS> {
 
 /// A processor with a screen. Text comes in runs or character by character.
 #[derive(Drop)]
-// cargo lacks: tools/peer has its own
 pub(crate) struct TerminalRacer<const IN_RUNS: bool> {
     processor: Processor<UntilCleared, Global>,
     screen: ByCall<Screen>,
 }
 
-// cargo lacks: tools/peer has its own
 impl<const IN_RUNS: bool> TerminalRacer<IN_RUNS> {
     pub(crate) fn new(processor: Processor<UntilCleared, Global>) -> Self {
         TerminalRacer {
@@ -63,7 +58,6 @@ impl<const IN_RUNS: bool> TerminalRacer<IN_RUNS> {
     }
 }
 
-// cargo lacks: tools/peer has its own
 impl<const IN_RUNS: bool> Racer for TerminalRacer<IN_RUNS> {
     #[inline]
     fn read(&mut self, bytes: &[u8]) {
@@ -80,7 +74,6 @@ impl<const IN_RUNS: bool> Racer for TerminalRacer<IN_RUNS> {
 }
 
 /// The checksum of a screen: its cursor, and each cell.
-// cargo instead: pub(crate) fn shown(screen: &Screen) -> Checksum {
 fn shown(screen: &Screen) -> Checksum {
     let mut checksum = Checksum::new();
     let (row, column) = screen.cursor();

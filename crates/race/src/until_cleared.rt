@@ -6,7 +6,6 @@ use vte::ansi::Timeout;
 
 /// Pending from `set_timeout` to `clear_timeout`.
 #[derive(Drop)]
-// cargo: #[derive(Default)]
 pub(crate) struct UntilCleared {
     pending: bool,
 }

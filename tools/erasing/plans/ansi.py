@@ -7,8 +7,4 @@ ANSI = dict(
     item_conditions={"vte_types": {'feature = "serde"': "serde"},
                      "vte_handler/lib": {OWN: "by_call"}},
     imports={"vte/ansi": {"arrayvec::ArrayString": "crate::adapter::array_string::ArrayString"}},
-    # the allocator isn't the last parameter
-    rules={"vte/ansi/bounded_processor": [
-        ("A: Allocator, const", "const"), ("A: Allocator + Copy, const", "const"),
-        ("<T, A, N>", "<T, N>")]},
 )

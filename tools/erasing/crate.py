@@ -32,12 +32,11 @@ def read_files(top, crate):
 def write_crate(plan, read_files):
     """The files of a crate, by path below its folder. `read_files` answers those of a Rattle crate,
     by their places below its `src`."""
-    files, names, left, used = {"mod.rs": _root(plan)}, set(), set(), set()
+    files, left, used = {"mod.rs": _root(plan)}, set(), set()
     for crate in plan.modules:
         # those that declare modules of tests, or without a form for cargo, come first
         for place, text in sorted(read_files(crate).items(), key=_depth):
             name = f"{crate}/{PurePosixPath(place).with_suffix('')}"
-            names.add(name)
             if left & {str(it) for it in PurePosixPath(name, "_").parents}:
                 continue
             try:
@@ -48,9 +47,6 @@ def write_crate(plan, read_files):
             files[target(name)] = MARK.format(origin=f"crates/{crate}/src/{place}") + erased
             left |= its_left
             used |= its_used
-    if unknown := (_named(plan) - names) | (plan.crate_conditions.keys() - plan.modules.keys()):
-        raise Failure("the plan names files or crates that don't exist: "
-                      f"{', '.join(sorted(unknown))}")
     if unused := {sought for sought, _ in plan.entries() - used}:
         raise Failure(f"the plan has what no file needs: {', '.join(sorted(unused))}")
     return files
@@ -58,12 +54,6 @@ def write_crate(plan, read_files):
 
 def _depth(file):
     return file[0] not in ("lib.rt", "main.rt"), file[0].count("/")
-
-
-def _named(plan):
-    """The files that a plan names: whatever has such keys is by file."""
-    keys = {name for table in vars(plan).values() if isinstance(table, dict) for name in table}
-    return {name for name in keys if "/" in name}
 
 
 def target(name):
@@ -76,8 +66,8 @@ def _root(plan):
     style = [STYLE.format(", ".join(plan.allowed_lints))] * bool(plan.allowed_lints)
     lines = [ROOT, *style, "\n"]
     for name in plan.modules:
-        if name in plan.crate_conditions:
-            lines.append(f"#[cfg({plan.crate_conditions[name]})]\n")
+        if name in plan.conditions:
+            lines.append(f"#[cfg({plan.conditions[name]})]\n")
         lines.append(f"pub(crate) mod {name};\n")
     return "".join(lines)
 
@@ -85,7 +75,7 @@ def _root(plan):
 def erase(text, crate, name, plan):
     """The Rust of a Rattle file, the modules that it declares and that aren't written, and the
     entries of the plan that it used."""
-    source = Source(text, name)
+    source = Source(text)
     replaced = marks.put_lines(source)
     passes.drop_ghosts(source)
     left = passes.sort_attributes(source)
@@ -95,10 +85,9 @@ def erase(text, crate, name, plan):
     passes.derive_clones(source)
     passes.join_derives(source)
     passes.inline(source)
-    apply(source, plan.rules.get(crate, []) + plan.rules.get("", []) + GENERAL + OLDER)
+    apply(source, plan.rules + GENERAL + OLDER)
     passes.complete_examples(source)
     rename_paths(source, crate, plan)
     settle_imports(source, crate, plan, before)
-    passes.set_conditions(source, plan.conditions_of)
     folder = name.removesuffix("/lib").removesuffix("/main")
     return source.written(), {f"{folder}/{module}" for module in left}, source.used

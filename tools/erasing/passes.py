@@ -1,4 +1,4 @@
-"""What patterns can't say: contracts, ghosts, attributes, clones, examples and conditions."""
+"""What patterns can't say: contracts, ghosts, attributes, clones and examples."""
 from erasing.tokens import CLAUSE, COMMENT, GHOST, SPACE, WORD
 
 # The derives that Rust knows by the same name. `Drop` isn't one: it says that values may be let go.
@@ -94,15 +94,6 @@ def inline(source):
             is_said = "inline" in source.between(above, start)
             if source.is_word(place, "fn") and not is_generic and not is_said:
                 source.insert(source.solid(above), f"{INLINE}\n")
-
-
-def set_conditions(source, conditions_of):
-    """Items in which certain words stand are there under conditions. Imports have theirs."""
-    for at, end in source.items():
-        if not source.is_word(source.without_visibility(at), "use"):
-            words = {source.text(place) for place in range(at, end)}
-            found = conditions_of(source, words)
-            source.insert(at, "".join(f"#[cfg({condition})]\n" for condition in found))
 
 
 def complete_examples(source):

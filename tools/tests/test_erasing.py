@@ -1,6 +1,5 @@
 """Tests of tools/erase."""
 import re
-from dataclasses import fields, replace
 
 import pytest
 from erasing.crate import Failure, erase, write_crate
@@ -121,10 +120,10 @@ TEXTS = [
     ({}, "#[derive(Debug«, Eq, Hash»)]\n‹// cargo: #[derive(Eq)]\n›#[allow(a)]\n"
      "‹// cargo: #[derive(Hash)]\n›pub struct S;\n"
      "‹#[derive(Drop)]\n// cargo: ›#[derive(Clone)]\nstruct T;"),
-    (dict(imports={"a": {"c::D": "e::D"}}), "use ‹c::D›«e::D»; use c::{I, K};"),
-    (dict(homes={"a": {"q": "find g"}}), "«use q::find;\n»// why\nuse c::D; fn g() { find(x) }"),
-    (dict(homes={"a": {"q": "find"}}), "«use q::find;\n»pub use q::l; fn f() { find() }"),
-    (dict(homes={"a": {"q": "find Big g h D"}}), "use q::‹k›«{Big, find, k}»; pub use q::l; "
+    (dict(imports={"c::D": "e::D"}), "use ‹c::D›«e::D»; use c::{I, K};"),
+    (dict(homes={"q": "find g"}), "«use q::find;\n»// why\nuse c::D; fn g() { find(x) }"),
+    (dict(homes={"q": "find"}), "«use q::find;\n»pub use q::l; fn f() { find() }"),
+    (dict(homes={"q": "find Big g h D"}), "use q::‹k›«{Big, find, k}»; pub use q::l; "
      "use c::D; fn f(d: D) { find::<u8>(k); Big; a.g(); g } fn h() { h() }"),
     ({}, "‹// cargo: ›use crate::adapter::d;\n‹// cargo: ›pub use ::e; use crate::«a::»f;"),
     ({}, "fn f(k: «crate::»b::K) { «crate::»b::g(«crate::»b::h::<«crate::»b::I>(), c::b::J) }"),
@@ -134,13 +133,12 @@ TEXTS = [
     ({}, "fn f() {} impl<A: Allocator> V<A> { «#[inline]» pub(crate) const fn f() {} "
      "fn g<T>() {} #[inline(never)]\n/// H.\nfn h() {} «#[inline]» #[allow(a)] fn i() {} } "
      "fn i() {}"),
-    (dict(item_conditions={"a": {"m": "K"}, "a/x": {"n": "L"}}),
-     "«#[cfg(n)]» pub use c::L; «#[cfg(m)] use c::K;» use c::‹{K, M}›«M»; "
-     "«#[cfg(m)]» fn f(k: K) { \"L\" } «#[cfg(m)] #[cfg(n)]» fn g() { L(K) } fn h() {}"),
+    (dict(homes={"c": "find"}), "«use c::find;\n»‹// cargo: ›#[cfg(m)]\n"
+     "use c::D; fn f(d: D) { find() }"),
     ({}, "//! ```\n//! # a;\n//! f(‹alloc›);\n//! ```\n\n/// F.\nfn f() {}"),
     ({}, "‹//! ```rattle\n//! f();\n//! ```\n\n›"
      "/// F.\n‹///\n/// ```rattle\n/// f();\n/// ```\n›/// G.\nfn f() {}"),
-    (dict(rules={"a": [("$x.b", "k($x)")]}), "fn f() { ‹g\n.b›«k(g)»; }"),
+    (dict(rules=[("$x.b", "k($x)")]), "fn f() { ‹g\n.b›«k(g)»; }"),
     ({}, "fn f() { ‹a[b..].first_chunk::<2>()›«first_chunk::<2>(&a[b..])»; a.first_chunk::<2>() }"),
     ({}, "fn f() { ‹let A(x) = g(1) else {\n// why\nreturn };›"
      "«let x = match g(1) { A(x) => x, _ => {\n// why\nreturn } };»"
@@ -193,7 +191,7 @@ def test_which_files_are_written(is_reversed):
                   "left.rt": "#[x]", "left/over.rt": "#[x]", "leftover.rt": ""},
             "b": {"main.rt": "#[cfg(test)] mod x; #[cfg(test)] mod c;", "x.rt": "#[x]",
                   "c.rt": "#[x]", "old.rt": "fn f() {}"}}
-    given = plan(crate_conditions={"b": "x"}, allowed_lints=("y", "z"))
+    given = plan(conditions={"b": "x"}, allowed_lints=("y", "z"))
     files = write_crate(given, lambda crate: dict(sorted(made[crate].items(), reverse=is_reversed)))
     assert sorted(files) == ["a/leftover.rs", "a/mod.rs", "a/y.rs", "a/z.rs",
                              "a/z/lib.rs", "b/mod.rs", "b/old.rs", "mod.rs"]
@@ -209,20 +207,9 @@ def test_failures_name_file_and_line():
         write_crate(plan(), lambda _crate: {"x.rt": "\n#[test]\nfn f() {}\n"})
 
 
-TABLES = {it.name: {"a/gone": {}} for it in fields(Plan) if it.default_factory is dict}
-
-
-@pytest.mark.parametrize("name, table", [
-    *TABLES.items(), ("crate_conditions", {"gone": ""})])
-def test_each_table_names_what_exists(name, table):
-    with pytest.raises(Failure, match="don't exist: (a/)?gone"):
-        write_crate(replace(plan(), **{name: table}), lambda _crate: {"x.rt": ""})
-
-
 @pytest.mark.parametrize("given", [
-    dict(of_std={"gone": "b"}), dict(other_crates={"gone": "b"}), dict(imports={"a": {"gone": ""}}),
-    dict(homes={"": {"b": "gone"}}), dict(item_conditions={"a": {"b": "gone"}}),
-    dict(rules={"": [("gone", "")]})])
+    dict(of_std={"gone": "b"}), dict(other_crates={"gone": "b"}), dict(imports={"gone": ""}),
+    dict(homes={"b": "gone"}), dict(rules=[("gone", "")])])
 def test_each_entry_is_needed(given):
     with pytest.raises(Failure, match="what no file needs: gone"):
         write_crate(plan(**given), lambda _crate: {"x.rt": "fn f() {}"})
@@ -232,6 +219,6 @@ def test_each_entry_is_needed(given):
     ("f(// why\nalloc)\n", "(alloc)", True), ("f(alloc)\n", "(alloc)", False),
     ("f(a; b)\n", "($$x)", True), ("f(a; b)\n", "($$$x)", False)])
 def test_a_match_with_a_comment_stays(text, pattern, stays):
-    source = Source(text, "a/x")
+    source = Source(text)
     rewrite(source, pattern, "()")
     assert (source.written() == text) == stays

@@ -28,9 +28,14 @@ pub use cuts::parts;
 pub use params::{Params, ParamsIter};
 pub use parser::{Open, Parser};
 // for C alone
+// cargo: #[cfg(feature = "__own")]
 pub use parser::Saved;
 // takes memory
+// cargo: #[cfg(any(feature = "std", feature = "ansi"))]
 pub use parser::{LongParser, Refused};
 // cargo instead: pub use perform::{Perform, PerformText};
 pub use perform::{Perform, PerformText, PerformThroughText};
+// cargo: #[cfg(feature = "ansi")]
+// cargo: pub use scan::{InRuns, Singly};
+// cargo instead: pub use scan::{Run, Taken};
 pub use scan::{InRuns, Run, Singly, Taken};

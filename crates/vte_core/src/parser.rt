@@ -16,10 +16,12 @@ mod drive;
 mod ending;
 mod escape;
 mod ignored_string;
+// cargo: #[cfg(any(feature = "std", feature = "ansi"))]
 mod long;
 mod machine;
 mod open;
 mod refused;
+// cargo: #[cfg(feature = "__own")]
 mod saved;
 mod system_command;
 mod text;
@@ -29,10 +31,12 @@ use crate::head::HeadProgress;
 use crate::scan::{Chunk, CountedPerform, Grain, Looks};
 use crate::utf8::Unfinished;
 use arrayvec::ArrayVec;
+// cargo: #[cfg(any(feature = "std", feature = "ansi"))]
 pub use long::LongParser;
 use machine::Machine;
 pub use open::Open;
 pub use refused::Refused;
+// cargo: #[cfg(feature = "__own")]
 pub use saved::Saved;
 use std::alloc::AllocError;
 

@@ -10,6 +10,7 @@ ghost use Rattle.vte_core.specs.machine.Prelude.{AreOfKind, ArePut, IsRange, IsR
 mod calls;
 mod counted_perform;
 mod grain;
+// cargo: #[cfg(any(feature = "std", feature = "ansi"))]
 mod long_calls;
 mod search;
 mod taken;
@@ -18,6 +19,8 @@ use arrayvec::{ArrayVec, CapacityError};
 pub(crate) use counted_perform::CountedPerform;
 pub(crate) use grain::Grain;
 pub use grain::{InRuns, Singly};
+// cargo: #[cfg(any(feature = "std", feature = "ansi"))]
+// cargo instead: use crate::prelude::{AllocError, Vec};
 use std::alloc::{AllocError, Allocator};
 use std::snapshot::Snapshot;
 use std::{mem, str};
@@ -347,6 +350,7 @@ impl Reader {
     }
 }
 
+// cargo: #[cfg(any(feature = "std", feature = "ansi"))]
 impl Reader {
     /// Appends the bytes from one position to another to a vector that has memory for them.
     pub(crate) fn copy_to_vec<A: Allocator>(

@@ -6,6 +6,8 @@ ghost use Rattle.vte_core.specs.machine.Prelude.{ArePieceEnds, HasCapacity, Stor
 use crate::buffer::Buffer;
 use crate::scan::{CountedPerform, Grain, Input, Reader};
 use arrayvec::ArrayVec;
+// cargo: #[cfg(any(feature = "std", feature = "ansi"))]
+// cargo: use crate::prelude::Vec;
 use std::alloc::{AllocError, Allocator};
 use std::marker::Model;
 
@@ -211,6 +213,7 @@ impl<const N: usize> Store<ArrayVec<u8, N>> {
     }
 }
 
+// cargo: #[cfg(any(feature = "std", feature = "ansi"))]
 impl<A: Allocator> Store<Vec<u8, A>> {
     /// Returns for how many data bytes there is memory.
     // cargo lacks: nobody asks

@@ -7,11 +7,13 @@
 #![tactic(auto)]
 
 // cargo: pub(crate) use handler::owned;
+// cargo: #[cfg(feature = "__own")]
 mod by_call;
 mod handler;
 mod hyperlink;
 mod timeout;
 
+// cargo: #[cfg(feature = "__own")]
 pub use by_call::{ByCall, HandlerCall, TakeCall, TakeText};
 pub use handler::{Handler, HandlerText};
 pub use hyperlink::Hyperlink;

@@ -10,6 +10,7 @@ ghost use Rattle.vte_types.specs.Rgb.{difference_of, sum_of};
 
 mod text;
 
+// cargo: #[cfg(feature = "serde")]
 use serde::{Deserialize, Serialize};
 use std::cmp::Ordering;
 use std::ops::{Add, Sub};

@@ -13,8 +13,8 @@ pub struct Cell {
 }
 
 impl Cell {
-    /// Shows a character in a style. By one assignment, a whole style would be read from memory again
-    /// for each of many cells.
+    /// Shows a character in a style. By one assignment, a whole style would be read from memory
+    /// again for each of many cells.
     #[inline]
     pub fn show(&mut self, character: char, style: Style) {
         self.character = character;

@@ -67,13 +67,13 @@ pub trait Sink {
 /// After the first error of the reader or writer inside, it has failed: every further call is an
 /// error, and nothing is known of its bytes.
 #[derive(Drop)]
-// cargo lacks: only other programs and tests name it
+// cargo lacks: not used
 pub struct Device<D> {
     inner: D,
     failed: bool,
 }
 
-// cargo lacks: only other programs and tests name it
+// cargo lacks: not used
 impl<D> Device<D> {
     /// Wraps a reader or writer.
     pub fn new(inner: D) -> Self
@@ -87,7 +87,7 @@ impl<D> Device<D> {
     }
 }
 
-// cargo lacks: only other programs and tests name it
+// cargo lacks: not used
 impl<D: Read> Source for Device<D> {
     ghost use Rattle.event_log.specs.Device.{told_unless};
 
@@ -105,7 +105,7 @@ impl<D: Read> Source for Device<D> {
     }
 }
 
-// cargo lacks: only other programs and tests name it
+// cargo lacks: not used
 impl<D: Write> Sink for Device<D> {
     ghost use Rattle.event_log.specs.Device.{told_unless};
 

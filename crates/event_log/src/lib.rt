@@ -19,10 +19,10 @@ mod recorder;
 // cargo instead: pub use device::{Sink, Source};
 pub use device::{Device, Sink, Source};
 pub use fault::Fault;
-// cargo lacks: only other programs name it
+// cargo lacks: not used
 pub use lines::Lines;
 pub use pipeline::{run, run_text};
-// cargo lacks: only other programs name it
+// cargo lacks: not used
 pub use plain::Plain;
-// cargo lacks: only other programs name it
+// cargo lacks: not used
 pub use recorder::Recorder;

@@ -44,7 +44,7 @@ impl Lines {
     }
 
     /// Returns the number of bytes in the buffer.
-    // cargo lacks: only other programs and tests ask
+    // cargo lacks: not used
     pub fn len(&self) -> usize
         ensures { result ≡ length (record_in self.now).bytes }
     {
@@ -66,7 +66,7 @@ impl Lines {
     }
 
     /// Returns whether a line was dropped since the last `clear`.
-    // cargo lacks: only other programs and tests ask
+    // cargo lacks: not used
     pub fn lost(&self) -> bool
         ensures { result ≡ (record_in self.now).lost }
     {

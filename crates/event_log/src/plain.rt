@@ -51,7 +51,7 @@ impl Plain {
     }
 
     /// Returns whether something was dropped since the last `clear`.
-    // cargo lacks: only other programs and tests ask
+    // cargo lacks: not used
     pub fn lost(&self) -> bool
         ensures { result ≡ self.now.lost }
     {

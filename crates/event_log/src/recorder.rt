@@ -48,7 +48,7 @@ impl Recorder {
     }
 
     /// Returns whether a line was dropped since the last `clear`.
-    // cargo lacks: only other programs and tests ask
+    // cargo lacks: not used
     pub fn lost(&self) -> bool
         ensures { result ≡ self.now.lost }
     {

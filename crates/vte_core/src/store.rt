@@ -216,7 +216,7 @@ impl<const N: usize> Store<ArrayVec<u8, N>> {
 // cargo: #[cfg(any(feature = "std", feature = "ansi"))]
 impl<A: Allocator> Store<Vec<u8, A>> {
     /// Returns for how many data bytes there is memory.
-    // cargo lacks: nobody asks
+    // cargo lacks: not used
     pub(crate) fn capacity(&self) -> usize
         ensures { result ≡ self.now.capacity }
     {

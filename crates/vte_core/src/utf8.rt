@@ -162,6 +162,7 @@ pub(crate) fn character_of_two(first: u8, second: u8) -> char
     requires second { is_in (from_to 0x80 0xbf) second ≡ true }
     ensures { result ≡ scalar_of (first ∷ second ∷ []) }
 {
+    // below the surrogates whatever the bytes are, as compilers see
     // cargo instead: char::from_u32(number_of_two(first, second))
     // cargo instead:     .unwrap_or(char::REPLACEMENT_CHARACTER)
     unsafe { char::from_u32_unchecked(number_of_two(first, second)) }

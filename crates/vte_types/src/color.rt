@@ -132,7 +132,7 @@ pub enum NamedColor {
 }
 
 /// Two names are equal if their numbers are equal.
-// cargo lacks: derived, so that constants can be patterns
+// cargo lacks: derived, for patterns
 impl PartialEq for NamedColor {
     ghost eq = { on number_of_color ◌==◌ };
 
@@ -144,13 +144,13 @@ impl PartialEq for NamedColor {
     }
 }
 
-// cargo lacks: derived, so that constants can be patterns
+// cargo lacks: derived, for patterns
 impl Eq for NamedColor {
     ghost laws = { Prim.search (comparing, rules) };
 }
 
 /// Names are ordered by their numbers.
-// cargo lacks: derived, so that constants can be patterns
+// cargo lacks: derived, for patterns
 impl Ord for NamedColor {
     ghost cmp = { on number_of_color nat_cmp };
 
@@ -166,7 +166,7 @@ impl Ord for NamedColor {
     }
 }
 
-// cargo lacks: derived, so that constants can be patterns
+// cargo lacks: derived, for patterns
 impl PartialOrd for NamedColor {
     ghost partial_cmp = { as_partial_cmp (on number_of_color nat_cmp) };
 

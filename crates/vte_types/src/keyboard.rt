@@ -16,10 +16,10 @@ use bitflags::{Flag, Flags};
 /// assert_eq!(KeyboardModes::from_bits(32), None);
 /// ```
 #[derive(Default, Debug, Clone, Copy, PartialEq, Eq, Hash)]
-// cargo lacks: the macro `bitflags!` writes it in the adapter
+// cargo lacks: `bitflags!` writes it
 pub struct KeyboardModes(u8);
 
-// cargo lacks: the macro `bitflags!` writes it in the adapter
+// cargo lacks: `bitflags!` writes it
 impl KeyboardModes {
     /// No flag.
     pub const NO_MODE: KeyboardModes = KeyboardModes(0);
@@ -42,7 +42,7 @@ impl KeyboardModes {
 }
 
 /// The flags and their names.
-// cargo lacks: the macro `bitflags!` writes it in the adapter
+// cargo lacks: `bitflags!` writes it
 static FLAGS: [Flag<KeyboardModes>; 6] = [
     Flag {
         name: "NO_MODE",
@@ -71,7 +71,7 @@ static FLAGS: [Flag<KeyboardModes>; 6] = [
 ];
 
 /// The set operations. [`KeyboardModes`] also has them as methods of its own, with contracts.
-// cargo lacks: the macro `bitflags!` writes it in the adapter
+// cargo lacks: `bitflags!` writes it
 impl Flags for KeyboardModes {
     type Bits = u8;
 
@@ -95,7 +95,7 @@ impl Flags for KeyboardModes {
 }
 
 /// The set operations of [`Flags`].
-// cargo lacks: the macro `bitflags!` writes it in the adapter
+// cargo lacks: `bitflags!` writes it
 impl KeyboardModes {
     /// No flag.
     pub fn empty() -> Self

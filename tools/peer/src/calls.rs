@@ -30,17 +30,23 @@ trait Argument {
     fn fold(self, checksum: &mut Checksum);
 }
 
-macro_rules! numbers {
-    ($($kind:ty: |$value:ident| $number:expr;)*) => {
+macro_rules! arguments {
+    ($($kind:ty: |$value:ident, $checksum:ident| $fold:expr;)*) => {
         $(
             impl Argument for $kind {
                 #[inline]
-                fn fold(self, checksum: &mut Checksum) {
+                fn fold(self, $checksum: &mut Checksum) {
                     let $value = self;
-                    checksum.fold($number as u64);
+                    $fold
                 }
             }
         )*
+    };
+}
+
+macro_rules! numbers {
+    ($($kind:ty: |$value:ident| $number:expr;)*) => {
+        arguments! { $($kind: |$value, checksum| checksum.fold($number as u64);)* }
     };
 }
 
@@ -67,72 +73,41 @@ numbers! {
     Rgb: |color| u32::from_be_bytes([0, color.r, color.g, color.b]);
 }
 
+arguments! {
+    &[u8]: |bytes, checksum| checksum.fold_piece(bytes);
+    &str: |text, checksum| checksum.fold_piece(text.as_bytes());
+    String: |text, checksum| checksum.fold_piece(text.as_bytes());
+    Hyperlink: |link, checksum| {
+        link.id.fold(checksum);
+        link.uri.fold(checksum);
+    };
+    CursorStyle: |style, checksum| {
+        style.shape.fold(checksum);
+        style.blinking.fold(checksum);
+    };
+    // the icon alone doesn't count: in Rattle its places are those of another crate
+    CursorIcon: |_icon, _checksum| ();
+    Color: |color, checksum| match color {
+        Color::Named(name) => checksum.fold(name as u64),
+        Color::Spec(color) => color.fold(checksum),
+        Color::Indexed(index) => index.fold(checksum),
+    };
+    Attr: |attribute, checksum| {
+        checksum.fold(place_of(&attribute));
+        match attribute {
+            Attr::Foreground(color) | Attr::Background(color) => color.fold(checksum),
+            Attr::UnderlineColor(color) => color.fold(checksum),
+            _ => {}
+        }
+    };
+}
+
 impl<T: Argument> Argument for Option<T> {
     #[inline]
     fn fold(self, checksum: &mut Checksum) {
         checksum.fold(self.is_some() as u64);
         if let Some(value) = self {
             value.fold(checksum);
-        }
-    }
-}
-
-impl Argument for &[u8] {
-    fn fold(self, checksum: &mut Checksum) {
-        checksum.fold_piece(self);
-    }
-}
-
-impl Argument for &str {
-    fn fold(self, checksum: &mut Checksum) {
-        checksum.fold_piece(self.as_bytes());
-    }
-}
-
-impl Argument for String {
-    fn fold(self, checksum: &mut Checksum) {
-        checksum.fold_piece(self.as_bytes());
-    }
-}
-
-impl Argument for Hyperlink {
-    fn fold(self, checksum: &mut Checksum) {
-        self.id.fold(checksum);
-        self.uri.fold(checksum);
-    }
-}
-
-impl Argument for CursorStyle {
-    fn fold(self, checksum: &mut Checksum) {
-        self.shape.fold(checksum);
-        self.blinking.fold(checksum);
-    }
-}
-
-// The icon alone doesn't count: in Rattle its places are those of another crate.
-impl Argument for CursorIcon {
-    fn fold(self, _checksum: &mut Checksum) {}
-}
-
-impl Argument for Color {
-    #[inline]
-    fn fold(self, checksum: &mut Checksum) {
-        match self {
-            Color::Named(name) => checksum.fold(name as u64),
-            Color::Spec(color) => color.fold(checksum),
-            Color::Indexed(index) => index.fold(checksum),
-        }
-    }
-}
-
-impl Argument for Attr {
-    #[inline]
-    fn fold(self, checksum: &mut Checksum) {
-        checksum.fold(place_of(&self));
-        match self {
-            Attr::Foreground(color) | Attr::Background(color) => color.fold(checksum),
-            Attr::UnderlineColor(color) => color.fold(checksum),
-            _ => {}
         }
     }
 }

@@ -25,6 +25,7 @@ use vte_types::{
 
 /// Makes the calls of a control sequence, other than `ESC [ ? .. h`: that may begin an update.
 // cargo: #[inline]
+// a guard would read the numbers
 #[allow(clippy::collapsible_match)]
 pub(crate) fn perform_control<H: InputAs<G>, G>(
     handler: &mut H,

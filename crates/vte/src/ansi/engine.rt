@@ -93,6 +93,7 @@ impl<P: EventParser + Drop, B: TextBuffer + Drop, T: Timeout + Drop, A: Allocato
     }
 
     /// Stops the update, whatever is held: there is memory to parse it.
+    // stops are rare: kept out of a turn, they leave its loop over bytes as it is
     // cargo: #[inline(never)]
     pub(crate) fn stop<H: Handler, G: ParseAs<H, T, P>>(&mut self, handler: &mut H)
         ensures stopped { EngineStops (engine_view P.limit P.reading B.room T.value_of)

@@ -74,7 +74,7 @@ impl<A: Allocator> LongParser<A> {
     }
 
     /// Returns for how many data bytes of an operating system command it has memory.
-    // cargo lacks: nobody asks
+    // cargo lacks: not used
     pub fn memory(&self) -> usize
         ensures { result ≡ memory_of self.now }
     {

@@ -126,6 +126,7 @@ fn whole_character(code: u32) -> Carried {
 /// Returns the character of two bytes.
 #[inline(always)]
 pub(crate) fn character_of_two(first: u8, second: u8) -> char {
+    // below the surrogates whatever the bytes are, as compilers see
     char::from_u32(number_of_two(first, second)).unwrap_or(char::REPLACEMENT_CHARACTER)
 }
 

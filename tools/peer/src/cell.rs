@@ -1,4 +1,4 @@
-//! A cell of the grid, and what SGR does to it.
+//! A cell of the grid, and what SGR does to it, as in crates/examples/src/cell.rt.
 
 use arrayvec::ArrayVec;
 use vte::Params;

@@ -1,4 +1,4 @@
-//! A screen, which draws as that of crates/examples does: the grid and the cursor.
+//! The grid and the cursor, as in crates/examples/src/screen.rt, which says why.
 
 use std::cmp::Ordering;
 use std::str::Chars;
@@ -7,10 +7,8 @@ use crate::cell::{Cell, Style};
 use crate::checksum::Checksum;
 
 pub const COLUMNS: usize = 80;
-
 pub const ROWS: usize = 24;
 
-/// A grid of cells, and a cursor that never leaves it.
 pub struct Screen {
     // A ring of rows, so that scrolling moves no cell. The first row is `lines[top]`.
     lines: [[Cell; COLUMNS]; ROWS],
@@ -22,7 +20,6 @@ pub struct Screen {
 }
 
 impl Screen {
-    /// A blank screen, with the cursor in the upper left corner.
     pub fn new() -> Self {
         let (character, style) = (' ', Style::PLAIN);
         Screen {
@@ -53,18 +50,15 @@ impl Screen {
         if line < ROWS { line } else { line - ROWS }
     }
 
-    /// The row and the column of the cursor.
     pub fn cursor(&self) -> (usize, usize) {
         (self.row, self.column.min(COLUMNS - 1))
     }
 
-    /// Moves the cursor, at most to the last row and column.
     pub fn move_to(&mut self, row: usize, column: usize) {
         self.row = row.min(ROWS - 1);
         self.column = column.min(COLUMNS - 1);
     }
 
-    /// Moves the cursor to the start of the next row, if it is after the last column.
     #[inline]
     fn wrap(&mut self) {
         if self.column == COLUMNS {
@@ -73,7 +67,6 @@ impl Screen {
         }
     }
 
-    /// Writes a character at the cursor, and advances it.
     #[inline]
     pub fn draw(&mut self, character: char) {
         self.wrap();
@@ -82,8 +75,6 @@ impl Screen {
         self.column += 1;
     }
 
-    /// Writes the characters of a text at the cursor, one after another. Much text comes as one
-    /// character, often one that the compiler knows where the parser prints it.
     #[inline(always)]
     pub fn draw_text(&mut self, text: &str) {
         let mut characters = text.chars();
@@ -93,7 +84,6 @@ impl Screen {
         }
     }
 
-    /// Writes the characters of a text. It is kept out of the parser's loop, as `line_feed` is.
     #[inline(never)]
     fn draw_run(&mut self, text: &str) {
         if text.is_ascii() {
@@ -103,10 +93,8 @@ impl Screen {
         }
     }
 
-    /// Writes the characters of a text, as `draw` does each, row by row.
     fn draw_characters(&mut self, text: &str) {
         let mut characters = text.chars();
-        // Each row takes one character at least.
         for _ in 0..text.len() {
             if characters.as_str().is_empty() {
                 return;
@@ -118,8 +106,6 @@ impl Screen {
         }
     }
 
-    /// Writes the characters that have these numbers, as `draw` does for each: first those for
-    /// which the row has room.
     #[inline]
     fn draw_bytes(&mut self, bytes: &[u8]) {
         let room = COLUMNS - self.column;
@@ -134,8 +120,6 @@ impl Screen {
         }
     }
 
-    /// Writes characters into the cells from the cursor on, as many as the row has room for, and
-    /// advances the cursor.
     #[inline]
     fn fill(&mut self, bytes: &[u8]) {
         let (line, column, style) = (self.line_of(self.row), self.column, self.style);
@@ -145,8 +129,6 @@ impl Screen {
         self.column += fitting.len();
     }
 
-    /// Moves the cursor to the next row. In the last row it scrolls. It is kept out of `draw`,
-    /// which then fits where the parser prints.
     #[inline(never)]
     pub fn line_feed(&mut self) {
         if self.row + 1 == ROWS {
@@ -156,8 +138,7 @@ impl Screen {
         self.move_to(self.row + 1, self.column);
     }
 
-    /// Erases rows up to `end`: what is after the cursor (0), before it (1), or all (2), with the
-    /// cell at the cursor. The colors stay the current ones.
+    /// Erases rows up to `end`: what is after the cursor (0), before it (1), or all (2).
     pub fn erase(&mut self, part: u16, start: usize, end: usize) {
         let (cursor_row, cursor_column) = self.cursor();
         let (character, mut style) = (' ', self.style);
@@ -176,7 +157,6 @@ impl Screen {
     }
 }
 
-/// Sets cells to characters, which are as many, in a style.
 #[inline]
 fn set_characters(cells: &mut [Cell], bytes: &[u8], style: Style) {
     for (cell, byte) in cells.iter_mut().zip(bytes) {
@@ -184,8 +164,7 @@ fn set_characters(cells: &mut [Cell], bytes: &[u8], style: Style) {
     }
 }
 
-/// Sets cells to the next characters in a style, as long as there are both, and returns how many
-/// cells it set.
+/// Returns how many cells it set.
 #[inline]
 fn take_characters(cells: &mut [Cell], characters: &mut Chars<'_>, style: Style) -> usize {
     let count = cells.len();

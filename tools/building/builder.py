@@ -13,9 +13,6 @@ import subprocess
 import sys
 from pathlib import Path
 
-from erasing.crate import Failure, read_files, write_crate
-from erasing.plans.peer import PEER
-
 TOOLS = Path(__file__).resolve().parent.parent
 OURS = TOOLS.parent / "rust" / "vte"
 CARGO_PRODUCT = TOOLS / "building" / "cargo_product"
@@ -29,6 +26,9 @@ MANIFEST = """\
 name = "peer"
 version = "0.0.0"
 edition = "2024"
+[[bin]]
+name = "peer"
+path = "MAIN"
 [workspace]
 [dependencies]
 arrayvec = "*"
@@ -37,13 +37,6 @@ vte = { SOURCE, default-features = false, features = ["ansi", "std"] }
 # where the code of a placed program begins, and the bytes that its functions are aligned to
 CODE_START, ALIGNMENT = 0x200000, 16
 CRATES = ["arrayvec", "bitflags", "cursor-icon", "log", "memchr", "serde", "serde-derive", "vte"]
-# what tools/peer shares with crates/: the files of each crate
-SHARED = {
-    "test_lines": ["variant", "visitor"],
-    "examples": ["cell", "handler", "performer", "screen"],
-    "race": ["call_checksum", "checksum", "screens", "until_cleared"],
-    "vte_handler": ["by_call", "hyperlink"],
-}
 
 
 def stop(message):
@@ -78,9 +71,10 @@ def placed_peers(is_ours, folder, profile, count):
     """Builds tools/peer over the crate, or over ours, in a folder, without warnings: so many times,
     each with its code at another place."""
     folder = Path(folder)
-    copy_sources(folder / "src")
     source = f'path = "{OURS}"' if is_ours else 'version = "=0.15.0"'
-    (folder / "Cargo.toml").write_text(MANIFEST.replace("SOURCE", source))
+    manifest = MANIFEST.replace("SOURCE", source).replace("MAIN", f"{TOOLS}/peer/src/main.rs")
+    folder.mkdir(parents=True, exist_ok=True)
+    (folder / "Cargo.toml").write_text(manifest)
     # only ours has runs of text
     flags = ["--cap-lints", "allow", *["--cfg", "runs"] * is_ours]
     programs = []
@@ -91,23 +85,6 @@ def placed_peers(is_ours, folder, profile, count):
         made = run([CARGO_PRODUCT, *words, "-C", start], "tools/peer", environment(folder, profile))
         programs.append(shutil.copy(made.decode().rstrip("\n"), folder / f"peer_{place}"))
     return programs
-
-
-def copy_sources(folder):
-    """The sources of tools/peer, with what they share with crates/, erased."""
-    shutil.copytree(TOOLS / "peer" / "src", folder, dirs_exist_ok=True)
-    try:
-        files = write_crate(PEER, shared_files)
-    except Failure as failure:
-        stop(f"tools/peer: {failure}")
-    for place, text in files.items():
-        if place != "mod.rs":
-            (folder / Path(place).name).write_text(text)
-
-
-def shared_files(crate):
-    files = read_files(TOOLS.parent, crate)
-    return {f"{name}.rt": files[f"{name}.rt"] for name in SHARED[crate]}
 
 
 def run(words, what, environment=None, folder=None):

@@ -1,7 +1,7 @@
 """The files of a Rust crate, from those of Rattle crates."""
 from pathlib import PurePosixPath
 
-from erasing import passes, wording
+from erasing import marks, passes
 from erasing.imports import rename_paths, settle_imports, words_of_code
 from erasing.rules import GENERAL, OLDER, apply
 from erasing.source import Source
@@ -32,26 +32,21 @@ def read_files(top, crate):
 def write_crate(plan, read_files):
     """The files of a crate, by path below its folder. `read_files` answers those of a Rattle crate,
     by their places below its `src`."""
-    files, names, tests, used = {"mod.rs": _root(plan)}, set(), set(), set()
+    files, left, used = {"mod.rs": _root(plan)}, set(), set()
     for crate in plan.modules:
-        # those that declare modules of tests come first
+        # those that declare modules of tests, or without a form for cargo, come first
         for place, text in sorted(read_files(crate).items(), key=_depth):
             name = f"{crate}/{PurePosixPath(place).with_suffix('')}"
-            names.add(name)
-            folders = {str(it) for it in PurePosixPath(name, "_").parents}
-            if "laws" in name.split("/") or folders & (tests | plan.dropped_files):
+            if left & {str(it) for it in PurePosixPath(name, "_").parents}:
                 continue
             try:
-                erased, its_tests, its_used = erase(text, crate, name, plan)
+                erased, its_left, its_used = erase(text, crate, name, plan)
             except Refused as refused:
                 where = f"crates/{crate}/src/{place}:{refused.line or 1}"
                 raise Failure(f"{where}: {refused}") from None
             files[target(name)] = MARK.format(origin=f"crates/{crate}/src/{place}") + erased
-            tests |= its_tests
+            left |= its_left
             used |= its_used
-    if unknown := (_named(plan) - names) | (plan.crate_conditions.keys() - plan.modules.keys()):
-        raise Failure("the plan names files or crates that don't exist: "
-                      f"{', '.join(sorted(unknown))}")
     if unused := {sought for sought, _ in plan.entries() - used}:
         raise Failure(f"the plan has what no file needs: {', '.join(sorted(unused))}")
     return files
@@ -59,12 +54,6 @@ def write_crate(plan, read_files):
 
 def _depth(file):
     return file[0] not in ("lib.rt", "main.rt"), file[0].count("/")
-
-
-def _named(plan):
-    """The files that a plan names: whatever has such keys is by file."""
-    keys = {name for table in vars(plan).values() if isinstance(table, dict) for name in table}
-    return {name for name in keys | plan.dropped_files if "/" in name}
 
 
 def target(name):
@@ -77,46 +66,28 @@ def _root(plan):
     style = [STYLE.format(", ".join(plan.allowed_lints))] * bool(plan.allowed_lints)
     lines = [ROOT, *style, "\n"]
     for name in plan.modules:
-        if name in plan.crate_conditions:
-            lines.append(f"#[cfg({plan.crate_conditions[name]})]\n")
+        if name in plan.conditions:
+            lines.append(f"#[cfg({plan.conditions[name]})]\n")
         lines.append(f"pub(crate) mod {name};\n")
     return "".join(lines)
 
 
 def erase(text, crate, name, plan):
-    """The Rust of a Rattle file, the modules of tests that it declares, and the entries of the plan
-    that it used."""
-    source = Source(wording.reword(text, plan.comments.get(name, {})), name)
+    """The Rust of a Rattle file, the modules that it declares and that aren't written, and the
+    entries of the plan that it used."""
+    source = Source(text)
+    replaced = marks.put_lines(source)
     passes.drop_ghosts(source)
-    tests = passes.sort_attributes(source)
-    before = words_of_code(source)
-    passes.drop_items(source, plan.dropped_items.get(name, ()))
-    _drop_modules(source, name, plan)
+    left = passes.sort_attributes(source)
+    before = words_of_code(source) + replaced
+    left |= marks.drop_lacking(source)
+    marks.give_defaults(source)
     passes.derive_clones(source)
+    passes.join_derives(source)
     passes.inline(source)
-    apply(source, plan.rules.get(name, ()), are_needed=True)
-    apply(source, plan.rules.get(crate, []) + plan.rules.get("", []) + GENERAL + OLDER)
-    if name in plan.default_bodies:
-        passes.give_bodies(source, plan.default_bodies[name])
-    passes.add_attributes(source, plan.attributes.get(name, {}))
-    passes.document_members(source, plan.members.get(name, {}))
-    passes.complete_examples(source, plan.examples.get(name, ()))
+    apply(source, plan.rules + GENERAL + OLDER)
+    passes.complete_examples(source)
     rename_paths(source, crate, plan)
     settle_imports(source, crate, plan, before)
-    passes.set_conditions(source, plan.conditions_of)
-    if name in plan.first_lines:
-        passes.add_above(source, plan.first_lines[name])
-    if name in plan.handler:
-        passes.wrap_handler(source, plan.handler[name])
     folder = name.removesuffix("/lib").removesuffix("/main")
-    return source.written(), {f"{folder}/{module}" for module in tests}, source.used
-
-
-def _drop_modules(source, name, plan):
-    """Laws do nothing; other files are dropped. Their declarations and their exports go."""
-    modules = ["laws"] * bool(source.places("mod laws"))
-    modules += [file.name for file in map(PurePosixPath, plan.dropped_files)
-                if str(file.parent) == name.removesuffix("/lib")]
-    for module in modules:
-        exports = [f"use {module}"] * bool(source.places(f"use {module}"))
-        passes.drop_items(source, [f"mod {module}", *exports])
+    return source.written(), {f"{folder}/{module}" for module in left}, source.used

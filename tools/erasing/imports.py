@@ -1,10 +1,11 @@
 """Imports, and the roots of paths: a crate's own modules, Rust's std and the prelude."""
-import re
 from collections import Counter
 
 from erasing.passes import add_above
 from erasing.tokens import WORD
 
+# What is by hand in a crate for cargo, as marks name it.
+BY_HAND = ("adapter::", "prelude::")
 # Modules of std that Rust's `core` has with the same meaning.
 OF_CORE = {"cmp", "fmt", "iter", "marker", "mem", "ops", "str", "time"}
 
@@ -24,7 +25,7 @@ def renamed(source, at, path, crate, plan):
             source.refuse(f"unknown module of std: {module}", at)
         root = f"core::{module}" if module in OF_CORE else plan.of_std[module]
         source.used.add((module, root))
-    else:
+    elif not (root == "crate" and rest.startswith(BY_HAND)):
         roots = {**plan.modules, **plan.other_crates, "crate": plan.modules[crate]}
         source.used.add((root, roots.get(root)))
         root = roots.get(root, root)
@@ -53,8 +54,7 @@ def imported(source, at, end):
     word = source.without_visibility(at)
     if not source.is_word(word, "use"):
         return []
-    texts = (token.text for token in source.tokens[word + 1:end] if not token.is_blank)
-    path = "".join(" as " if text == "as" else text for text in texts)
+    path = "".join(token.text for token in source.tokens[word + 1:end] if not token.is_blank)
     root, _, listed = path.rstrip("},").partition("{")
     return [(source.between(at, word - 1), root + name) for name in listed.split(",")]
 
@@ -68,34 +68,34 @@ def settle_imports(source, crate, plan, before):
         paths = []
         for visibility, path in names:
             name = path.rpartition("::")[2]
-            elsewhere = plan.imported_from(source, path)
+            source.used.add((path, plan.imports.get(path)))
             if visibility or used[name] or not before[name]:
-                paths.append(elsewhere or renamed(source, at, path, crate, plan))
+                paths.append(plan.imports.get(path) or renamed(source, at, path, crate, plan))
                 known.add(name)
         if paths:
-            source.replace(at, end, _lines(source, names[0][0], paths, plan))
+            source.replace(at, end, _lines(names[0][0], paths))
         else:
             source.cut(source.attached(at), end)
-    needed = [it for it in plan.homes_of(crate) if it[0] not in known and _uses(source, it[0])]
+    needed = [it for it in plan.names() if it[0] not in known and _uses(source, it[0])]
     source.used.update(needed)
-    homes = _join(source, [f"{home}::{name}" for name, home in needed], plan)
+    homes = _join(source, [f"{home}::{name}" for name, home in needed])
     if homes:
         *_, first = None, *(at for at, end in source.items() if imported(source, at, end))
         if first is None:
-            add_above(source, _lines(source, "", homes, plan))
+            add_above(source, _lines("", homes))
         else:
-            source.insert(source.attached(first), _lines(source, "", homes, plan) + "\n")
+            source.insert(source.attached(first), _lines("", homes) + "\n")
 
 
-def _join(source, homes, plan):
+def _join(source, homes):
     """Adds paths to the imports of their modules. Returns those whose modules have none."""
     for at, end in source.items():
         names = imported(source, at, end)
         modules = {path.rpartition("::")[0] for visibility, path in names if not visibility}
         joined = [home for home in homes if home.rpartition("::")[0] in modules]
-        paths = [path for _, path in names] + joined
-        if joined and not any(_conditions(source, path, plan) for path in paths):
-            source.replace(at, end, _lines(source, "", paths, plan))
+        # one with an attribute has a condition
+        if joined and not source.is_sign(source.before(at), "]"):
+            source.replace(at, end, _lines("", [path for _, path in names] + joined))
             homes = [home for home in homes if home not in joined]
     return homes
 
@@ -113,19 +113,12 @@ def _uses(source, name):
     return False
 
 
-def _conditions(source, path, plan):
-    return plan.conditions_of(source, set(re.findall(r"\w+", path)))
-
-
-def _lines(source, visibility, paths, plan):
-    """The imports of these paths: one for each module and set of conditions."""
+def _lines(visibility, paths):
+    """The imports of these paths: one for each module."""
     groups = {}
     for path in paths:
-        root, _, name = path.rpartition("::")
-        groups.setdefault((_conditions(source, path, plan), root), []).append(name)
-    lines = []
-    for (conditions, root), names in groups.items():
-        lines += [f"#[cfg({condition})]" for condition in conditions]
-        listed = names[0] if len(names) == 1 else "{" + ", ".join(sorted(names)) + "}"
-        lines.append(f"{visibility}use {root + '::' if root else ''}{listed};")
-    return "\n".join(lines)
+        root, sign, name = path.rpartition("::")
+        groups.setdefault(root + sign, []).append(name)
+    listed = {root: names[0] if len(names) == 1 else "{" + ", ".join(sorted(names)) + "}"
+              for root, names in groups.items()}
+    return "\n".join(f"{visibility}use {root}{names};" for root, names in listed.items())

@@ -1,14 +1,11 @@
-"""What patterns can't say: contracts, ghosts, attributes, items that go, and what is added."""
-import re
-
-from erasing.rules import apply
+"""What patterns can't say: contracts, ghosts, attributes, clones and examples."""
 from erasing.tokens import CLAUSE, COMMENT, GHOST, SPACE, WORD
 
 # The derives that Rust knows by the same name. `Drop` isn't one: it says that values may be let go.
 DERIVES = {"Clone", "Copy", "Debug", "Default", "Eq", "Hash", "Ord", "PartialEq", "PartialOrd"}
 SERDE = {"Serialize", "Deserialize"}
 # The attributes that mean to rustc what they mean to Rattle.
-KEPT_ATTRIBUTES = {"inline", "default", "repr"}
+KEPT_ATTRIBUTES = {"allow", "cfg", "default", "doc", "inline", "must_use", "repr"}
 INLINE = "#[inline]"
 
 
@@ -62,26 +59,6 @@ def _derive(source, at, end, names):
         source.cut(at, end)
 
 
-def drop_items(source, fronts):
-    """Items and functions go that begin with these words, wherever they stand."""
-    for front in fronts:
-        if not (places := source.places(front)):
-            source.refuse(f"the plan names an item that isn't here: {front}")
-        for at in places:
-            start = source.with_visibility(at)
-            source.cut(source.attached(start), source.item_end(start))
-
-
-def give_bodies(source, front):
-    """The methods of a trait do nothing, or answer false, unless they are implemented."""
-    at = source.place(front)
-    for place in range(source.item_end(at), at, -1):
-        if source.is_sign(place, ";"):
-            answers = source.text(source.before(place)) == "bool"
-            source.replace(place, place, " {\nfalse\n}" if answers else " {}")
-    source.insert(at, "#[allow(unused_variables)]\n")
-
-
 def derive_clones(source):
     """Clones can be refused memory in Rattle. Here they are derived: rustc copies the same fields,
     and those that are vectors have as much memory."""
@@ -90,24 +67,19 @@ def derive_clones(source):
         name = source.text(source.after(source.after(at)))
         source.cut(source.attached(first), end)
         for struct in source.places(f"struct {name}"):
-            _add_attribute(source, source.with_visibility(struct), "#[derive(Clone)]")
+            source.insert(source.with_visibility(struct), "#[derive(Clone)]\n")
 
 
-def add_attributes(source, attributes):
-    """Puts attributes above what begins with the given words."""
-    for line, front in ((it, front) for it, fronts in attributes.items() for front in fronts):
-        _add_attribute(source, source.place(front), line)
-
-
-def _add_attribute(source, at, line):
-    """A derive joins another."""
-    derive = next((place for place in range(source.attached(at), at)
-                   if source.words(place, 3) == ["#", "[", "derive"]), None)
-    if line.startswith("#[derive(") and derive is not None:
-        source.insert(source.before(source.attribute_end(derive)),
-                      f", {line[len('#[derive('):-2]}")
-    else:
-        source.insert(at, f"{line}\n")
+def join_derives(source):
+    """The derives of an item stand in one attribute."""
+    for at in source.places("#[derive"):
+        above = next((place for place in range(at - 1, source.attached(at) - 1, -1)
+                      if source.words(place, 3) == ["#", "[", "derive"]), None)
+        if above is not None:
+            end = source.attribute_end(at)
+            names = source.between(at + 4, source.before(source.before(end)))
+            source.cut(at, end)
+            source.insert(source.before(source.attribute_end(above)), f", {names}")
 
 
 def inline(source):
@@ -115,70 +87,28 @@ def inline(source):
     inlined into other crates."""
     for at in source.places("impl<A: Allocator>"):
         for place in range(source.item_end(at), at, -1):
-            start = source.with_visibility(place)
+            before = source.before(place)
+            start = source.with_visibility(before if source.is_word(before, "const") else place)
             is_generic = source.is_sign(source.after(source.after(place)), "<")
-            is_said = "inline" in source.between(source.attached(start), start)
+            above = source.attached(start)
+            is_said = "inline" in source.between(above, start)
             if source.is_word(place, "fn") and not is_generic and not is_said:
-                source.insert(start, f"{INLINE}\n")
+                source.insert(source.solid(above), f"{INLINE}\n")
 
 
-def set_conditions(source, conditions_of):
-    """Items in which certain words stand are there under conditions. Imports have theirs."""
-    for at, end in source.items():
-        if not source.is_word(source.without_visibility(at), "use"):
-            words = {source.text(place) for place in range(at, end)}
-            found = conditions_of(source, words)
-            source.insert(at, "".join(f"#[cfg({condition})]\n" for condition in found))
-
-
-def document_members(source, docs):
-    """Gives docs to members of these types that have none: by name, or for all others by `*`."""
-    for front, texts in docs.items():
-        at = source.item_end(source.place(front))
-        opened, left = source.match(at), {*texts}
-        while (at := at - 1) > opened:
-            at = source.match(at)
-            first = source.with_visibility(at)
-            name, start = source.text(at), source.attached(first)
-            begins = source.text(source.before(first)) in ("{", ",", "]")
-            if source.kind(at) == WORD and begins and source.kind(start) != COMMENT \
-                    and (text := texts.get(name, texts.get("*"))):
-                words = re.sub(r"(?<!^)(?=[A-Z])", " ", name).capitalize()
-                snake = words.lower().replace(" ", "_")
-                source.insert(start, f"/// {text.format(name=name, words=words, snake=snake)}\n")
-                left.discard(name if name in texts else "*")
-                at = start
-        if left:
-            source.refuse(f"the plan has docs that no member needs: {', '.join(left)}", opened)
-
-
-def complete_examples(source, lines):
-    """Examples in docs become whole programs, by hidden lines: those up to ".." before it, the
-    others after it. If the lines are None the examples go, with the empty line before them."""
-    fences = [at for at, token in enumerate(source.tokens) if token.text[3:].strip() == "```"]
-    if len(fences) % 2 or fences and lines == ():
-        source.refuse("an example that isn't closed, or has no lines in the plan", fences[0])
-    shown = lines.index("..") if lines and ".." in lines else len(lines or ())
+def complete_examples(source):
+    """The examples of docs take no allocator. Those for Rattle go, with the empty line before."""
+    fences = [at for at, token in enumerate(source.tokens) if token.text[3:].strip()[:3] == "```"]
+    if len(fences) % 2:
+        source.refuse("an example that isn't closed", fences[-1])
     for opened, closed in reversed([*zip(fences[::2], fences[1::2])]):
-        front = source.text(opened)[:3]
-        if lines is None:
-            source.cut(opened - 2 * (source.text(opened - 2) == front), closed)
+        if source.text(opened).endswith("```rattle"):
+            is_apart = source.text(opened - 2) == source.text(opened)[:3]
+            source.cut(opened - 2 * is_apart, closed)
             continue
         for at in range(opened, closed):
             text = source.text(at).replace("(alloc)", "()")
             source.tokens[at] = source.tokens[at]._replace(text=text)
-        source.insert(closed, "".join(f"{front} # {line}\n" for line in lines[shown + 1 :]))
-        source.insert(opened + 1, "".join(f"\n{front} # {line}" for line in lines[:shown]))
-
-
-def wrap_handler(source, copies):
-    """`trait Handler { .. }` becomes `handlers! { trait Handler; .. }`, a macro of the adapter."""
-    at = source.place("pub trait Handler {")
-    docs = [it.text for it in source.tokens[source.attached(at):at] if it.kind == COMMENT]
-    head = "\n".join(f"    {line}" for line in (*docs, "pub trait Handler;"))
-    opened = source.match(source.item_end(at))
-    source.replace(source.attached(at), opened, f"handlers! {{\n{head}")
-    apply(source, copies, are_needed=True)
 
 
 def add_above(source, lines):

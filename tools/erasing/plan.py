@@ -1,7 +1,4 @@
 """What a plan says: which crates of crates/ become which Rust crate, and what the passes are told.
-
-The plans stand in plans/, one for each Rust crate. Names of files are those of crates/:
-`vte_core/parser` is crates/vte_core/src/parser.rt.
 """
 from dataclasses import dataclass, field
 
@@ -12,74 +9,28 @@ def table():
 
 @dataclass(frozen=True)
 class Plan:
-    """A Rust crate. Tables are by file, unless they say something else. What they say can't be seen
-    in the sources, which know one prover and one library, no features and no other users."""
+    """A Rust crate. It says what differs in kind: the sources know one prover and one library, no
+    features and no oldest Rust. What differs in one place is a mark there (marks.py)."""
 
     folder: str  # what is written; nothing else stands there
     modules: dict  # the Rattle crates: the path of each, seen from anywhere in the Rust crate
+    conditions: dict = table()  # cargo's features with which these are there
     allowed_lints: tuple = ()  # those that the text needn't pass
 
     # where names come from: by hand in the Rust crate, or from crates that it depends on
     other_crates: dict = table()  # those that aren't part of this one
     of_std: dict = table()  # modules of std that Rust's `core` hasn't, or has otherwise
-    homes: dict = table()  # by crate, or "" for all: modules, and their names that are imported
-    imports: dict = table()  # by the front of files' names: paths, and what is imported instead
+    imports: dict = table()  # paths, and what is imported instead
+    homes: dict = table()  # modules, and their names that are imported where they are used
 
-    # under which conditions something is there: cargo's features
-    crate_conditions: dict = table()  # of the crates' modules
-    item_conditions: dict = table()  # by crate too: conditions, and words of items that have them
+    # the reader, the allocator, unsized performers: patterns, and what stands in their place
+    rules: list = field(default_factory=list)
 
-    # what goes: it is by hand in the Rust crate, rustc derives it, or only proofs, tests or other
-    # crates use it
-    dropped_files: frozenset = frozenset()
-    dropped_items: dict = table()  # items and functions, by their first words
-
-    # what changes, and what comes: the interface of `vte`, what rustc asks for, and what was
-    # measured to be as fast as the crate
-    rules: dict = table()  # by crate and "" for all, too: patterns, and what stands in their place
-    first_lines: dict = table()  # lines above the first item
-    attributes: dict = table()  # attributes, and the first words of what has them
-    default_bodies: dict = table()  # traits whose methods do nothing by default
-    handler: dict = table()  # by the file of the trait `Handler`, rules for arguments it copies
-
-    # comments: what readers of the Rust crate look for in docs
-    comments: dict = table()  # words of comments, and what stands in their place
-    members: dict = table()  # docs of members that have none, by the first words of their type
-    examples: dict = table()  # hidden lines before examples, and after "..", or None to drop these
-
-    def conditions_of(self, source, words):
-        """The conditions of an item with these words. Those of a file with None have none."""
-        of_file = self.item_conditions.get(source.name, {})
-        if of_file is None:
-            return ()
-        of_crate = self.item_conditions.get(source.name.partition("/")[0], {})
-        found = [(word, condition) for condition, wanted in {**of_crate, **of_file}.items()
-                 for word in wanted.split() if word in words]
-        source.used.update(found)
-        return tuple(dict.fromkeys(condition for _, condition in found))
-
-    def imported_from(self, source, path):
-        """Another path for an import, or None."""
-        found = [(path, imports[path]) for front, imports in self.imports.items()
-                 if source.name.startswith(front) and path in imports][:1]
-        source.used.update(found)
-        return found[0][1] if found else None
+    def names(self):
+        """The names that are imported where they are used, and from where."""
+        return [(name, home) for home, names in self.homes.items() for name in names.split()]
 
     def entries(self):
-        """What a plan seeks in more than one file, each with what it becomes."""
-        found = {rule[:2] for rules in self.rules.values() for rule in rules}
-        found |= {it for imports in self.imports.values() for it in imports.items()}
-        for table in self.homes, self.item_conditions:
-            found |= {(word, key) for of_place in table.values()
-                      for key, words in (of_place or {}).items() for word in words.split()}
-        return found | self.of_std.items() | self.other_crates.items()
-
-    def homes_of(self, crate):
-        return [(name, home) for place in ("", crate)
-                for home, names in self.homes.get(place, {}).items() for name in names.split()]
-
-
-def joined(*parts):
-    """The tables of a plan, of which each part has some entries."""
-    return {table: {key: it for part in parts for key, it in part.get(table, {}).items()}
-            for table in {table for part in parts for table in part}}
+        """What a plan seeks, each with what it becomes."""
+        return {*(rule[:2] for rule in self.rules), *self.names(), *self.imports.items(),
+                *self.of_std.items(), *self.other_crates.items()}

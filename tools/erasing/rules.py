@@ -19,16 +19,19 @@ GENERAL = [
 # than it is declared with, or a name that isn't declared.
 ALLOCATORS = [
     ("<A: Allocator>", ""), (", A: Allocator>", ">"), (", A: Allocator + Copy>", ">"),
-    ("<A>", ""), (", A>", ">"), (", A, >", ">"),
+    (", A: Allocator, const", ", const"), (", A: Allocator + Copy, const", ", const"),
+    ("<A>", ""), (", A>", ">"), (", A, >", ">"), (", A, N>", ", N>"),
     ("fn new(alloc: A,", "fn new("), ("fn new(alloc: A)", "fn new()"),
     ("::new(alloc,", "::new("), ("::new(alloc)", "::new()"),
     ("Vec::with_capacity(alloc,", "Vec::with_capacity("),
 ]
 
-# What the oldest Rust lacks: `is_sorted`, `let .. else`, and ranges of patterns without their last
-# number.
+# What the oldest Rust lacks: `is_sorted`, `first_chunk`, `let .. else`, and ranges of patterns
+# without their last number.
 OLDER = [
     ("$v.is_sorted()", "$v.windows(2).all(|pair| pair[0] <= pair[1])"),
+    ("$v$range.first_chunk::<$n>()", "first_chunk::<$n>(&$v$range)",
+     lambda names: names["range"][0] == "["),
     ("let $v($$p) = $$e else { $$$body };", lambda names: _match(**names)),
     ("$a..$b =>", lambda names: f"{names['a']}..={_before(names['b'])} =>",
      lambda names: names["b"][0].isdigit()),
@@ -45,7 +48,6 @@ def _before(number):
     return hex(int(number, 0) - 1) if number.startswith("0x") else str(int(number, 0) - 1)
 
 
-def apply(source, rules, are_needed=False):
+def apply(source, rules):
     for rule in rules:
-        if not rewrite(source, *rule) and are_needed:
-            source.refuse(f"the plan has a rule that nothing here needs: {rule[0]}")
+        rewrite(source, *rule)

@@ -10,8 +10,7 @@ class Source:
     Places are indices of tokens. A place outside the file has the text "" and no kind.
     """
 
-    def __init__(self, text, name):
-        self.name = name
+    def __init__(self, text):
         self.tokens = split(text)
         self.used = set()  # the entries of the plan (Plan.entries) that were of use here
 
@@ -115,12 +114,6 @@ class Source:
         found = [at for at, token in enumerate(self.tokens) if token.text == wanted[0]
                  and self.words(at, len(wanted)) == wanted]
         return found[::-1]
-
-    def place(self, front):
-        """The one place of what begins with these words."""
-        if len(found := self.places(front)) != 1:
-            self.refuse(f"expected one place that begins with {front}, found {len(found)}")
-        return found[0]
 
     def attached(self, at):
         """Where the comments and attributes begin that stand right above what is at a place."""

@@ -12,6 +12,7 @@ from runpy import run_path
 from types import SimpleNamespace
 
 import pytest
+from building import builder
 from erasing.plan import Plan
 
 from tests.missing import miss
@@ -235,11 +236,10 @@ def test_documents_are_no_sources():
 
 # ---- check_erased
 
-def differences(source, written, place="c/mod.rs", **given):
+def differences(source, written, place="c/mod.rs"):
     """What differs in a file, in whose place something else is written."""
     write("crates/c/src/lib.rt", source)
-    rules = {"c/lib": [("one()", "two()")]}
-    plan = Plan(folder="w", modules={"c": "crate::c"}, rules=rules, **given)
+    plan = Plan(folder="w", modules={"c": "crate::c"})
     write(f"w/{place}", written)
     status, said = Tool("check_erased", PLANS=(plan,)).run()
     *found, last = said.splitlines()
@@ -262,8 +262,8 @@ def differences(source, written, place="c/mod.rs", **given):
     ("pub static N: u8 = 1;", "pub static N: u8 = 2;", ["static N: : u8 = 2 ;", "static N"]),
     ("impl S { const N: u8 = 1; }", "impl S {}", ["const N"]),
     ("fn f<const N: u8>() -> *const u8 { N }", "fn f<const N: u8>() -> *const u8 { N }", []),
-    ("fn f() { one(); g(&mut reader, Chunk::new(a), input.up_to(b)); }",
-     "fn f() { two(); g(reader, a, up_to(input, b)); }", []),
+    ("fn f() { g(&mut reader, Chunk::new(a), input.up_to(b)); }",
+     "fn f() { g(reader, a, up_to(input, b)); }", []),
     ("fn f() { let (mut reader, input) = chunk.open(); self.looks.add(reader); g(); }",
      "fn f() { let reader = Reader {}; g(); }", []),
     ("fn f() { g(text(a, b.c)); take_run(a); }",
@@ -276,25 +276,48 @@ def differences(source, written, place="c/mod.rs", **given):
      "fn f() { match a { A => { b(1) } _ => c, } }", []),
     ("fn f() { input.up_to(a); }", "fn f() { up_to(input, b); }",
      ["fn f: { up_to ( input , b ) ; }", "fn f"]),
+    # contracts, ghosts and tests
+    ("fn f() // requires { }\n ghost a: { ℕ }\n requires b { { \"}\" } ≡ '}' } "
+     "ensures* { c } { g(); }", "fn f() { g(); }", []),
+    ("#[tactic(auto, using(a))]\nfn f()\n    ensures { a }\n{ b }", "fn f() { c }",
+     ["fn f: { c }", "fn f"]),
+    ("impl A for B { ghost use c.{D}; ghost e = { λ f. g }; fn h() { 1 } }",
+     "impl A for B { fn h() { 2 } }", ["fn h: { 2 }", "fn h"]),
+    ("#[cfg(test)]\nmod t { fn g() {} }\nfn f() { 1 }", "fn f() { 1 }", []),
+    # clones are derived
+    ("impl Clone for A { fn clone(&self) -> Self { B } }", "", []),
+    # marks
+    ("fn f() {\n// cargo: a();\n// cargo instead: b();\n// cargo instead: c();\nd();\ne(); }",
+     "fn f() { a(); b(); c(); e(); }", []),
+    ("fn f() {\n// cargo instead: a();\nb(); }", "fn f() { b(); }", ["fn f: { b ( ) ; }", "fn f"]),
+    ("// cargo lacks: why\npub fn f(a: [u8; 2])\n    ensures { b }\n{ c }\nfn g() {}",
+     "fn g() {}", []),
+    ("// cargo lacks: why\nfn f() {}\nfn g() {}", "fn f() {}", ["fn f: { }", "fn g"]),
+    # what the oldest Rust lacks
+    ("fn f() { a.is_sorted(); b[c..].first_chunk::<2>(); match d { 0..0x10 => 1, 2..20 => e } }",
+     "fn f() { a.windows(2).all(|pair| pair[0] <= pair[1]); first_chunk::<2>(&b[c..]); "
+     "match d { 0..=0xf => 1, 2..=19 => e } }", []),
+    ("fn f() { match a { 0..16 => 1 } }", "fn f() { match a { 0..=16 => 1 } }",
+     ["fn f: { match a { 0 . . = 16 = > 1 } }", "fn f"]),
+    ("fn f() { let A(b) = c else { return d; }; let E(g) = h else { i(); j }; }",
+     "fn f() { let b = match c { A(b) => b, _ => return d, }; "
+     "let g = match h { E(g) => g, _ => { i(); j } }; }", []),
 ])
 def test_what_differs_is_told(source, written, wanted):
-    told = [f"c/lib {item}: it isn't " + ("in the source as it is written: " + said if said
+    told = [f"c/mod.rs {item}: it isn't " + ("in the source as it is written: " + said if said
                                           else "written")
             for item, _, said in (line.partition(": ") for line in wanted)]
     assert differences(source, written) == told
 
 
 def test_all_files_are_compared():
-    for place in "a/b", "laws/a", "tests":
+    for place in "a", "a/b", "laws/a", "tests", "tests/a":
         write(f"crates/c/src/{place}.rt", "fn f() {}")
-    assert differences("", "") == ["c/a/b fn f: it isn't written"]
-    found = differences("", "", "c/d.rs", dropped_files={"c/a"})
+    source = "pub mod laws;\n#[cfg(test)]\nmod tests;\n"
+    assert differences(source, "") == [f"c/{place}.rs fn f: it isn't written"
+                                       for place in ("a", "a/b")]
+    found = differences(source + "// cargo lacks: why\nmod a;\n", "", "c/d.rs")
     assert found == ["w/c/d.rs: it has no source"]
-
-
-def test_what_the_plan_drops_may_be_left_out():
-    source = "fn f() {} #[cfg(test)] mod t { fn g() {} }"
-    assert differences(source, "", dropped_items={"c/lib": ("fn f",)}) == []
 
 
 # ---- mutate
@@ -654,3 +677,13 @@ def test_what_is_run_and_listed(folder, words, fails, ran, left, packages, statu
     for name in ran.split():
         assert f"test: {name} begins" in lines
         assert (f"said by {name}" in lines) == (name in (fails, "proofs"))
+
+
+# ---- peer
+
+@pytest.mark.skipif(os.environ.get("HAS_CRATES") != "yes", reason="without the crates of rust/vte")
+def test_it_compiles(tmp_path):
+    version = subprocess.check_output(["cargo", "--version"], text=True).split()[1]
+    if [*map(int, version.split(".")[:2])] < [1, 85]:
+        pytest.skip("cargo 1.85 or later")
+    builder.placed_peers(True, tmp_path, "checked", 1)

@@ -1,12 +1,7 @@
 """Tests of tools/erase."""
-import os
 import re
-import subprocess
-from dataclasses import fields, replace
 
 import pytest
-from building import builder
-from erasing import wording
 from erasing.crate import Failure, erase, write_crate
 from erasing.patterns import rewrite
 from erasing.plan import Plan
@@ -93,58 +88,58 @@ def words(text):
     return [text for text in texts if text not in ("", "\n", ",")]
 
 
-DROPPED = dict(dropped_items={"a/x": ("fn f",)})
 # what is told of a file, and a text with marks, as crates/ have no such case
 TEXTS = [
     ({}, "use c::Kept; use c::Gone; fn f(k: u8) {} ‹#[cfg(test)] mod tests { fn g() { Gone } }›"),
     ({}, "‹use b::laws; pub use laws::Step; mod laws;› use ‹std›«core»::cmp::Ordering; mod c;"),
     ({}, "fn f() { match a { ‹1..0x10›«1..=0xf» => 2, ‹20..30›«20..=29» => 3, A..B => 4 } }"),
-    (DROPPED, "‹// goes\n#[inline]pub fn f() {}\n›const A: u8 = 1; // one\n‹fn f() {}› fn ff() {}"),
-    (DROPPED, "//! File.\n// A group.\n\n‹// goes\n#[inline]\n// goes\nfn f() {}\n\n›fn g() {}"),
-    # each up to its end, and not more
-    (dict(dropped_items={"a/x": ("const fn g", "static S", "struct U", "const C", "type X", "use c",
-                                 "impl V")}),
-     "‹pub const fn g(a: [u8; 2]) { a; } pub static S: T = T { a: [0; 2] }; struct U([u8; 2]); "
-     "const C: u8 = { 1 }; type X = V<{ 1 }>; pub(crate) use c::{d, e}; "
-     "impl V<[u8; 2]> for U where U: W { const Y: u8 = 1; }› fn last() {}"),
-    (dict(homes={"a": {"q": "find g"}}), "«use q::find;\n»// why\nuse c::D; fn g() { find(x) }"),
-    (dict(homes={"a": {"q": "find"}}), "«use q::find;\n»pub use q::l; fn f() { find() }"),
-    (dict(homes={"a": {"q": "find Big g h D"}}), "use q::‹k›«{Big, find, k}»; pub use q::l; "
-     "use c::D; fn f(d: D) { find::<u8>(k); Big; a.g(); g } fn h() { h() }"),
-    (dict(imports={"a": {"c::D": "e::D"}}), "use ‹c::D›«e::D»; use c::{I as J, K};"),
-    (DROPPED, "‹use c::d;› pub use c::d::E; ‹fn f() { d(E) }›"),
-    (dict(members={"a/x": {"enum E {": {"*": "{words} {snake} {name}.", "Four": "4."}}}),
-     "enum E {\n«/// One one One.\n»#[default] One,\n«/// Two words two_words TwoWords.\n»"
-     "TwoWords(u8),\n/// Said.\nThree,\n«/// 4.\n»Four { a: u8 } }"),
-    (dict(members={"a/x": {"struct S {": {"b": "B."}}}), "struct S { a: [b; 2],\n"
-     "«/// B.\n»pub(crate) b: c::D<(b, c)>,\n/// Said.\n#[default] c: u8 } fn f(b: c) {}"),
-    ({}, "fn f(k: «crate::»b::K) { «crate::»b::g(«crate::»b::h::<«crate::»b::I>(), c::b::J) }"),
-    (dict(default_bodies={"a/x": "trait H {"}), "«#[allow(unused_variables)]» trait H { "
-     "fn f(&self) -> bool‹;›« { false }» fn g(&self, k: u8)‹;›« {}» } trait I { fn h(); } "
+    # marks: comments, lines, and what isn't there, each up to its end and not more
+    ({}, "//! A.\n‹// proof: goes\n// goes\n›/// B.\nfn f() {\n    // stays\n‹    // proof: goes\n›"
+     "    c();\n‹    // proof: goes\n    // cargo: g();›«    g();»\n}\n"),
+    ({}, "fn f() {\n    ‹// cargo: ›g();\n    h();\n    ‹// cargo instead: ›i(\n"
+     "    ‹// cargo instead: ›    j);\n‹    k(l); // goes\n›    m();\n"
+     "‹    // cargo instead:\n    n();\n›}"),
+    ({}, "‹use c::Gone;› use c::Kept; fn f() {\n‹// cargo instead: ›Kept\n‹Gone::new()\n›}"),
+    ({}, "‹/// Goes.\n// cargo lacks: why\n#[inline]\n#[tactic(auto)]\npub fn f()\n"
+     "    ensures { a }\n{}\n›const A: u8 = 1; // one\nfn ff() {}"),
+    ({}, "//! File.\n// A group.\n\n‹// goes\n#[inline]\n// cargo lacks: why\nfn f() {}\n\n›"
+     "fn g() {}"),
+    *(({}, f"fn f() {{}} ‹\n// cargo lacks: why\n{item}›\nfn g() {{}}") for item in (
+        "pub const fn g(a: [u8; 2]) { a; }", "static S: T = T { a: [0; 2] };", "struct U([u8; 2]);",
+        "const C: u8 = { 1 };", "type X = V<{ 1 }>;", "pub(crate) use c::{d, e};",
+        "impl V<[u8; 2]> for U where U: W { const Y: u8 = 1; }")),
+    ({}, "struct S { ‹\n// cargo lacks: why\npub a: T<(u8, u8)>,›\nb: c::D } fn f() { ‹\n"
+     "// cargo lacks: why\nlet e = [f, g];›\nh(); }"),
+    ({}, "‹// cargo lacks: why\nmod d;›\n‹pub use d::E;› fn f() { E }"),
+    ({}, "trait I { fn h(); }\n‹// cargo defaults: why\n›#[allow(a)] pub trait H { "
+     "fn f(&self) -> bool‹;›« { false }» fn g(&self, k: [u8; 2])‹;›« {}» fn i() { j; } }\n"
      "impl H for K { fn f(&self) -> bool { a; b } }"),
+    ({}, "trait H { ‹\n// cargo defaults: why\n›fn f() -> bool‹;›« { false }» fn g(); }"),
+    ({}, "‹// cargo: ›handlers! {\n«    »/// H.\n‹// cargo instead: ›«    »pub trait H;\n"
+     "‹pub trait H {\n›\n    fn f(t: &str) {} }"),
+    ({}, "#[derive(Debug«, Eq, Hash»)]\n‹// cargo: #[derive(Eq)]\n›#[allow(a)]\n"
+     "‹// cargo: #[derive(Hash)]\n›pub struct S;\n"
+     "‹#[derive(Drop)]\n// cargo: ›#[derive(Clone)]\nstruct T;"),
+    (dict(imports={"c::D": "e::D"}), "use ‹c::D›«e::D»; use c::{I, K};"),
+    (dict(homes={"q": "find g"}), "«use q::find;\n»// why\nuse c::D; fn g() { find(x) }"),
+    (dict(homes={"q": "find"}), "«use q::find;\n»pub use q::l; fn f() { find() }"),
+    (dict(homes={"q": "find Big g h D"}), "use q::‹k›«{Big, find, k}»; pub use q::l; "
+     "use c::D; fn f(d: D) { find::<u8>(k); Big; a.g(); g } fn h() { h() }"),
+    ({}, "‹// cargo: ›use crate::adapter::d;\n‹// cargo: ›pub use ::e; use crate::«a::»f;"),
+    ({}, "fn f(k: «crate::»b::K) { «crate::»b::g(«crate::»b::h::<«crate::»b::I>(), c::b::J) }"),
     ({}, "#[derive(Debug«, Clone»)] pub struct S<A> { a: A }\n‹// goes\nimpl<A: B> Clone for S<A> "
      "{ fn clone(&self) -> Result<Self, AllocError> { self.a } }› «#[derive(Clone)]» struct T; "
      "‹impl Clone for T {}› ‹impl Clone for U {}› impl Copy for T {}"),
-    ({}, "fn f() {} impl<A: Allocator> V<A> { «#[inline]» pub(crate) fn f() {} "
-     "fn g<T>() {} #[inline(never)]\n/// H.\nfn h() {} } fn i() {}"),
-    (dict(attributes={"a/x": {"#[derive(Eq)]": ["pub struct S", "pub struct T"],
-                              "#[x]": ["pub struct S"]}}),
-     "/// S.\n#[derive(Clone«, Eq»)] #[repr(C)] «#[x]» pub struct S; «#[derive(Eq)]» "
-     "pub struct T; fn f() {}"),
-    (dict(item_conditions={"a": {"m": "K"}, "a/x": {"n": "L"}}),
-     "«#[cfg(n)]» pub use c::L; «#[cfg(m)] use c::K;» use c::‹{K, M}›«M»; "
-     "«#[cfg(m)]» fn f(k: K) { \"L\" } «#[cfg(m)] #[cfg(n)]» fn g() { L(K) } fn h() {}"),
-    (dict(examples={"a/x": ("a;", "b;", "..", "c;")}),
-     "//! ```\n«//! # a;\n//! # b;\n»//! f(‹alloc›);\n«//! # c;\n»//! ```\n\n"
-     "/// ```\n«/// # a;\n/// # b;\n»/// f();\n«/// # c;\n»/// ```\n/// F.\nfn f() {}"),
-    (dict(examples={"a/x": None}), "‹//! ```\n//! f();\n//! ```\n\n›"
-     "/// F.\n‹///\n/// ```\n/// f();\n/// ```\n›/// G.\nfn f() {}"),
-    (dict(handler={"a/x": [("t: &str", "t: &str as String")]}), "//! A.\n\n"
-     "«handlers! {\n»/// H.\npub trait Handler‹ {›«;»\n/// F.\nfn f(t: &str« as String») {} }"),
-    (dict(first_lines={"a/x": "use d::D;"}), "//! A.\n\n«use d::D;\n\n»// f\nfn f() {}\nfn g() {}"),
-    *((dict(first_lines={"a/x": "use d::D;"}), f"«use d::D;\n»pub {word} e;")
-      for word in ("mod", "use")),
-    (dict(rules={"a/x": [("$x.b", "k($x)")]}), "fn f() { ‹g\n.b›«k(g)»; }"),
+    ({}, "fn f() {} impl<A: Allocator> V<A> { «#[inline]» pub(crate) const fn f() {} "
+     "fn g<T>() {} #[inline(never)]\n/// H.\nfn h() {} «#[inline]» #[allow(a)] fn i() {} } "
+     "fn i() {}"),
+    (dict(homes={"c": "find"}), "«use c::find;\n»‹// cargo: ›#[cfg(m)]\n"
+     "use c::D; fn f(d: D) { find() }"),
+    ({}, "//! ```\n//! # a;\n//! f(‹alloc›);\n//! ```\n\n/// F.\nfn f() {}"),
+    ({}, "‹//! ```rattle\n//! f();\n//! ```\n\n›"
+     "/// F.\n‹///\n/// ```rattle\n/// f();\n/// ```\n›/// G.\nfn f() {}"),
+    (dict(rules=[("$x.b", "k($x)")]), "fn f() { ‹g\n.b›«k(g)»; }"),
+    ({}, "fn f() { ‹a[b..].first_chunk::<2>()›«first_chunk::<2>(&a[b..])»; a.first_chunk::<2>() }"),
     ({}, "fn f() { ‹let A(x) = g(1) else {\n// why\nreturn };›"
      "«let x = match g(1) { A(x) => x, _ => {\n// why\nreturn } };»"
      "‹let B(y) = h else { break; };›«let y = match h { B(y) => y, _ => break, };» }"),
@@ -172,53 +167,34 @@ def test_texts(given, marked):
     assert words(erased(before, plan(**given))) == words(after)
 
 
-def test_comments_are_reworded():
-    long = "long-" * 30
-    text = "    // One. Two\n    // goes. Three.\n    f();\n"
-    assert wording.reword(text, {"Two goes.": f"Too.\n\n{long}"}) == (
-        f"    // One. Too.\n    //\n    // {long}\n    // Three.\n    f();\n")
-    for text in "/// One.\nfn f() {}\n", "/// Two.\nfn f() {}\n/// Two.\nfn g() {}\n":
-        with pytest.raises(Refused, match="Two"):
-            wording.reword(text, {"Two": "Three"})
-
-
-@pytest.mark.parametrize("text, line, given", [
-    ("\n#[test]\nfn f() {}\n", 2, {}),
-    ("fn f() {}\n#[derive(Clone, Ghostly)]\nstruct S;\n", 2, {}),
-    ("fn f() {}\nuse std::thread;\n", 2, {}),
-    ("\n/// ```\n/// f();\n/// ```\nfn f() {}\n", 2, {}), ("\n/* a */\n", 2, {}),
-    ("\nfn f() { std::mem::g() }\n", 2, {}), ("\nfn f()\n    ensures { { }\n{}\n", 3, {}),
-    ("ghost use A\n", 1, {}), ("\nfn f() { \"x }\n", 2, {}), ("fn f() { (\n", 1, {}),
-    ("fn f() {}\n", 1, dict(attributes={"a/x": {"#[x]": ["fn g"]}})),
-    ("fn f() {}\n", 1, dict(rules={"a/x": [("g()", "")]})),
-    ("trait Handler {}\n", 1, dict(handler={"a/x": [("g()", "")]})),
-    ("\nenum E {\n/// A.\nA }\n", 2, dict(members={"a/x": {"enum E {": {"A": "One."}}})),
-    ("\nenum E { A }\n", 2, dict(members={"a/x": {"enum E {": {"A": "One.", "*": "Any."}}})),
-    ("trait H {}\n", 1, dict(default_bodies={"a/x": "trait I {"})),
-    ("const M: u8 = 1;\n", 1, dict(dropped_items={"a/x": ("const N",)})),
-    ("mod z;\n", 1, dict(dropped_files={"a/x/y"})),
-    ("", 1, dict(dropped_items={"a/x": ("fn f",)})), ("\nfn f()\n", 2, {}),
-    ("fn f() {}\nfn f() {}\n", 1, dict(attributes={"a/x": {"#[x]": ["fn f"]}})),
-    ("\n/// ```\nfn f() {}\n", 2, dict(examples={"a/x": ("f();",)})),
+@pytest.mark.parametrize("text, line", [
+    ("\n#[test]\nfn f() {}\n", 2), ("fn f() {}\n#[derive(Clone, Ghostly)]\nstruct S;\n", 2),
+    ("fn f() {}\nuse std::thread;\n", 2), ("\n/* a */\n", 2), ("\nfn f() { std::mem::g() }\n", 2),
+    ("\nfn f()\n    ensures { { }\n{}\n", 3), ("ghost use A\n", 1), ("\nfn f() { \"x }\n", 2),
+    ("fn f() { (\n", 1), ("\nfn f()\n", 2), ("\n/// ```\nfn f() {}\n", 2),
+    # marks, and what is below them, in the line of the source
+    ("\n// cargo inlines: a\n", 2), ("\n// Cargo: a\n", 2), ("\n/// proof: a\nfn f() {}\n", 2),
+    ("\n// cargo lacks:\nfn f() {}\n", 2), ("// cargo instead: a\n// cargo: b\nc\n#[test]\n", 4),
 ])
-def test_what_is_refused(text, line, given):
+def test_what_is_refused(text, line):
     with pytest.raises(Refused) as caught:
-        erased(text, plan(**given))
+        erased(text, plan())
     assert (caught.value.line or 1) == line, caught.value
 
 
 @pytest.mark.parametrize("is_reversed", [False, True])
 def test_which_files_are_written(is_reversed):
     made = {"a": {"y/tests.rt": "#[x]", "x.rt": "#[x]", "y.rt": "#[cfg(test)] mod tests;",
-                  "lib.rt": "#[cfg(test)] mod x; #[cfg(test)] mod c; mod y; mod z; mod left;",
+                  "lib.rt": "#[cfg(test)] mod x; #[cfg(test)] mod c; mod y; mod z;\n"
+                  "// cargo lacks: why\nmod left;", "z.rt": "pub mod laws;",
                   "z/lib.rt": "", "z/laws/b.rt": "#[x]", "c.rt": "#[x]", "c/d.rt": "#[x]",
                   "left.rt": "#[x]", "left/over.rt": "#[x]", "leftover.rt": ""},
             "b": {"main.rt": "#[cfg(test)] mod x; #[cfg(test)] mod c;", "x.rt": "#[x]",
                   "c.rt": "#[x]", "old.rt": "fn f() {}"}}
-    given = plan(dropped_files={"a/left"}, crate_conditions={"b": "x"}, allowed_lints=("y", "z"))
+    given = plan(conditions={"b": "x"}, allowed_lints=("y", "z"))
     files = write_crate(given, lambda crate: dict(sorted(made[crate].items(), reverse=is_reversed)))
-    assert sorted(files) == ["a/leftover.rs", "a/mod.rs", "a/y.rs", "a/z/lib.rs",
-                             "b/mod.rs", "b/old.rs", "mod.rs"]
+    assert sorted(files) == ["a/leftover.rs", "a/mod.rs", "a/y.rs", "a/z.rs",
+                             "a/z/lib.rs", "b/mod.rs", "b/old.rs", "mod.rs"]
     assert files["b/old.rs"] == ("// Written by tools/erase from crates/b/src/old.rt: "
                                  "edit that one.\nfn f() {}\n")
     assert "#![allow(y, z)]\n" in files["mod.rs"]
@@ -226,35 +202,14 @@ def test_which_files_are_written(is_reversed):
         "pub(crate) mod a;", "#[cfg(x)]", "pub(crate) mod b;"]
 
 
-@pytest.mark.skipif(os.environ.get("HAS_CRATES") != "yes", reason="without the crates of rust/vte")
-def test_what_the_benchmark_shares_compiles(tmp_path):
-    version = subprocess.check_output(["cargo", "--version"], text=True).split()[1]
-    if [*map(int, version.split(".")[:2])] < [1, 85]:
-        pytest.skip("cargo 1.85 or later")
-    builder.placed_peers(True, tmp_path, "checked", 1)
-
-
 def test_failures_name_file_and_line():
     with pytest.raises(Failure, match=r"^crates/a/src/x\.rt:2: unknown attribute: test$"):
         write_crate(plan(), lambda _crate: {"x.rt": "\n#[test]\nfn f() {}\n"})
-    with pytest.raises(Failure, match=r"^crates/a/src/x\.rt:1: wording.json expects one"):
-        write_crate(plan(comments={"a/x": {"One": ""}}), lambda _crate: {"x.rt": "fn f() {}"})
-
-
-TABLES = {it.name: {"a/gone": {}} for it in fields(Plan) if it.default_factory is dict}
-
-
-@pytest.mark.parametrize("name, table", [
-    *TABLES.items(), ("dropped_files", {"a/gone"}), ("crate_conditions", {"gone": ""})])
-def test_each_table_names_what_exists(name, table):
-    with pytest.raises(Failure, match="don't exist: (a/)?gone"):
-        write_crate(replace(plan(), **{name: table}), lambda _crate: {"x.rt": ""})
 
 
 @pytest.mark.parametrize("given", [
-    dict(of_std={"gone": "b"}), dict(other_crates={"gone": "b"}), dict(imports={"a": {"gone": ""}}),
-    dict(homes={"": {"b": "gone"}}), dict(item_conditions={"a": {"b": "gone"}}),
-    dict(rules={"": [("gone", "")]})])
+    dict(of_std={"gone": "b"}), dict(other_crates={"gone": "b"}), dict(imports={"gone": ""}),
+    dict(homes={"b": "gone"}), dict(rules=[("gone", "")])])
 def test_each_entry_is_needed(given):
     with pytest.raises(Failure, match="what no file needs: gone"):
         write_crate(plan(**given), lambda _crate: {"x.rt": "fn f() {}"})
@@ -264,6 +219,6 @@ def test_each_entry_is_needed(given):
     ("f(// why\nalloc)\n", "(alloc)", True), ("f(alloc)\n", "(alloc)", False),
     ("f(a; b)\n", "($$x)", True), ("f(a; b)\n", "($$$x)", False)])
 def test_a_match_with_a_comment_stays(text, pattern, stays):
-    source = Source(text, "a/x")
+    source = Source(text)
     rewrite(source, pattern, "()")
     assert (source.written() == text) == stays

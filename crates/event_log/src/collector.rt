@@ -10,8 +10,7 @@ use vte_core::Parser;
 pub(crate) type RunParser = Parser<1024>;
 
 /// Collects a text for each event.
-///
-/// Two ghost members define its meaning: the text of an event, and the record that it holds.
+// proof: the text of an event, and the record that it holds, define its meaning.
 pub(crate) trait Collector {
     ghost text_of: { Event → List ℕ };
 

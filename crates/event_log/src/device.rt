@@ -7,8 +7,8 @@ use std::io::{Read, Write};
 
 /// A source of bytes.
 ///
-/// Two ghost members define its meaning: the bytes still to come, if they are known, and whether it
-/// has failed. A source that has failed stays failed.
+/// A source that has failed stays failed.
+// proof: the bytes still to come, if they are known, and whether it has failed define its meaning.
 pub trait Source {
     ghost to_come: { Self → Option (List ℕ) };
 
@@ -33,8 +33,8 @@ pub trait Source {
 
 /// A destination for bytes.
 ///
-/// Two ghost members define its meaning: the bytes taken, if they are known, and whether it has
-/// failed. A sink that has failed stays failed.
+/// A sink that has failed stays failed.
+// proof: the bytes taken, if they are known, and whether it has failed define its meaning.
 pub trait Sink {
     ghost taken: { Self → Option (List ℕ) };
 
@@ -67,11 +67,13 @@ pub trait Sink {
 /// After the first error of the reader or writer inside, it has failed: every further call is an
 /// error, and nothing is known of its bytes.
 #[derive(Drop)]
+// cargo lacks: not used
 pub struct Device<D> {
     inner: D,
     failed: bool,
 }
 
+// cargo lacks: not used
 impl<D> Device<D> {
     /// Wraps a reader or writer.
     pub fn new(inner: D) -> Self
@@ -85,6 +87,7 @@ impl<D> Device<D> {
     }
 }
 
+// cargo lacks: not used
 impl<D: Read> Source for Device<D> {
     ghost use Rattle.event_log.specs.Device.{told_unless};
 
@@ -102,6 +105,7 @@ impl<D: Read> Source for Device<D> {
     }
 }
 
+// cargo lacks: not used
 impl<D: Write> Sink for Device<D> {
     ghost use Rattle.event_log.specs.Device.{told_unless};
 

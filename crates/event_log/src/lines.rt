@@ -13,8 +13,7 @@ const ROOM: usize = 8192;
 
 /// A buffer of 8,192 bytes for lines, each appended whole or not at all.
 ///
-/// A line that doesn't fit is dropped, and [`lost`](Self::lost) is true from then on until
-/// [`clear`](Self::clear). The buffer never allocates.
+/// A line that doesn't fit is dropped. The buffer never allocates.
 #[derive(Drop)]
 pub struct Lines {
     bytes: ArrayVec<u8, ROOM>,
@@ -45,6 +44,7 @@ impl Lines {
     }
 
     /// Returns the number of bytes in the buffer.
+    // cargo lacks: not used
     pub fn len(&self) -> usize
         ensures { result ≡ length (record_in self.now).bytes }
     {
@@ -66,13 +66,14 @@ impl Lines {
     }
 
     /// Returns whether a line was dropped since the last `clear`.
+    // cargo lacks: not used
     pub fn lost(&self) -> bool
         ensures { result ≡ (record_in self.now).lost }
     {
         self.lost
     }
 
-    /// Removes all lines, and forgets that any was lost.
+    /// Removes all lines.
     pub fn clear(&mut self)
         ensures { record_in self.new ≡ empty_record }
     {

@@ -14,8 +14,7 @@ const MOST_TEXT: usize = 8;
 /// Collects the text of a stream, without its sequences, in a buffer of 8,192 bytes.
 ///
 /// Characters are kept as UTF-8, and HT, LF and CR as they are. A character that doesn't fit is
-/// dropped, and [`lost`](Self::lost) is true from then on until [`clear`](Self::clear). `Plain` is
-/// terminated when it holds more than 4,096 bytes.
+/// dropped. `Plain` is terminated when it holds more than 4,096 bytes.
 #[derive(Drop)]
 pub struct Plain {
     texts: Lines,
@@ -52,6 +51,7 @@ impl Plain {
     }
 
     /// Returns whether something was dropped since the last `clear`.
+    // cargo lacks: not used
     pub fn lost(&self) -> bool
         ensures { result ≡ self.now.lost }
     {

@@ -10,8 +10,8 @@ use vte_core::{Params, Perform, laws};
 
 /// Collects one line per event in a buffer of 8,192 bytes.
 ///
-/// A line that doesn't fit is dropped, and [`lost`](Self::lost) is true from then on until
-/// [`clear`](Self::clear). The recorder is terminated when it holds more than 4,096 bytes.
+/// A line that doesn't fit is dropped. The recorder is terminated when it holds more than 4,096
+/// bytes.
 #[derive(Drop)]
 pub struct Recorder {
     lines: Lines,
@@ -48,6 +48,7 @@ impl Recorder {
     }
 
     /// Returns whether a line was dropped since the last `clear`.
+    // cargo lacks: not used
     pub fn lost(&self) -> bool
         ensures { result ≡ self.now.lost }
     {

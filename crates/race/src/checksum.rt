@@ -1,6 +1,6 @@
 //! A performer that folds all events into a checksum, as cheaply as possible.
 //!
-//! tools/building erases this file for the crate too, so that both do the same work.
+//! tools/peer does the same for the crate.
 use std::fmt;
 use vte::{Params, Perform};
 

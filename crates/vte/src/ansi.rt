@@ -1,6 +1,7 @@
 //! The processor, which interprets the events of a stream, and the handler whose methods it calls.
 
 mod bounded_processor;
+// cargo lacks: the adapter has it
 mod clock;
 mod color_reader;
 mod color_text;
@@ -18,9 +19,11 @@ mod numbers;
 mod parsing;
 mod parts;
 mod performer;
+// cargo lacks: the adapter has it
 mod processor;
 mod release;
 mod rendition;
+// cargo lacks: the adapter has it
 mod std_sync_handler;
 #[cfg(test)]
 mod tests;
@@ -34,9 +37,11 @@ pub use laws::Step;
 pub use long_processor::LongProcessor;
 pub use processor::Processor;
 pub use std_sync_handler::StdSyncHandler;
+// cargo lacks: src/lib.rs exports it
 pub use vte_handler::{
     ByCall, Handler, HandlerCall, HandlerText, Hyperlink, TakeCall, TakeText, Timeout,
 };
+// cargo lacks: src/lib.rs exports it
 pub use vte_types::{
     Attr, C0, CharsetIndex, ClearMode, Color, CursorShape, CursorStyle, KeyboardModes,
     KeyboardModesApplyBehavior, LineClearMode, Mode, ModifyOtherKeys, NamedColor, NamedMode,

@@ -7,6 +7,7 @@
 //! asks of the terminal.
 #![tactic(auto)]
 
+// cargo lacks: src/lib.rs exports it
 pub use vte_core::{
     LongParser, Open, Params, ParamsIter, Parser, Parts, Perform, PerformText, PerformThroughText,
     Refused, Run, Saved, Taken, laws, parts,

@@ -13,13 +13,19 @@ ghost use Rattle.vte_core.specs.Stream.{IsFinished, IsUnfinished, usual_limit};
 ghost use Rattle.vte_c.specs.Calls.{Feeds, Strips};
 ghost use Rattle.vte_c.specs.OpenCode.{open_code};
 
+// cargo instead: pub(crate) mod event;
+// cargo instead: pub(crate) use event::VteEvent;
+// cargo instead: pub(crate) use events::Events;
+// cargo instead: pub(crate) use feed::{VteCounts, LEAST_EVENTS, NO_ROOM};
 mod event;
 mod events;
 mod feed;
 pub mod laws;
 mod text;
 
+// cargo lacks: exported above
 use event::VteEvent;
+// cargo lacks: exported above
 use feed::VteCounts;
 use std::mem::size_of;
 use vte_core::{Parser, Saved};

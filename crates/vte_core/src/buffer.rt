@@ -4,6 +4,8 @@ ghost use Rattle.vte_core.specs.machine.Prelude.{HasCapacity, IsRange, ReservesC
 
 use crate::scan::{Input, Reader};
 use arrayvec::ArrayVec;
+// cargo: #[cfg(any(feature = "std", feature = "ansi"))]
+// cargo: use crate::prelude::Vec;
 use std::alloc::Allocator;
 
 /// Holds bytes, up to a limit or as many as there is memory for.
@@ -80,6 +82,7 @@ impl<const N: usize> Buffer for ArrayVec<u8, N> {
     }
 }
 
+// cargo: #[cfg(any(feature = "std", feature = "ansi"))]
 impl<A: Allocator> Buffer for Vec<u8, A> {
     ghost limit = { None };
 

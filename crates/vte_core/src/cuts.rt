@@ -19,6 +19,7 @@ use iter::Parts;
 /// which can be cut after any byte below 80 instead.
 ///
 /// ```
+/// # use vte::parts;
 /// let mut parts = parts(b"one \x1b[1mtwo \x1b[mthree", 6);
 /// assert_eq!(parts.next(), Some(&b"one \x1b[1mtwo \x1b"[..]));
 /// assert_eq!(parts.next(), Some(&b"\x1b[mthree"[..]));

@@ -55,6 +55,7 @@ pub(crate) struct Collected {
 
 impl Collected {
     /// Creates an empty collection.
+    // cargo instead: pub(crate) const fn new() -> Self
     pub(crate) fn new() -> Self
         ensures { HoldsIntermediates result [] }
     {

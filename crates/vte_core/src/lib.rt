@@ -4,10 +4,9 @@
 //!
 //! [`Parser`] reads a stream in chunks of any length and calls a [`Perform`] for each of its
 //! events. [`LongParser`] is a parser without a limit on the text of operating system commands.
-//!
-//! The meaning of a performer is one function from a value and an event to a value. What the events
-//! of a stream are is defined in specs/, without states; the contract of [`Parser::advance`] says
-//! that the performer takes exactly these. [`laws`] has what holds of all streams.
+// proof: The meaning of a performer is one function from a value and an event to a value. What the
+// events of a stream are is defined in specs/, without states; the contract of [`Parser::advance`]
+// says that the performer takes exactly these. [`laws`] has what holds of all streams.
 #![tactic(auto)]
 
 mod automaton;
@@ -29,8 +28,14 @@ pub use cuts::parts;
 pub use params::{Params, ParamsIter};
 pub use parser::{Open, Parser};
 // for C alone
+// cargo: #[cfg(feature = "__own")]
 pub use parser::Saved;
 // takes memory
+// cargo: #[cfg(any(feature = "std", feature = "ansi"))]
 pub use parser::{LongParser, Refused};
+// cargo instead: pub use perform::{Perform, PerformText};
 pub use perform::{Perform, PerformText, PerformThroughText};
+// cargo: #[cfg(feature = "ansi")]
+// cargo: pub use scan::{InRuns, Singly};
+// cargo instead: pub use scan::{Run, Taken};
 pub use scan::{InRuns, Run, Singly, Taken};

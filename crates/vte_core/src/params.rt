@@ -14,6 +14,7 @@ use std::marker::Model;
 
 /// The numbers of a sequence, in groups that are never empty.
 #[derive(Clone, Drop)]
+// cargo: #[doc = include_str!("../../docs/params.md")]
 pub struct Params {
     // all numbers in a row
     numbers: ArrayVec<u16, 32>,
@@ -34,6 +35,7 @@ impl Model for Params {
 
 /// An iterator over the groups of a [`Params`], each a slice of its numbers.
 #[derive(Drop)]
+// cargo: #[derive(Clone, Debug)]
 pub struct ParamsIter<'a> {
     numbers: &'a [u16],
     lengths: &'a [u8],
@@ -52,6 +54,7 @@ impl<'a> Model for ParamsIter<'a> {
 
 impl Params {
     /// Creates parameters without numbers.
+    // cargo instead: pub(crate) const fn new() -> Self
     pub(crate) fn new() -> Self
         ensures { result ≡ [] }
     {
@@ -65,10 +68,13 @@ impl Params {
     pub(crate) fn clear(&mut self)
         ensures { self.new ≡ [] }
     {
-        // A `clear` of each would write over what it held, by a call of its own.
+        // proof: a `clear` of each would write over what it held, by a call of its own.
+        // cargo instead: self.numbers.clear();
+        // cargo instead: self.lengths.clear();
         *self = Params::new();
     }
 
+    // cargo: #[inline]
     pub(crate) fn is_full(&self) -> bool
         ensures { IsTrue result ↔ (32 ≤ count_of self.now) }
     {
@@ -87,6 +93,7 @@ impl Params {
     }
 
     /// How many numbers stand in each group, and all numbers in a row.
+    // cargo: #[cfg(feature = "__own")]
     pub(crate) fn parts(&self) -> (&[u8], &[u16])
         ensures { AreParts result.0.now result.1.now self.now }
     {
@@ -94,6 +101,7 @@ impl Params {
     }
 
     /// Returns the parameters with these parts, or none if the lengths don't cover all numbers.
+    // cargo: #[cfg(feature = "__own")]
     pub(crate) fn from_parts(lengths: ArrayVec<u8, 32>, numbers: ArrayVec<u16, 32>) -> Self
         ensures { (groups : List (List ℕ)) → AreParts lengths.items numbers.items groups
             → result ≡ groups }
@@ -121,6 +129,7 @@ impl Params {
     }
 
     /// Returns an iterator over the groups. Numbers joined by `:` are one group.
+    // cargo: #[inline]
     pub fn iter(&self) -> ParamsIter<'_>
         ensures value { result ≡ self.now }
         ensures groups { AreGroups self.now }
@@ -133,6 +142,7 @@ impl Params {
 }
 
 /// Removes the length of the last group if the next number joins it.
+// cargo: #[inline]
 fn take_joined(lengths: &mut ArrayVec<u8, 32>, joined: bool) -> Option<u8>
     ensures { IsTakenOff joined lengths.old.items lengths.new.items result }
 {
@@ -141,6 +151,7 @@ fn take_joined(lengths: &mut ArrayVec<u8, 32>, joined: bool) -> Option<u8>
 
 /// Returns whether these are the lengths of groups with these numbers.
 #[tactic(auto, using(std::proofs::lemmas::Grind::elements, crate::proofs::fields::Groups::sum_take_more, crate::proofs::fields::Groups::sum_take_below, crate::proofs::fields::Groups::filled_take_more))]
+// cargo: #[cfg(feature = "__own")]
 fn are_lengths(lengths: &[u8], numbers: &[u16]) -> bool
     ensures { IsTrue result ↔ AreFlatGroups lengths.now numbers.now }
 {
@@ -170,6 +181,7 @@ impl<'a> IntoIterator for &'a Params {
 
     ghost into_iter_gives = { λ params it. (it ≡ params.now) × AreGroups params.now };
 
+    // cargo: #[inline]
     fn into_iter(self) -> ParamsIter<'a> {
         self.iter()
     }
@@ -182,6 +194,7 @@ impl<'a> Iterator for ParamsIter<'a> {
 
     ghost remaining = { item_count (λ groups. groups) };
 
+    // cargo: #[inline]
     fn next(&mut self) -> Option<&'a [u16]> {
         let (length, lengths) = self.lengths.split_first()?;
         let (group, numbers) = self.numbers.split_at(*length as usize);

@@ -16,10 +16,12 @@ mod drive;
 mod ending;
 mod escape;
 mod ignored_string;
+// cargo: #[cfg(any(feature = "std", feature = "ansi"))]
 mod long;
 mod machine;
 mod open;
 mod refused;
+// cargo: #[cfg(feature = "__own")]
 mod saved;
 mod system_command;
 mod text;
@@ -29,10 +31,12 @@ use crate::head::HeadProgress;
 use crate::scan::{Chunk, CountedPerform, Grain, Looks};
 use crate::utf8::Unfinished;
 use arrayvec::ArrayVec;
+// cargo: #[cfg(any(feature = "std", feature = "ansi"))]
 pub use long::LongParser;
 use machine::Machine;
 pub use open::Open;
 pub use refused::Refused;
+// cargo: #[cfg(feature = "__own")]
 pub use saved::Saved;
 use std::alloc::AllocError;
 
@@ -61,20 +65,29 @@ pub(crate) enum State {
     IgnoredString,
 }
 
-/// A parser of the bytes that programs send to a terminal.
+/// A parser of the bytes that programs send to a terminal, with a limit.
 ///
 /// It reads a stream in chunks of any length, and calls a [`Perform`](crate::Perform) for each
 /// event.
 ///
 /// ```
+/// # use vte::{Parser, Perform};
+/// # struct Performer;
+/// # impl Perform for Performer {}
+/// # let mut performer = Performer;
 /// let mut parser = Parser::new();
 /// parser.advance(&mut performer, b"a\x1b[1");
 /// parser.advance(&mut performer, b"m"); // one `csi_dispatch`, of the two chunks together
 /// ```
 ///
 /// It keeps up to `OSC_RAW_BUF_SIZE` data bytes of an operating system command, and drops the rest.
-/// In the crate for cargo it keeps all of them with the feature `std`.
+/// So it takes no memory, whatever the stream. [`command_lost_data`](Self::command_lost_data) says
+/// whether something was dropped. Its size is about `OSC_RAW_BUF_SIZE` and 300 bytes.
+// cargo: ///
+// cargo: /// `BoundedParser` is its name with and without the feature `std`. Without it,
+// cargo: /// [`Parser`](crate::Parser) is the same type.
 #[derive(Drop)]
+// cargo instead: pub struct Parser<const OSC_RAW_BUF_SIZE: usize = MAX_OSC_RAW> {
 pub struct Parser<const OSC_RAW_BUF_SIZE: usize> {
     machine: Machine<ArrayVec<u8, OSC_RAW_BUF_SIZE>>,
     looks: Looks,
@@ -83,6 +96,7 @@ pub struct Parser<const OSC_RAW_BUF_SIZE: usize> {
 impl Parser<MAX_OSC_RAW> {
     /// Creates a parser that has read nothing, with room for 1,024 data bytes of an operating
     /// system command.
+    // cargo instead: pub const fn new() -> Self
     pub fn new() -> Self
         ensures { HasRead result [] }
     {
@@ -118,6 +132,7 @@ impl<const OSC_RAW_BUF_SIZE: usize> Clone for Parser<OSC_RAW_BUF_SIZE> {
 impl<const OSC_RAW_BUF_SIZE: usize> Parser<OSC_RAW_BUF_SIZE> {
     /// Creates a parser that has read nothing, with room for `OSC_RAW_BUF_SIZE` data bytes of an
     /// operating system command, which may be 0.
+    // cargo instead: pub const fn new_with_size() -> Self
     pub fn new_with_size() -> Self
         ensures { HasRead result [] }
     {

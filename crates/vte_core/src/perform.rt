@@ -7,9 +7,12 @@ ghost use Rattle.vte_core.specs.Text.{IsRunText, run_event};
 
 use crate::params::Params;
 
+// cargo defaults: a performer implements what it needs
 /// Receives the events of a stream, one call for each, in order.
 ///
 /// The slices are borrowed for the call only.
+#[allow(unused_variables)]
+// cargo: #[doc = include_str!("../../docs/perform.md")]
 pub trait Perform {
     /// What a performer stands for.
     ghost Value: { Type 0 };
@@ -49,6 +52,13 @@ pub trait Perform {
 
     /// Called when an operating system command ends, with its pieces, which are 1 to 16, and
     /// whether BEL ended it.
+    ///
+    /// A command that CAN, SUB or ESC cancelled comes as one that `ESC \` ended. The next event
+    /// tells: [`execute`](Self::execute) of CAN (18) or SUB (1A) if one of these cancelled it, and
+    /// [`esc_dispatch`](Self::esc_dispatch) with the byte `\` if it ended. What follows the 16th
+    /// piece, and what is over the parser's limit, is dropped without an event: a link (OSC 8) is
+    /// cut at the 14th `;` of its URI. `command_lost_data` of the parser says whether data were
+    /// dropped.
     fn osc_dispatch(&mut self, params: &[&[u8]], bell_terminated: bool)
         ensures { value_of self.new
             ≡ step (value_of self.old)
@@ -73,10 +83,14 @@ pub trait Perform {
         ensures { result ≡ is_terminated (value_of self.now) };
 }
 
-/// Receives text in runs, from `advance_text`: there [`print`](Perform::print) and
+/// Receives text in runs, from `advance_text` alone: there [`print`](Perform::print) and
 /// [`put`](Perform::put) aren't called.
 ///
+/// All other calls, such as `advance` and `advance_to_run`, pass text by `print`, and never by
+/// `print_text`. A performer that leaves `print` empty loses their text, so implement both.
+///
 /// How text and data are cut into runs may change from version to version.
+// cargo: #[doc = include_str!("../../docs/perform_text.md")]
 pub trait PerformText: Perform {
     /// Whether runs may hold HT, LF and CR.
     ghost layout: { Bool };
@@ -84,6 +98,7 @@ pub trait PerformText: Perform {
     /// Returns whether HT (09), LF (0A) and CR (0D) come by `print_text` instead of
     /// [`execute`](Perform::execute), always the same answer. A filter, which keeps these three as
     /// they are, is faster with longer runs.
+    // cargo defaults: few say yes
     fn keeps_layout(&self) -> bool
         ensures { result ≡ layout };
 
@@ -99,6 +114,10 @@ pub trait PerformText: Perform {
     /// comes by [`put`](Perform::put).
     ///
     /// ```
+    /// # use vte::{Parser, Perform, PerformText};
+    /// # #[derive(Default)]
+    /// # struct Image { data: Vec<u8> }
+    /// # impl Perform for Image {}
     /// impl PerformText for Image {
     ///     fn print_text(&mut self, _text: &str) {}
     ///
@@ -106,6 +125,9 @@ pub trait PerformText: Perform {
     ///         self.data.extend_from_slice(bytes);
     ///     }
     /// }
+    /// # let mut image = Image::default();
+    /// # Parser::new().advance_text(&mut image, b"\x1bPq#0~~\x1b\\");
+    /// # assert_eq!(image.data, b"#0~~");
     /// ```
     fn put_slice(&mut self, bytes: &[u8])
         requires some { 0 < length bytes.now }
@@ -119,6 +141,7 @@ pub trait PerformText: Perform {
 }
 
 /// A performer that no character of a run terminates, so that it needn't be asked there.
+// cargo lacks: only proofs use it
 pub trait PerformThroughText: PerformText {
     ghost no_stop: { NoCharacterStops Self.layout Self.step Self.is_terminated };
 }

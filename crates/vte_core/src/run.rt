@@ -9,8 +9,9 @@ use crate::class::is_layout;
 use crate::scan::{CountedPerform, Grain, Input, Reader};
 use crate::utf8::{is_continuation, is_lead, is_printed_ascii, may_begin_four, may_begin_three};
 
-/// Longer runs go on in blocks. By then single bytes have taken fewer looks than they may, enough
-/// to pay for one wasted block.
+/// Longer runs go on in blocks.
+// proof: by then single bytes have taken fewer looks than they may, enough to pay for one wasted
+// block.
 const SHORT_RUN: usize = 48;
 
 impl Reader {

@@ -1,17 +1,16 @@
-//! The only module that has the bytes of a call, and the only way to report events. It counts both,
-//! for contracts alone.
-//!
-//! Each form of `advance` makes a [`Chunk`] of its bytes, and passes nothing else on. The one
-//! [`Reader`] of a chunk is the only way to the bytes of its [`Input`], and a [`CountedPerform`]
-//! takes events with a reader alone. No other module can make one of these. Bytes leave this module
-//! one by one, in blocks, as a copy in a buffer, or as text or data: for a performer, or in a
-//! [`Run`] for the caller.
+//! The only module that has the bytes of a call, and the only way to report events.
+// proof: It counts both, for contracts alone. Each form of `advance` makes a [`Chunk`] of its
+// bytes, and passes nothing else on. The one [`Reader`] of a chunk is the only way to the bytes of
+// its [`Input`], and a [`CountedPerform`] takes events with a reader alone. No other module can
+// make one of these. Bytes leave this module one by one, in blocks, as a copy in a buffer, or as
+// text or data: for a performer, or in a [`Run`] for the caller.
 ghost use Rattle.std.specs.Prelude.{◌≡◌, ◌+◌, ◌-◌, ◌<◌, ◌≤◌, ℕ, [], ◌∷◌, ◌++◌, false, true, length, drop, map, take, slice_index, vec_capacity, MatchOption, IsUtf8};
 ghost use Rattle.vte_core.specs.machine.Prelude.{AreOfKind, ArePut, IsRange, IsRun, IsTaken, PrintsRun, Put, Tells, after, character_event, counted, is_in, looked, malformed_event, from_to};
 
 mod calls;
 mod counted_perform;
 mod grain;
+// cargo: #[cfg(any(feature = "std", feature = "ansi"))]
 mod long_calls;
 mod search;
 mod taken;
@@ -20,6 +19,8 @@ use arrayvec::{ArrayVec, CapacityError};
 pub(crate) use counted_perform::CountedPerform;
 pub(crate) use grain::Grain;
 pub use grain::{InRuns, Singly};
+// cargo: #[cfg(any(feature = "std", feature = "ansi"))]
+// cargo instead: use crate::prelude::{AllocError, Vec};
 use std::alloc::{AllocError, Allocator};
 use std::snapshot::Snapshot;
 use std::{mem, str};
@@ -28,6 +29,7 @@ pub(crate) use taken::{RunKind, RunRange};
 
 /// The looks so far, and how many there were each time. Only contracts read it.
 #[derive(Drop)]
+// cargo lacks: only contracts read it
 enum Trail {
     Start,
     Then(Snapshot<Trail>, usize),
@@ -36,10 +38,12 @@ enum Trail {
 
 /// The looks of all calls of a parser. It has no bytes at run time.
 #[derive(Drop)]
+// cargo lacks: only contracts read it
 pub(crate) struct Looks {
     trail: Snapshot<Trail>,
 }
 
+// cargo lacks: only contracts read it
 impl Looks {
     /// Creates the count of a parser that has read nothing.
     pub(crate) fn none() -> Self
@@ -61,10 +65,12 @@ impl Looks {
 }
 
 /// The bytes of a call, which has one reader.
+// cargo lacks: a slice serves
 pub(crate) struct Chunk<'a> {
     bytes: &'a [u8],
 }
 
+// cargo lacks: a slice serves
 impl<'a> Chunk<'a> {
     fn new(bytes: &'a [u8]) -> Self
         ensures { result.bytes.now ≡ bytes.now }
@@ -85,18 +91,29 @@ impl<'a> Chunk<'a> {
     }
 }
 
-/// Reads the bytes of a call and reports events, and counts both as looks. It has no bytes at run
-/// time. It can't be let go: its looks are added to those of the parser.
+/// Reads the bytes of a call and reports events. It has no bytes: only Rattle's contracts need
+/// its count.
+// proof: it can't be let go: its looks are added to those of the parser.
+// cargo: #[derive(Clone, Copy)]
 pub(crate) struct Reader {
+    // cargo lacks: only contracts read it
     trail: Snapshot<Trail>,
 }
 
 /// The bytes of a call, which only its [`Reader`] reads.
 #[derive(Clone, Copy)]
+// cargo lacks: a slice serves
 pub(crate) struct Input<'a> {
     bytes: &'a [u8],
 }
 
+// cargo: /// Returns the bytes up to a position.
+// cargo: #[inline(always)]
+// cargo: pub(crate) fn up_to(input: &[u8], to: usize) -> &[u8] {
+// cargo:     &input[..to]
+// cargo: }
+
+// cargo lacks: a slice serves
 impl<'a> Input<'a> {
     pub(crate) fn len(self) -> usize
         ensures { result ≡ length self.entry.bytes.now }
@@ -118,14 +135,26 @@ impl<'a> Input<'a> {
     }
 }
 
-/// Returns the text from one position to another, which is whole characters.
+/// Returns the text from one position to another.
+///
+/// # Safety
+///
+/// The bytes between them must be whole characters. They are if a search for the end of a run,
+/// begun at `from` or after whole characters that stand there, ended at `to`: it passes one
+/// whole character at a time, a byte of ASCII, or a lead byte with all its continuation bytes,
+/// the first of which `may_begin_three` and `may_begin_four` test. The automaton, which passes
+/// blocks, goes back to where no character is open.
 #[inline(always)]
+#[allow(unsafe_code)]
+// cargo instead: pub(crate) unsafe fn text(bytes: &[u8], from: usize, to: usize) -> &str
 fn text(bytes: &[u8], from: usize, to: usize) -> &str
     requires range { IsRange bytes.now from to }
     requires utf8 { IsUtf8 (take (to - from) (drop from bytes.now)) }
     ensures { result.now ≡ take (to - from) (drop from bytes.now) }
 {
     let bytes = &bytes[from..to];
+    // cargo: debug_assert!(str::from_utf8(bytes).is_ok());
+    // SAFETY: this is what the caller promises.
     unsafe { str::from_utf8_unchecked(bytes) }
 }
 
@@ -139,6 +168,12 @@ fn data(bytes: &[u8], from: usize, to: usize) -> &[u8]
 }
 
 /// Returns the run that stands at a position, whose bytes were looked at.
+///
+/// # Safety
+///
+/// The bytes of a run of text must be whole characters, as [`text`] says.
+#[allow(unsafe_code)]
+// cargo instead: unsafe fn take_run(bytes: &[u8], range: RunRange) -> Run<'_>
 fn take_run(bytes: &[u8], range: RunRange) -> Run<'_>
     requires range { IsRange bytes.now range.start range.end }
     requires kind { AreOfKind range.kind
@@ -149,6 +184,7 @@ fn take_run(bytes: &[u8], range: RunRange) -> Run<'_>
         (take (range.end - range.start) (drop range.start bytes.now)) result.taken }
 {
     let taken = match range.kind {
+        // SAFETY: this is what the caller promises.
         RunKind::OfText => Taken::Text(text(bytes, range.start, range.end)),
         RunKind::OfData => Taken::Data(data(bytes, range.start, range.end)),
         RunKind::Empty => Taken::Nothing,
@@ -161,11 +197,13 @@ fn take_run(bytes: &[u8], range: RunRange) -> Run<'_>
 }
 
 impl Reader {
-    /// Counts looks.
+    /// Only Rattle's contracts count.
     fn add(&mut self, count: usize)
         ensures { looked self.new ≡ looked self.old + count }
     {
+        // cargo instead: let _ = count;
         let before = mem::replace(&mut self.trail, Snapshot::of(&Trail::Start));
+        // cargo instead:
         self.trail = Snapshot::of(&Trail::Then(before, count));
     }
 
@@ -251,6 +289,7 @@ impl Reader {
         }
     }
 
+    // cargo lacks: the crate calls `print_text`
     /// Tells the run of text that stands from one position to another, which counts its bytes.
     #[inline(always)]
     pub(crate) fn tell_text<P: CountedPerform<G>, G: Grain>(
@@ -271,7 +310,7 @@ impl Reader {
         performer.print_text(self, text(input.bytes, from, to));
     }
 
-    /// Tells the data that stand from one position to another, which counts them.
+    /// Tells the data that stand from one position to another.
     #[inline(always)]
     pub(crate) fn tell_data<P: CountedPerform<G>, G: Grain>(
         &mut self,
@@ -311,6 +350,7 @@ impl Reader {
     }
 }
 
+// cargo: #[cfg(any(feature = "std", feature = "ansi"))]
 impl Reader {
     /// Appends the bytes from one position to another to a vector that has memory for them.
     pub(crate) fn copy_to_vec<A: Allocator>(

@@ -6,6 +6,8 @@ ghost use Rattle.vte_core.specs.machine.Prelude.{ArePieceEnds, HasCapacity, Stor
 use crate::buffer::Buffer;
 use crate::scan::{CountedPerform, Grain, Input, Reader};
 use arrayvec::ArrayVec;
+// cargo: #[cfg(any(feature = "std", feature = "ansi"))]
+// cargo: use crate::prelude::Vec;
 use std::alloc::{AllocError, Allocator};
 use std::marker::Model;
 
@@ -43,6 +45,7 @@ impl<B: Buffer> Model for Store<B> {
 
 impl<B: Buffer> Store<B> {
     /// Creates a store without items, over a buffer.
+    // cargo instead: pub(crate) const fn new(bytes: B) -> Self
     pub(crate) fn new(bytes: B) -> Self
         requires { B.held bytes ≡ [] }
         ensures holds { HoldsItems B.limit result [] }
@@ -66,6 +69,7 @@ impl<B: Buffer> Store<B> {
     }
 
     /// Removes the items of a command that has ended, but not whether it lost data.
+    // cargo: #[cfg(any(feature = "std", feature = "ansi"))]
     pub(crate) fn remove_items(&mut self)
         ensures none { self.new.bytes ≡ [] }
         ensures lost { self.new.lost ≡ self.old.lost }
@@ -177,6 +181,7 @@ impl<B: Buffer> Store<B> {
     }
 }
 
+// cargo: #[cfg(feature = "__own")]
 impl<const N: usize> Store<ArrayVec<u8, N>> {
     /// Returns the data bytes, the ends of the first 16 pieces in them, and whether data bytes were
     /// dropped.
@@ -209,8 +214,10 @@ impl<const N: usize> Store<ArrayVec<u8, N>> {
     }
 }
 
+// cargo: #[cfg(any(feature = "std", feature = "ansi"))]
 impl<A: Allocator> Store<Vec<u8, A>> {
     /// Returns for how many data bytes there is memory.
+    // cargo lacks: not used
     pub(crate) fn capacity(&self) -> usize
         ensures { result ≡ self.now.capacity }
     {
@@ -218,6 +225,7 @@ impl<A: Allocator> Store<Vec<u8, A>> {
     }
 
     /// Returns how many data bytes it has.
+    // cargo: #[cfg(any(feature = "__own", feature = "ansi"))]
     pub(crate) fn len(&self) -> usize
         ensures { result ≡ length self.now.bytes }
     {
@@ -251,6 +259,7 @@ impl<A: Allocator + Clone> Clone for Store<Vec<u8, A>> {
 
 /// Returns whether pieces with this many bytes in all can end at these positions, of which there
 /// are at most 16.
+// cargo: #[cfg(feature = "__own")]
 fn are_piece_ends(ends: &[usize], count: usize) -> bool
     ensures { IsTrue result ↔ (IsNonDecreasing ends.now × All (λ end. end ≤ count) ends.now) }
 {

@@ -162,22 +162,30 @@ pub(crate) fn character_of_two(first: u8, second: u8) -> char
     requires second { is_in (from_to 0x80 0xbf) second ≡ true }
     ensures { result ≡ scalar_of (first ∷ second ∷ []) }
 {
+    // below the surrogates whatever the bytes are, as compilers see
+    // cargo instead: char::from_u32(number_of_two(first, second))
+    // cargo instead:     .unwrap_or(char::REPLACEMENT_CHARACTER)
     unsafe { char::from_u32_unchecked(number_of_two(first, second)) }
 }
 
 /// Returns the character of three bytes.
 #[inline(always)]
+#[allow(unsafe_code)]
 pub(crate) fn character_of_three(first: u8, second: u8, third: u8) -> char
     requires lead { BeginsThree first }
     requires second { is_in (second_range first) second ≡ true }
     requires third { is_in (from_to 0x80 0xbf) third ≡ true }
     ensures { result ≡ scalar_of (first ∷ second ∷ third ∷ []) }
 {
+    // cargo: debug_assert!(may_begin_three(first, second) && is_continuation(third));
+    // SAFETY: the remainders leave at most FFFF. Callers have tested `may_begin_three`, by which
+    // the number is no surrogate's, D800 to DFFF.
     unsafe { char::from_u32_unchecked(number_of_three(first, second, third)) }
 }
 
 /// Returns the character of four bytes.
 #[inline(always)]
+#[allow(unsafe_code)]
 pub(crate) fn character_of_four(first: u8, second: u8, third: u8, fourth: u8) -> char
     requires lead { BeginsFour first }
     requires second { is_in (second_range first) second ≡ true }
@@ -185,5 +193,9 @@ pub(crate) fn character_of_four(first: u8, second: u8, third: u8, fourth: u8) ->
     requires fourth { is_in (from_to 0x80 0xbf) fourth ≡ true }
     ensures { result ≡ scalar_of (first ∷ second ∷ third ∷ fourth ∷ []) }
 {
+    // cargo: debug_assert!(may_begin_four(first, second));
+    // cargo: debug_assert!(is_continuation(third) && is_continuation(fourth));
+    // SAFETY: callers have tested `may_begin_four`, by which the front of the number is 10000 to
+    // 10F000, and the remainders leave at most FFF for its rest.
     unsafe { char::from_u32_unchecked(number_of_four(first, second, third, fourth)) }
 }

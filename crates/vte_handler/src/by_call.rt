@@ -17,6 +17,8 @@ use vte_types::{
 
 /// A call of a [`Handler`], as a value. Each variant has the name and the arguments of its method.
 #[derive(Drop)]
+// cargo: #[derive(Debug)]
+#[allow(missing_docs)]
 pub enum HandlerCall<'a> {
     Backspace,
     CarriageReturn,
@@ -93,7 +95,7 @@ pub enum HandlerCall<'a> {
 
 /// Takes the calls of a handler as values.
 ///
-/// ```
+/// ```rattle
 /// impl TakeCall for Page {
 ///     fn take(&mut self, call: HandlerCall<'_>) {
 ///         match call {
@@ -139,6 +141,7 @@ pub trait TakeText: TakeCall {
 /// A [`Handler`] that passes each call on as a value. It takes text in runs if the inner value is
 /// [`TakeText`].
 #[derive(Drop)]
+// cargo: #[derive(Debug)]
 pub struct ByCall<T: Drop>(pub T);
 
 impl<T: TakeCall + Drop> Handler for ByCall<T> {
@@ -356,6 +359,7 @@ impl<T: TakeCall + Drop> Handler for ByCall<T> {
         self.0.take(HandlerCall::ClearTabs(which));
     }
 
+    // cargo instead: #[inline]
     #[inline(always)]
     fn terminal_attribute(&mut self, attribute: Attr) {
         self.0.take(HandlerCall::TerminalAttribute(attribute));

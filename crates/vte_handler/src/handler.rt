@@ -6,6 +6,8 @@ ghost use Rattle.vte_handler.specs.Call.{Call};
 ghost use Rattle.vte_handler.specs.Handler.{AreShown, after};
 ghost use Rattle.vte_handler.specs.Link.{link_of};
 
+// cargo: use crate::adapter::handlers::handlers;
+// cargo: use alloc::string::String;
 use crate::hyperlink::Hyperlink;
 use vte_types::cursor_icon::CursorIcon;
 use vte_types::{
@@ -14,13 +16,23 @@ use vte_types::{
     ScpCharPath, ScpUpdateMode, StandardCharset, TabulationClearMode,
 };
 
+// cargo defaults: a handler implements what it needs
+// cargo: handlers! {
 /// Receives the calls of a processor, in order.
 ///
 /// A number that a sequence omits or gives as 0 arrives as 1 if it is a count, and as 0 if it
 /// selects something. No number exceeds 65,535.
 ///
+/// # Operating system commands
+///
+/// A command that CAN, SUB or ESC cancelled makes its call like one that ended. A handler can
+/// tell only SUB, which makes a call of its own, `substitute`, after that of the command. Of a
+/// command the first 16 pieces count, and with a limit so many bytes; the rest is dropped
+/// without a call, and `command_lost_data` of the processor says so.
+///
 /// The standards: ECMA-48, fifth edition; DEC's VT510 manual; xterm's control sequences; kitty's
 /// keyboard protocol.
+// cargo instead: pub trait Handler;
 pub trait Handler {
     /// The values that handlers stand for.
     ghost Value: { Type 0 };
@@ -224,6 +236,9 @@ pub trait Handler {
     /// OSC 4, 10, 11, 12 with `?`: report the colour of an index, 0 to 258 as those of `set_color`
     /// (xterm). The answer is `ESC ]`, the prefix, `;`, the colour and the terminator: `4;7` or
     /// `11`, and BEL or `ESC \\` as the question ended.
+    // cargo instead: fn dynamic_color_sequence(
+    // cargo instead:     &mut self,
+    // cargo instead:     prefix: &str as String = prefix.into(), index: usize, terminator: &str)
     fn dynamic_color_sequence(&mut self, prefix: &str, index: usize, terminator: &str)
         ensures { value_of self.new
             ≡ step (value_of self.old)
@@ -231,6 +246,15 @@ pub trait Handler {
 
     /// OSC 8: the characters that follow are a link; `None` ends it (the hyperlinks proposal of VTE
     /// and iTerm2).
+    ///
+    /// The URI is cut at its 14th `;`.
+    // cargo: /// Without the feature `std` it has at most 1,023 bytes, with the parameters
+    // cargo: /// before it.
+    /// A cancelled command makes this call too ([why](Handler#operating-system-commands)).
+    // cargo instead: fn set_hyperlink(
+    // cargo instead:     &mut self,
+    // cargo instead:     link: Option<Hyperlink<'_>> as Option<Hyperlink>
+    // cargo instead:         = link.map(|link| link.owned()))
     fn set_hyperlink(&mut self, link: Option<Hyperlink<'_>>)
         ensures { value_of self.new
             ≡ step (value_of self.old) (call.SetHyperlink (option_map link_of link.entry)) };
@@ -336,9 +360,15 @@ pub trait Handler {
 
     // ---- Titles, clipboards and reports
 
-    /// OSC 0 and 2: the window's title (xterm). It has at most 1,023 bytes, not counting its `;`,
-    /// and may be empty. White space at both ends is trimmed. `None`, the terminal's own title,
-    /// never arrives.
+    /// OSC 0 and 2: the window's title (xterm). It may be empty.
+    // cargo instead: /// Without the feature `std` it has at most 1,023 bytes.
+    /// It has at most 1,023 bytes, not counting its `;`.
+    /// White space at both ends is trimmed. `None`, the terminal's own title, never arrives.
+    ///
+    /// The title is cut at its 15th `;`. A cancelled command makes this call too
+    /// ([why](Handler#operating-system-commands)).
+    // cargo instead: fn set_title(
+    // cargo instead:     &mut self, title: Option<&str> as Option<String> = title.map(Into::into))
     fn set_title(&mut self, title: Option<&str>)
         ensures { value_of self.new
             ≡ step (value_of self.old)
@@ -353,8 +383,13 @@ pub trait Handler {
         ensures { value_of self.new ≡ step (value_of self.old) call.PopTitle };
 
     /// OSC 52: store data in a clipboard (xterm). Its letter is the first byte of the selection, or
-    /// `c` if that is empty. The data are passed on as they came, at most 1,022 bytes: they should
-    /// be base64, and may be anything.
+    /// `c` if that is empty. The data are passed on as they came: they should be base64, and may be
+    /// anything.
+    // cargo instead: /// Without the feature `std` they have at most 1,022 bytes.
+    /// They have at most 1,022 bytes.
+    ///
+    /// The data end at their first `;`. A cancelled command makes this call too
+    /// ([why](Handler#operating-system-commands)): they may be a part of what was to be stored.
     fn clipboard_store(&mut self, clipboard: u8, bytes: &[u8])
         ensures { value_of self.new
             ≡ step (value_of self.old) (call.ClipboardStore clipboard bytes.now) };
@@ -386,10 +421,14 @@ pub trait Handler {
         ensures { value_of self.new ≡ step (value_of self.old) call.TextAreaSizeChars };
 }
 
-/// Receives text in runs, from a processor's `advance_text` and `stop_sync_text`: there
+/// Receives text in runs, from a processor's `advance_text` and `stop_sync_text` alone: there
 /// [`input`](Handler::input) isn't called.
 ///
+/// `advance` and `stop_sync` pass text by `input`, and never by `input_text`. A handler that leaves
+/// `input` empty loses their text, so implement both.
+///
 /// How a text is cut into runs may change from version to version.
+// cargo: #[doc = include_str!("../../docs/handler_text.md")]
 pub trait HandlerText: Handler {
     /// Characters to show, at least one, in order. None is a control: neither U+0000..U+001F nor
     /// U+0080..U+009F.

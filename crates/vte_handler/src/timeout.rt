@@ -5,6 +5,8 @@ ghost use Rattle.std.specs.Prelude.{◌≡◌, ℕ, Bool};
 use std::time::Duration;
 
 /// Decides how long the bytes of a synchronized update are held back.
+// cargo: #[doc = include_str!("../../docs/timeout.md")]
+// cargo instead: pub trait Timeout: Default {
 pub trait Timeout {
     /// The values that timeouts stand for.
     ghost Value: { Type 0 };

@@ -9,14 +9,18 @@ pub enum CharsetIndex {
     /// The set that is invoked initially.
     #[default]
     G0,
+    /// The set G1.
     G1,
+    /// The set G2.
     G2,
+    /// The set G3.
     G3,
 }
 
 /// A character set that a program can designate.
 ///
 /// ```
+/// # use vte::ansi::StandardCharset;
 /// let charset = StandardCharset::SpecialCharacterAndLineDrawing;
 /// assert_eq!(charset.map('q'), '─');
 /// assert_eq!(StandardCharset::Ascii.map('q'), 'q');

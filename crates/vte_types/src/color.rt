@@ -10,6 +10,7 @@ ghost use Rattle.vte_types.specs.Rgb.{difference_of, sum_of};
 
 mod text;
 
+// cargo: #[cfg(feature = "serde")]
 use serde::{Deserialize, Serialize};
 use std::cmp::Ordering;
 use std::ops::{Add, Sub};
@@ -20,14 +21,18 @@ use std::ops::{Add, Sub};
 /// six hex digits of either case.
 ///
 /// ```
+/// # use vte::ansi::Rgb;
 /// let color: Rgb = "0x80FF00".parse().unwrap();
 /// assert_eq!(color, Rgb { r: 128, g: 255, b: 0 });
 /// assert_eq!(color.to_string(), "#80ff00");
 /// ```
 #[derive(Debug, Eq, PartialEq, Copy, Clone, Default, Serialize, Deserialize)]
 pub struct Rgb {
+    /// Red.
     pub r: u8,
+    /// Green.
     pub g: u8,
+    /// Blue.
     pub b: u8,
 }
 
@@ -64,24 +69,39 @@ impl Sub<Rgb> for Rgb {
 /// A named colour. `as usize` gives its number: its index in a palette, or 256 and up for a colour
 /// that isn't in it.
 #[derive(Debug, Copy, Clone, Serialize, Deserialize)]
+// cargo: #[derive(PartialEq, Eq, PartialOrd, Ord)]
 pub enum NamedColor {
     /// SGR 30 to 37 and 40 to 47 select this colour and the next seven (ECMA-48).
     Black = 0,
+    /// Red.
     Red,
+    /// Green.
     Green,
+    /// Yellow.
     Yellow,
+    /// Blue.
     Blue,
+    /// Magenta.
     Magenta,
+    /// Cyan.
     Cyan,
+    /// White.
     White,
     /// SGR 90 to 97 and 100 to 107 select the bright colours (aixterm).
     BrightBlack,
+    /// Bright red.
     BrightRed,
+    /// Bright green.
     BrightGreen,
+    /// Bright yellow.
     BrightYellow,
+    /// Bright blue.
     BrightBlue,
+    /// Bright magenta.
     BrightMagenta,
+    /// Bright cyan.
     BrightCyan,
+    /// Bright white.
     BrightWhite,
     /// The default colour of text (xterm, OSC 10).
     Foreground = 256,
@@ -91,12 +111,19 @@ pub enum NamedColor {
     Cursor,
     /// A terminal may show faint text in the dim colours (ECMA-48, SGR 2).
     DimBlack,
+    /// Dim red.
     DimRed,
+    /// Dim green.
     DimGreen,
+    /// Dim yellow.
     DimYellow,
+    /// Dim blue.
     DimBlue,
+    /// Dim magenta.
     DimMagenta,
+    /// Dim cyan.
     DimCyan,
+    /// Dim white.
     DimWhite,
     /// The default colour of text, bright.
     BrightForeground,
@@ -105,6 +132,7 @@ pub enum NamedColor {
 }
 
 /// Two names are equal if their numbers are equal.
+// cargo lacks: derived, for patterns
 impl PartialEq for NamedColor {
     ghost eq = { on number_of_color ◌==◌ };
 
@@ -116,11 +144,13 @@ impl PartialEq for NamedColor {
     }
 }
 
+// cargo lacks: derived, for patterns
 impl Eq for NamedColor {
     ghost laws = { Prim.search (comparing, rules) };
 }
 
 /// Names are ordered by their numbers.
+// cargo lacks: derived, for patterns
 impl Ord for NamedColor {
     ghost cmp = { on number_of_color nat_cmp };
 
@@ -136,6 +166,7 @@ impl Ord for NamedColor {
     }
 }
 
+// cargo lacks: derived, for patterns
 impl PartialOrd for NamedColor {
     ghost partial_cmp = { as_partial_cmp (on number_of_color nat_cmp) };
 
@@ -150,6 +181,7 @@ impl NamedColor {
     /// Returns the colour one shade brighter: a plain colour's bright form, a dim colour's plain
     /// form, any other itself.
     #[tactic(auto, unfolding(crate::specs::NamedColor::number_of_color))]
+    #[must_use]
     pub fn to_bright(self) -> Self
         ensures { result ≡ bright_of self }
     {
@@ -179,6 +211,7 @@ impl NamedColor {
     /// Returns the colour one shade dimmer: a plain colour's dim form, a bright colour's plain
     /// form, any other itself.
     #[tactic(auto, unfolding(crate::specs::NamedColor::number_of_color))]
+    #[must_use]
     pub fn to_dim(self) -> Self
         ensures { result ≡ dim_of self }
     {
@@ -220,6 +253,7 @@ pub enum Color {
 /// An attribute of the characters that follow (ECMA-48, SGR; kitty for the styles and colours of
 /// underlines).
 #[derive(Debug, Eq, PartialEq, Drop)]
+// cargo: #[derive(Clone, Copy)]
 pub enum Attr {
     /// SGR 0.
     Reset,

@@ -3,6 +3,7 @@ ghost use Rattle.std.specs.Int.RustNames.{bit_and, bit_or, bit_xor};
 ghost use Rattle.std.specs.Prelude.{⊤, ◌≡◌, ◌≢◌, ◌==◌, ◌↔◌, IsTrue, None, Some, if◌then◌else◌};
 ghost use Rattle.vte_types.specs.Keyboard.{all_bits, bits_of, keyboard_flags, modes_of_bits, without};
 
+// cargo: pub use crate::adapter::keyboard::KeyboardModes;
 use bitflags::{Flag, Flags};
 
 /// What a program asks the keyboard to report: the flags of the kitty keyboard protocol, one bit
@@ -15,8 +16,10 @@ use bitflags::{Flag, Flags};
 /// assert_eq!(KeyboardModes::from_bits(32), None);
 /// ```
 #[derive(Default, Debug, Clone, Copy, PartialEq, Eq, Hash)]
+// cargo lacks: `bitflags!` writes it
 pub struct KeyboardModes(u8);
 
+// cargo lacks: `bitflags!` writes it
 impl KeyboardModes {
     /// No flag.
     pub const NO_MODE: KeyboardModes = KeyboardModes(0);
@@ -39,6 +42,7 @@ impl KeyboardModes {
 }
 
 /// The flags and their names.
+// cargo lacks: `bitflags!` writes it
 static FLAGS: [Flag<KeyboardModes>; 6] = [
     Flag {
         name: "NO_MODE",
@@ -67,6 +71,7 @@ static FLAGS: [Flag<KeyboardModes>; 6] = [
 ];
 
 /// The set operations. [`KeyboardModes`] also has them as methods of its own, with contracts.
+// cargo lacks: `bitflags!` writes it
 impl Flags for KeyboardModes {
     type Bits = u8;
 
@@ -90,6 +95,7 @@ impl Flags for KeyboardModes {
 }
 
 /// The set operations of [`Flags`].
+// cargo lacks: `bitflags!` writes it
 impl KeyboardModes {
     /// No flag.
     pub fn empty() -> Self
@@ -229,6 +235,8 @@ impl KeyboardModes {
 
 /// How a set of modes is applied to the current one (the kitty keyboard protocol).
 #[derive(Default, Clone, Copy, PartialEq, Eq)]
+// cargo: #[repr(u8)]
+// cargo: #[derive(Debug)]
 pub enum KeyboardModesApplyBehavior {
     /// Replace the current set.
     #[default]
@@ -241,9 +249,12 @@ pub enum KeyboardModesApplyBehavior {
 
 /// Which keys are reported with their modifiers (xterm, modifyOtherKeys).
 #[derive(Debug, Clone, Copy, PartialEq, Eq, Hash)]
+// cargo: #[repr(u8)]
 pub enum ModifyOtherKeys {
+    /// None.
     Reset,
     /// All except those with a well-known meaning.
     EnableExceptWellDefined,
+    /// All.
     EnableAll,
 }

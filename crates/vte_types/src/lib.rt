@@ -1,9 +1,12 @@
 //! The types in a handler's calls, and their tables: colours, modes, character sets and cursors.
 #![tactic(auto)]
 
+// cargo: pub use ::cursor_icon;
+#[allow(non_snake_case)]
 pub mod C0;
 mod charset;
 mod color;
+// cargo lacks: the crate `cursor-icon`
 pub mod cursor_icon;
 mod keyboard;
 pub mod laws;

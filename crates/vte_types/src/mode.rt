@@ -4,7 +4,7 @@ ghost use Rattle.vte_types.specs.Mode.{mode_of, named_mode, named_private_mode, 
 
 /// A mode of ECMA-48.
 ///
-/// ```
+/// ```rattle
 /// let mode = Mode::new(4);
 /// assert_eq!(mode, Mode::Named(NamedMode::Insert));
 /// assert_eq!(mode.raw(), 4);
@@ -12,6 +12,7 @@ ghost use Rattle.vte_types.specs.Mode.{mode_of, named_mode, named_private_mode, 
 /// ```
 #[derive(Debug, Clone, Copy, Eq, PartialEq)]
 pub enum Mode {
+    /// One that has a name.
     Named(NamedMode),
     /// Any other number.
     Unknown(u16),
@@ -19,6 +20,7 @@ pub enum Mode {
 
 /// The named modes of ECMA-48. `as u16` gives the number.
 #[derive(Debug, Clone, Copy, Eq, PartialEq)]
+// cargo: #[repr(u16)]
 pub enum NamedMode {
     /// IRM: printing a character moves the characters after it (ECMA-48).
     Insert = 4,
@@ -29,6 +31,7 @@ pub enum NamedMode {
 /// A private mode, marked by `?`.
 #[derive(Debug, Clone, Copy, Eq, PartialEq)]
 pub enum PrivateMode {
+    /// One that has a name.
     Named(NamedPrivateMode),
     /// Any other number.
     Unknown(u16),
@@ -75,6 +78,7 @@ pub enum NamedPrivateMode {
 
 impl Mode {
     /// Returns the mode with this number.
+    // cargo instead: pub(crate) fn new(mode: u16) -> Self
     pub fn new(mode: u16) -> Self
         ensures { result ≡ mode_of mode }
     {
@@ -106,6 +110,7 @@ impl From<NamedMode> for Mode {
 
 impl PrivateMode {
     /// Returns the private mode with this number.
+    // cargo instead: pub(crate) fn new(mode: u16) -> Self
     pub fn new(mode: u16) -> Self
         ensures { result ≡ private_mode_of mode }
     {

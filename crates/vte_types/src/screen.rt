@@ -7,6 +7,7 @@ pub enum LineClearMode {
     Right,
     /// From the start of the line to the cursor.
     Left,
+    /// The whole line.
     All,
 }
 
@@ -17,6 +18,7 @@ pub enum ClearMode {
     Below,
     /// From the start of the screen to the cursor.
     Above,
+    /// The whole screen.
     All,
     /// The scrollback (xterm).
     Saved,
@@ -27,13 +29,16 @@ pub enum ClearMode {
 pub enum TabulationClearMode {
     /// The one at the cursor.
     Current,
+    /// All of them.
     All,
 }
 
 /// How the cursor looks (DEC VT510, DECSCUSR). The default is a block that doesn't blink.
 #[derive(Default, Debug, Eq, PartialEq, Copy, Clone, Hash)]
 pub struct CursorStyle {
+    /// Its shape.
     pub shape: CursorShape,
+    /// Whether it blinks.
     pub blinking: bool,
 }
 

@@ -43,6 +43,7 @@ enum Mode {
     Text,
 }
 
+// cargo instead: pub(crate) fn main(rt: HostRuntime) -> ExitCode {
 fn main(rt: HostRuntime) -> ExitCode {
     let Ok(status) = log_streams(&rt) else {
         let _ = eprintln!(rt; "vtlog: no arguments read");

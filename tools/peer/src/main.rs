@@ -6,36 +6,42 @@
 //! handler, and `strip` and `filter`, which put text into memory. Over rust/vte the last four are
 //! there with `_runs` too, and get text in runs.
 
-mod text;
-
-// put beside these by tools/building: what crates/ has too
-mod by_call;
-mod call_checksum;
+mod calls;
 mod cell;
 mod checksum;
-mod handler;
-mod hyperlink;
-mod performer;
+mod drawing;
 mod screen;
-mod screens;
-mod until_cleared;
-mod variant;
-mod visitor;
+mod text;
 
 use std::hint::black_box;
 use std::io::Read;
 use std::time::{Duration, Instant};
 
-use vte::ansi::Processor;
 use vte::Parser;
+use vte::ansi::{Processor, Timeout};
 
-use by_call::ByCall;
-use call_checksum::CallChecksum;
+use calls::CallChecksum;
 use checksum::Checksum;
 use screen::Screen;
-use screens::shown;
 use text::Text;
-use until_cleared::UntilCleared;
+
+/// A timeout that is pending until it is cleared.
+#[derive(Default)]
+struct UntilCleared(bool);
+
+impl Timeout for UntilCleared {
+    fn set_timeout(&mut self, _duration: Duration) {
+        self.0 = true;
+    }
+
+    fn clear_timeout(&mut self) {
+        self.0 = false;
+    }
+
+    fn pending_timeout(&self) -> bool {
+        self.0
+    }
+}
 
 /// Writes the function of each kind: what reads a stream, who receives it, by which call, the
 /// checksum of that, and what begins a pass. Its time is that of the fastest pass. `race_of`
@@ -71,40 +77,25 @@ macro_rules! races {
     };
 }
 
+type Terminal = Processor<UntilCleared>;
+
 races! {
     parser: Parser::<1024>::default(), Checksum::default(), Parser::advance, |checksum| checksum;
-    screen: Parser::<1024>::default(), Screen::new(), Parser::advance, of_screen;
+    screen: Parser::<1024>::default(), Screen::new(), Parser::advance, Screen::checksum;
     strip: Parser::<1024>::default(), Text::default(), Parser::advance, Text::checksum, Text::clear;
-    processor: Updating::new(), ByCall(CallChecksum::new()), Processor::advance, of_calls;
-    terminal: Updating::new(), ByCall(Screen::new()), Processor::advance, of_terminal;
-    filter: Updating::new(), ByCall(Text::default()), Processor::advance, of_text;
+    processor: Terminal::new(), CallChecksum::default(), Processor::advance,
+        |calls: CallChecksum| calls.0;
+    terminal: Terminal::new(), Screen::new(), Processor::advance, Screen::checksum;
+    filter: Terminal::new(), Text::default(), Processor::advance, Text::checksum;
     #[cfg(runs)]
-    screen_runs: Parser::<1024>::default(), Screen::new(), Parser::advance_text, of_screen;
+    screen_runs: Parser::<1024>::default(), Screen::new(), Parser::advance_text, Screen::checksum;
     #[cfg(runs)]
     strip_runs: Parser::<1024>::default(), Text::default(), Parser::advance_text,
         Text::checksum, Text::clear;
     #[cfg(runs)]
-    terminal_runs: Updating::new(), ByCall(Screen::new()), Processor::advance_text, of_terminal;
+    terminal_runs: Terminal::new(), Screen::new(), Processor::advance_text, Screen::checksum;
     #[cfg(runs)]
-    filter_runs: Updating::new(), ByCall(Text::default()), Processor::advance_text, of_text;
-}
-
-type Updating = Processor<UntilCleared>;
-
-fn of_screen(screen: Screen) -> Checksum {
-    shown(&screen)
-}
-
-fn of_calls(calls: ByCall<CallChecksum>) -> Checksum {
-    calls.0.checksum
-}
-
-fn of_terminal(calls: ByCall<Screen>) -> Checksum {
-    shown(&calls.0)
-}
-
-fn of_text(calls: ByCall<Text>) -> Checksum {
-    calls.0.checksum()
+    filter_runs: Terminal::new(), Text::default(), Processor::advance_text, Text::checksum;
 }
 
 fn main() {

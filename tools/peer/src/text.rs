@@ -2,8 +2,8 @@
 //! handler.
 
 use vte::Perform;
+use vte::ansi::Handler;
 
-use crate::by_call::{HandlerCall, TakeCall, TakeText};
 use crate::checksum::Checksum;
 
 #[derive(Default)]
@@ -49,22 +49,32 @@ impl vte::PerformText for Text {
     }
 }
 
-impl TakeCall for Text {
-    #[inline(always)]
-    fn take(&mut self, call: HandlerCall<'_>) {
-        match call {
-            HandlerCall::Input(c) => self.print(c),
-            HandlerCall::Linefeed => self.0.push(b'\n'),
-            HandlerCall::CarriageReturn => self.0.push(b'\r'),
-            HandlerCall::PutTab(_) => self.0.push(b'\t'),
-            _ => {}
-        }
+impl Handler for Text {
+    #[inline]
+    fn input(&mut self, c: char) {
+        self.print(c);
+    }
+
+    #[inline]
+    fn linefeed(&mut self) {
+        self.0.push(b'\n');
+    }
+
+    #[inline]
+    fn carriage_return(&mut self) {
+        self.0.push(b'\r');
+    }
+
+    #[inline]
+    fn put_tab(&mut self, _count: u16) {
+        self.0.push(b'\t');
     }
 }
 
-impl TakeText for Text {
+#[cfg(runs)]
+impl vte::ansi::HandlerText for Text {
     #[inline]
-    fn take_text(&mut self, text: &str) {
+    fn input_text(&mut self, text: &str) {
         self.0.extend_from_slice(text.as_bytes());
     }
 }

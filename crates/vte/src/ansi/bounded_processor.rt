@@ -16,6 +16,7 @@ use vte_handler::{Handler, HandlerText, Timeout};
 /// A [`Processor`](crate::ansi::Processor) that keeps up to `N` data bytes of an operating system
 /// command, and drops the rest.
 #[derive(Drop)]
+// cargo: #[derive(Clone)]
 pub struct BoundedProcessor<T: Timeout + Drop, A: Allocator, const N: usize> {
     engine: Engine<Parser<N>, GrowingText<A>, T, A>,
 }

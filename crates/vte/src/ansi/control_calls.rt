@@ -24,6 +24,9 @@ use vte_types::{
 };
 
 /// Makes the calls of a control sequence, other than `ESC [ ? .. h`: that may begin an update.
+// cargo: #[inline]
+// a guard would read the numbers
+#[allow(clippy::collapsible_match)]
 pub(crate) fn perform_control<H: InputAs<G>, G>(
     handler: &mut H,
     last: Option<char>,
@@ -82,6 +85,7 @@ pub(crate) fn perform_control<H: InputAs<G>, G>(
 
 /// Makes the calls of a control sequence without intermediates, but for DA.
 #[tactic(auto, unfolding(crate::specs::ControlCalls::rows_without_intermediates))]
+// cargo: #[inline]
 fn perform_plain<H: InputAs<G>, G>(
     handler: &mut H,
     last: Option<char>,

@@ -64,6 +64,7 @@ impl<P: EventParser + Drop, B: TextBuffer + Drop, T: Timeout + Drop, A: Allocato
 
     /// Reads bytes, and parses them or holds them back: all of them, or as many as there is memory
     /// for. The grain decides how the handler receives text.
+    // cargo: #[inline]
     pub(crate) fn read<H: Handler, G: ParseAs<H, T, P>>(
         &mut self,
         handler: &mut H,
@@ -74,8 +75,8 @@ impl<P: EventParser + Drop, B: TextBuffer + Drop, T: Timeout + Drop, A: Allocato
             self.old self.new (H.value_of handler.old) (H.value_of handler.new) bytes.now result }
     {
         let mut read = 0;
-        // A `for`: each turn reads at least one byte, but that is known only at a state. So a
-        // `while` would have no measure.
+        // Each turn reads at least one byte.
+        // proof: that is known only at a state, so a `while` would have no measure.
         for _turn in 0..bytes.len() {
             match self.turn::<H, G>(handler, &bytes[read..]) {
                 Ok(count) => read += count,
@@ -92,6 +93,8 @@ impl<P: EventParser + Drop, B: TextBuffer + Drop, T: Timeout + Drop, A: Allocato
     }
 
     /// Stops the update, whatever is held: there is memory to parse it.
+    // stops are rare: kept out of a turn, they leave its loop over bytes as it is
+    // cargo: #[inline(never)]
     pub(crate) fn stop<H: Handler, G: ParseAs<H, T, P>>(&mut self, handler: &mut H)
         ensures stopped { EngineStops (engine_view P.limit P.reading B.room T.value_of)
             (meaning_of P.limit H.step T.set T.clear T.allows) self.old self.new
@@ -152,6 +155,7 @@ impl<P: EventParser + Drop, B: TextBuffer + Drop, T: Timeout + Drop, A: Allocato
     /// Takes one turn, and returns how many bytes it read, or how many until memory was refused. It
     /// asks the timeout once: while an update is pending, the bytes are held, or the update is
     /// stopped if there is no room for them.
+    // cargo: #[inline]
     fn turn<H: Handler, G: ParseAs<H, T, P>>(
         &mut self,
         handler: &mut H,
@@ -239,6 +243,7 @@ impl<P: EventParser + Drop, B: TextBuffer + Drop, T: Timeout + Drop, A: Allocato
     }
 
     /// Holds all bytes, and parses those that the end of an update among them releases.
+    // cargo: #[inline]
     fn hold_bytes<H: Handler, G: ParseAs<H, T, P>>(&mut self, handler: &mut H, bytes: &[u8])
         requires some { 0 < length bytes.now }
         requires room { length (held_of self.old.hold) + length bytes.now ≤ most_held }

@@ -21,7 +21,7 @@ use vte_handler::{Handler, HandlerText, Timeout};
 /// refused, the call stops there. Nothing is lost or done twice, and the rest can be passed in
 /// again:
 ///
-/// ```
+/// ```rattle
 /// if let Err(refused) = processor.advance(&mut handler, bytes) {
 ///     // Free some memory, and go on.
 ///     processor.advance(&mut handler, &bytes[refused.read..])?;
@@ -91,6 +91,7 @@ impl<T: Timeout + Drop, A: Allocator> LongProcessor<T, A> {
 
     /// Takes memory for the bytes that are held back and for this many more, and returns whether it
     /// is there. Calls with no more bytes than that are then never refused memory.
+    #[must_use = "the memory may be refused"]
     pub fn reserve(&mut self, more: usize) -> bool
         ensures { Reserves T.value_of self.old self.new more result }
     {

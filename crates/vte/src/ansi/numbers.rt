@@ -18,6 +18,7 @@ pub(crate) trait NumberIterator {
         ensures rest { left self.new ≡ drop 1 (left self.old) };
 
     /// Returns the next number, or `default` if that is 0 or there is none left.
+    // cargo: #[inline]
     fn next_or(&mut self, default: u16) -> u16
         ensures value { result ≡ first_nonzero_or default (map number (left self.old)) }
         ensures rest { left self.new ≡ drop 1 (left self.old) }
@@ -41,6 +42,7 @@ impl NumberIterator for ParamsIter<'_> {
 
     ghost number = { first_of_group };
 
+    // cargo: #[inline]
     fn next_number(&mut self) -> Option<u16> {
         Some(first_number(self.next()?))
     }
@@ -63,6 +65,7 @@ impl NumberIterator for &[u16] {
 }
 
 /// Returns the first number of a group. No group is empty.
+// cargo: #[inline]
 pub(crate) fn first_number(group: &[u16]) -> u16
     ensures { result ≡ first_of_group group.now }
 {

@@ -18,9 +18,11 @@ use vte_core::{InRuns, Parser, Singly};
 use vte_handler::{Handler, HandlerText, Timeout};
 
 /// The parser of a processor.
+// cargo lacks: not used
 pub(crate) type ProcessorParser = Parser<1024>;
 
 /// The buffer of a processor for joined texts.
+// cargo lacks: not used
 pub(crate) type ProcessorText = ArrayString<TEXT_ROOM>;
 
 /// A parser whose events a processor interprets.

@@ -52,11 +52,13 @@ impl<'s, 'h, H: InputAs<G>, T: Timeout + Drop, B: TextBuffer + Drop, G> Perform
 
     ghost is_terminated = { λ lent. lent.terminated };
 
+    // cargo: #[inline]
     fn print(&mut self, c: char) {
         self.handler.input_char(c);
         self.state.preceding_char = Some(c);
     }
 
+    // cargo: #[inline]
     fn execute(&mut self, byte: u8) {
         perform_execute(self.handler, byte);
     }
@@ -74,6 +76,7 @@ impl<'s, 'h, H: InputAs<G>, T: Timeout + Drop, B: TextBuffer + Drop, G> Perform
         }
     }
 
+    // cargo: #[inline]
     fn csi_dispatch(&mut self, params: &Params, intermediates: &[u8], ignore: bool, action: char) {
         if ignore {
             return;
@@ -90,6 +93,7 @@ impl<'s, 'h, H: InputAs<G>, T: Timeout + Drop, B: TextBuffer + Drop, G> Perform
         perform_escape(self.handler, intermediates, byte);
     }
 
+    // cargo: #[inline]
     fn terminated(&self) -> bool {
         self.terminated
     }
@@ -111,6 +115,7 @@ impl<'s, 'h, H: HandlerText, T: Timeout + Drop, B: TextBuffer + Drop> PerformTex
     }
 }
 
+// cargo lacks: only proofs use it
 impl<'s, 'h, H: HandlerText, T: Timeout + Drop, B: TextBuffer + Drop> PerformThroughText
     for Performer<'s, 'h, H, T, B, InRuns> {
     ghost use Rattle.std.proofs.Common.{◌∙◌};
@@ -150,6 +155,7 @@ impl<'s, 'h, H: Handler, T: Timeout + Drop, B: TextBuffer + Drop, G> Performer<'
 
 /// Returns the last character of a text, or the one before it if the text is empty.
 #[tactic(auto, using(crate::proofs::performing::TextRuns::last_of_text))]
+// cargo: #[inline(always)]
 fn last_char(text: &str, before: Option<char>) -> Option<char>
     ensures { result ≡ last_printed_from before (map Print (chars text.now)) }
 {

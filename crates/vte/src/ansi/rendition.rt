@@ -26,6 +26,7 @@ pub(crate) fn perform_attributes<H: Handler>(handler: &mut H, params: &Params)
 }
 
 /// Returns the attribute of a group, which may use up some of the groups after it.
+// cargo: #[inline]
 fn attribute(group: &[u16], groups: &mut ParamsIter<'_>) -> Option<Attr>
     ensures value { result ≡ (rendition group.now groups.old).attribute }
     ensures rest { groups.new ≡ drop (rendition group.now groups.old).used groups.old }

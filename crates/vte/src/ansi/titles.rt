@@ -13,6 +13,7 @@ use vte_handler::Handler;
 pub(crate) const SEPARATORS: usize = 16;
 
 /// The size of the buffer for a joined text of 1,024 bytes.
+// cargo lacks: not used
 pub(crate) const TEXT_ROOM: usize = 1024 + SEPARATORS;
 
 /// Reads a decimal number of at most 255.

@@ -10,6 +10,7 @@ use std::marker::Model;
 
 /// An iterator over the parts of a stream, which `parts` returns.
 #[derive(Drop)]
+// cargo: #[derive(Clone, Debug)]
 pub struct Parts<'a> {
     rest: &'a [u8],
     size: usize,

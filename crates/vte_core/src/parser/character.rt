@@ -106,6 +106,7 @@ impl<B: Buffer> Machine<B> {
     /// Reads the character of four bytes that begins at a position, whose first two were looked at.
     /// If text is taken in runs, it begins one.
     #[inline(always)]
+    #[allow(unsafe_code)]
     pub(crate) fn complete_four<P: CountedPerform<G>, G: Grain, const MAY_STOP: bool>(
         &mut self,
         reader: &mut Reader,
@@ -161,6 +162,7 @@ impl<B: Buffer> Machine<B> {
         }
         if G::IN_RUNS {
             let end = reader.find_run_end_for(performer, input, next + 3);
+            // SAFETY: the character at `from` is whole, and the search passes whole characters.
             reader.tell_text(performer, input, from, end);
             return end;
         }

@@ -14,6 +14,7 @@ const STRING_TERMINATOR: u8 = 0x9c;
 impl<B: Buffer> Machine<B> {
     /// Reads the head of a device control string, which has come so far, and its final byte.
     /// Controls in it are dropped.
+    // cargo: #[inline(never)]
     pub(crate) fn read_device_control<P: CountedPerform<G>, G: Grain, const MAY_STOP: bool>(
         &mut self,
         reader: &mut Reader,

@@ -9,6 +9,8 @@ use crate::scan::{CountedPerform, Grain, Input, Reader};
 impl<B: Buffer> Machine<B> {
     /// Reads the bytes of a call, as many as there is memory for, and returns how many: all of
     /// them, or up to a stop if `MAY_STOP`.
+    // as a part of a program's own function, its loops would keep their places on the stack
+    // cargo: #[inline(never)]
     pub(crate) fn drive<P: CountedPerform<G>, G: Grain, const MAY_STOP: bool>(
         &mut self,
         reader: &mut Reader,

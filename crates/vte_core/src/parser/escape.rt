@@ -157,6 +157,7 @@ impl<B: Buffer> Machine<B> {
     }
 
     /// Reads the intermediates of an escape sequence and its final byte.
+    // cargo: #[inline(never)]
     pub(crate) fn read_intermediates<P: CountedPerform<G>, G: Grain, const MAY_STOP: bool>(
         &mut self,
         reader: &mut Reader,

@@ -13,18 +13,27 @@ use crate::parser::{Machine, Open, Refused, State};
 use crate::scan::{Chunk, CountedPerform, Grain, Looks, RunRange, Singly};
 use std::alloc::{AllocError, Allocator};
 
-/// A [`Parser`](crate::Parser) that keeps operating system commands of any length, and whose calls
-/// can be refused memory.
+/// A parser whose calls return an error if they are refused memory.
+///
+/// It keeps operating system commands of any length.
+// cargo: /// So does [`Parser`](crate::Parser) with the feature `std`.
 ///
 /// If memory for it is refused, the call stops before the byte that needs it, and the rest can be
 /// passed in again:
 ///
 /// ```
+/// # use vte::{LongParser, Perform, Refused};
+/// # struct Performer;
+/// # impl Perform for Performer {}
+/// # fn read(mut performer: Performer, bytes: &[u8]) -> Result<(), Refused> {
 /// let mut parser = LongParser::new(alloc);
 /// if let Err(refused) = parser.advance(&mut performer, bytes) {
 ///     // Free some memory, and go on.
 ///     parser.advance(&mut performer, &bytes[refused.read..])?;
 /// }
+/// # Ok(())
+/// # }
+/// # assert!(read(Performer, b"\x1b]52;c;aGVsbG8=\x07").is_ok());
 /// ```
 ///
 /// The limit of 16 pieces stays. What stands after the sixteenth `;` needs no memory. The memory of
@@ -53,6 +62,7 @@ impl<A: Allocator + Clone> Clone for LongParser<A> {
 
 impl<A: Allocator> LongParser<A> {
     /// Creates a parser that has read nothing. It takes no memory.
+    // cargo instead: pub const fn new(alloc: A) -> Self
     pub fn new(alloc: A) -> Self
         ensures reads { HasReadLong result [] }
         ensures memory { memory_of result ≡ 0 }
@@ -64,6 +74,7 @@ impl<A: Allocator> LongParser<A> {
     }
 
     /// Returns for how many data bytes of an operating system command it has memory.
+    // cargo lacks: not used
     pub fn memory(&self) -> usize
         ensures { result ≡ memory_of self.now }
     {
@@ -71,6 +82,8 @@ impl<A: Allocator> LongParser<A> {
     }
 
     /// Returns how many data bytes it stores of an operating system command: 0 if none is open.
+    // cargo: #[cfg(any(feature = "__own", feature = "ansi"))]
+    // cargo instead: pub(crate) fn stored(&self) -> usize
     pub fn stored(&self) -> usize
         ensures { (stream : List ℕ) → HasReadLong self.now stream
             → result ≡ open_command_size stream }
@@ -93,6 +106,7 @@ impl<A: Allocator> LongParser<A> {
 
     /// Takes memory for this many more data bytes of an operating system command, and returns
     /// whether it is there. Calls with no more bytes than that are then never refused memory.
+    #[must_use = "the memory may be refused"]
     pub fn reserve(&mut self, more: usize) -> bool
         ensures reads { (stream : List ℕ) → HasReadLong self.old stream
             → HasReadLong self.new stream }

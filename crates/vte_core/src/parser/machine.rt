@@ -9,9 +9,9 @@ use crate::head::Collected;
 use crate::parser::{Open, State, Unfinished};
 use crate::store::Store;
 
-/// A parser without the count of its looks, over any buffer for operating system commands. The
-/// state functions are its methods.
+/// A parser over any buffer for operating system commands. The state functions are its methods.
 #[derive(Drop)]
+// cargo: #[derive(Clone)]
 pub(crate) struct Machine<B: Buffer> {
     pub(crate) state: State,
     pub(crate) collected: Collected,
@@ -20,6 +20,7 @@ pub(crate) struct Machine<B: Buffer> {
 
 impl<B: Buffer> Machine<B> {
     /// Creates a machine that has read nothing, over an empty buffer.
+    // cargo instead: pub(crate) const fn new(bytes: B) -> Self
     pub(crate) fn new(bytes: B) -> Self
         requires { B.held bytes ≡ [] }
         ensures reads { HasReadWithLimit B.limit result [] }

@@ -14,6 +14,7 @@ use arrayvec::ArrayVec;
 /// are some parser.
 #[repr(C)]
 #[derive(Clone, Copy)]
+// cargo: #[derive(Debug)]
 pub struct Saved {
     // what is collected of a sequence: its parameters are numbers, in groups of these lengths
     intermediate_count: usize,
@@ -55,6 +56,7 @@ fn first_elements<T: Copy>(array: &[T], count: usize) -> &[T]
 }
 
 /// Collects the first elements of an array.
+// cargo instead: fn collect_front<T: Element, const N: usize>(
 fn collect_front<T: Copy + Default + Drop, const N: usize>(
     array: &[T; N],
     count: usize,
@@ -120,6 +122,7 @@ fn restored_state(saved: [u8; 4]) -> State
 
 impl Saved {
     /// Returns a new parser: all zeros.
+    #[allow(clippy::new_without_default)]
     pub fn new() -> Self
         ensures zeros { IsZero result }
         ensures reads { HasReadSaved result [] }
@@ -146,6 +149,7 @@ impl Saved {
 
 impl Parser<MAX_OSC_RAW> {
     /// Saves the parser as plain data, but not whether a command that has ended lost data.
+    #[doc(hidden)]
     pub fn save(&self, saved: &mut Saved)
         // What was saved has read what the parser has.
         ensures { (stream : List ℕ) → HasRead self.now stream → HasReadSaved saved.new stream }
@@ -176,6 +180,7 @@ impl Parser<MAX_OSC_RAW> {
     }
 
     /// Returns the parser that was saved.
+    #[doc(hidden)]
     pub fn restored(saved: &Saved) -> Self
         // The parser has read what was saved.
         ensures { (stream : List ℕ) → HasReadSaved saved.now stream → HasRead result stream }

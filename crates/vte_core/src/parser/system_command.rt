@@ -12,6 +12,7 @@ const BELL: u8 = 0x07;
 impl<B: Buffer> Machine<B> {
     /// Reads data bytes of an operating system command, and the byte after them. It takes memory
     /// for the data, or else reads nothing.
+    // cargo: #[inline(never)]
     pub(crate) fn read_system_command<P: CountedPerform<G>, G: Grain, const MAY_STOP: bool>(
         &mut self,
         reader: &mut Reader,

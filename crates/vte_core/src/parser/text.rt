@@ -22,6 +22,7 @@ struct AsciiRun {
 /// Prints the run of ASCII that stands at a position, whose first byte was looked at. If it is
 /// short, that is the first byte alone.
 #[inline(always)]
+#[allow(unsafe_code)]
 fn print_ascii<P: CountedPerform<G>, G: Grain>(
     reader: &mut Reader,
     performer: &mut P,
@@ -46,6 +47,7 @@ fn print_ascii<P: CountedPerform<G>, G: Grain>(
     let next = reader.get(input, from + 1);
     if reader.begins_ascii_run(input, from, next) {
         let end = reader.find_ascii_run_end(performer, input, from);
+        // SAFETY: ASCII stands at `from`, and the search passes whole characters.
         reader.tell_text(performer, input, from, end);
         return AsciiRun { end, next: None };
     }
@@ -59,6 +61,7 @@ fn print_ascii<P: CountedPerform<G>, G: Grain>(
 
 impl<B: Buffer> Machine<B> {
     /// Reads text up to an ESC, and then the bytes after that.
+    // cargo: #[inline]
     pub(crate) fn read_text<P: CountedPerform<G>, G: Grain, const MAY_STOP: bool>(
         &mut self,
         reader: &mut Reader,
@@ -149,6 +152,7 @@ impl<B: Buffer> Machine<B> {
     /// Reads what begins with a lead byte, which was looked at, for a performer that takes runs: a
     /// run, a character or a malformed sequence.
     #[inline(always)]
+    #[allow(unsafe_code)]
     fn read_at_lead<P: CountedPerform<G>, G: Grain, const MAY_STOP: bool>(
         &mut self,
         reader: &mut Reader,
@@ -173,6 +177,7 @@ impl<B: Buffer> Machine<B> {
     {
         let end = reader.find_run_end_at_lead(performer, input, from, first);
         if end > from {
+            // SAFETY: the search has passed the character at `from`, and passes whole characters.
             reader.tell_text(performer, input, from, end);
             return end;
         }

@@ -1,4 +1,5 @@
-//! Performers that count each event as it is reported.
+//! Performers, as the functions of a parser see them.
+// proof: they count each event as it is reported.
 ghost use Rattle.std.specs.Prelude.{◌≡◌, ◌<◌, Bool, false, true, length, map, chars};
 ghost use Rattle.vte_core.specs.machine.Prelude.{CsiDispatch, EscDispatch, Event, Execute, Hook, IsNonEmptyRun, OscDispatch, Print, Put, Tells, TellsAll, Unhook, is_control_character, run_event};
 
@@ -7,7 +8,7 @@ use crate::perform::Perform;
 use crate::scan::Reader;
 use crate::scan::grain::{Grain, PerformAs};
 
-/// A performer, as the functions of a parser see it. Each event counts one.
+/// A performer, as the functions of a parser see it.
 pub(crate) trait CountedPerform<G: Grain> {
     ghost Value: { Type 0 };
 

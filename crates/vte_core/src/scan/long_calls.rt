@@ -1,4 +1,5 @@
-//! The calls that read bytes into a [`LongParser`]: each makes a [`Chunk`] of its bytes.
+//! The calls that read bytes into a [`LongParser`].
+// proof: each makes a [`Chunk`] of its bytes.
 ghost use Rattle.std.specs.Prelude.{◌≡◌};
 ghost use Rattle.vte_core.specs.LongParserCalls.{ReadsBytesLong, ReadsToRunLong, ReadsUntilTerminatedLong};
 
@@ -53,6 +54,8 @@ impl<A: Allocator> LongParser<A> {
     /// Reads bytes as [`advance_until_terminated`](Self::advance_until_terminated) does, and passes
     /// characters to print in [runs](crate::PerformText). Only for performers that nothing in a run
     /// terminates: they aren't asked there.
+    // cargo: #[cfg(any(feature = "__own", feature = "ansi"))]
+    // cargo instead: pub(crate) fn advance_text_until_terminated<P: PerformText>(
     pub fn advance_text_until_terminated<P: PerformThroughText>(
         &mut self,
         performer: &mut P,
@@ -67,6 +70,7 @@ impl<A: Allocator> LongParser<A> {
     /// Reads bytes up to a run of text, or of data of a device control string, and the run itself,
     /// which it returns instead of performing it, as
     /// [`Parser::advance_to_run`](crate::Parser::advance_to_run) does.
+    #[allow(unsafe_code)]
     pub fn advance_to_run<'a, P: Perform>(
         &mut self,
         performer: &mut P,
@@ -76,6 +80,7 @@ impl<A: Allocator> LongParser<A> {
             (P.value_of performer.new) bytes.now result self.old self.new }
     {
         let range = self.drive_to_run(performer, Chunk::new(bytes))?;
+        // SAFETY: `drive_to_run` found the range in these bytes.
         Ok(take_run(bytes, range))
     }
 }

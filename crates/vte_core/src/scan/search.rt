@@ -59,6 +59,8 @@ impl Reader {
 
     /// Returns up to where a text is read next: to the byte after the next ESC, or to the end of
     /// what was searched.
+    // it would make the loop over bytes longer
+    // cargo: #[inline(never)]
     pub(crate) fn search_text<const MAY_STOP: bool>(
         &mut self,
         input: Input<'_>,

@@ -37,7 +37,6 @@ macro_rules! handlers {
         pub(crate) mod owned {
             use super::*;
             use crate::adapter::hyperlink::Hyperlink;
-            use alloc::string::String;
 
             $(#[$about])*
             ///

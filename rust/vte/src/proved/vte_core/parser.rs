@@ -71,10 +71,9 @@ pub(crate) enum State {
 /// parser.advance(&mut performer, b"m"); // one `csi_dispatch`, of the two chunks together
 /// ```
 ///
-/// It keeps up to `OSC_RAW_BUF_SIZE` data bytes of an operating system command, and drops the
-/// rest. So it takes no memory, whatever the stream.
-/// [`command_lost_data`](Self::command_lost_data) says whether something was dropped. Its size
-/// is about `OSC_RAW_BUF_SIZE` and 300 bytes.
+/// It keeps up to `OSC_RAW_BUF_SIZE` data bytes of an operating system command, and drops the rest.
+/// So it takes no memory, whatever the stream. [`command_lost_data`](Self::command_lost_data) says
+/// whether something was dropped. Its size is about `OSC_RAW_BUF_SIZE` and 300 bytes.
 ///
 /// `BoundedParser` is its name with and without the feature `std`. Without it,
 /// [`Parser`](crate::Parser) is the same type.

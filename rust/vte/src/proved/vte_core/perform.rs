@@ -32,11 +32,11 @@ pub trait Perform {
     /// whether BEL ended it.
     ///
     /// A command that CAN, SUB or ESC cancelled comes as one that `ESC \` ended. The next event
-    /// tells: [`execute`](Self::execute) of CAN (18) or SUB (1A) if one of these cancelled it,
-    /// and [`esc_dispatch`](Self::esc_dispatch) with the byte `\` if it ended. What follows the
-    /// 16th piece, and what is over the parser's limit, is dropped without an event: a link
-    /// (OSC 8) is cut at the 14th `;` of its URI. `command_lost_data` of the parser says
-    /// whether data were dropped.
+    /// tells: [`execute`](Self::execute) of CAN (18) or SUB (1A) if one of these cancelled it, and
+    /// [`esc_dispatch`](Self::esc_dispatch) with the byte `\` if it ended. What follows the 16th
+    /// piece, and what is over the parser's limit, is dropped without an event: a link (OSC 8) is
+    /// cut at the 14th `;` of its URI. `command_lost_data` of the parser says whether data were
+    /// dropped.
     fn osc_dispatch(&mut self, params: &[&[u8]], bell_terminated: bool) {}
 
     /// Called for a control sequence with the final byte `action`. `intermediates` and `ignore` are

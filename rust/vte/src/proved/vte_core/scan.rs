@@ -12,9 +12,7 @@ mod taken;
 use crate::adapter::array_vec::{ArrayVec, CapacityError};
 use crate::prelude::first_chunk;
 #[cfg(any(feature = "std", feature = "ansi"))]
-use crate::prelude::AllocError;
-#[cfg(any(feature = "std", feature = "ansi"))]
-use crate::prelude::Vec;
+use crate::prelude::{AllocError, Vec};
 use core::str;
 pub(crate) use counted_perform::CountedPerform;
 pub(crate) use grain::Grain;

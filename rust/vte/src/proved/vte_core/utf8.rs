@@ -126,6 +126,7 @@ fn whole_character(code: u32) -> Carried {
 /// Returns the character of two bytes.
 #[inline(always)]
 pub(crate) fn character_of_two(first: u8, second: u8) -> char {
+    // below the surrogates whatever the bytes are, as compilers see
     char::from_u32(number_of_two(first, second)).unwrap_or(char::REPLACEMENT_CHARACTER)
 }
 
@@ -134,8 +135,8 @@ pub(crate) fn character_of_two(first: u8, second: u8) -> char {
 #[allow(unsafe_code)]
 pub(crate) fn character_of_three(first: u8, second: u8, third: u8) -> char {
     debug_assert!(may_begin_three(first, second) && is_continuation(third));
-    // SAFETY: the remainders leave at most FFFF. Callers have tested `may_begin_three`, by which the
-    // number is no surrogate's, D800 to DFFF.
+    // SAFETY: the remainders leave at most FFFF. Callers have tested `may_begin_three`, by which
+    // the number is no surrogate's, D800 to DFFF.
     unsafe { char::from_u32_unchecked(number_of_three(first, second, third)) }
 }
 

@@ -12,148 +12,78 @@ use crate::proved::vte_types::{
 
 /// A call of a [`Handler`], as a value. Each variant has the name and the arguments of its method.
 #[derive(Debug)]
+#[allow(missing_docs)]
 pub enum HandlerCall<'a> {
-    /// The call [`Handler::backspace`].
     Backspace,
-    /// The call [`Handler::carriage_return`].
     CarriageReturn,
-    /// The call [`Handler::linefeed`].
     Linefeed,
-    /// The call [`Handler::bell`].
     Bell,
-    /// The call [`Handler::substitute`].
     Substitute,
-    /// The call [`Handler::newline`].
     Newline,
-    /// The call [`Handler::set_horizontal_tabstop`].
     SetHorizontalTabstop,
-    /// The call [`Handler::save_cursor_position`].
     SaveCursorPosition,
-    /// The call [`Handler::restore_cursor_position`].
     RestoreCursorPosition,
-    /// The call [`Handler::reset_state`].
     ResetState,
-    /// The call [`Handler::reverse_index`].
     ReverseIndex,
-    /// The call [`Handler::set_keypad_application_mode`].
     SetKeypadApplicationMode,
-    /// The call [`Handler::unset_keypad_application_mode`].
     UnsetKeypadApplicationMode,
-    /// The call [`Handler::decaln`].
     Decaln,
-    /// The call [`Handler::push_title`].
     PushTitle,
-    /// The call [`Handler::pop_title`].
     PopTitle,
-    /// The call [`Handler::text_area_size_pixels`].
     TextAreaSizePixels,
-    /// The call [`Handler::text_area_size_chars`].
     TextAreaSizeChars,
-    /// The call [`Handler::report_keyboard_mode`].
     ReportKeyboardMode,
-    /// The call [`Handler::report_modify_other_keys`].
     ReportModifyOtherKeys,
-    /// The call [`Handler::goto_col`].
     GotoCol(usize),
-    /// The call [`Handler::insert_blank`].
     InsertBlank(usize),
-    /// The call [`Handler::move_up`].
     MoveUp(usize),
-    /// The call [`Handler::move_down`].
     MoveDown(usize),
-    /// The call [`Handler::device_status`].
     DeviceStatus(usize),
-    /// The call [`Handler::move_forward`].
     MoveForward(usize),
-    /// The call [`Handler::move_backward`].
     MoveBackward(usize),
-    /// The call [`Handler::move_down_and_cr`].
     MoveDownAndCr(usize),
-    /// The call [`Handler::move_up_and_cr`].
     MoveUpAndCr(usize),
-    /// The call [`Handler::scroll_up`].
     ScrollUp(usize),
-    /// The call [`Handler::scroll_down`].
     ScrollDown(usize),
-    /// The call [`Handler::insert_blank_lines`].
     InsertBlankLines(usize),
-    /// The call [`Handler::delete_lines`].
     DeleteLines(usize),
-    /// The call [`Handler::erase_chars`].
     EraseChars(usize),
-    /// The call [`Handler::delete_chars`].
     DeleteChars(usize),
-    /// The call [`Handler::reset_color`].
     ResetColor(usize),
-    /// The call [`Handler::put_tab`].
     PutTab(u16),
-    /// The call [`Handler::move_backward_tabs`].
     MoveBackwardTabs(u16),
-    /// The call [`Handler::move_forward_tabs`].
     MoveForwardTabs(u16),
-    /// The call [`Handler::set_tabs`].
     SetTabs(u16),
-    /// The call [`Handler::pop_keyboard_modes`].
     PopKeyboardModes(u16),
-    /// The call [`Handler::set_title`].
     SetTitle(Option<&'a str>),
-    /// The call [`Handler::set_cursor_style`].
     SetCursorStyle(Option<CursorStyle>),
-    /// The call [`Handler::set_cursor_shape`].
     SetCursorShape(CursorShape),
-    /// The call [`Handler::input`].
     Input(char),
-    /// The call [`Handler::goto`].
     Goto(i32, usize),
-    /// The call [`Handler::goto_line`].
     GotoLine(i32),
-    /// The call [`Handler::identify_terminal`].
     IdentifyTerminal(Option<char>),
-    /// The call [`Handler::clear_line`].
     ClearLine(LineClearMode),
-    /// The call [`Handler::clear_screen`].
     ClearScreen(ClearMode),
-    /// The call [`Handler::clear_tabs`].
     ClearTabs(TabulationClearMode),
-    /// The call [`Handler::terminal_attribute`].
     TerminalAttribute(Attr),
-    /// The call [`Handler::set_mode`].
     SetMode(Mode),
-    /// The call [`Handler::unset_mode`].
     UnsetMode(Mode),
-    /// The call [`Handler::report_mode`].
     ReportMode(Mode),
-    /// The call [`Handler::set_private_mode`].
     SetPrivateMode(PrivateMode),
-    /// The call [`Handler::unset_private_mode`].
     UnsetPrivateMode(PrivateMode),
-    /// The call [`Handler::report_private_mode`].
     ReportPrivateMode(PrivateMode),
-    /// The call [`Handler::set_scrolling_region`].
     SetScrollingRegion(usize, Option<usize>),
-    /// The call [`Handler::set_active_charset`].
     SetActiveCharset(CharsetIndex),
-    /// The call [`Handler::configure_charset`].
     ConfigureCharset(CharsetIndex, StandardCharset),
-    /// The call [`Handler::set_color`].
     SetColor(usize, Rgb),
-    /// The call [`Handler::dynamic_color_sequence`].
     DynamicColorSequence(&'a str, usize, &'a str),
-    /// The call [`Handler::clipboard_store`].
     ClipboardStore(u8, &'a [u8]),
-    /// The call [`Handler::clipboard_load`].
     ClipboardLoad(u8, &'a str),
-    /// The call [`Handler::set_hyperlink`].
     SetHyperlink(Option<Hyperlink<'a>>),
-    /// The call [`Handler::set_mouse_cursor_icon`].
     SetMouseCursorIcon(CursorIcon),
-    /// The call [`Handler::push_keyboard_mode`].
     PushKeyboardMode(KeyboardModes),
-    /// The call [`Handler::set_keyboard_mode`].
     SetKeyboardMode(KeyboardModes, KeyboardModesApplyBehavior),
-    /// The call [`Handler::set_modify_other_keys`].
     SetModifyOtherKeys(ModifyOtherKeys),
-    /// The call [`Handler::set_scp`].
     SetScp(ScpCharPath, ScpUpdateMode),
 }
 

@@ -9,6 +9,7 @@ use crate::proved::vte_types::{
     KeyboardModesApplyBehavior, LineClearMode, Mode, ModifyOtherKeys, PrivateMode, Rgb,
     ScpCharPath, ScpUpdateMode, StandardCharset, TabulationClearMode,
 };
+use alloc::string::String;
 
 handlers! {
     /// Receives the calls of a processor, in order.
@@ -181,15 +182,21 @@ handlers! {
     /// OSC 4, 10, 11, 12 with `?`: report the colour of an index, 0 to 258 as those of `set_color`
     /// (xterm). The answer is `ESC ]`, the prefix, `;`, the colour and the terminator: `4;7` or
     /// `11`, and BEL or `ESC \\` as the question ended.
-    fn dynamic_color_sequence(&mut self, prefix: &str as String = prefix.into(), index: usize, terminator: &str) {}
+    fn dynamic_color_sequence(
+        &mut self,
+        prefix: &str as String = prefix.into(), index: usize, terminator: &str) {}
 
-    /// OSC 8: the characters that follow are a link; `None` ends it (the hyperlinks proposal of
-    /// VTE and iTerm2).
+    /// OSC 8: the characters that follow are a link; `None` ends it (the hyperlinks proposal of VTE
+    /// and iTerm2).
     ///
-    /// The URI is cut at its 14th `;`. Without the feature `std` it has at most 1,023 bytes,
-    /// with the parameters before it. A cancelled command makes this call too
-    /// ([why](Handler#operating-system-commands)).
-    fn set_hyperlink(&mut self, link: Option<Hyperlink<'_>> as Option<Hyperlink> = link.map(|link| link.owned())) {}
+    /// The URI is cut at its 14th `;`.
+    /// Without the feature `std` it has at most 1,023 bytes, with the parameters
+    /// before it.
+    /// A cancelled command makes this call too ([why](Handler#operating-system-commands)).
+    fn set_hyperlink(
+        &mut self,
+        link: Option<Hyperlink<'_>> as Option<Hyperlink>
+            = link.map(|link| link.owned())) {}
 
     /// DECSCUSR, `CSI Ps SP q`: the cursor's shape, and whether it blinks (DEC VT510; xterm).
     /// `None`, for 0, is the terminal's own style.
@@ -269,13 +276,14 @@ handlers! {
 
     // ---- Titles, clipboards and reports
 
-    /// OSC 0 and 2: the window's title (xterm). It may be empty. Without the feature `std` it
-    /// has at most 1,023 bytes. White space at both ends is trimmed. `None`, the terminal's own
-    /// title, never arrives.
+    /// OSC 0 and 2: the window's title (xterm). It may be empty.
+    /// Without the feature `std` it has at most 1,023 bytes.
+    /// White space at both ends is trimmed. `None`, the terminal's own title, never arrives.
     ///
     /// The title is cut at its 15th `;`. A cancelled command makes this call too
     /// ([why](Handler#operating-system-commands)).
-    fn set_title(&mut self, title: Option<&str> as Option<String> = title.map(Into::into)) {}
+    fn set_title(
+        &mut self, title: Option<&str> as Option<String> = title.map(Into::into)) {}
 
     /// XTWINOPS 22, `CSI 22 t`: push the title onto a stack (xterm).
     fn push_title(&mut self) {}
@@ -283,9 +291,10 @@ handlers! {
     /// XTWINOPS 23, `CSI 23 t`: pop the title off the stack (xterm).
     fn pop_title(&mut self) {}
 
-    /// OSC 52: store data in a clipboard (xterm). Its letter is the first byte of the
-    /// selection, or `c` if that is empty. The data are passed on as they came: they should be
-    /// base64, and may be anything. Without the feature `std` they have at most 1,022 bytes.
+    /// OSC 52: store data in a clipboard (xterm). Its letter is the first byte of the selection, or
+    /// `c` if that is empty. The data are passed on as they came: they should be base64, and may be
+    /// anything.
+    /// Without the feature `std` they have at most 1,022 bytes.
     ///
     /// The data end at their first `;`. A cancelled command makes this call too
     /// ([why](Handler#operating-system-commands)): they may be a part of what was to be stored.
@@ -314,8 +323,8 @@ handlers! {
 /// Receives text in runs, from a processor's `advance_text` and `stop_sync_text` alone: there
 /// [`input`](Handler::input) isn't called.
 ///
-/// `advance` and `stop_sync` pass text by `input`, and never by `input_text`. A handler that
-/// leaves `input` empty loses their text, so implement both.
+/// `advance` and `stop_sync` pass text by `input`, and never by `input_text`. A handler that leaves
+/// `input` empty loses their text, so implement both.
 ///
 /// How a text is cut into runs may change from version to version.
 #[doc = include_str!("../../docs/handler_text.md")]

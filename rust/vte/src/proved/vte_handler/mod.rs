@@ -2,8 +2,8 @@
 //! Handlers: what a program can ask of a terminal, one method per request.
 //!
 //! A [`Handler`] has one method per call. Texts and bytes are borrowed for the duration of the
-//! call. If only a few calls matter to you, [`ByCall`] passes each on as a [`HandlerCall`], and
-//! one `match` picks those.
+//! call. If only a few calls matter to you, [`ByCall`] passes each on as a [`HandlerCall`], and one
+//! `match` picks those.
 
 pub(crate) use handler::owned;
 #[cfg(feature = "__own")]

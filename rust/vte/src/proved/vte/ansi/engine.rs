@@ -68,6 +68,7 @@ impl<P: EventParser, B: TextBuffer, T: Timeout> Engine<P, B, T> {
     }
 
     /// Stops the update, whatever is held: there is memory to parse it.
+    // stops are rare: kept out of a turn, they leave its loop over bytes as it is
     #[inline(never)]
     pub(crate) fn stop<H: Handler + ?Sized, G: ParseAs<H, T, P>>(&mut self, handler: &mut H) {
         self.hold.release_all();

@@ -8,6 +8,7 @@ use crate::proved::vte_core::scan::{CountedPerform, Grain, Reader};
 impl<B: Buffer> Machine<B> {
     /// Reads the bytes of a call, as many as there is memory for, and returns how many: all of
     /// them, or up to a stop if `MAY_STOP`.
+    // as a part of a program's own function, its loops would keep their places on the stack
     #[inline(never)]
     pub(crate) fn drive<P: CountedPerform<G> + ?Sized, G: Grain, const MAY_STOP: bool>(
         &mut self,

@@ -7,8 +7,8 @@ use crate::proved::vte_core::scan::{CountedPerform, Grain, Reader, RunRange, Sin
 
 /// A parser whose calls return an error if they are refused memory.
 ///
-/// It keeps operating system commands of any length, as [`Parser`](crate::Parser) does with the
-/// feature `std`.
+/// It keeps operating system commands of any length.
+/// So does [`Parser`](crate::Parser) with the feature `std`.
 ///
 /// If memory for it is refused, the call stops before the byte that needs it, and the rest can be
 /// passed in again:

@@ -51,12 +51,11 @@ impl<const OSC_RAW_BUF_SIZE: usize> Parser<OSC_RAW_BUF_SIZE> {
     /// Reads bytes up to a run of text, or of data of a device control string, and the run itself,
     /// which it returns instead of performing it.
     ///
-    /// Text comes in two ways: by the returned run, and by [`print`](Perform::print) a
-    /// character that was divided between two calls, and U+FFFD for malformed bytes. A
-    /// performer without `print` loses these.
+    /// Text comes in two ways: by the returned run, and by [`print`](Perform::print) a character
+    /// that was divided between two calls, and U+FFFD for malformed bytes. A performer without
+    /// `print` loses these.
     ///
-    /// A caller can take text from its own input in this way, with its position and without a
-    /// copy.
+    /// A caller can take text from its own input in this way, with its position and without a copy.
     ///
     /// A run begins where nothing is open and a character stands in the bytes that is printed as it
     /// is, or at a data byte that is put. It ends before the first control, malformed sequence,

@@ -98,7 +98,8 @@ SHOWN = {
     "Attr": (attribute, 2), "Option<CursorStyle>": (style, 2), "Option<Hyperlink<'_>>": (link, 2),
     **{kind: (show, 1) for kind, show in {
         "Option<char>": letter, "Rgb": rgb, "u8": hexadecimal, "&str": quoted,
-        "&[u8]": lambda data: data[1:] or "-", "Option<&str>": lambda title: optional(quoted(title)),
+        "&[u8]": lambda data: data[1:] or "-",
+        "Option<&str>": lambda title: optional(quoted(title)),
         "Option<usize>": lambda number: optional(None if number == "0" else number),
         "CursorIcon": lambda icon: "".join(
             word.title() for word in bytes.fromhex(icon[1:]).decode().split("-")),

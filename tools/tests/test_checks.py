@@ -460,8 +460,8 @@ def calls():
 def test_a_call_is_added_to_all_lists_and_removed(calls):
     tool, texts = calls
     trait, *files = texts
-    method = "    /// Rings.\n    /// Says so.\n    fn ring_bells(&mut self, top: u16, text: &str)\n"
-    write(trait, texts[trait].replace("    /// BEL", f"{method}\n    /// BEL", 1))
+    method = "/// Rings.\n    /// Says so.\n    fn ring_bells(&mut self, top: u16, text: &str)"
+    write(trait, texts[trait].replace("/// BEL", f"{method}\n\n    /// BEL", 1))
     stale = "".join(f"\n  {file}" for file in sorted(files))
     told = f"these files aren't up to date; run tools/make_calls:{stale}"
     assert tool.run("--check") == (told, "")

@@ -16,9 +16,9 @@
 #include <string.h>
 #include <time.h>
 
-static void number(long long value) { printf(" %lld", value); }
+static void write_number(long long value) { printf(" %lld", value); }
 
-static void text(const uint8_t *bytes, size_t length) {
+static void write_bytes(const uint8_t *bytes, size_t length) {
     if (bytes == NULL) {
         fputs(" -", stdout);
         return;
@@ -27,16 +27,15 @@ static void text(const uint8_t *bytes, size_t length) {
     for (size_t i = 0; i < length; i++) printf("%02x", bytes[i]);
 }
 
-static void color(vte_color of) {
+static void write_color(vte_color of) {
     printf(" c%d,%d,%d,%d,%u", of.kind, of.red, of.green, of.blue, of.index);
 }
 
 #ifdef __cplusplus
-static void shown(std::string_view of) {
-    text(reinterpret_cast<const uint8_t *>(of.data()), of.size());
+static void write_text(std::string_view of) {
+    write_bytes(reinterpret_cast<const uint8_t *>(of.data()), of.size());
 }
 #define TEXT(name) std::string_view name
-#define SHOWN(name) shown(name)
 #define NONE(name) void name() override
 #define SOME(name, ...) void name(__VA_ARGS__) override
 #define BEGIN(name) fputs(name, stdout)
@@ -51,64 +50,15 @@ static void begin(const char *name, void *user) {
 }
 
 #define TEXT(name) const uint8_t *name, size_t name##_length
-#define SHOWN(name) text(name, name##_length)
+#define write_text(name) write_bytes(name, name##_length)
 #define NONE(name) static void name(void *user)
 #define SOME(name, ...) static void name(void *user, __VA_ARGS__)
 #define BEGIN(name) begin(name, user)
 #endif
 
-#define PLAIN(name) NONE(name) { BEGIN(#name), puts(""); }
-#define ONE(name, type) SOME(name, type value) { BEGIN(#name), number((long long)value), puts(""); }
-#define TWO(name, first, second)                                                                   \
-    SOME(name, first one, second two) {                                                            \
-        BEGIN(#name), number((long long)one), number((long long)two), puts("");                    \
-    }
-#define ONE_TEXT(name) SOME(name, TEXT(value)) { BEGIN(#name), SHOWN(value), puts(""); }
-
-/* the calls but for `bell` and those below it, by what they pass */
-#define CALLS(NO, ONE, TWO, TEXTS) \
-    TEXTS(input) NO(backspace) ONE(put_tab, uint16_t) NO(linefeed) NO(carriage_return) NO(newline) \
-    NO(substitute) TWO(go_to, int32_t, size_t) ONE(goto_line, int32_t) ONE(goto_col, size_t) \
-    ONE(move_up, size_t) ONE(move_down, size_t) ONE(move_forward, size_t) \
-    ONE(move_backward, size_t) ONE(move_down_and_cr, size_t) ONE(move_up_and_cr, size_t) \
-    NO(save_cursor_position) NO(restore_cursor_position) NO(reverse_index) ONE(scroll_up, size_t) \
-    ONE(scroll_down, size_t) TWO(set_scrolling_region, size_t, size_t) NO(set_horizontal_tabstop) \
-    ONE(clear_tabs, uint8_t) ONE(set_tabs, uint16_t) ONE(move_forward_tabs, uint16_t) \
-    ONE(move_backward_tabs, uint16_t) ONE(insert_blank, size_t) ONE(insert_blank_lines, size_t) \
-    ONE(delete_chars, size_t) ONE(delete_lines, size_t) ONE(erase_chars, size_t) \
-    ONE(clear_line, uint8_t) ONE(clear_screen, uint8_t) NO(decaln) ONE(reset_color, size_t) \
-    TWO(set_cursor_style, int32_t, uint8_t) ONE(set_cursor_shape, int32_t) \
-    TEXTS(set_mouse_cursor_icon) ONE(set_active_charset, uint8_t) \
-    TWO(configure_charset, uint8_t, uint8_t) TWO(set_scp, uint8_t, uint8_t) \
-    ONE(set_mode, uint16_t) ONE(unset_mode, uint16_t) ONE(report_mode, uint16_t) \
-    ONE(set_private_mode, uint16_t) ONE(unset_private_mode, uint16_t) \
-    ONE(report_private_mode, uint16_t) NO(reset_state) NO(set_keypad_application_mode) \
-    NO(unset_keypad_application_mode) ONE(push_keyboard_mode, uint8_t) \
-    ONE(pop_keyboard_modes, uint16_t) TWO(set_keyboard_mode, uint8_t, uint8_t) \
-    NO(report_keyboard_mode) ONE(set_modify_other_keys, uint8_t) NO(report_modify_other_keys) \
-    TEXTS(set_title) NO(push_title) NO(pop_title) ONE(device_status, size_t) \
-    ONE(identify_terminal, uint8_t) NO(text_area_size_pixels) NO(text_area_size_chars)
-
-CALLS(PLAIN, ONE, TWO, ONE_TEXT)
-
-SOME(terminal_attribute, uint8_t attribute, vte_color of) {
-    BEGIN("terminal_attribute"), number(attribute), color(of), puts("");
-}
-SOME(set_color, size_t index, vte_color of) {
-    BEGIN("set_color"), number((long long)index), color(of), puts("");
-}
-SOME(dynamic_color_sequence, TEXT(prefix), size_t index, TEXT(end)) {
-    BEGIN("dynamic_color_sequence"), SHOWN(prefix), number((long long)index), SHOWN(end), puts("");
-}
-SOME(set_hyperlink, TEXT(id), TEXT(uri)) {
-    BEGIN("set_hyperlink"), SHOWN(id), SHOWN(uri), puts("");
-}
-SOME(clipboard_store, uint8_t clipboard, TEXT(bytes)) {
-    BEGIN("clipboard_store"), number(clipboard), SHOWN(bytes), puts("");
-}
-SOME(clipboard_load, uint8_t clipboard, TEXT(end)) {
-    BEGIN("clipboard_load"), number(clipboard), SHOWN(end), puts("");
-}
+/* functions that write what they get, but for `bell`, and CALLS(EACH), which lists all functions:
+ * test_calls.py writes them from vte_handler.h */
+#include "calls.inc"
 
 /* A call may not use its processor, which says so, and goes on. */
 #ifdef __cplusplus
@@ -172,11 +122,8 @@ NONE(bell) {
     BEGIN("bell"), puts("");
 }
 
-#define IN(name, ...) .name = name,
-static const vte_handler calls = {
-    CALLS(IN, IN, IN, IN) IN(bell) IN(terminal_attribute) IN(set_color) IN(dynamic_color_sequence)
-    IN(set_hyperlink) IN(clipboard_store) IN(clipboard_load)
-};
+#define IN(name) .name = name,
+static const vte_handler calls = { CALLS(IN) };
 
 static void end(void) {
     if (vte_processor_free(processor) != VTE_OK) abort();

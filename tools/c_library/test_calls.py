@@ -4,6 +4,8 @@ from functools import cache
 from typing import List, NamedTuple
 
 import pytest
+from generating.calls import TRAIT, calls_of
+from generating.files import TOP
 from generating.rows import all_rows, bytes_of, lines_of
 from tests.missing import miss, need
 
@@ -13,6 +15,10 @@ from c_library.test_numbers import of_rust
 # a timeout that is set, which calls.c writes, and one that is cleared
 SET = "set_timeout 150"
 TIMEOUTS = SET, "clear_timeout"
+# a function of vte_handler.h, and its parameters after the first
+FUNCTION = re.compile(r"void \(\*(\w+)\)\(void \*user(?:, ([^)]*))?\);")
+PARAMETER = re.compile(r"const uint8_t \*(?P<text>\w+),\s+size_t \w+|vte_color (?P<color>\w+)"
+                       r"|\w+ (?P<number>\w+)")
 # a stream of more bytes isn't cut byte by byte
 MOST_CUT = 50_000
 
@@ -78,11 +84,6 @@ def letter(word):
     return optional(None if word == "0" else "'\\''" if c == "'" else f"'{c}'")
 
 
-def each(*shows):
-    """Shows each argument in its own way."""
-    return lambda *words: " ".join(show(word) for show, word in zip(shows, words))
-
-
 def mode(kind):
     return lambda word: (f"Named({names(kind)[int(word)]})" if int(word) in names(kind) else
                          f"Unknown({word})")
@@ -92,39 +93,40 @@ def hexadecimal(word):
     return f"{int(word):02x}"
 
 
-# how the arguments of a call are written in the rows, if not as they are
+# how an argument is written in the rows, and of how many words, by its type in Rust
 SHOWN = {
-    "terminal_attribute": attribute, "set_cursor_style": style,
-    "set_hyperlink": link, "identify_terminal": letter,
-    "set_title": lambda title: optional(quoted(title)),
-    "set_scrolling_region": lambda top, bottom: (
-        f"{top} {optional(None if bottom == '0' else bottom)}"),
-    "set_color": each(str, rgb),
-    "dynamic_color_sequence": each(quoted, str, quoted),
-    "set_mouse_cursor_icon": lambda icon: "".join(
-        word.title() for word in bytes.fromhex(icon[1:]).decode().split("-")),
-    "set_active_charset": "G{}".format,
-    "configure_charset": each("G{}".format, named("StandardCharset")),
-    "clipboard_store": each(hexadecimal, lambda data: data[1:] or "-"),
-    "clipboard_load": each(hexadecimal, quoted),
-    "clear_line": named("LineClearMode"), "clear_screen": named("ClearMode"),
-    "clear_tabs": named("TabulationClearMode"), "set_cursor_shape": named("CursorShape"),
-    "set_scp": each(named("ScpCharPath"), named("ScpUpdateMode")),
-    "set_keyboard_mode": each(str, named("KeyboardModesApplyBehavior")),
-    "set_modify_other_keys": named("ModifyOtherKeys"),
-    **{f"{act}_mode": mode("NamedMode") for act in ("set", "unset", "report")},
-    **{f"{act}_private_mode": mode("NamedPrivateMode") for act in ("set", "unset", "report")},
-}
+    "Attr": (attribute, 2), "Option<CursorStyle>": (style, 2), "Option<Hyperlink<'_>>": (link, 2),
+    **{kind: (show, 1) for kind, show in {
+        "Option<char>": letter, "Rgb": rgb, "u8": hexadecimal, "&str": quoted,
+        "&[u8]": lambda data: data[1:] or "-",
+        "Option<&str>": lambda title: optional(quoted(title)),
+        "Option<usize>": lambda number: optional(None if number == "0" else number),
+        "CursorIcon": lambda icon: "".join(
+            word.title() for word in bytes.fromhex(icon[1:]).decode().split("-")),
+        "CharsetIndex": "G{}".format,
+        "Mode": mode("NamedMode"), "PrivateMode": mode("NamedPrivateMode"),
+        **{kind: named(kind) for kind in (
+            "StandardCharset", "LineClearMode", "ClearMode", "TabulationClearMode", "CursorShape",
+            "ScpCharPath", "ScpUpdateMode", "KeyboardModesApplyBehavior", "ModifyOtherKeys")},
+    }.items()}}
+CALLS = calls_of((TOP / TRAIT).read_text())
 
 
 @cache
 def lines_for(line):
     """The lines of the rows for a line that calls.c wrote."""
     name, *words = line.split()
+    if line == SET:
+        return [line]
     if name == "input":
         return [f"input {ord(c):04x}" for c in bytes.fromhex(words[0][1:]).decode()]
-    shown = SHOWN[name](*words) if name in SHOWN else " ".join(words)
-    return [f"{'goto' if name == 'go_to' else name} {shown}".rstrip()]
+    name = name.replace("go_to", "goto")
+    for kind in CALLS[name].arguments.values():
+        show, count = SHOWN.get(kind, (str, 1))
+        name += " " + show(*words[:count])
+        words = words[count:]
+    assert not words
+    return [name]
 
 
 # ---- scripts
@@ -186,13 +188,28 @@ def step_of(step):
 SCRIPTS = list(scripts())
 
 
+def functions():
+    """The functions of calls.c, in its macros: each writes what it was passed."""
+    names, written = [], []
+    for name, given in FUNCTION.findall((BESIDE / "include/vte_handler.h").read_text()):
+        parameters = [*PARAMETER.finditer(given)]
+        words = [f"TEXT({it['text']})" if it["text"] else it[0] for it in parameters]
+        writes = "".join(f"write_{it.lastgroup}({it[it.lastgroup]}), " for it in parameters)
+        head = f"SOME({name}, {', '.join(words)})" if words else f"NONE({name})"
+        written.append(f'{head} {{ BEGIN("{name}"), {writes}puts(""); }}\n' * (name != "bell"))
+        names.append(f" EACH({name})")
+    return "".join([*written, "#define CALLS(EACH)", *names, "\n"])
+
+
 def program(library, suffix, *words):
     """The program in C or C++."""
     compiler = {"c": "cc", "cpp": "c++"}[suffix]
     need(compiler, f"{compiler}, so calls.{suffix} was not built")
+    (library.folder / "calls.inc").write_text(functions())
     name = f"calls_{suffix}{'_sanitized' if words else ''}"
-    made = library.program(HERE / f"calls.{suffix}", "-Wl,--wrap=clock_gettime", *words,
-                           compiler=compiler, name=name, optional=words)
+    made = library.program(HERE / f"calls.{suffix}", "-Wl,--wrap=clock_gettime",
+                           f"-I{library.folder}", *words, compiler=compiler, name=name,
+                           optional=words)
     return made or miss(f"the sanitizers of {compiler}, so calls.{suffix} was not run under them")
 
 
@@ -244,7 +261,5 @@ def test_other_programs(whole, outputs, suffix, words):
 
 def test_each_call_has_a_row():
     """.. but for `newline`, which no sequence gives."""
-    header = (BESIDE / "include/vte_handler.h").read_text()
-    kinds = {name.replace("go_to", "goto") for name in re.findall(r"void \(\*(\w+)\)", header)}
     made = {call.split()[0] for script in SCRIPTS for step in script.steps for call in step.calls}
-    assert kinds - made == {"newline"}
+    assert CALLS.keys() - made == {"newline"}

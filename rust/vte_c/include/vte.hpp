@@ -124,39 +124,57 @@ inline std::string_view view(const uint8_t *text, size_t length) {
                 : std::string_view();
 }
 
-template <auto method> struct Call;
-template <typename... Given, void (Handler::*method)(Given...)> struct Call<method> {
-    static void call(void *user, Given... given) noexcept {
-        (static_cast<Handler *>(user)->*method)(given...);
+// Calls a method with what C passes. The place and the length of a text are one argument.
+template <auto method, typename... Given> struct Call {
+    static void pass(Handler *handler, Given... given) { (handler->*method)(given...); }
+
+    template <typename... Rest>
+    static void pass(Handler *handler, Given... given, const uint8_t *text, size_t length,
+                     Rest... rest) {
+        using Next = Call<method, Given..., std::string_view>;
+        Next::pass(handler, given..., view(text, length), rest...);
+    }
+
+    template <typename Sent, typename... Rest>
+    static void pass(Handler *handler, Given... given, Sent sent, Rest... rest) {
+        Call<method, Given..., Sent>::pass(handler, given..., sent, rest...);
     }
 };
 
-template <void (Handler::*method)(std::string_view)> struct Text {
-    static void call(void *user, const uint8_t *text, size_t length) noexcept {
-        (static_cast<Handler *>(user)->*method)(view(text, length));
-    }
+template <auto method, typename... Sent> void call(void *user, Sent... sent) noexcept {
+    Call<method>::pass(static_cast<Handler *>(user), sent...);
+}
+
+inline constexpr vte_handler table = {
+    call<&Handler::input>, call<&Handler::bell>, call<&Handler::backspace>, call<&Handler::put_tab>,
+    call<&Handler::linefeed>, call<&Handler::carriage_return>, call<&Handler::newline>,
+    call<&Handler::substitute>, call<&Handler::go_to>, call<&Handler::goto_line>,
+    call<&Handler::goto_col>, call<&Handler::move_up>, call<&Handler::move_down>,
+    call<&Handler::move_forward>, call<&Handler::move_backward>, call<&Handler::move_down_and_cr>,
+    call<&Handler::move_up_and_cr>, call<&Handler::save_cursor_position>,
+    call<&Handler::restore_cursor_position>, call<&Handler::reverse_index>,
+    call<&Handler::scroll_up>, call<&Handler::scroll_down>, call<&Handler::set_scrolling_region>,
+    call<&Handler::set_horizontal_tabstop>, call<&Handler::clear_tabs>, call<&Handler::set_tabs>,
+    call<&Handler::move_forward_tabs>, call<&Handler::move_backward_tabs>,
+    call<&Handler::insert_blank>, call<&Handler::insert_blank_lines>, call<&Handler::delete_chars>,
+    call<&Handler::delete_lines>, call<&Handler::erase_chars>, call<&Handler::clear_line>,
+    call<&Handler::clear_screen>, call<&Handler::decaln>, call<&Handler::terminal_attribute>,
+    call<&Handler::set_color>, call<&Handler::reset_color>, call<&Handler::dynamic_color_sequence>,
+    call<&Handler::set_hyperlink>, call<&Handler::set_cursor_style>,
+    call<&Handler::set_cursor_shape>, call<&Handler::set_mouse_cursor_icon>,
+    call<&Handler::set_active_charset>, call<&Handler::configure_charset>, call<&Handler::set_scp>,
+    call<&Handler::set_mode>, call<&Handler::unset_mode>, call<&Handler::report_mode>,
+    call<&Handler::set_private_mode>, call<&Handler::unset_private_mode>,
+    call<&Handler::report_private_mode>, call<&Handler::reset_state>,
+    call<&Handler::set_keypad_application_mode>, call<&Handler::unset_keypad_application_mode>,
+    call<&Handler::push_keyboard_mode>, call<&Handler::pop_keyboard_modes>,
+    call<&Handler::set_keyboard_mode>, call<&Handler::report_keyboard_mode>,
+    call<&Handler::set_modify_other_keys>, call<&Handler::report_modify_other_keys>,
+    call<&Handler::set_title>, call<&Handler::push_title>, call<&Handler::pop_title>,
+    call<&Handler::clipboard_store>, call<&Handler::clipboard_load>, call<&Handler::device_status>,
+    call<&Handler::identify_terminal>, call<&Handler::text_area_size_pixels>,
+    call<&Handler::text_area_size_chars>,
 };
-
-inline void dynamic_color_sequence(void *user, const uint8_t *prefix, size_t length, size_t index,
-                                   const uint8_t *end, size_t end_length) noexcept {
-    static_cast<Handler *>(user)->dynamic_color_sequence(view(prefix, length), index,
-                                                         view(end, end_length));
-}
-
-inline void set_hyperlink(void *user, const uint8_t *id, size_t length, const uint8_t *uri,
-                          size_t uri_length) noexcept {
-    static_cast<Handler *>(user)->set_hyperlink(view(id, length), view(uri, uri_length));
-}
-
-inline void clipboard_store(void *user, uint8_t clipboard, const uint8_t *bytes,
-                            size_t length) noexcept {
-    static_cast<Handler *>(user)->clipboard_store(clipboard, view(bytes, length));
-}
-
-inline void clipboard_load(void *user, uint8_t clipboard, const uint8_t *end,
-                           size_t length) noexcept {
-    static_cast<Handler *>(user)->clipboard_load(clipboard, view(end, length));
-}
 
 struct Free {
     void operator()(vte_processor *processor) const { vte_processor_free(processor); }
@@ -173,67 +191,9 @@ inline void check(int status, size_t read = 0) {
 class Processor {
     std::unique_ptr<vte_processor, detail::Free> processor;
 
-    static const vte_handler &calls() {
-        static const vte_handler table = {
-            detail::Text<&Handler::input>::call, detail::Call<&Handler::bell>::call,
-            detail::Call<&Handler::backspace>::call, detail::Call<&Handler::put_tab>::call,
-            detail::Call<&Handler::linefeed>::call, detail::Call<&Handler::carriage_return>::call,
-            detail::Call<&Handler::newline>::call, detail::Call<&Handler::substitute>::call,
-            detail::Call<&Handler::go_to>::call, detail::Call<&Handler::goto_line>::call,
-            detail::Call<&Handler::goto_col>::call, detail::Call<&Handler::move_up>::call,
-            detail::Call<&Handler::move_down>::call, detail::Call<&Handler::move_forward>::call,
-            detail::Call<&Handler::move_backward>::call,
-            detail::Call<&Handler::move_down_and_cr>::call,
-            detail::Call<&Handler::move_up_and_cr>::call,
-            detail::Call<&Handler::save_cursor_position>::call,
-            detail::Call<&Handler::restore_cursor_position>::call,
-            detail::Call<&Handler::reverse_index>::call, detail::Call<&Handler::scroll_up>::call,
-            detail::Call<&Handler::scroll_down>::call,
-            detail::Call<&Handler::set_scrolling_region>::call,
-            detail::Call<&Handler::set_horizontal_tabstop>::call,
-            detail::Call<&Handler::clear_tabs>::call, detail::Call<&Handler::set_tabs>::call,
-            detail::Call<&Handler::move_forward_tabs>::call,
-            detail::Call<&Handler::move_backward_tabs>::call,
-            detail::Call<&Handler::insert_blank>::call,
-            detail::Call<&Handler::insert_blank_lines>::call,
-            detail::Call<&Handler::delete_chars>::call, detail::Call<&Handler::delete_lines>::call,
-            detail::Call<&Handler::erase_chars>::call, detail::Call<&Handler::clear_line>::call,
-            detail::Call<&Handler::clear_screen>::call, detail::Call<&Handler::decaln>::call,
-            detail::Call<&Handler::terminal_attribute>::call,
-            detail::Call<&Handler::set_color>::call, detail::Call<&Handler::reset_color>::call,
-            detail::dynamic_color_sequence, detail::set_hyperlink,
-            detail::Call<&Handler::set_cursor_style>::call,
-            detail::Call<&Handler::set_cursor_shape>::call,
-            detail::Text<&Handler::set_mouse_cursor_icon>::call,
-            detail::Call<&Handler::set_active_charset>::call,
-            detail::Call<&Handler::configure_charset>::call, detail::Call<&Handler::set_scp>::call,
-            detail::Call<&Handler::set_mode>::call, detail::Call<&Handler::unset_mode>::call,
-            detail::Call<&Handler::report_mode>::call,
-            detail::Call<&Handler::set_private_mode>::call,
-            detail::Call<&Handler::unset_private_mode>::call,
-            detail::Call<&Handler::report_private_mode>::call,
-            detail::Call<&Handler::reset_state>::call,
-            detail::Call<&Handler::set_keypad_application_mode>::call,
-            detail::Call<&Handler::unset_keypad_application_mode>::call,
-            detail::Call<&Handler::push_keyboard_mode>::call,
-            detail::Call<&Handler::pop_keyboard_modes>::call,
-            detail::Call<&Handler::set_keyboard_mode>::call,
-            detail::Call<&Handler::report_keyboard_mode>::call,
-            detail::Call<&Handler::set_modify_other_keys>::call,
-            detail::Call<&Handler::report_modify_other_keys>::call,
-            detail::Text<&Handler::set_title>::call, detail::Call<&Handler::push_title>::call,
-            detail::Call<&Handler::pop_title>::call, detail::clipboard_store,
-            detail::clipboard_load, detail::Call<&Handler::device_status>::call,
-            detail::Call<&Handler::identify_terminal>::call,
-            detail::Call<&Handler::text_area_size_pixels>::call,
-            detail::Call<&Handler::text_area_size_chars>::call,
-        };
-        return table;
-    }
-
 public:
     explicit Processor(Handler &handler)
-        : processor(vte_processor_new(&calls(), sizeof calls(), &handler)) {
+        : processor(vte_processor_new(&detail::table, sizeof detail::table, &handler)) {
         if (!processor) throw Refused(0);
     }
 

@@ -122,10 +122,10 @@ calls! {
     reset_state();
     set_keypad_application_mode();
     unset_keypad_application_mode();
-    push_keyboard_mode(modes: KeyboardModes) => u8 = modes.bits();
+    push_keyboard_mode(mode: KeyboardModes) => u8 = mode.bits();
     pop_keyboard_modes(count: u16) => u16 = count;
-    set_keyboard_mode(modes: KeyboardModes, behavior: KeyboardModesApplyBehavior)
-        => u8 = modes.bits(), u8 = behavior as u8;
+    set_keyboard_mode(mode: KeyboardModes, behavior: KeyboardModesApplyBehavior)
+        => u8 = mode.bits(), u8 = behavior as u8;
     report_keyboard_mode();
     set_modify_other_keys(keys: ModifyOtherKeys) => u8 = keys as u8;
     report_modify_other_keys();

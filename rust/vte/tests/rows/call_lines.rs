@@ -48,7 +48,7 @@ impl CallLines {
         self.text.take()
     }
 
-    fn push(&mut self, line: fmt::Arguments<'_>) {
+    pub fn push(&mut self, line: fmt::Arguments<'_>) {
         writeln!(self.text.borrow_mut(), "{line}").unwrap();
     }
 

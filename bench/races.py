@@ -19,6 +19,9 @@ OURS_IN_RUST = ("rust", "rust_release")
 # the kinds of tools/peer that put text into memory: in runs, and character by character, both by
 # ours in the best build
 STRIPPERS = {"rust": "strip_runs", "advance": "strip"}
+# the kinds of bench/calls.c: each function of the C library, and the parser of libvterm
+IN_C = ("vte_feed", "vte_long_feed", "vte_processor")
+CALLED = [*IN_C, "libvterm"]
 # the minimum time of a side in a round
 SECONDS = 0.05
 
@@ -57,6 +60,11 @@ class Programs:
         features of the crate, and so of rust/vte: commands have no limit."""
         return builder.placed_peers(side in OURS_IN_RUST, self.folder / side, IN_RUST[side],
                                      self.placements)
+
+    @functools.cached_property
+    def in_c(self):
+        """bench/calls.c with cargo's C library, and with libvterm if it is here."""
+        return builder.c_program(Path(__file__).resolve().parent / "calls.c", self.folder / "c")
 
     @functools.cached_property
     def proved(self):

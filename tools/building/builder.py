@@ -93,6 +93,21 @@ def placed_peers(is_ours, folder, profile, count):
     return programs
 
 
+def c_program(source, folder):
+    """Builds a program in C with cargo's C library, and with libvterm if it is here."""
+    run([TOOLS / "build_c_library", "--cargo", folder], "the C library")
+    includes = [f"-I{TOOLS.parent / place}" for place in ("crates/vte_c/include",
+                                                          "rust/vte_c/include")]
+    words = ["cc", "-O2", "-std=c99", "-pedantic-errors", *includes, source, folder / "libvte_c.a"]
+    program = folder / source.stem
+    asked = ["pkg-config", "--cflags", "--libs", "vterm"]
+    theirs = shutil.which(asked[0]) and subprocess.run(asked, capture_output=True, text=True)
+    if theirs and theirs.returncode == 0:
+        words += ["-DLIBVTERM", *theirs.stdout.split()]
+    run([*words, "-o", program], source.name)
+    return program
+
+
 def copy_sources(folder):
     """The sources of tools/peer, with what they share with crates/, erased."""
     shutil.copytree(TOOLS / "peer" / "src", folder, dirs_exist_ok=True)

@@ -99,13 +99,15 @@ def c_program(source, folder):
     includes = [f"-I{TOOLS.parent / place}" for place in ("crates/vte_c/include",
                                                           "rust/vte_c/include")]
     words = ["cc", "-O2", "-std=c99", "-pedantic-errors", *includes, source, folder / "libvte_c.a"]
-    program = folder / source.stem
-    asked = ["pkg-config", "--cflags", "--libs", "vterm"]
-    theirs = shutil.which(asked[0]) and subprocess.run(asked, capture_output=True, text=True)
-    if theirs and theirs.returncode == 0:
-        words += ["-DLIBVTERM", *theirs.stdout.split()]
-    run([*words, "-o", program], source.name)
-    return program
+    if has_libvterm():
+        words += ["-DLIBVTERM", "-lvterm"]
+    run([*words, "-o", folder / source.stem], source.name)
+    return folder / source.stem
+
+
+def has_libvterm():
+    """Whether Debian's package libvterm-dev is here."""
+    return Path("/usr/include/vterm.h").exists()
 
 
 def copy_sources(folder):

@@ -31,6 +31,9 @@ class Comparison:
 def comparisons(row):
     """Each pair of sides that are compared in a row, by what it is called."""
     sides = row["nanoseconds"]
+    if row["race"] == "calls":
+        return {name: Comparison(row, name, "libvterm") for name in sides
+                if name != "libvterm" and "libvterm" in sides}
     pairs = {"over `advance`": ("rust", "advance")} if row["race"] == "strip" else {
         name: pair for name, pair in BUILDS.items() if pair[0] in sides}
     return {name: Comparison(row, *pair) for name, pair in pairs.items()}
@@ -38,7 +41,7 @@ def comparisons(row):
 
 def line(row):
     """What is printed of a row once it is measured."""
-    found = {"ns/byte": Comparison(row, "rust"), **comparisons(row)}
+    found = {"ns/byte": Comparison(row, next(iter(row["nanoseconds"])))} | comparisons(row)
     return f"{shown(row)}: {', '.join(f'{name} {ratio}' for name, ratio in found.items())}"
 
 
@@ -51,12 +54,16 @@ def tables(rows):
     found = {(row["race"], row["stream"]): comparisons(row) for row in rows
              if row["piece"] == 4096 and row["stream"] in COMMON_STREAMS}
     stripped = [row for row in rows if row["race"] == "strip"]
-    if kinds := [*dict.fromkeys(row["race"] for row in rows if row["race"] != "strip")]:
+    called = [row for row in rows if row["race"] == "calls"]
+    others = dict.fromkeys(row["race"] for row in rows)
+    if kinds := [kind for kind in others if kind not in ("strip", "calls")]:
         yield by_stream(found, kinds)
         yield by_build(found, kinds)
         yield "\n".join(f"- Slower in {build}: {slower(rows, build)}." for build in BUILDS)
     if stripped:
         yield by_run(stripped)
+    if called:
+        yield by_call(called)
 
 
 def by_stream(found, kinds):
@@ -90,6 +97,13 @@ def by_run(rows):
     return table(["stream", "ns/byte", "over `advance`"], [
         [f"`{row['stream']}`", f"{Comparison(row, 'rust').median:.2f}",
          *map(str, comparisons(row).values())] for row in rows])
+
+
+def by_call(rows):
+    """The C library over libvterm."""
+    return table(["stream", "call", *comparisons(rows[0])], [
+        [f"`{row['stream']}`", f"{row['piece']:,} B", *map(str, comparisons(row).values())]
+        for row in rows])
 
 
 def table(heads, rows):

@@ -19,6 +19,9 @@ OURS_IN_RUST = ("rust", "rust_release")
 # the kinds of tools/peer that put text into memory: in runs, and character by character, both by
 # ours in the best build
 STRIPPERS = {"rust": "strip_runs", "advance": "strip"}
+# the kinds of bench/calls.c: each function of the C library, and the parser of libvterm
+IN_C = ("vte_feed", "vte_long_feed", "vte_processor")
+THEIRS_IN_C = "libvterm"
 # the minimum time of a side in a round
 SECONDS = 0.05
 
@@ -36,7 +39,8 @@ RACES = {
     "screen": {4096: SCREEN_STREAMS},
     "processor": {4096: [*STREAMS, "cursor", "update_open"]},
     "terminal": {4096: SCREEN_STREAMS},
-    "strip": {4096: STRIPPED}}
+    "strip": {4096: STRIPPED},
+    "calls": dict.fromkeys((1, 64, 4096), ["ascii", "ls_color", "coloured"])}
 # streams of commands with more than the 1,024 bytes that Rattle's parser and processor keep
 BEYOND_THE_LIMIT = ["osc_clipboard"]
 # the bytes of a stream whose checksums are compared: the crate takes quadratic time for malformed
@@ -59,11 +63,19 @@ class Programs:
                                      self.placements)
 
     @functools.cached_property
+    def in_c(self):
+        """bench/calls.c with cargo's C library, and with libvterm if it is here."""
+        return builder.c_program(Path(__file__).resolve().parent / "calls.c", self.folder / "c")
+
+    @functools.cached_property
     def proved(self):
         return builder.proved_program("race", ["parser", "1", "1"])
 
     def commands(self, kind):
         """The commands of each side: one for each placement of its code. Rattle's build has one."""
+        if kind == "calls":
+            sides = [*IN_C, *[THEIRS_IN_C] * builder.has_libvterm()]
+            return {side: [[self.in_c, side]] for side in sides}
         if kind == "strip":
             return {side: [[program, name] for program in self.peers("rust")]
                     for side, name in STRIPPERS.items()}
@@ -73,8 +85,10 @@ class Programs:
 
     def build(self, kinds):
         """Builds every program that these kinds run, before one is measured."""
-        sides = ["rust"]
-        if set(kinds) - {"strip"}:
+        sides = {"rust"} if "strip" in kinds else set()
+        if "calls" in kinds:
+            _ = self.in_c
+        if set(kinds) - {"strip", "calls"}:
             sides = IN_RUST
             _ = self.proved
         with ThreadPoolExecutor() as pool:
@@ -137,7 +151,8 @@ def rows(race, programs, given):
     for name, piece in ((name, piece) for piece, names in asked.items() for name in names):
         commands = {side: of_side for side, of_side in sides.items()
                     if side != "ours" or name not in BEYOND_THE_LIMIT}
-        compare_checksums(name, commands, programs.stream(name, CHECKED))
+        if race != "calls":
+            compare_checksums(name, commands, programs.stream(name, CHECKED))
         place = programs.stream(name, given.bytes)
         times = in_rounds(given.rounds, {side: [in_passes(words, place, piece) for words in of_side]
                                          for side, of_side in commands.items()})

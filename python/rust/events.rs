@@ -1,7 +1,8 @@
 //! The events of a stream.
 
 use crate::calls::Kind;
-use crate::tape::{classes, fields, Field, Tape, Tuple, Value, BYTES, MEMBER, SINGLE};
+use crate::maker::classes;
+use crate::tape::{fields, Field, Tape, Tuple, Value, MEMBER};
 use pyo3::exceptions::PyTypeError;
 use pyo3::prelude::*;
 use vte::{Params, Perform, PerformText};
@@ -98,36 +99,7 @@ impl Recorder {
 }
 
 fields! {
-    &Params: groups => Tuple(groups.iter());
     &[&[u8]]: pieces => Tuple(pieces.iter().copied());
-}
-
-impl Field for &[u16] {
-    #[inline]
-    fn record(self, tape: &mut Tape) {
-        match self {
-            [number] => Value::new(SINGLE, (*number).into()).record(tape),
-            _ => Tuple(self.iter().copied()).record(tape),
-        }
-    }
-}
-
-/// At most six bytes.
-fn brief(bytes: &[u8]) -> Value {
-    let all = bytes
-        .iter()
-        .rev()
-        .fold(0, |all, byte| all << 8 | i64::from(*byte));
-    Value::new(BYTES, all << 8 | bytes.len() as i64)
-}
-
-/// Records an event with its fields, if it is wanted.
-macro_rules! record {
-    ($recorder:ident, $kind:ident$(, $field:expr)*) => {
-        if let Some(tape) = $recorder.begin(Kind::$kind) {
-            tape.begin(Kind::$kind)$(.with($field))*;
-        }
-    };
 }
 
 impl Perform for Recorder {
@@ -140,19 +112,31 @@ impl Perform for Recorder {
     }
 
     fn unhook(&mut self) {
-        record!(self, Unhook);
+        if let Some(tape) = self.begin(Kind::Unhook) {
+            tape.begin(Kind::Unhook);
+        }
     }
 
     fn hook(&mut self, groups: &Params, intermediates: &[u8], ignore: bool, end: char) {
-        record!(self, Hook, groups, brief(intermediates), ignore, end);
+        if let Some(tape) = self.begin(Kind::Hook) {
+            let head = (intermediates, ignore, end);
+            tape.add_head(Kind::Hook, groups.len(), head)
+                .add_numbers(groups);
+        }
     }
 
     fn csi_dispatch(&mut self, groups: &Params, intermediates: &[u8], ignore: bool, end: char) {
-        record!(self, Csi, groups, brief(intermediates), ignore, end);
+        if let Some(tape) = self.begin(Kind::Csi) {
+            let head = (intermediates, ignore, end);
+            tape.add_head(Kind::Csi, groups.len(), head)
+                .add_numbers(groups);
+        }
     }
 
     fn esc_dispatch(&mut self, intermediates: &[u8], ignore: bool, end: u8) {
-        record!(self, Esc, brief(intermediates), ignore, char::from(end));
+        if let Some(tape) = self.begin(Kind::Esc) {
+            tape.add_head(Kind::Esc, 0, (intermediates, ignore, char::from(end)));
+        }
     }
 
     fn osc_dispatch(&mut self, pieces: &[&[u8]], bell_terminated: bool) {

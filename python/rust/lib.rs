@@ -4,6 +4,7 @@
 
 mod calls;
 mod events;
+mod maker;
 #[cfg(feature = "python-memory")]
 #[allow(unsafe_code)]
 mod memory;
@@ -21,7 +22,7 @@ use pyo3::prelude::*;
 #[pymodule]
 fn _vte(module: &Bound<'_, PyModule>) -> PyResult<()> {
     // what is looked up now needs no memory later
-    tape::classes(module.py())?;
+    maker::classes(module.py())?;
     processor::monotonic(module.py())?;
     refusal::class(module.py())?;
     module.add_class::<parser::Parser>()?;

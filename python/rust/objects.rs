@@ -95,9 +95,119 @@ fn size(length: usize) -> ffi::Py_ssize_t {
     length as ffi::Py_ssize_t
 }
 
+/// Short content in words, filled up with zeros: Python copies by words what is aligned.
+pub struct Short {
+    words: [u64; Short::WORDS],
+    length: usize,
+}
+
+impl Short {
+    const WORDS: usize = 4;
+    const SIZE: usize = 8;
+
+    /// The first bytes of content, unless they are too many.
+    #[inline(always)]
+    pub fn of(content: &[u8], length: usize) -> Option<Self> {
+        let mut words = [0; Self::WORDS];
+        if length > Self::SIZE * Self::WORDS {
+            return None;
+        }
+        let mut at = 0;
+        for word in &mut words {
+            if at >= length {
+                break;
+            }
+            let value = match content.get(at..at + Self::SIZE) {
+                Some(bytes) => u64::from_le_bytes(bytes.try_into().unwrap_or_default()),
+                None => last_word(&content[at..]),
+            };
+            let left = (length - at).min(Self::SIZE) as u32;
+            *word = (value & u64::MAX >> (u64::BITS - 8 * left)).to_le();
+            at += Self::SIZE;
+        }
+        Some(Short { words, length })
+    }
+
+    #[inline]
+    fn is_ascii(&self) -> bool {
+        self.words
+            .iter()
+            .all(|word| word & 0x8080_8080_8080_8080 == 0)
+    }
+
+    #[inline]
+    pub fn bytes(&self) -> &[u8] {
+        // SAFETY: the length is at most that of the words, which have no padding
+        unsafe { std::slice::from_raw_parts(self.words.as_ptr().cast(), self.length) }
+    }
+}
+
+/// How many bytes a character has that begins with this one.
+fn length_of(first: u32) -> usize {
+    1 + [0xC0, 0xE0, 0xF0]
+        .iter()
+        .filter(|least| first >= **least)
+        .count()
+}
+
+/// Fewer bytes than a word has.
+#[cold]
+fn last_word(bytes: &[u8]) -> u64 {
+    bytes
+        .iter()
+        .rev()
+        .fold(0, |word, byte| word << 8 | u64::from(*byte))
+}
+
 /// A `str` of text in UTF-8, which Python checks.
 pub fn text(py: Python<'_>, utf8: &[u8]) -> Made {
     decoded(py, utf8, "strict\0")
+}
+
+/// A `str` of much ASCII, of which Python takes parts faster than it decodes each.
+pub fn whole(py: Python<'_>, content: &[u8]) -> Made {
+    if content.len() < 256 || !content.is_ascii() {
+        return None;
+    }
+    let whole = text(py, content);
+    if whole.is_none() {
+        // SAFETY: the lock is held
+        unsafe { ffi::PyErr_Clear() };
+    }
+    whole
+}
+
+/// The part of a `str` from one character to another.
+pub fn part(py: Python<'_>, whole: &PyObject, start: usize, end: usize) -> Made {
+    new!(
+        py,
+        PyUnicode_Substring(whole.as_ptr(), size(start), size(end))
+    )
+}
+
+/// A `str` of a short text. Beyond ASCII Python gets its characters, because it decodes few slowly.
+pub fn short_text(py: Python<'_>, short: &Short) -> Made {
+    let utf8 = short.bytes();
+    if cfg!(windows) || short.is_ascii() {
+        return text(py, utf8);
+    }
+    let (mut characters, mut count) = ([0; Short::WORDS * Short::SIZE], 0);
+    for byte in utf8 {
+        let bits = u32::from(*byte);
+        match bits {
+            // six bits more of the last character
+            0x80..=0xBF => characters[count - 1] = characters[count - 1] << 6 | bits & 0x3F,
+            _ => {
+                // without the bits that tell how long the character is
+                characters[count] = bits & [0x7F, 0x1F, 0x0F, 0x07][length_of(bits) - 1];
+                count += 1;
+            }
+        }
+    }
+    new!(
+        py,
+        PyUnicode_FromWideChar(characters.as_ptr().cast(), size(count))
+    )
 }
 
 /// A `str` of bytes, as `encoded` makes them.

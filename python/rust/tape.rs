@@ -2,45 +2,50 @@
 //! so not the interpreter's lock, and if memory is refused to an object, those that follow are
 //! still there.
 
-use crate::calls::{Kind, NAMES};
-use crate::objects::{bytes, integer, list, no_memory, raised, text, tuple, Class, Made};
+use crate::calls::Kind;
+use crate::maker::{Known, Maker};
+use crate::objects::{list, no_memory, raised, Made};
 use pyo3::prelude::*;
-use pyo3::sync::{GILOnceCell, GILProtected};
-use std::cell::Cell;
-use vte::Refused;
+use vte::{Params, Refused};
 
 /// What an object is made of: what it is, and a number of 59 bits. The content of texts and data is
 /// stored beside it, in the same order.
 #[derive(Clone, Copy, Default, PartialEq)]
-pub struct Value(i64);
+pub struct Value(pub i64);
 
 // what the number of a value is
 pub const NOTHING: i64 = 0;
 pub const FLAG: i64 = 1;
 pub const NUMBER: i64 = 2;
 pub const LETTER: i64 = 3;
-/// A count, and as many bytes.
-pub const BYTES: i64 = 4;
 /// How many fields follow.
-const TUPLE: i64 = 5;
-/// The only number of a tuple.
-pub const SINGLE: i64 = 6;
+pub const TUPLE: i64 = 4;
+/// A class, and what a sequence has but for its numbers, which follow.
+pub const SEQUENCE: i64 = 5;
+/// Some of these: `NUMBERS_PER_VALUE`, of `NUMBER_BITS` each, of which the last says whether `:` is
+/// before it.
+pub const NUMBERS: i64 = 6;
 /// A class, whose fields follow.
 pub const OBJECT: i64 = 7;
 /// A class, and the number that is its only field.
 pub const MEMBER: i64 = 8;
 /// The length of the content.
-const TEXT: i64 = 9;
-const DATA: i64 = 10;
+pub const TEXT: i64 = 9;
+pub const DATA: i64 = 10;
 /// A class, and the length of the content that is its only field.
-const RUN: i64 = 11;
+pub const RUN: i64 = 11;
 /// A value with which an object begins that is in no other.
-const FIRST: i64 = 16;
+pub const FIRST: i64 = 16;
+/// How many bits tell what a value is.
+pub const TAG_BITS: u32 = 5;
+
+pub const NUMBERS_PER_VALUE: usize = 3;
+pub const NUMBER_BITS: u32 = 17;
 
 impl Value {
     #[inline]
     pub fn new(is: i64, number: i64) -> Self {
-        Value(number << 5 | is)
+        Value(number << TAG_BITS | is)
     }
 
     /// An object of a class, and its only field.
@@ -49,13 +54,68 @@ impl Value {
         Value::new(is, field << 8 | kind as i64)
     }
 
-    fn is(self, is: i64) -> bool {
-        self.0 & (FIRST - 1) == is
+    /// What it is, and its number.
+    #[inline]
+    pub fn number(self) -> (i64, i64) {
+        (self.0 & (FIRST - 1), self.0 >> TAG_BITS)
     }
 
     /// The class and the only field.
-    fn parts(self) -> (usize, i64) {
-        ((self.0 >> 5 & 255) as usize, self.0 >> 13)
+    #[inline]
+    pub fn parts(self) -> (usize, i64) {
+        let number = self.0 >> TAG_BITS;
+        ((number & 255) as usize, number >> 8)
+    }
+}
+
+/// What a sequence has but for its numbers: how many there are, whether some are left out, its
+/// intermediates, and its final byte.
+pub struct Head {
+    pub count: usize,
+    pub ignore: bool,
+    pub intermediates: [u8; 2],
+    pub intermediate_count: usize,
+    pub end: char,
+}
+
+impl Head {
+    #[inline]
+    fn new(count: usize, intermediates: &[u8], ignore: bool, end: char) -> Self {
+        let (intermediate_count, intermediates) = match intermediates {
+            [] => (0, [0; 2]),
+            [first] => (1, [*first, 0]),
+            [first, second, ..] => (2, [*first, *second]),
+        };
+        Head {
+            count,
+            ignore,
+            intermediates,
+            intermediate_count,
+            end,
+        }
+    }
+
+    #[inline]
+    fn packed(&self) -> i64 {
+        let [first, second] = self.intermediates;
+        let bytes = i64::from(first) | i64::from(second) << 8;
+        let counts = self.count as i64 | (self.intermediate_count as i64) << 6;
+        counts | i64::from(self.ignore) << 8 | bytes << 9 | i64::from(u32::from(self.end)) << 25
+    }
+
+    /// How many values the numbers take.
+    pub fn value_count(&self) -> usize {
+        (self.count + NUMBERS_PER_VALUE - 1) / NUMBERS_PER_VALUE
+    }
+
+    pub fn unpacked(field: i64) -> Self {
+        Head {
+            count: (field & 63) as usize,
+            ignore: field >> 8 & 1 == 1,
+            intermediates: [(field >> 9) as u8, (field >> 17) as u8],
+            intermediate_count: (field >> 6 & 3) as usize,
+            end: char::from((field >> 25) as u8),
+        }
     }
 }
 
@@ -147,13 +207,6 @@ impl<T: Field> Field for Option<T> {
     }
 }
 
-/// An object that was made, after its key: its values, or what stands for a short run.
-type Known = (Value, Vec<Value>, Option<PyObject>);
-/// How many pairs of objects are known at most, by its logarithm.
-const PAIRS: u32 = 9;
-/// The content of a run that is known has at most so many bytes.
-const SHORT: usize = 3;
-
 /// Objects that are recorded, one after another.
 #[derive(Default)]
 pub struct Tape {
@@ -165,10 +218,6 @@ pub struct Tape {
     is_refused: bool,
     made: Vec<PyObject>,
 }
-
-/// Objects that were made, each in the pair of places that its key gives: programs send few
-/// different ones. Who makes objects takes them meanwhile.
-static KNOWN: GILProtected<Cell<Vec<[Known; 2]>>> = GILProtected::new(Cell::new(Vec::new()));
 
 impl Tape {
     /// The most values or bytes for each byte that is read, and for what was open before. More are
@@ -206,6 +255,33 @@ impl Tape {
     pub fn add(&mut self, first: Value) -> &mut Self {
         self.is_open = false;
         self.with(Value(first.0 | FIRST))
+    }
+
+    /// Adds a sequence, but not its numbers.
+    #[inline]
+    pub fn add_head(&mut self, kind: Kind, count: usize, rest: (&[u8], bool, char)) -> &mut Self {
+        let head = Head::new(count, rest.0, rest.1, rest.2);
+        self.add(Value::of(SEQUENCE, kind, head.packed()))
+    }
+
+    /// Adds the numbers of a sequence.
+    #[inline]
+    pub fn add_numbers(&mut self, params: &Params) {
+        let (mut numbers, mut bits) = (0, 0);
+        for group in params {
+            let mut is_joined = 0;
+            for number in group {
+                numbers |= (i64::from(*number) << 1 | is_joined) << bits;
+                (bits, is_joined) = (bits + NUMBER_BITS, 1);
+                if bits == NUMBER_BITS * NUMBERS_PER_VALUE as u32 {
+                    self.with(Value::new(NUMBERS, numbers));
+                    (numbers, bits) = (0, 0);
+                }
+            }
+        }
+        if bits > 0 {
+            self.with(Value::new(NUMBERS, numbers));
+        }
     }
 
     /// Adds a field.
@@ -267,31 +343,21 @@ impl Tape {
         }
         let reserved = self.made.try_reserve(self.values.len());
         reserved.map_err(|_| no_memory(py))?;
-        let (classes, mut known) = (classes(py)?, KNOWN.get(py).take());
-        if known.is_empty() && known.try_reserve_exact(1 << PAIRS).is_ok() {
-            known.resize_with(1 << PAIRS, Default::default);
-        }
+        let mut known = Known::taken(py);
         let end = self.values.len() - usize::from(self.is_open && !ends);
-        let mut maker = Maker {
-            py,
-            classes,
-            values: &self.values[..end],
-            content: &self.content,
-        };
+        let mut maker = Maker::new(py, &self.values[..end], &self.content)?;
         let mut done = Ok(());
-        while !maker.values.is_empty() {
-            let (values, content) = (maker.values, maker.content);
-            match maker.object(&mut known) {
+        while let Some(made) = maker.make(&mut known) {
+            match made {
                 Some(object) => self.made.push(object),
                 None => {
-                    (maker.values, maker.content) = (values, content);
                     done = Err(PyErr::fetch(py));
                     break;
                 }
             }
         }
-        let (left, rest) = (maker.values.len(), maker.content.len());
-        KNOWN.get(py).set(known);
+        let (left, rest) = maker.left();
+        known.put_back(py);
         self.values.drain(..end - left);
         self.content.drain(..self.content.len() - rest);
         done
@@ -318,125 +384,5 @@ impl Tape {
             }
         }
         None
-    }
-}
-
-/// The classes of objects, by their kinds.
-pub fn classes(py: Python<'_>) -> PyResult<&'static [Class]> {
-    static CLASSES: GILOnceCell<Vec<Class>> = GILOnceCell::new();
-    let classes = CLASSES.get_or_try_init(py, || {
-        let events = py.import_bound("vte._events")?;
-        let calls = py.import_bound("vte.calls")?;
-        let class = |name| events.getattr(name).or_else(|_| calls.getattr(name));
-        let classes = NAMES.iter().map(|name| Class::of(class(*name)?));
-        classes.collect::<PyResult<_>>()
-    });
-    classes.map(Vec::as_slice)
-}
-
-#[inline]
-fn mix(hash: u64, value: Value) -> u64 {
-    (hash.rotate_left(5) ^ value.0 as u64).wrapping_mul(0x517C_C1B7_2722_0A95)
-}
-
-/// Makes a run of a class, which is of this kind.
-#[inline]
-fn run(py: Python<'_>, class: &Class, kind: usize, content: &[u8]) -> Made {
-    match kind == Kind::Data as usize {
-        true => class.make(py, |_| bytes(py, content)),
-        false => class.make(py, |_| text(py, content)),
-    }
-}
-
-/// Makes objects of values.
-struct Maker<'a, 'py> {
-    py: Python<'py>,
-    classes: &'a [Class],
-    values: &'a [Value],
-    content: &'a [u8],
-}
-
-impl<'a> Maker<'a, '_> {
-    /// The next object.
-    #[inline(always)]
-    fn object(&mut self, known: &mut [[Known; 2]]) -> Made {
-        let (values, first) = (self.values, self.values[0]);
-        if !first.is(RUN) {
-            let others = values[1..].iter().take_while(|value| value.0 & FIRST == 0);
-            return self.known_or_new(known, &values[..=others.count()], 0);
-        }
-        let (kind, length) = first.parts();
-        let length = length as usize;
-        if length > SHORT {
-            self.values = &values[1..];
-            let content = self.content(length);
-            return run(self.py, &self.classes[kind], kind, content);
-        }
-        let bytes = self.content[..length].iter();
-        // the length of a short run leaves room for its content
-        let content = bytes.fold(0, |all, byte| all << 8 | i64::from(*byte));
-        let key = Value(first.0 | content << 16);
-        self.known_or_new(known, &[key], length)
-    }
-
-    /// The object of a key that stands for so many bytes of content.
-    #[inline(always)]
-    fn known_or_new(&mut self, known: &mut [[Known; 2]], key: &[Value], length: usize) -> Made {
-        let hash = key.iter().fold(0, |hash, value| mix(hash, *value));
-        let pair = &mut known.get_mut((hash >> (u64::BITS - PAIRS)) as usize);
-        let is = |it: &&Known| it.0 == key[0] && it.1 == key[1..];
-        let found = pair.as_ref().and_then(|pair| pair.iter().find(is));
-        if let Some((_, _, object)) = found {
-            (self.values, self.content) = (&self.values[key.len()..], &self.content[length..]);
-            return object.as_ref().map(|object| object.clone_ref(self.py));
-        }
-        let (before, mut others) = (self.content.len(), Vec::new());
-        let object = self.next()?;
-        // other content makes other objects of these values
-        let is_all = before - self.content.len() == length;
-        if let (Some(pair), true) = (pair, is_all) {
-            if others.try_reserve_exact(key.len() - 1).is_ok() {
-                others.extend_from_slice(&key[1..]);
-                pair.swap(0, 1);
-                pair[0] = (key[0], others, Some(object.clone_ref(self.py)));
-            }
-        }
-        Some(object)
-    }
-
-    fn next(&mut self) -> Made {
-        let py = self.py;
-        let value = self.values[0];
-        self.values = &self.values[1..];
-        let (number, (kind, field)) = (value.0 >> 5, value.parts());
-        match value.0 & (FIRST - 1) {
-            NOTHING => Some(py.None()),
-            FLAG => Some((number != 0).into_py(py)),
-            LETTER => {
-                let letter = char::from(number as u8);
-                text(py, letter.encode_utf8(&mut [0; 4]).as_bytes())
-            }
-            BYTES => {
-                let [count, all @ ..] = number.to_le_bytes();
-                bytes(py, &all[..usize::from(count)])
-            }
-            TEXT => text(py, self.content(number as usize)),
-            DATA => bytes(py, self.content(number as usize)),
-            SINGLE => tuple(py, 1, |_| integer(py, number)),
-            TUPLE => tuple(py, number as usize, |_| self.next()),
-            OBJECT => self.classes[kind].make(py, |_| self.next()),
-            MEMBER => self.classes[kind].make(py, |_| integer(py, field)),
-            RUN => {
-                let content = self.content(field as usize);
-                run(py, &self.classes[kind], kind, content)
-            }
-            _ => integer(py, number),
-        }
-    }
-
-    fn content(&mut self, length: usize) -> &'a [u8] {
-        let (own, rest) = self.content.split_at(length);
-        self.content = rest;
-        own
     }
 }

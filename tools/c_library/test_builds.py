@@ -58,7 +58,6 @@ def test_edges(library):
     words = sanitizers(library)
     assert output_of([library.program(EXAMPLES / "any_parser.c", *words)]) == b""
     assert output_of([library.program(HERE / "border.c", *library.of_events, *words)]) == b""
-    library.program(EXAMPLES / "time_calls.c", "-std=c99", "-pedantic-errors")
 
 
 @pytest.mark.parametrize("source, wanted", [

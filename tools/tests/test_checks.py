@@ -627,7 +627,6 @@ def test_versions_of_a_release(place, old, new, told):
     assert (status, lines) == (1, [wanted, "1 faults"])
 
 
-
 def test_contents_of_a_release(monkeypatch):
     monkeypatch.setenv("SOURCE_DATE_EPOCH", "86400")
     # what only builds need isn't linked
@@ -675,6 +674,63 @@ def test_status_of_fuzz(is_clean, finds):
     assert fuzz.run()[0] == (not (is_clean and finds))
 
 
+# ---- bench/count
+
+LIMITS = """# Instructions
+release: {0}
+best: {0}
+rattle: kit
+kind stream call release best rattle
+parser ascii 4096 {1} 4.000 -
+vte_feed ascii 64 - 1.000 -
+"""
+
+
+def count(patch, *words, kit="", allowed="1", **cells):
+    """What bench/count says to a table, or writes, where each count is 4 or 1."""
+    place = write("instructions.txt", LIMITS.format(cells.get("rustc", "new"),
+                                                    cells.get("cell", "4.000")))
+    patch.syspath_prepend(str(TOOLS.parent / "bench"))
+    patch.setenv("NAQSHUVE_ALLOW_MISSING", allowed)
+    tool = Tool("../bench/count", counted=lambda _, __, asked: {
+        (row, column): {"parser": 4.0, "vte_feed": 1.0}[row[0]] for row, column in asked})
+    patch.setattr(tool.parts["limits"], "TABLE", place)
+    patch.setattr(tool.parts["limits"], "conditions",
+                  lambda: {"release": "new", "best": "new", "rattle": kit})
+    status, said = tool.run("limits", *words)
+    return status, said.splitlines(), place.read_text()
+
+
+# a count of 4 beside the cell of a table
+@pytest.mark.parametrize("cell, is_fault, told", [
+    ("4.000", False, []), ("3.961", False, []), ("4.039", False, []),
+    ("3.960", True, [", release: 4.000, above 4.000"]),
+    ("3.900", True, [", release: 4.000, above 3.939"]),
+    ("4.100", False, [", release: 4.000, below 4.100"]),
+    ("?", True, [", release: 4.000, and the table has none"]), ("-", False, [])])
+def test_counts_above_their_limits(cell, is_fault, told, monkeypatch):
+    status, said, _ = count(monkeypatch, "--check", kit="kit", cell=cell)
+    last = f"{2 + (cell != '-')} counts, {int(is_fault)} above their limits"
+    assert (status, said) == (is_fault, [*(f"parser `ascii` in calls of 4,096 B{it}"
+                                           for it in told), last])
+
+
+def test_another_compiler_is_not_tested(monkeypatch):
+    missing = [f"missing: old: the {column} builds were not counted"
+               for column in ("release", "best")]
+    told = [*missing, "0 counts, 0 above their limits"]
+    given = {"rustc": "old", "cell": "3.000", "kit": "kit"}
+    assert count(monkeypatch, "--check", **given)[:2] == (0, told)
+    assert count(monkeypatch, "--check", **given, allowed="")[:2] == (1, told)
+
+
+def test_limits_are_written(monkeypatch):
+    status, said, text = count(monkeypatch, rustc="old", cell="?")
+    assert (status, said[1:]) == (0, ["3 counts are written"])
+    rows = [line.split() for line in text.splitlines()[1:]]
+    assert rows == [line.split() for line in LIMITS.format("new", "4.000").splitlines()[1:]]
+
+
 # ---- test
 
 # parts in the place of those of tools/test: those at once, and those after them
@@ -683,7 +739,8 @@ PARTS = {
               ("lacking", "bash no-such-command", "try lacking"),
               ("far", "rust=1.0 no-such-program", "try far")],
     "LATER": [("second", "bash crates rust-1.2 +no-such-tool",
-               "try second 'missing: a thing: not tried'"), ("proofs", "rt", "rt ci")]}
+               "try second 'missing: a thing: not tried'"), ("proofs", "rt", "rt ci")],
+    "LAST": []}
 PROGRAMS = {
     "bin/try": '#!/bin/sh\necho $1 >>asked\necho said by $1\necho $2\n'
                '[ $1 != "$FAILS" ] && [ "$CARGO_HOME" = next ]\n',

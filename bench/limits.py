@@ -1,0 +1,78 @@
+"""The table of bench/instructions.txt: the instructions per byte that streams may cost.
+
+A line of the table names a kind of bench/, a stream, and the bytes of a call. In the column of each
+build is a count; `?` is counted when the table is written next, and `-` never. The lines above it
+say what its columns are counted with: other compilers, libraries and processors give other counts.
+"""
+import platform
+import re
+import shutil
+import subprocess
+from pathlib import Path
+
+TABLE = Path(__file__).resolve().parent / "instructions.txt"
+COLUMNS = ["release", "best", "rattle"]
+# a count may be above that of the table by one percent
+MOST = 1.01
+
+
+def conditions():
+    """What each column is counted with now, or nothing if it can't be."""
+    features = Path("/proc/cpuinfo")
+    vectors = features.exists() and re.search(r"\bavx2\b", features.read_text())
+    machine = f"{' '.join(platform.libc_ver())}; {platform.machine()}{' with AVX2' * bool(vectors)}"
+    rustc, kit = said("rustc", "--version"), said("rt", "version")
+    cargo = rustc and f"{' '.join(rustc.split()[:2])}; {machine}"
+    return {"release": cargo, "best": cargo, "rattle": kit and f"{kit}; {machine}"}
+
+
+def said(*words):
+    """The first line that a program says, or nothing if it isn't here."""
+    found = shutil.which(words[0]) and subprocess.run(words, capture_output=True, text=True)
+    return found.stdout.partition("\n")[0] if found and found.returncode == 0 else ""
+
+
+class Table:
+    """What a table says: the conditions of its columns, and the cells of its rows."""
+
+    def __init__(self, text):
+        lines = [line for line in text.splitlines() if line and not line.startswith("#")]
+        heads, rows = lines[:len(COLUMNS)], lines[len(COLUMNS) + 1:]
+        self.conditions = dict(line.split(": ", 1) for line in heads)
+        self.rows = {}
+        for kind, stream, piece, *cells in map(str.split, rows):
+            self.rows[kind, stream, int(piece)] = dict(zip(COLUMNS, cells, strict=True))
+
+    def counted(self, columns):
+        """The rows and columns that have a count, or are to have one."""
+        return [(row, column) for row, cells in self.rows.items() for column in columns
+                if cells[column] != "-"]
+
+    def with_counts(self, counts, found):
+        """The text of the table with these counts, and the conditions that were found for them."""
+        columns = {column for _, column in counts}
+        yield "# Instructions per byte: bench/count limits --check refuses 1 percent more."
+        for column in COLUMNS:
+            yield f"{column}: {(found if column in columns else self.conditions)[column]}"
+        yield line("kind", "stream", "call", *COLUMNS)
+        for row, cells in self.rows.items():
+            counted = {column: f"{counts[row, column]:.3f}" for column in COLUMNS
+                       if (row, column) in counts}
+            yield line(*row, *{**cells, **counted}.values())
+
+
+def line(kind, stream, piece, *cells):
+    return f"{kind:<14}{stream:<13}{piece:>5}{''.join(f'{cell:>9}' for cell in cells)}"
+
+
+def judged(table, counts):
+    """What is to be said of counts, and whether it is a fault."""
+    for (row, column), count in counts.items():
+        cell, (kind, stream, piece) = table.rows[row][column], row
+        what = f"{kind} `{stream}` in calls of {piece:,} B, {column}: {count:.3f}"
+        if cell == "?":
+            yield f"{what}, and the table has none", True
+        elif count > float(cell) * MOST:
+            yield f"{what}, above {float(cell) * MOST:.3f}", True
+        elif count * MOST < float(cell):
+            yield f"{what}, below {cell}", False

@@ -1,0 +1,293 @@
+//! Objects, made of what is recorded. Those that come often are made once.
+
+use crate::calls::{Kind, NAMES};
+use crate::objects::{bytes, integer, part, short_text, text, tuple, whole, Class, Made, Short};
+use crate::tape::{
+    Head, Value, DATA, FIRST, FLAG, LETTER, MEMBER, NOTHING, NUMBERS_PER_VALUE, NUMBER_BITS,
+    OBJECT, RUN, SEQUENCE, TAG_BITS, TEXT, TUPLE,
+};
+use pyo3::prelude::*;
+use pyo3::sync::{GILOnceCell, GILProtected};
+use std::cell::Cell;
+
+/// The classes of objects, by their kinds.
+pub fn classes(py: Python<'_>) -> PyResult<&'static [Class]> {
+    static CLASSES: GILOnceCell<Vec<Class>> = GILOnceCell::new();
+    let classes = CLASSES.get_or_try_init(py, || {
+        let events = py.import_bound("vte._events")?;
+        let calls = py.import_bound("vte.calls")?;
+        let class = |name| events.getattr(name).or_else(|_| calls.getattr(name));
+        let classes = NAMES.iter().map(|name| Class::of(class(*name)?));
+        classes.collect::<PyResult<_>>()
+    });
+    classes.map(Vec::as_slice)
+}
+
+/// Objects that were made last of those to whose keys this place is given. A key has the values of
+/// an object, then zeros.
+struct Pair<const N: usize>([([u64; N], Option<PyObject>); 2]);
+
+impl<const N: usize> Pair<N> {
+    const NONE: Self = Pair([([0; N], None), ([0; N], None)]);
+
+    #[inline(always)]
+    fn get(&self, py: Python<'_>, key: &[u64; N]) -> Option<PyObject> {
+        let differs = |other: &[u64; N]| key.iter().zip(other).fold(0, |all, (a, b)| all | (a ^ b));
+        let (_, object) = self.0.iter().find(|(other, _)| differs(other) == 0)?;
+        object.as_ref().map(|object| object.clone_ref(py))
+    }
+
+    #[inline]
+    fn keep(&mut self, py: Python<'_>, key: [u64; N], object: &PyObject) {
+        self.0.swap(0, 1);
+        self.0[0] = (key, Some(object.clone_ref(py)));
+    }
+}
+
+/// Pairs of one size of keys.
+struct Pairs<const N: usize> {
+    pairs: Vec<Pair<N>>,
+    // if there is no memory for the others
+    last: Pair<N>,
+}
+
+impl<const N: usize> Pairs<N> {
+    /// How many there are, by its logarithm.
+    const COUNT: u32 = 9;
+    const NONE: Self = Pairs {
+        pairs: Vec::new(),
+        last: Pair::NONE,
+    };
+
+    fn fill(&mut self) {
+        let pairs = &mut self.pairs;
+        if pairs.is_empty() && pairs.try_reserve_exact(1 << Self::COUNT).is_ok() {
+            pairs.resize_with(1 << Self::COUNT, || Pair::NONE);
+        }
+    }
+
+    /// The pair of a key.
+    #[inline(always)]
+    fn of(&mut self, key: &[u64; N]) -> &mut Pair<N> {
+        let mix = |hash: u64, word: &u64| (hash.rotate_left(5) ^ word).wrapping_mul(FACTOR);
+        let place = key.iter().fold(0, mix) >> (u64::BITS - Self::COUNT);
+        self.pairs.get_mut(place as usize).unwrap_or(&mut self.last)
+    }
+}
+
+/// The content of a run that is known has at most so many bytes.
+const SHORT: i64 = 3;
+const FACTOR: u64 = 0x517C_C1B7_2722_0A95;
+/// The sizes of keys: few objects need more than two values.
+const SMALL: usize = 2;
+const LARGE: usize = 6;
+
+/// Objects that were made: programs send few different ones.
+pub struct Known {
+    small: Pairs<SMALL>,
+    large: Pairs<LARGE>,
+}
+
+/// Those of all tapes. Who makes objects takes them meanwhile.
+static KNOWN: GILProtected<Cell<Option<Known>>> = GILProtected::new(Cell::new(None));
+
+impl Known {
+    pub fn taken(py: Python<'_>) -> Self {
+        let mut known = KNOWN.get(py).take().unwrap_or(Known {
+            small: Pairs::NONE,
+            large: Pairs::NONE,
+        });
+        known.small.fill();
+        known.large.fill();
+        known
+    }
+
+    pub fn put_back(self, py: Python<'_>) {
+        KNOWN.get(py).set(Some(self));
+    }
+}
+
+/// Makes objects of values.
+pub struct Maker<'a, 'py> {
+    py: Python<'py>,
+    classes: &'a [Class],
+    values: &'a [Value],
+    content: &'a [u8],
+    // all content, of which texts are parts, if that is faster, and its length
+    whole: Made,
+    length: usize,
+}
+
+impl<'a, 'py> Maker<'a, 'py> {
+    pub fn new(py: Python<'py>, values: &'a [Value], content: &'a [u8]) -> PyResult<Self> {
+        let classes = classes(py)?;
+        let (whole, length) = (whole(py, content), content.len());
+        Ok(Maker {
+            py,
+            classes,
+            values,
+            content,
+            whole,
+            length,
+        })
+    }
+
+    /// How many values and bytes of content are left.
+    pub fn left(&self) -> (usize, usize) {
+        (self.values.len(), self.content.len())
+    }
+
+    /// The next object, or none at the end. If it can't be made, it stays.
+    #[inline(always)]
+    pub fn make(&mut self, known: &mut Known) -> Option<Made> {
+        let (values, content) = (self.values, self.content);
+        let first = *values.first()?;
+        let made = match first.number().0 {
+            RUN => self.run(first, known),
+            _ => self.object(first, known),
+        };
+        if made.is_none() {
+            (self.values, self.content) = (values, content);
+        }
+        Some(made)
+    }
+
+    /// A text or data.
+    #[inline(always)]
+    fn run(&mut self, first: Value, known: &mut Known) -> Made {
+        let (py, (kind, length)) = (self.py, first.parts());
+        self.values = &self.values[1..];
+        if length > SHORT {
+            return self.new_run(kind, length as usize);
+        }
+        let bytes = self.content[..length as usize].iter();
+        let content = bytes.fold(0, |all, byte| all << 8 | u64::from(*byte));
+        let key = [first.0 as u64, content];
+        let pair = known.small.of(&key);
+        if let Some(object) = pair.get(py, &key) {
+            self.content(length as usize);
+            return Some(object);
+        }
+        let object = self.new_run(kind, length as usize)?;
+        pair.keep(py, key, &object);
+        Some(object)
+    }
+
+    #[inline(always)]
+    fn object(&mut self, first: Value, known: &mut Known) -> Made {
+        let others = self.values[1..]
+            .iter()
+            .take_while(|value| value.0 & FIRST == 0);
+        match others.count() {
+            0 => self.known([first.0 as u64, 0], 1, &mut known.small),
+            1 => self.known(
+                [first.0 as u64, self.values[1].0 as u64],
+                2,
+                &mut known.small,
+            ),
+            count if count < LARGE => {
+                let mut key = [0; LARGE];
+                for (place, value) in key.iter_mut().zip(&self.values[..=count]) {
+                    *place = value.0 as u64;
+                }
+                self.known(key, count + 1, &mut known.large)
+            }
+            _ => self.next(),
+        }
+    }
+
+    /// The object of a key, which so many values make.
+    #[inline(always)]
+    fn known<const N: usize>(&mut self, key: [u64; N], count: usize, pairs: &mut Pairs<N>) -> Made {
+        let pair = pairs.of(&key);
+        if let Some(object) = pair.get(self.py, &key) {
+            self.values = &self.values[count..];
+            return Some(object);
+        }
+        let before = self.content.len();
+        let object = self.next()?;
+        // other content makes other objects of these values
+        if self.content.len() == before {
+            pair.keep(self.py, key, &object);
+        }
+        Some(object)
+    }
+
+    fn next(&mut self) -> Made {
+        let py = self.py;
+        let value = self.values[0];
+        self.values = &self.values[1..];
+        let ((is, number), (kind, field)) = (value.number(), value.parts());
+        match is {
+            NOTHING => Some(py.None()),
+            FLAG => Some((number != 0).into_py(py)),
+            LETTER => self.letter(char::from(number as u8)),
+            TEXT => text(py, self.content(number as usize)),
+            DATA => bytes(py, self.content(number as usize)),
+            TUPLE => tuple(py, number as usize, |_| self.next()),
+            SEQUENCE => self.sequence(kind, Head::unpacked(field)),
+            OBJECT => self.classes[kind].make(py, |_| self.next()),
+            MEMBER => self.classes[kind].make(py, |_| integer(py, field)),
+            RUN => self.new_run(kind, field as usize),
+            _ => integer(py, number),
+        }
+    }
+
+    fn letter(&self, letter: char) -> Made {
+        text(self.py, letter.encode_utf8(&mut [0; 4]).as_bytes())
+    }
+
+    #[inline(always)]
+    fn new_run(&mut self, kind: usize, length: usize) -> Made {
+        let (py, class, all) = (self.py, &self.classes[kind], self.content);
+        let content = self.content(length);
+        if kind == Kind::Data as usize {
+            return class.make(py, |_| bytes(py, content));
+        }
+        if let Some(whole) = &self.whole {
+            let start = self.length - all.len();
+            return class.make(py, |_| part(py, whole, start, start + length));
+        }
+        match Short::of(all, length) {
+            Some(short) => class.make(py, |_| short_text(py, &short)),
+            None => class.make(py, |_| text(py, content)),
+        }
+    }
+
+    fn sequence(&mut self, kind: usize, head: Head) -> Made {
+        let (numbers, rest) = self.values.split_at(head.value_count());
+        self.values = rest;
+        let (py, has_groups) = (self.py, kind != Kind::Esc as usize);
+        self.classes[kind].make(py, |place| match (place, has_groups) {
+            (0, true) => groups(py, numbers, head.count),
+            (1, true) | (0, false) => bytes(py, &head.intermediates[..head.intermediate_count]),
+            (2, true) | (1, false) => Some(head.ignore.into_py(py)),
+            _ => self.letter(head.end),
+        })
+    }
+
+    fn content(&mut self, length: usize) -> &'a [u8] {
+        let (own, rest) = self.content.split_at(length);
+        self.content = rest;
+        own
+    }
+}
+
+/// The tuples of so many numbers.
+fn groups(py: Python<'_>, values: &[Value], count: usize) -> Made {
+    // each number, and whether `:` is before it
+    let number = |place: usize| {
+        let first = TAG_BITS + NUMBER_BITS * (place % NUMBERS_PER_VALUE) as u32;
+        let bits = values[place / NUMBERS_PER_VALUE].0 >> first;
+        (bits >> 1 & 0xFFFF, bits & 1 == 1)
+    };
+    let ends = |place: &usize| *place == count || !number(*place).1;
+    let (groups, mut next) = ((0..count).filter(ends).count(), 0);
+    tuple(py, groups, |_| {
+        let start = next;
+        next = (start + 1..=count).find(ends).unwrap_or(count);
+        tuple(py, next - start, |place| {
+            integer(py, number(start + place).0)
+        })
+    })
+}

@@ -171,7 +171,7 @@ VTE_CORE = dict(
         "vte_core/parser/saved": {
             "#[allow(clippy::new_without_default)]": ["pub fn new"],
             "#[derive(Debug)]": ["pub struct Saved"],
-            "#[doc(hidden)]": ["pub fn save", "pub fn restored"],
+            "#[doc(hidden)]": ["pub fn save", "pub fn restore"],
         },
         "vte_core/perform": {
             '#[doc = include_str!("../../docs/perform.md")]': ["pub trait Perform {"],

@@ -43,7 +43,9 @@ pub fn restored(state: &Bound<'_, PyAny>) -> PyResult<Limited> {
     if let Ok((version, content)) = state.extract::<(Bound<'_, PyString>, Bound<'_, PyBytes>)>() {
         let content = content.as_bytes().try_into().map(Content);
         if let (env!("CARGO_PKG_VERSION"), Ok(mut content)) = (version.to_str()?, content) {
-            return Ok(Limited::restored(content.saved()));
+            let mut parser = Limited::new();
+            parser.restore(content.saved());
+            return Ok(parser);
         }
     }
     let wrong = "this was pickled with another version of the package\0";

@@ -79,7 +79,8 @@ pub(crate) fn feed_with_stop(size: usize, lines: &mut EventLines, bytes: &[u8]) 
 pub(crate) fn feed_saved(lines: &mut EventLines, pieces: &[&[u8]]) {
     let mut saved = Saved::new();
     for piece in pieces {
-        let mut parser = Parser::restored(&saved);
+        let mut parser = Parser::new();
+        parser.restore(&saved);
         parser.advance(lines, piece);
         parser.save(&mut saved);
     }

@@ -231,7 +231,9 @@ fn runs_are_taken_and_parsers_saved(rt: HostRuntime) {
     parser.advance(&mut counts, b"\x1bPq");
     let mut saved = Saved::new();
     parser.save(&mut saved);
-    let run = Parser::restored(&saved).advance_to_run(&mut counts, b"data\x9c");
+    let mut restored = Parser::new();
+    restored.restore(&saved);
+    let run = restored.advance_to_run(&mut counts, b"data\x9c");
     assert_eq!(rt;
         (run.start, run.taken, run.end),
         (0, Taken::Data(b"data"), 4)

@@ -74,7 +74,8 @@ fn read_into(saved: &mut Saved, bytes: &[u8], room: &mut Events<'_>) -> usize
         HasTold (room_of room.old).kinds saved.old told stream (bytes.now ++ rest) →
         HasFed room.old room.new saved.new told stream bytes.now rest result }
 {
-    let mut parser = Parser::restored(saved);
+    let mut parser = Parser::new();
+    parser.restore(saved);
     let read = read_all(&mut parser, bytes, room);
     parser.save(saved);
     read

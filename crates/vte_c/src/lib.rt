@@ -91,7 +91,9 @@ pub extern "C" fn vte_is_open(parser: &Saved) -> u8
     ensures opens { result ≢ 0 → (stream : List ℕ) → HasReadSaved parser.now stream
         → IsUnfinished usual_limit stream }
 {
-    Parser::restored(parser).open() as u8
+    let mut restored = Parser::new();
+    restored.restore(parser);
+    restored.open() as u8
 }
 
 /// Returns the version of this interface. It grows when programs compiled for an earlier version no

@@ -156,7 +156,8 @@ fn read_into(saved: &mut Saved, bytes: &[u8], room: &mut Text<'_>) -> usize
         StripsMore room.old room.new saved.new text stream bytes.now rest result }
 {
     laws::bytes_are_brief();
-    let mut parser = Parser::restored(saved);
+    let mut parser = Parser::new();
+    parser.restore(saved);
     let mut count = 0;
     // The text of a chunk fits whatever its bytes are, so no character needs a stop.
     while count < bytes.len() && room.left() >= MOST_TEXT {

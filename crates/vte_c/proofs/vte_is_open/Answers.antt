@@ -22,8 +22,8 @@ code_is IgnoredString = refl
 
 pub returns-clause-which : goal.returns-clause-which
 returns-clause-which c = λ stream reads.
-    code_is c.open.result ∙ ap open_code (c.open.ensures.which stream (c.restored.ensures stream reads))
+    code_is c.open.result ∙ ap open_code (c.open.ensures.which stream (c.restore.ensures stream reads))
 
 pub returns-clause-closed : goal.returns-clause-closed
 returns-clause-closed c = λ closed stream reads.
-    (c.open.ensures.closed (nothing_by_code c.open.result closed) stream (c.restored.ensures stream reads)).1
+    (c.open.ensures.closed (nothing_by_code c.open.result closed) stream (c.restore.ensures stream reads)).1

@@ -179,14 +179,13 @@ impl Parser<MAX_OSC_RAW> {
         saved.joined = u8::from(collected.joined);
     }
 
-    /// Returns the parser that was saved.
+    /// Becomes the parser that was saved.
     #[doc(hidden)]
-    pub fn restored(saved: &Saved) -> Self
+    pub fn restore(&mut self, saved: &Saved)
         // The parser has read what was saved.
-        ensures { (stream : List ℕ) → HasReadSaved saved.now stream → HasRead result stream }
+        ensures { (stream : List ℕ) → HasReadSaved saved.now stream → HasRead self.new stream }
     {
-        let mut parser = Parser::new();
-        let machine = &mut parser.machine;
+        let machine = &mut self.machine;
         machine.state = restored_state(saved.state);
         match machine.state {
             State::ControlSequence(_) | State::DeviceControl(_) => {
@@ -207,6 +206,5 @@ impl Parser<MAX_OSC_RAW> {
         collected.too_many_intermediates = saved.too_many_intermediates != 0;
         collected.number = saved.number;
         collected.joined = saved.joined != 0;
-        parser
     }
 }

@@ -14,7 +14,7 @@ loop-count-init c = record {
   begins = λ none. refl;
   written =
       λ stream reads. written_nothing (text_room_of c.args.room.now) c.args.bytes.now
-      (c.restored-parser.ensures stream reads);
+      (c.restore.ensures stream reads);
 }
 
 pub loop-count-preserved : goal.loop-count-preserved

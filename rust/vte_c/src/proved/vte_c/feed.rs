@@ -53,7 +53,8 @@ pub(crate) fn feed(
 
 /// Reads bytes into empty buffers.
 fn read_into(saved: &mut Saved, bytes: &[u8], room: &mut Events<'_>) -> usize {
-    let mut parser = Parser::restored(saved);
+    let mut parser = Parser::new();
+    parser.restore(saved);
     let read = read_all(&mut parser, bytes, room);
     parser.save(saved);
     read

@@ -56,7 +56,9 @@ pub fn vte_strip(parser: &mut Saved, bytes: &[u8], room: &mut [u8], written: &mu
 
 /// Returns what is unfinished, or 0.
 pub fn vte_is_open(parser: &Saved) -> u8 {
-    Parser::restored(parser).open() as u8
+    let mut restored = Parser::new();
+    restored.restore(parser);
+    restored.open() as u8
 }
 
 /// Returns the version of this interface. It grows when programs compiled for an earlier version no

@@ -122,7 +122,8 @@ pub(crate) fn strip(
 /// Reads bytes into an empty buffer, until they end or there may be no room for the text of one
 /// more.
 fn read_into(saved: &mut Saved, bytes: &[u8], room: &mut Text<'_>) -> usize {
-    let mut parser = Parser::restored(saved);
+    let mut parser = Parser::new();
+    parser.restore(saved);
     let mut count = 0;
     // The text of a chunk fits whatever its bytes are, so no character needs a stop.
     while count < bytes.len() && room.left() >= MOST_TEXT {

@@ -152,11 +152,10 @@ impl Parser<MAX_OSC_RAW> {
         saved.joined = u8::from(collected.joined);
     }
 
-    /// Returns the parser that was saved.
+    /// Becomes the parser that was saved.
     #[doc(hidden)]
-    pub fn restored(saved: &Saved) -> Self {
-        let mut parser = Parser::new();
-        let machine = &mut parser.machine;
+    pub fn restore(&mut self, saved: &Saved) {
+        let machine = &mut self.machine;
         machine.state = restored_state(saved.state);
         match machine.state {
             State::ControlSequence(_) | State::DeviceControl(_) => {
@@ -177,6 +176,5 @@ impl Parser<MAX_OSC_RAW> {
         collected.too_many_intermediates = saved.too_many_intermediates != 0;
         collected.number = saved.number;
         collected.joined = saved.joined != 0;
-        parser
     }
 }

@@ -1,9 +1,9 @@
 -- A parser whose fields are those that were saved has read what the saved one had.
 use Rattle.vte_core.proofs.Common.{refl, rules}
-use Rattle.vte_core.proofs.parser.saved.Parser+MAX_OSC_RAW.restored.Goals as goal
+use Rattle.vte_core.proofs.parser.saved.Parser+MAX_OSC_RAW.restore.Goals as goal
 
 pub returns : goal.returns
-returns c = λ stream h. h.reads (record c.new-parser.result { machine = _ }) (record {
+returns c = λ stream h. h.reads (record c.args.self.now { machine = _ }) (record {
   state = search rules;
   intermediates = search rules;
   too_many_intermediates = refl;

@@ -78,8 +78,8 @@ impl<const N: usize> Pairs<N> {
 /// The content of a run that is known has at most so many bytes.
 const SHORT: i64 = 3;
 const FACTOR: u64 = 0x517C_C1B7_2722_0A95;
-/// The sizes of keys: few objects need more than two values.
-const SMALL: usize = 2;
+/// The sizes of keys: few objects have more than three values.
+const SMALL: usize = 3;
 const LARGE: usize = 6;
 
 /// Objects that were made: programs send few different ones.
@@ -144,7 +144,7 @@ impl<'a, 'py> Maker<'a, 'py> {
         let first = *values.first()?;
         let made = match first.number().0 {
             RUN => self.run(first, known),
-            _ => self.object(first, known),
+            _ => self.object(known),
         };
         if made.is_none() {
             (self.values, self.content) = (values, content);
@@ -162,7 +162,7 @@ impl<'a, 'py> Maker<'a, 'py> {
         }
         let bytes = self.content[..length as usize].iter();
         let content = bytes.fold(0, |all, byte| all << 8 | u64::from(*byte));
-        let key = [first.0 as u64, content];
+        let key = [first.0 as u64, content, 0];
         let pair = known.small.of(&key);
         if let Some(object) = pair.get(py, &key) {
             self.content(length as usize);
@@ -173,27 +173,28 @@ impl<'a, 'py> Maker<'a, 'py> {
         Some(object)
     }
 
+    /// An object of the values up to the next first one.
     #[inline(always)]
-    fn object(&mut self, first: Value, known: &mut Known) -> Made {
+    fn object(&mut self, known: &mut Known) -> Made {
         let others = self.values[1..]
             .iter()
             .take_while(|value| value.0 & FIRST == 0);
-        match others.count() {
-            0 => self.known([first.0 as u64, 0], 1, &mut known.small),
-            1 => self.known(
-                [first.0 as u64, self.values[1].0 as u64],
-                2,
-                &mut known.small,
-            ),
-            count if count < LARGE => {
+        let value = |place: usize| self.values[place].0 as u64;
+        let count = 1 + others.count();
+        let small = match count {
+            1 => [value(0), 0, 0],
+            2 => [value(0), value(1), 0],
+            SMALL => [value(0), value(1), value(2)],
+            _ if count <= LARGE => {
                 let mut key = [0; LARGE];
-                for (place, value) in key.iter_mut().zip(&self.values[..=count]) {
-                    *place = value.0 as u64;
+                for (place, word) in key[..count].iter_mut().enumerate() {
+                    *word = value(place);
                 }
-                self.known(key, count + 1, &mut known.large)
+                return self.known(key, count, &mut known.large);
             }
-            _ => self.next(),
-        }
+            _ => return self.next(),
+        };
+        self.known(small, count, &mut known.small)
     }
 
     /// The object of a key, which so many values make.

@@ -6,7 +6,7 @@ ghost use Rattle.vte_core.specs.declared.parser.open.Open.TheVariants.{Nothing};
 ghost use Rattle.vte_core.specs.EarlyStop.{NoCharacterStops};
 ghost use Rattle.vte_core.specs.Open.{open_at_end};
 ghost use Rattle.vte_core.specs.Outcome.{SaysLoss};
-ghost use Rattle.vte_core.specs.Parser.{HasRead, IsCopyOf, lost_data};
+ghost use Rattle.vte_core.specs.Parser.{HasRead, IsCopyOf, lost_data, reading_of};
 ghost use Rattle.vte_core.specs.Stream.{IsFinished, IsUnfinished, outcome};
 
 mod character;
@@ -100,7 +100,7 @@ impl<const OSC_RAW_BUF_SIZE: usize> Default for Parser<OSC_RAW_BUF_SIZE> {
 
 /// A clone goes on as the parser would.
 impl<const OSC_RAW_BUF_SIZE: usize> Clone for Parser<OSC_RAW_BUF_SIZE> {
-    ghost is_clone = { λ parser clone. IsCopyOf parser clone };
+    ghost is_clone = { λ parser clone. IsCopyOf (reading_of parser) (reading_of clone) };
 
     // A clone takes no memory.
     ghost is_infallible = { λ _. ⊤ };
@@ -175,11 +175,12 @@ impl<const OSC_RAW_BUF_SIZE: usize> Parser<OSC_RAW_BUF_SIZE> {
         requires no_stop { G.IN_RUNS ≡ true → MAY_STOP ≡ true
             → NoCharacterStops P.layout P.step P.is_terminated }
         ensures all { MAY_STOP ≡ false
-            → ReadsBytes P.step (P.value_of performer.old)
-            (P.value_of performer.new) chunk.entry.bytes.now self.old self.new }
+            → ReadsBytes P.step (P.value_of performer.old) (P.value_of performer.new)
+            chunk.entry.bytes.now (reading_of self.old) (reading_of self.new) }
         ensures stops { MAY_STOP ≡ true
-            → ReadsUntilTerminated P.step P.is_terminated (P.value_of performer.old)
-            (P.value_of performer.new) chunk.entry.bytes.now result self.old self.new }
+            → ReadsUntilTerminated P.step P.is_terminated result (P.value_of performer.old)
+            (P.value_of performer.new) chunk.entry.bytes.now (reading_of self.old)
+            (reading_of self.new) }
     {
         let (mut reader, input) = chunk.open();
         let result = self

@@ -1,6 +1,11 @@
 //! The calls that read bytes into a [`LongParser`]: each makes a [`Chunk`] of its bytes.
-ghost use Rattle.std.specs.Prelude.{◌≡◌};
-ghost use Rattle.vte_core.specs.LongParserCalls.{ReadsBytesLong, ReadsToRunLong, ReadsUntilTerminatedLong};
+ghost use Rattle.std.specs.Prelude.{◌≡◌, ℕ, List, None, IfErr, false};
+ghost use Rattle.vte_core.specs.Advance.{ReadsBytes};
+ghost use Rattle.vte_core.specs.AdvanceToRun.{ReadsToRun};
+ghost use Rattle.vte_core.specs.AdvanceUntilTerminated.{ReadsUntilTerminated};
+ghost use Rattle.vte_core.specs.LongParser.{HasReadLong};
+ghost use Rattle.vte_core.specs.LongParserCalls.{ReadsLong};
+ghost use Rattle.vte_core.specs.OutsideRuns.{TellsOutsideRuns};
 
 use crate::parser::{LongParser, Refused};
 use crate::perform::{Perform, PerformText, PerformThroughText};
@@ -11,8 +16,9 @@ impl<A: Allocator> LongParser<A> {
     /// Reads the next bytes of the stream, and performs the events that they add to it: all of
     /// them, or as many as there is memory for.
     pub fn advance<P: Perform>(&mut self, performer: &mut P, bytes: &[u8]) -> Result<(), Refused>
-        ensures { ReadsBytesLong P.step (P.value_of performer.old)
-            (P.value_of performer.new) bytes.now result self.old self.new }
+        ensures { ReadsLong 5 P.step (λ _. false) (P.value_of performer.old)
+            (P.value_of performer.new) bytes.now self.old self.new result
+            (λ _. ReadsBytes P.step) }
     {
         self.drive::<P, Singly, false>(performer, Chunk::new(bytes))?;
         Ok(())
@@ -26,8 +32,9 @@ impl<A: Allocator> LongParser<A> {
         performer: &mut P,
         bytes: &[u8],
     ) -> Result<(), Refused>
-        ensures { ReadsBytesLong P.step (P.value_of performer.old)
-            (P.value_of performer.new) bytes.now result self.old self.new }
+        ensures { ReadsLong 5 P.step (λ _. false) (P.value_of performer.old)
+            (P.value_of performer.new) bytes.now self.old self.new result
+            (λ _. ReadsBytes P.step) }
     {
         self.drive::<P, InRuns, false>(performer, Chunk::new(bytes))?;
         Ok(())
@@ -44,8 +51,9 @@ impl<A: Allocator> LongParser<A> {
         performer: &mut P,
         bytes: &[u8],
     ) -> Result<usize, Refused>
-        ensures { ReadsUntilTerminatedLong P.step P.is_terminated (P.value_of performer.old)
-            (P.value_of performer.new) bytes.now result self.old self.new }
+        ensures { ReadsLong 5 P.step P.is_terminated (P.value_of performer.old)
+            (P.value_of performer.new) bytes.now self.old self.new result
+            (ReadsUntilTerminated P.step P.is_terminated) }
     {
         self.drive::<P, Singly, true>(performer, Chunk::new(bytes))
     }
@@ -58,8 +66,9 @@ impl<A: Allocator> LongParser<A> {
         performer: &mut P,
         bytes: &[u8],
     ) -> Result<usize, Refused>
-        ensures { ReadsUntilTerminatedLong P.step P.is_terminated (P.value_of performer.old)
-            (P.value_of performer.new) bytes.now result self.old self.new }
+        ensures { ReadsLong 5 P.step P.is_terminated (P.value_of performer.old)
+            (P.value_of performer.new) bytes.now self.old self.new result
+            (ReadsUntilTerminated P.step P.is_terminated) }
     {
         self.drive::<P, InRuns, true>(performer, Chunk::new(bytes))
     }
@@ -72,8 +81,13 @@ impl<A: Allocator> LongParser<A> {
         performer: &mut P,
         bytes: &'a [u8],
     ) -> Result<Run<'a>, Refused>
-        ensures { ReadsToRunLong P.step P.is_terminated (P.value_of performer.old)
-            (P.value_of performer.new) bytes.now result self.old self.new }
+        ensures reads { ReadsLong 7 P.step P.is_terminated (P.value_of performer.old)
+            (P.value_of performer.new) bytes.now self.old self.new result
+            (ReadsToRun P.step P.is_terminated) }
+        // Characters and data are left to a run if memory is refused too.
+        ensures outside_runs { IfErr result (λ refused. (stream : List ℕ)
+            → HasReadLong self.old stream
+            → TellsOutsideRuns None stream bytes.now refused.read) }
     {
         let range = self.drive_to_run(performer, Chunk::new(bytes))?;
         Ok(take_run(bytes, range))

@@ -48,7 +48,7 @@ pub use Rattle.vte.specs.machine.Performing.{PerformsAll, PerformsUntilStop, per
 pub use Rattle.vte.specs.BoundedProcessor.{HasParsedAndHoldsWithin, HasTextRoom}
 pub use Rattle.vte.specs.LongProcessor.{AdvancesLong, HasParsedAndHoldsLong, Reserves, StopsSyncLong}
 pub use Rattle.vte.specs.Memory.{HasMemory, ParserHasMemory, KeepsMemory, LacksMemoryForSome}
-pub use Rattle.vte.specs.Numbers.{decimal_number, first_number, first_numbers, number_from}
+pub use Rattle.vte.specs.Numbers.{decimal_number, first_number, first_numbers}
 pub use Rattle.vte.specs.Parts.{first_after, parts_of}
 pub use Rattle.vte.specs.machine.Performer.{FitsText, PerformerValue, with_event}
 pub use Rattle.vte.specs.machine.Engine.{EngineIsAt, EngineIsAtKeeping, EndsOpen, EndsTurn, HasHalted, HasParsedFront, HasParsedWithoutBegin, ArePartsAt, ArePartsAtKeeping, ArePartsAtWithMemory, HasTakenOpenTurn, HasTurned, EngineHasMemory, EngineLacksMemory, EngineReads, EngineReserves, EngineStandsAt, EngineStops}

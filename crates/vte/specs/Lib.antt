@@ -28,6 +28,7 @@ pub mod StdSyncHandler
 pub mod BoundedProcessor
 -- The same without a limit, where memory may be refused.
 pub mod Memory
+pub mod Views
 pub mod Refusal
 pub mod LongProcessor
 -- Examples, worked out by hand.

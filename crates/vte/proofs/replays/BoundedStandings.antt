@@ -1,10 +1,9 @@
 -- A processor with a limit of its own stands where its engine does. The engine keeps the room for texts that it has, so
 -- no memory is refused.
-use Rattle.vte.proofs.Common.{ℕ, List, Some, length, Result, Ok, Err, refl, Bor, Refused, EngineView, Meaning, State, HasTextRoom, HasParsedAndHoldsWithin, IsAt, ReadsInTurns, EngineReads, EngineStandsAt, EngineStops, StopsSync, limited_parser_view, engine_view, stop, [], ◌++◌, append-nil}
+use Rattle.vte.proofs.Common.{ℕ, List, Some, length, Result, Ok, Err, refl, Bor, Refused, EngineView, Meaning, State, HasTextRoom, HasParsedAndHoldsWithin, IsAt, ReadsInTurns, EngineReads, EngineStandsAt, EngineStops, StopsSync, limited_parser_view, engine_view, stop, []}
 use Rattle.vte_core.specs.declared.parser.Parser.{Parser}
 use Rattle.vte.proofs.replays.Standings.{reads_in_turns}
 use Rattle.vte.proofs.turns.EngineTurns.{taken-to}
-use Rattle.vte.proofs.turns.HoldFacts.{stop_well}
 use Rattle.vte.specs.declared.ansi.bounded_processor.BoundedProcessor.{BoundedProcessor}
 use Rattle.vte.specs.declared.ansi.growing_text.GrowingText.{GrowingText}
 
@@ -50,9 +49,9 @@ module _ {T A V W : Type 0} {N : ℕ} {timeout_of : T → W} {m : Meaning V W} {
   stops_within r = record {
     stops = λ s at.
         is_at-processor (stop m s) (r.memory s (is_at-engine s at) [] 0 at.stands.has_room)
-        (r.stops s (is_at-engine s at));
-    each_once = λ s. append-nil (s.parsed ++ s.held);
-    holds_well = stop_well m;
+        (r.stops.stops s (is_at-engine s at));
+    each_once = r.stops.each_once;
+    holds_well = r.stops.holds_well;
   }
 
   pub refused-never-within : (bytes : Bor (List ℕ)) (result : Result (Unit {0}) Refused)

@@ -1,34 +1,15 @@
 -- What calls of a processor without a limit ensure: the same as those of `Processor`, unless memory
 -- is refused. It is said of its engine, by a view of the engine's parts.
 use Rattle.std.specs.Prelude.{◌≡◌, ◌⊎◌, ℕ, ◌+◌, ◌-◌, ◌<◌, ◌≤◌, Bool, true, false, List, length, IsOk, IfErr, IfOk, Result, Ok, Err}
-use Rattle.vte_core.specs.Stream.{events}
 use Rattle.vte_core.specs.declared.parser.refused.Refused.{Refused}
-use Rattle.vte.specs.Calls.{last_printed}
 use Rattle.vte.specs.Memory.{HasMemory, KeepsMemory}
 use Rattle.vte.specs.Processor.{Meaning, State, most_held}
 use Rattle.vte.specs.ProcessorCalls.{IsAt, ReadsInTurns, StandingPredicate, StopsSync, held_of}
 use Rattle.vte.specs.Refusal.{HasTaken}
-use Rattle.vte.specs.Views.{EngineView, long_engine_view}
+use Rattle.vte.specs.Views.{EngineHasMemory, EngineStandsAt, EngineView, long_engine_view}
 use Rattle.vte.specs.declared.ansi.engine.Engine.{Engine}
 use Rattle.vte.specs.declared.ansi.engine.TheConstants.{SLICE}
 use Rattle.vte.specs.declared.ansi.long_processor.LongProcessor.{LongProcessor}
-
--- After a stream, the engine has memory for `count` more bytes.
-abbrev pub EngineHasMemory : {P B T A W : Type 0} → EngineView P B T W → Engine P B T A
-    → (stream : List ℕ) → (count : ℕ) → Type 0
-EngineHasMemory view engine =
-    view.reading.has_memory engine.parser (view.room_of engine.state.text)
-
--- The engine has parsed bytes, and holds those that follow, with memory to parse them. It knows the
--- last printed character.
-pub record EngineStandsAt {P B T A W : Type 0} (view : EngineView P B T W)
-    (engine : Engine P B T A)
-    (parsed held : List ℕ) (timeout : W) : Type 0 where
-  pub has_read : view.reading.has_read engine.parser parsed
-  pub last : engine.state.preceding_char ≡ last_printed (events view.limit parsed)
-  pub timeout_is : view.timeout_of engine.state.timeout ≡ timeout
-  pub holds : held_of engine.hold ≡ held
-  pub has_memory : 0 < length held → EngineHasMemory view engine parsed (length held)
 
 -- `HasParsedAndHolds`, with memory to parse the held bytes.
 abbrev pub HasParsedAndHoldsLong : {T A W : Type 0} → (T → W) → LongProcessor T A
@@ -88,7 +69,7 @@ module _ {P B T A V W : Type 0} (view : EngineView P B T W) (meaning : Meaning V
         → KeepsMemory (EngineHasMemory view engine) (EngineHasMemory view next)
 
 -- What a call without a limit ensures beyond `EngineReads`.
-pub record ReadsLong {T A V W : Type 0} (timeout_of : T → W) (meaning : Meaning V W)
+pub record AdvancesLong {T A V W : Type 0} (timeout_of : T → W) (meaning : Meaning V W)
     (processor next : LongProcessor T A) (old new : V) (bytes : List ℕ)
     (result : Result (Unit {0}) Refused) : Type 0 where
   pub reads : EngineReads (long_engine_view timeout_of) meaning processor.engine next.engine old new

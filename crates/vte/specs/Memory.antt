@@ -1,11 +1,16 @@
--- The memory of a processor without a limit: for how many bytes it has enough, and for how many it
--- was refused more.
+-- The memory of processors: for how many bytes they have enough.
 use Rattle.std.specs.Prelude.{◌≡◌, ℕ, ◌+◌, ◌<◌, ◌≤◌, ◌^◌, List, string_capacity}
 use Rattle.vte_core.specs.LongParser.{memory_of, open_command_size}
 use Rattle.vte_core.specs.declared.parser.long.LongParser.{LongParser}
 use Rattle.vte.specs.ProcessorCalls.{held_of}
 use Rattle.vte.specs.declared.ansi.long_processor.LongProcessor.{LongProcessor}
 use Rattle.vte.specs.declared.ansi.titles.TheConstants.{SEPARATORS}
+
+-- A text that is joined from this many bytes, with separators, fits a buffer of `size` bytes.
+pub record HasTextRoom (limit size : ℕ) : Type 0 where
+  pub joined : limit + SEPARATORS ≤ size
+  -- The size of the text is a number of 64 bits.
+  pub counted : limit + SEPARATORS < 2 ^ 64
 
 -- After the stream, there is memory for `count` more bytes, even if all are data of a command: the
 -- parser can store them after those of the open command, and a text that is joined from all fits a

@@ -131,7 +131,8 @@ pub record ParsesAll {V W : Type 0} (meaning : Meaning V W) (Before After : Stan
 
 -- ---- what each function promises
 
--- `clone`: the copy stands where the processor does, if the copy of the timeout has its value.
+-- `clone`: the copy stands where the processor does, if the copy of the timeout has its value. The
+-- parameters that follow are each of the processor and of the copy: timeout, stand and parser.
 pub record IsCopyOf {T W : Type 0} (is_clone : T → T → Type 0) (timeout_of : T → W)
     (first second : T) (Stands CopyStands : StandingPredicate W) (parser copy : Reading)
     : Type 0 where

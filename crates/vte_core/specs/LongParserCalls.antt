@@ -1,4 +1,5 @@
--- What the calls of a `LongParser` ensure: those of a parser with a limit, unless memory is refused.
+-- What the calls of a `LongParser` ensure: the same as those of a `Parser`, unless memory is
+-- refused.
 use Rattle.std.specs.Prelude.{◌≡◌, ℕ, ◌+◌, ◌*◌, ◌<◌, ◌≤◌, Bool, false, None, List, ◌++◌, length, take, slice_index, Result, IfErr, IfOk}
 use Rattle.vte_core.specs.declared.parser.long.LongParser.{LongParser}
 use Rattle.vte_core.specs.declared.parser.refused.Refused.{Refused}

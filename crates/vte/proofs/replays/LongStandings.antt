@@ -1,6 +1,6 @@
 -- A call of a processor without a limit is refused no memory that was there for all its bytes: room for the held and
 -- the given bytes at the start leaves room for what is left, turn by turn.
-use Rattle.vte.proofs.Common.{◌≡◌, ℕ, ◌+◌, ◌-◌, ◌<◌, List, ◌++◌, length, Result, Ok, Err, refl, ap, arith, length-append, Refused, counts_data, ReadsLong, Bor, Meaning, IsAt, HasMemory, HasParsedAndHoldsLong, HasTaken, LacksMemoryForSome, EngineReads, State, drop, length-drop, long_engine_view}
+use Rattle.vte.proofs.Common.{◌≡◌, ℕ, ◌+◌, ◌-◌, ◌<◌, List, ◌++◌, length, Result, Ok, Err, refl, ap, arith, length-append, Refused, counts_data, AdvancesLong, Bor, Meaning, IsAt, HasMemory, HasParsedAndHoldsLong, HasTaken, LacksMemoryForSome, EngineReads, State, drop, length-drop, long_engine_view}
 use Rattle.vte.proofs.replays.Standings.{reads_in_turns}
 use Rattle.vte.specs.declared.ansi.long_processor.LongProcessor.{LongProcessor}
 use Rattle.vte.proofs.turns.Slices.{until_refused-grows}
@@ -34,16 +34,16 @@ module _ {T A V W : Type 0} {timeout_of : T → W} {m : Meaning V W} {new : Long
         counted = omega (arith, left, room.counted, lacks.within, less, sum, held);
       })
 
-pub reads_long : {T A V W : Type 0} {timeout_of : T → W} {m : Meaning V W} {old new : LongProcessor T A}
+pub advances_long : {T A V W : Type 0} {timeout_of : T → W} {m : Meaning V W} {old new : LongProcessor T A}
     {before value : V} (bytes : Bor (List ℕ)) (result : Result (Unit {0}) Refused)
     → EngineReads (long_engine_view timeout_of) m old.engine new.engine before value bytes.now result
-    → ReadsLong timeout_of m old new before value bytes.now result
-reads_long bytes (Ok all) r = record {
+    → AdvancesLong timeout_of m old new before value bytes.now result
+advances_long bytes (Ok all) r = record {
   reads = r;
   all = reads_in_turns bytes r.takes refl;
   enough = λ s at room. refl;
 }
-reads_long bytes (Err refused) r = record {
+advances_long bytes (Err refused) r = record {
   reads = r;
   all = tt;
   enough = λ s at room.

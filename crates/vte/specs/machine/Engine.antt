@@ -4,12 +4,11 @@ use Rattle.vte_core.specs.declared.parser.refused.Refused.{Refused}
 use Rattle.vte_core.specs.Stream.{added, events}
 use Rattle.vte.specs.BeginUpdate.{begin_count}
 use Rattle.vte.specs.Calls.{last_printed}
-use Rattle.vte.specs.LongProcessor.{EngineHasMemory, EngineStandsAt}
 use Rattle.vte.specs.Memory.{KeepsMemory}
 use Rattle.vte.specs.Processor.{Meaning, State, front_to_begin, open_turn, parse, turn}
 use Rattle.vte.specs.ProcessorCalls.{IsAt}
 use Rattle.vte.specs.Refusal.{TakesTurnsUntilRefused}
-use Rattle.vte.specs.Views.{EngineView}
+use Rattle.vte.specs.Views.{EngineHasMemory, EngineStandsAt, EngineView}
 use Rattle.vte.specs.declared.ansi.performer.ProcessorState.{ProcessorState}
 use Rattle.vte.specs.declared.ansi.engine.Engine.{Engine}
 

@@ -1,12 +1,12 @@
 //! What a processor is, whatever its limit. It takes turns: each parses bytes of a call, or holds
 //! them back.
 ghost use Rattle.std.specs.Prelude.{◌≡◌, ℕ, ◌+◌, ◌≤◌, [], length, IfErr, IfOk, MatchResult, ◌-◌, ◌<◌, ◌++◌, nat_le};
-ghost use Rattle.vte.specs.Views.{engine_view};
+ghost use Rattle.vte.specs.Views.{EngineStandsAt, engine_view};
 ghost use Rattle.vte.specs.ProcessorCalls.{held_of};
 ghost use Rattle.vte.specs.machine.Hold.{released_of};
 ghost use Rattle.vte.specs.Processor.{State, hold_turn, meaning_of, most_held, parse, set_times, stop};
 ghost use Rattle.vte.specs.machine.Engine.{EngineIsAtKeeping, EndsOpen, EndsTurn, ArePartsAt, ArePartsAtKeeping, ArePartsAtWithMemory, LeadOn};
-ghost use Rattle.vte.specs.LongProcessor.{EngineReads, EngineStandsAt, EngineStops, LacksMemoryForSome, Reserves};
+ghost use Rattle.vte.specs.LongProcessor.{EngineReads, EngineStops, LacksMemoryForSome, Reserves};
 ghost use Rattle.vte_handler.specs.Timeout.{timeout_meaning};
 
 use crate::ansi::hold::{MOST_HELD, SyncState};

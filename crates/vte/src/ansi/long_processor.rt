@@ -3,7 +3,7 @@ ghost use Rattle.std.specs.Prelude.{◌≡◌, ℕ, ◌+◌, false, List, [], le
 ghost use Rattle.vte_core.specs.LongParser.{lost_data_long, open_command_size, reading_of_long};
 ghost use Rattle.vte_handler.specs.Timeout.{AllowsOnly, IsSteady, timeout_meaning};
 ghost use Rattle.vte.specs.Processor.{HoldsWell, meaning_of};
-ghost use Rattle.vte.specs.LongProcessor.{EngineStops, HasParsedAndHoldsLong, ReadsLong, Reserves};
+ghost use Rattle.vte.specs.LongProcessor.{AdvancesLong, EngineStops, HasParsedAndHoldsLong, Reserves};
 ghost use Rattle.vte.specs.Memory.{HasFreedMemory, HasMemory, KeepsMemory, held_long, timeout_long};
 ghost use Rattle.vte.specs.ProcessorCalls.{CountsHeld, HasParsedAll, IsCopyOf, SaysParsedLoss};
 ghost use Rattle.vte.specs.Views.{long_engine_view};
@@ -97,7 +97,8 @@ impl<T: Timeout + Drop, A: Allocator> LongProcessor<T, A> {
     /// Takes memory for the bytes that are held back and for this many more, and returns whether it
     /// is there. Calls with no more bytes than that are then never refused memory.
     pub fn reserve(&mut self, more: usize) -> bool
-        ensures { Reserves (long_engine_view T.value_of) self.old.engine self.new.engine more result }
+        ensures { Reserves (long_engine_view T.value_of) self.old.engine self.new.engine more
+            result }
     {
         self.engine.reserve(more)
     }
@@ -114,7 +115,8 @@ impl<T: Timeout + Drop, A: Allocator> LongProcessor<T, A> {
             → open_command_size parsed ≡ 0
             → HasFreedMemory self.new }
         // It says the same of the last command's data.
-        ensures lost { lost_data_long self.new.engine.parser ≡ lost_data_long self.old.engine.parser }
+        ensures lost { lost_data_long self.new.engine.parser
+            ≡ lost_data_long self.old.engine.parser }
     {
         if self.engine.hold.len() == 0 {
             self.engine.parser.shrink();
@@ -148,7 +150,7 @@ impl<T: Timeout + Drop, A: Allocator> LongProcessor<T, A> {
     /// If the timeout is never pending and no memory is refused, all bytes are parsed: the handler
     /// of a new processor receives the calls of the whole stream, however it is split.
     pub fn advance<H: Handler>(&mut self, handler: &mut H, bytes: &[u8]) -> Result<(), Refused>
-        ensures { ReadsLong T.value_of
+        ensures { AdvancesLong T.value_of
             (meaning_of None H.step T.set T.clear T.allows) self.old self.new
             (H.value_of handler.old) (H.value_of handler.new) bytes.now result }
     {
@@ -161,7 +163,7 @@ impl<T: Timeout + Drop, A: Allocator> LongProcessor<T, A> {
         handler: &mut H,
         bytes: &[u8],
     ) -> Result<(), Refused>
-        ensures { ReadsLong T.value_of
+        ensures { AdvancesLong T.value_of
             (meaning_of None H.step T.set T.clear T.allows) self.old self.new
             (H.value_of handler.old) (H.value_of handler.new) bytes.now result }
     {

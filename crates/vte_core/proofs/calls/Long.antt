@@ -47,7 +47,8 @@ module _ {V B : Type 0} {call : ChunkCall V} {old new : V} {before parser : Mach
 
 module _ {A V : Type 0} {step : V → Event → V} {old new : V} {bytes : List ℕ} {parser next : LongParser A} where
   is_refused : {may_stop : Bool} {asked : V → Bool} (is_terminated : V → Bool) {rate n : ℕ} {Answer : Type 0}
-      {result : Result Answer Refused} → ReadsUntilRefused (chunk_call may_stop step asked None bytes) old new n parser.machine next.machine
+      {result : Result Answer Refused}
+      → ReadsUntilRefused (chunk_call may_stop step asked None bytes) old new n parser.machine next.machine
       → Costs rate bytes result n parser.machine next.machine (counted parser.looks) (counted next.looks)
       → ((stream : List ℕ) → HasReadLong parser stream
       → NeverStopsBefore step is_terminated old None stream bytes n)

@@ -1,6 +1,6 @@
 -- What the engine ensures, and that no memory is refused which is there (`replays/LongStandings`).
-use Rattle.vte.proofs.replays.LongStandings.{reads_long}
+use Rattle.vte.proofs.replays.LongStandings.{advances_long}
 use Rattle.vte.proofs.ansi.long_processor.LongProcessor.advance_text.Goals as goal
 
 pub returns : goal.returns
-returns g c = reads_long c.args.bytes c.read.result c.read.ensures
+returns g c = advances_long c.args.bytes c.read.result c.read.ensures

@@ -2,12 +2,11 @@
 ghost use Rattle.std.specs.Prelude.{◌≡◌, ◌≢◌, true, false, ℕ, List, [], Some, ⊤};
 ghost use Rattle.vte_core.specs.Advance.{ReadsBytes};
 ghost use Rattle.vte_core.specs.AdvanceUntilTerminated.{ReadsUntilTerminated};
-ghost use Rattle.vte_core.specs.declared.parser.open.Open.TheVariants.{Nothing};
 ghost use Rattle.vte_core.specs.EarlyStop.{NoCharacterStops};
-ghost use Rattle.vte_core.specs.Open.{open_at_end};
+ghost use Rattle.vte_core.specs.Open.{SaysOpen, SaysWhetherOpen};
 ghost use Rattle.vte_core.specs.Outcome.{SaysLoss};
 ghost use Rattle.vte_core.specs.Parser.{HasRead, IsCopyOf, lost_data, reading_of};
-ghost use Rattle.vte_core.specs.Stream.{IsFinished, IsUnfinished, outcome};
+ghost use Rattle.vte_core.specs.Stream.{outcome};
 
 mod character;
 mod control_sequence;
@@ -131,26 +130,14 @@ impl<const OSC_RAW_BUF_SIZE: usize> Parser<OSC_RAW_BUF_SIZE> {
     ///
     /// It began at the last ESC, or is at most three bytes of a character.
     pub fn open(&self) -> Open
-        ensures which { (stream : List ℕ) → HasRead self.now stream → result ≡ open_at_end stream }
-        // If nothing is, it goes on as a new parser, and more bytes give what they give on their
-        // own.
-        ensures closed { result ≡ Nothing → (stream : List ℕ) → HasRead self.now stream
-            → HasRead self.now [] × IsFinished (Some OSC_RAW_BUF_SIZE) stream }
-        // If something is, some bytes give something else than on their own: a `0`.
-        ensures opens { result ≢ Nothing → (stream : List ℕ) → HasRead self.now stream
-            → IsUnfinished (Some OSC_RAW_BUF_SIZE) stream }
+        ensures { SaysOpen (Some OSC_RAW_BUF_SIZE) (HasRead self.now) result }
     {
         self.machine.open()
     }
 
     /// Returns whether a character or a sequence is unfinished.
     pub fn is_open(&self) -> bool
-        // If not, it goes on as a new parser, and more bytes give what they give on their own.
-        ensures closed { result ≡ false → (stream : List ℕ) → HasRead self.now stream
-            → HasRead self.now [] × IsFinished (Some OSC_RAW_BUF_SIZE) stream }
-        // If so, some bytes give something else than on their own: a `0`.
-        ensures opens { result ≡ true → (stream : List ℕ) → HasRead self.now stream
-            → IsUnfinished (Some OSC_RAW_BUF_SIZE) stream }
+        ensures { SaysWhetherOpen (Some OSC_RAW_BUF_SIZE) (HasRead self.now) result }
     {
         !matches!(self.open(), Open::Nothing)
     }

@@ -3,10 +3,9 @@ ghost use Rattle.std.specs.Prelude.{◌≡◌, ◌≢◌, ◌+◌, ◌<◌, ◌�
 ghost use Rattle.vte_core.specs.LongParser.{HasReadLong, LacksMemoryForMore, lost_data_long, memory_of, reading_of_long};
 ghost use Rattle.vte_core.specs.LongParser.{open_command_size};
 ghost use Rattle.vte_core.specs.Parser.{IsCopyOf};
-ghost use Rattle.vte_core.specs.Open.{open_at_end};
-ghost use Rattle.vte_core.specs.declared.parser.open.Open.TheVariants.{Nothing};
+ghost use Rattle.vte_core.specs.Open.{SaysOpen, SaysWhetherOpen};
 ghost use Rattle.vte_core.specs.Outcome.{SaysLoss};
-ghost use Rattle.vte_core.specs.Stream.{IsFinished, IsUnfinished, outcome};
+ghost use Rattle.vte_core.specs.Stream.{outcome};
 ghost use Rattle.vte_core.specs.machine.Prelude.{ComesToRun, Costs, NoCharacterStops, ReadsUntilRefused, ReadsUpTo, TellsOutsideRuns, chunk_call, counted, read_before_range, read_count, read_through_range};
 
 use crate::parser::{Machine, Open, Refused, State};
@@ -140,27 +139,14 @@ impl<A: Allocator> LongParser<A> {
     ///
     /// It began at the last ESC, or is at most three bytes of a character.
     pub fn open(&self) -> Open
-        ensures which { (stream : List ℕ) → HasReadLong self.now stream
-            → result ≡ open_at_end stream }
-        // If nothing is, it goes on as a new parser, and more bytes give what they give on their
-        // own.
-        ensures closed { result ≡ Nothing → (stream : List ℕ) → HasReadLong self.now stream
-            → HasReadLong self.now [] × IsFinished None stream }
-        // If something is, some bytes give something else than on their own: a `0`.
-        ensures opens { result ≢ Nothing → (stream : List ℕ) → HasReadLong self.now stream
-            → IsUnfinished None stream }
+        ensures { SaysOpen None (HasReadLong self.now) result }
     {
         self.machine.open()
     }
 
     /// Returns whether a character or a sequence is unfinished.
     pub fn is_open(&self) -> bool
-        // If not, it goes on as a new parser, and more bytes give what they give on their own.
-        ensures closed { result ≡ false → (stream : List ℕ) → HasReadLong self.now stream
-            → HasReadLong self.now [] × IsFinished None stream }
-        // If so, some bytes give something else than on their own: a `0`.
-        ensures opens { result ≡ true → (stream : List ℕ) → HasReadLong self.now stream
-            → IsUnfinished None stream }
+        ensures { SaysWhetherOpen None (HasReadLong self.now) result }
     {
         !matches!(self.open(), Open::Nothing)
     }

@@ -1,11 +1,11 @@
 //! The processor without a limit.
 ghost use Rattle.std.specs.Prelude.{◌≡◌, ℕ, ◌+◌, false, List, [], length, None, IfOk, MatchResult};
 ghost use Rattle.vte_core.specs.LongParser.{lost_data_long, open_command_size, reading_of_long};
-ghost use Rattle.vte_handler.specs.Timeout.{AllowsOnly, IsSteady, timeout_meaning};
-ghost use Rattle.vte.specs.Processor.{HoldsWell, meaning_of};
+ghost use Rattle.vte_handler.specs.Timeout.{timeout_meaning};
+ghost use Rattle.vte.specs.Processor.{meaning_of};
 ghost use Rattle.vte.specs.LongProcessor.{AdvancesLong, EngineStops, HasParsedAndHoldsLong, Reserves};
 ghost use Rattle.vte.specs.Memory.{HasFreedMemory, HasMemory, KeepsMemory, held_long, timeout_long};
-ghost use Rattle.vte.specs.ProcessorCalls.{CountsHeld, HasParsedAll, IsCopyOf, SaysParsedLoss};
+ghost use Rattle.vte.specs.ProcessorCalls.{CountsHeld, Creates, IsCopyOf, SaysParsedLoss};
 ghost use Rattle.vte.specs.Views.{long_engine_view};
 
 use crate::ansi::engine::Engine;
@@ -53,15 +53,8 @@ impl<T: Timeout + Drop, A: Allocator + Copy> LongProcessor<T, A> {
     ///
     /// Returns the timeout if memory runs out.
     pub fn new(alloc: A, timeout: T) -> Result<Self, T>
-        ensures stands { MatchResult result
-            (λ processor. HasParsedAndHoldsLong T.value_of processor [] [] (T.value_of timeout))
-            (λ back. back ≡ timeout) }
-        ensures holds_well { let m = timeout_meaning T.set T.clear T.allows in
-            (IsSteady m → AllowsOnly m (T.value_of timeout) false)
-            → HoldsWell None m [] [] (T.value_of timeout) }
-        ensures timeout { IfOk result (λ processor. timeout_long processor ≡ timeout) }
-        ensures parses_all { IfOk result
-            (λ processor. HasParsedAll (HasParsedAndHoldsLong T.value_of processor) []) }
+        ensures { Creates None (timeout_meaning T.set T.clear T.allows) T.value_of timeout_long
+            (HasParsedAndHoldsLong T.value_of) timeout result }
     {
         let parser = LongParser::new(alloc);
         let text = GrowingText::new(alloc);

@@ -142,8 +142,8 @@ pub record Creates {P T W : Type 0} (limit : Option ℕ) (meaning : TimeoutMeani
   pub timeout : IfOk result (λ processor. timeout_in processor ≡ given)
   pub parses_all : IfOk result (λ processor. HasParsedAll (Stands processor) [])
 
--- `clone`: the copy stands where the processor does, if the copy of the timeout has its value. The
--- parameters that follow are each of the processor and of the copy: timeout, stand and parser.
+-- `clone`: the copy stands where the processor does, if the copy of the timeout has its value. Of
+-- each two parameters the second is the copy's.
 pub record IsCopyOf {T W : Type 0} (is_clone : T → T → Type 0) (timeout_of : T → W)
     (first second : T) (Stands CopyStands : StandingPredicate W) (parser copy : Reading)
     : Type 0 where

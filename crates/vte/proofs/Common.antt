@@ -45,14 +45,14 @@ pub use Rattle.vte.specs.machine.ColorReader.{component_at_front}
 pub use Rattle.vte.specs.machine.Hold.{Adds, IsAdded, IsHeldTail, released_of, still_held}
 pub use Rattle.vte.specs.ProcessorCalls.{StopsSync, HasAdvanced, HasParsedAll, HasParsedAndHolds, IsAt, ReadsInTurns, HasReplayed, HasTold, Replays, StandingPredicate, held_of}
 pub use Rattle.vte.specs.machine.Performing.{PerformsAll, PerformsUntilStop, performer_value, with_private_mode, with_private_modes}
-pub use Rattle.vte.specs.BoundedProcessor.{HasParsedAndHoldsWithin, HasTextRoom}
-pub use Rattle.vte.specs.LongProcessor.{AdvancesLong, HasParsedAndHoldsLong, Reserves, StopsSyncLong}
-pub use Rattle.vte.specs.Memory.{HasMemory, ParserHasMemory, KeepsMemory, LacksMemoryForSome}
-pub use Rattle.vte.specs.Numbers.{decimal_number, first_number, first_numbers, number_from}
+pub use Rattle.vte.specs.BoundedProcessor.{HasParsedAndHoldsWithin}
+pub use Rattle.vte.specs.LongProcessor.{EngineReads, EngineStops, HasParsedAndHoldsLong, LacksMemoryForSome, AdvancesLong, Reserves}
+pub use Rattle.vte.specs.Memory.{HasMemory, HasTextRoom, ParserHasMemory, KeepsMemory}
+pub use Rattle.vte.specs.Numbers.{decimal_number, first_number, first_numbers}
 pub use Rattle.vte.specs.Parts.{first_after, parts_of}
 pub use Rattle.vte.specs.machine.Performer.{FitsText, PerformerValue, with_event}
-pub use Rattle.vte.specs.machine.Engine.{EngineIsAt, EngineIsAtKeeping, EndsOpen, EndsTurn, HasHalted, HasParsedFront, HasParsedWithoutBegin, ArePartsAt, ArePartsAtKeeping, ArePartsAtWithMemory, HasTakenOpenTurn, HasTurned, EngineHasMemory, EngineLacksMemory, EngineReads, EngineReserves, EngineStandsAt, EngineStops}
-pub use Rattle.vte.specs.machine.Views.{ParserView, EngineView, long_parser_view, engine_view, limited_parser_view, long_engine_view}
+pub use Rattle.vte.specs.machine.Engine.{EngineIsAt, EngineIsAtKeeping, EndsOpen, EndsTurn, HasHalted, HasParsedFront, HasParsedWithoutBegin, ArePartsAt, ArePartsAtKeeping, ArePartsAtWithMemory, HasTakenOpenTurn, HasTurned}
+pub use Rattle.vte.specs.Views.{EngineHasMemory, EngineStandsAt, ParserView, EngineView, bounded_engine_view, long_parser_view, engine_view, limited_parser_view, long_engine_view}
 pub use Rattle.vte.specs.Rendition.{attribute_calls, attributes_from}
 pub use Rattle.vte.specs.Synchronized.{begin_update, begins_ending_in_last, begins_with, after_last_end, end_update, from_begin_update, part_after_last_end}
 pub use Rattle.vte.specs.machine.Texts.{FitsRoom, fits_room, joined_size, parts_left, text_to_join}

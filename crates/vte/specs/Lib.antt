@@ -25,9 +25,10 @@ pub mod Processor
 pub mod ProcessorCalls
 pub mod StdSyncHandler
 -- The same with any limit.
+pub mod Memory
+pub mod Views
 pub mod BoundedProcessor
 -- The same without a limit, where memory may be refused.
-pub mod Memory
 pub mod Refusal
 pub mod LongProcessor
 -- Examples, worked out by hand.

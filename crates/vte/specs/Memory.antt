@@ -1,13 +1,16 @@
--- The memory of a processor without a limit: for how many bytes it has enough, and for how many it
--- was refused more.
-use Rattle.std.specs.Prelude.{◌⊎◌, ◌≡◌, ℕ, ◌+◌, ◌<◌, ◌≤◌, ◌^◌, List, length, string_capacity}
-use Rattle.vte_core.specs.LongParser.{HasReadLong, memory_of, open_command_size}
+-- The memory of processors: for how many bytes they have enough.
+use Rattle.std.specs.Prelude.{◌≡◌, ℕ, ◌+◌, ◌<◌, ◌≤◌, ◌^◌, List, string_capacity}
+use Rattle.vte_core.specs.LongParser.{memory_of, open_command_size}
 use Rattle.vte_core.specs.declared.parser.long.LongParser.{LongParser}
-use Rattle.vte.specs.Processor.{most_held}
 use Rattle.vte.specs.ProcessorCalls.{held_of}
 use Rattle.vte.specs.declared.ansi.long_processor.LongProcessor.{LongProcessor}
 use Rattle.vte.specs.declared.ansi.titles.TheConstants.{SEPARATORS}
-use Rattle.vte.specs.declared.ansi.engine.TheConstants.{SLICE}
+
+-- A text that is joined from this many bytes, with separators, fits a buffer of `size` bytes.
+pub record HasTextRoom (limit size : ℕ) : Type 0 where
+  pub joined : limit + SEPARATORS ≤ size
+  -- The size of the text is a number of 64 bits.
+  pub counted : limit + SEPARATORS < 2 ^ 64
 
 -- After the stream, there is memory for `count` more bytes, even if all are data of a command: the
 -- parser can store them after those of the open command, and a text that is joined from all fits a
@@ -34,17 +37,6 @@ HasMemory processor = ParserHasMemory processor.engine.parser processor.engine.s
 -- reserved.
 abbrev pub KeepsMemory : (had has : List ℕ → ℕ → Type 0) → Type 0
 KeepsMemory had has = (stream : List ℕ) (count : ℕ) → had stream count → has stream count
-
--- A refused call, which left `left` bytes, had a reason: there is no memory for the held bytes and
--- the first `more` of those left. Without this clause, a processor could refuse every call.
-pub record LacksMemoryForSome {T A : Type 0} (processor : LongProcessor T A)
-    (left : ℕ) : Type 0 where
-  pub more : ℕ
-  pub within : more ≤ left
-  -- A turn asks for memory for at most a slice, or for all bytes if they fit the hold.
-  pub few : (more ≤ SLICE) ⊎ (length (held_long processor) + more ≤ most_held)
-  pub lacks : (stream : List ℕ) → HasReadLong processor.engine.parser stream
-      → ¬ HasMemory processor stream (length (held_long processor) + more)
 
 -- The processor has given back its memory: that for data of a command, and that to join a text.
 abbrev pub HasFreedMemory : {T A : Type 0} → LongProcessor T A → Type 0

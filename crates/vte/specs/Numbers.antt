@@ -1,6 +1,7 @@
 -- The numbers of a control sequence, read from its groups, and decimal numbers in commands.
-use Rattle.std.specs.Prelude.{ℕ, Bool, false, List, [], ◌∷◌, ◌+◌, ◌*◌, ◌==◌, ◌&&◌, Option, Some, None, map, nat_lt, if◌then◌else◌}
-use Rattle.std.specs.Char.{digit_value}
+use Rattle.std.specs.Prelude.{ℕ, Bool, false, List, [], ◌∷◌, ◌==◌, ◌&&◌, Option, Some, None, map, nat_lt, if◌then◌else◌}
+use Rattle.std.specs.Str.{all_ascii_digits}
+use Rattle.std.specs.Str.Parse.{digits_value}
 
 abbrev pub first_of : {X : Type 0} → List X → Option X
 first_of [] = None
@@ -24,13 +25,9 @@ abbrev pub asks_for_modify_other_keys : List (List ℕ) → Bool
 asks_for_modify_other_keys ((number ∷ []) ∷ groups) = number == 4
 asks_for_modify_other_keys _ = false
 
--- `number` with more decimal digits after it, or none if it exceeds 255 or a byte isn't a digit.
-abbrev pub number_from : ℕ → List ℕ → Option ℕ
-number_from number [] = Some number
-number_from number (byte ∷ bytes) =
-    if nat_lt (digit_value byte) 10 && nat_lt (10 * number + digit_value byte) 256
-    then number_from (10 * number + digit_value byte) bytes else None
-
+-- The number that decimal digits write, if there are some and it is at most 255.
 abbrev pub decimal_number : List ℕ → Option ℕ
 decimal_number [] = None
-decimal_number (byte ∷ bytes) = number_from 0 (byte ∷ bytes)
+decimal_number digits =
+    if all_ascii_digits digits && nat_lt (digits_value 10 digits) 256
+    then Some (digits_value 10 digits) else None

@@ -1,13 +1,13 @@
 -- What calls of a processor ensure, in the words of `Processor`: where it stands, what is true
 -- after one call and after a list of calls, and then what each function promises.
-use Rattle.std.specs.Prelude.{◌≡◌, ℕ, List, ◌++◌, length, drop, [], ◌∷◌, Bool, false, ◌≤◌, None, Option, ⊤}
+use Rattle.std.specs.Prelude.{◌≡◌, ℕ, List, ◌++◌, length, drop, [], ◌∷◌, Bool, false, ◌≤◌, None, Option, Result, IfOk, MatchResult, ⊤}
 use Rattle.vte_core.specs.Outcome.{SaysLoss}
-use Rattle.vte_core.specs.Parser.{HasRead, lost_data}
+use Rattle.vte_core.specs.Parser.{HasRead, Reading}
 use Rattle.vte_core.specs.Stream.{events, outcome, usual_limit}
 use Rattle.vte_handler.specs.Handler.{after}
-use Rattle.vte_handler.specs.Timeout.{IsSteady}
+use Rattle.vte_handler.specs.Timeout.{AllowsOnly, IsSteady, TimeoutMeaning}
 use Rattle.vte.specs.Calls.{last_printed, calls}
-use Rattle.vte.specs.Processor.{HoldsWellAt, Meaning, TakesSteps, State, TakesAllTurns, all_bytes, given_bytes, calls_with_stops, AreInOrder, most_held, stop}
+use Rattle.vte.specs.Processor.{HoldsWell, HoldsWellAt, Meaning, TakesSteps, State, TakesAllTurns, all_bytes, given_bytes, calls_with_stops, AreInOrder, most_held, stop}
 use Rattle.vte.specs.Synchronized.{after_last_end}
 use Rattle.vte.specs.declared.ansi.hold.SyncState.{SyncState}
 use Rattle.vte.specs.declared.ansi.laws.replays.Step.{Step}
@@ -131,16 +131,28 @@ pub record ParsesAll {V W : Type 0} (meaning : Meaning V W) (Before After : Stan
 
 -- ---- what each function promises
 
--- `clone`: the copy stands where the processor does, if the copy of the timeout has its value.
-pub record IsCopyOf {T A W : Type 0} (is_clone : T → T → Type 0) (timeout_of : T → W)
-    (processor copy : Processor T A) : Type 0 where
-  pub timeout : is_clone (timeout_in processor) (timeout_in copy)
-  pub stands : timeout_of (timeout_in copy) ≡ timeout_of (timeout_in processor)
-      → (parsed held : List ℕ) (timeout : W)
-      → HasParsedAndHolds timeout_of processor parsed held timeout
-      → HasParsedAndHolds timeout_of copy parsed held timeout
+-- `new`: a processor that has read nothing, or the timeout if memory runs out
+pub record Creates {P T W : Type 0} (limit : Option ℕ) (meaning : TimeoutMeaning W)
+    (timeout_of : T → W) (timeout_in : P → T) (Stands : P → StandingPredicate W) (given : T)
+    (result : Result P T) : Type 0 where
+  pub stands : MatchResult result (λ processor. Stands processor [] [] (timeout_of given))
+      (λ back. back ≡ given)
+  pub holds_well : (IsSteady meaning → AllowsOnly meaning (timeout_of given) false)
+      → HoldsWell limit meaning [] [] (timeout_of given)
+  pub timeout : IfOk result (λ processor. timeout_in processor ≡ given)
+  pub parses_all : IfOk result (λ processor. HasParsedAll (Stands processor) [])
+
+-- `clone`: the copy stands where the processor does, if the copy of the timeout has its value. Of
+-- each two parameters the second is the copy's.
+pub record IsCopyOf {T W : Type 0} (is_clone : T → T → Type 0) (timeout_of : T → W)
+    (first second : T) (Stands CopyStands : StandingPredicate W) (parser copy : Reading)
+    : Type 0 where
+  pub timeout : is_clone first second
+  pub stands : timeout_of second ≡ timeout_of first
+      → (parsed held : List ℕ) (timeout : W) → Stands parsed held timeout
+      → CopyStands parsed held timeout
   -- It says the same of the last command's data.
-  pub lost : lost_data copy.engine.parser ≡ lost_data processor.engine.parser
+  pub lost : copy.lost ≡ parser.lost
 
 -- `sync_bytes_count`
 pub record CountsHeld (held : List ℕ) (result : ℕ) : Type 0 where

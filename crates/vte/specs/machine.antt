@@ -4,6 +4,5 @@ pub mod Texts
 pub mod ColorReader
 pub mod Performer
 pub mod Performing
-pub mod Views
 pub mod Hold
 pub mod Engine

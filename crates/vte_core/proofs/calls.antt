@@ -21,7 +21,7 @@ pub mod Data
 -- Calls that return at a run.
 pub mod BeforeRun
 pub mod ToRun
--- Parsers between characters, looks, and calls without a limit, which may be refused memory.
+-- What is open, refused memory, looks, and what the calls of both parsers ensure.
 pub mod Open
 pub mod Refusals
 pub mod Counts

@@ -1,20 +1,18 @@
 -- What `advance` ensures.
-use Rattle.std.specs.Prelude.{◌≡◌, ℕ, ◌+◌, ◌*◌, ◌≤◌, Some, List, ◌++◌, length}
-use Rattle.vte_core.specs.declared.parser.Parser.{Parser}
+use Rattle.std.specs.Prelude.{◌≡◌, ℕ, ◌+◌, ◌*◌, ◌≤◌, List, ◌++◌, length}
 use Rattle.vte_core.specs.Event.{Event}
-use Rattle.vte_core.specs.Looks.{looks}
-use Rattle.vte_core.specs.Parser.{HasRead}
+use Rattle.vte_core.specs.Parser.{Reading}
 use Rattle.vte_core.specs.Perform.{after}
 use Rattle.vte_core.specs.Stream.{added}
 
--- `advance` and `advance_text` of a `Parser`
-pub record ReadsBytes {V : Type 0} {N : ℕ} (step : V → Event → V) (old new : V) (bytes : List ℕ)
-    (parser next : Parser N) : Type 0 where
+-- `advance` and `advance_text`
+pub record ReadsBytes {V : Type 0} (step : V → Event → V) (old new : V) (bytes : List ℕ)
+    (parser next : Reading) : Type 0 where
   -- Whatever the parser has read, the performer takes what the bytes add to it.
-  pub performs : (stream : List ℕ) → HasRead parser stream
-      → new ≡ after step old (added (Some N) stream bytes)
+  pub performs : (stream : List ℕ) → parser.has_read stream
+      → new ≡ after step old (added parser.limit stream bytes)
   -- The parser has then read the bytes too.
-  pub reads : (stream : List ℕ) → HasRead parser stream → HasRead next (stream ++ bytes)
+  pub reads : (stream : List ℕ) → parser.has_read stream → next.has_read (stream ++ bytes)
   -- At most 5 looks per byte and 8 more, and at least one per byte.
-  pub count : looks next ≤ looks parser + 5 * length bytes + 8
-  pub least : looks parser + length bytes ≤ looks next
+  pub count : next.looks ≤ parser.looks + 5 * length bytes + 8
+  pub least : parser.looks + length bytes ≤ next.looks

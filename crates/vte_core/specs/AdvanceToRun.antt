@@ -1,16 +1,14 @@
 -- What `advance_to_run` ensures.
-use Rattle.std.specs.Prelude.{◌≡◌, ℕ, ◌+◌, ◌*◌, ◌<◌, ◌≤◌, Bool, true, false, Option, Some, List, [], ◌++◌, length, take, drop, map, slice_index, ⊤}
+use Rattle.std.specs.Prelude.{◌≡◌, ℕ, ◌+◌, ◌*◌, ◌<◌, ◌≤◌, Bool, true, false, Option, List, [], ◌++◌, length, take, drop, map, slice_index, ⊤}
 use Rattle.std.specs.Str.{chars}
 use Rattle.vte_core.specs.declared.scan.taken.Run.{Run}
 use Rattle.vte_core.specs.declared.scan.taken.Taken.{Taken}
 use Rattle.vte_core.specs.declared.scan.taken.Taken.TheVariants.{Text, Data, Nothing}
-use Rattle.vte_core.specs.declared.parser.Parser.{Parser}
 use Rattle.vte_core.specs.Class.{IsDeviceData}
 use Rattle.vte_core.specs.EarlyStop.{ComesTo, resumed_stream}
 use Rattle.vte_core.specs.Event.{Event, Print, Put}
-use Rattle.vte_core.specs.Looks.{looks}
 use Rattle.vte_core.specs.OutsideRuns.{TellsOutsideRuns}
-use Rattle.vte_core.specs.Parser.{HasRead}
+use Rattle.vte_core.specs.Parser.{Reading}
 use Rattle.vte_core.specs.Stream.{added}
 use Rattle.vte_core.specs.Text.{HasNoRunAt, HasNoControls}
 
@@ -64,17 +62,16 @@ pub record ReturnsRun {V : Type 0} (step : V → Event → V) (is_terminated : V
   -- If there is no run, the performer is terminated or all bytes were read.
   pub stops : run.end ≡ run.start → run.start < length bytes → is_terminated new ≡ true
 
--- `advance_to_run` of a `Parser`
-pub record ReadsToRun {V : Type 0} {N : ℕ} (step : V → Event → V) (is_terminated : V → Bool)
-    (old new : V) (bytes : List ℕ) (run : Run)
-    (parser next : Parser N) : Type 0 where
-  pub returns : ReturnsRun step is_terminated old new (Some N) (HasRead parser) bytes run
+-- `advance_to_run`
+pub record ReadsToRun {V : Type 0} (step : V → Event → V) (is_terminated : V → Bool)
+    (run : Run) (old new : V) (bytes : List ℕ) (parser next : Reading) : Type 0 where
+  pub returns : ReturnsRun step is_terminated old new parser.limit parser.has_read bytes run
   -- The parser goes on after the run.
-  pub reads : (stream : List ℕ) → HasRead parser stream
-      → HasRead next (resumed_stream stream bytes run.start ++ run_bytes run)
+  pub reads : (stream : List ℕ) → parser.has_read stream
+      → next.has_read (resumed_stream stream bytes run.start ++ run_bytes run)
   -- Characters and data are left to the run.
-  pub outside_runs : (stream : List ℕ) → HasRead parser stream
-      → TellsOutsideRuns (Some N) stream bytes run.start
+  pub outside_runs : (stream : List ℕ) → parser.has_read stream
+      → TellsOutsideRuns parser.limit stream bytes run.start
   -- At most 7 looks per byte read and 8 more, and at least one per byte read.
-  pub count : looks next ≤ looks parser + 7 * run.end + 8
-  pub least : looks parser + run.end ≤ looks next
+  pub count : next.looks ≤ parser.looks + 7 * run.end + 8
+  pub least : parser.looks + run.end ≤ next.looks

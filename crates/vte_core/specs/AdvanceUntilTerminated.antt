@@ -1,23 +1,19 @@
 -- What `advance_until_terminated` ensures.
-use Rattle.std.specs.Prelude.{ℕ, ◌+◌, ◌*◌, ◌≤◌, Bool, Some, List, length}
-use Rattle.vte_core.specs.declared.parser.Parser.{Parser}
+use Rattle.std.specs.Prelude.{ℕ, ◌+◌, ◌*◌, ◌≤◌, Bool, List, length}
 use Rattle.vte_core.specs.EarlyStop.{StopsExactly, resumed_stream}
 use Rattle.vte_core.specs.Event.{Event}
-use Rattle.vte_core.specs.Looks.{looks}
-use Rattle.vte_core.specs.Parser.{HasRead}
+use Rattle.vte_core.specs.Parser.{Reading}
 
--- `advance_until_terminated` and `advance_text_until_terminated` of a `Parser`, which read n of the
--- bytes
-pub record ReadsUntilTerminated {V : Type 0} {N : ℕ} (step : V → Event → V) (is_terminated : V
-    → Bool) (old new : V) (bytes : List ℕ) (n : ℕ)
-    (parser next : Parser N) : Type 0 where
+-- `advance_until_terminated` and `advance_text_until_terminated`, which read n of the bytes
+pub record ReadsUntilTerminated {V : Type 0} (step : V → Event → V) (is_terminated : V → Bool)
+    (n : ℕ) (old new : V) (bytes : List ℕ) (parser next : Reading) : Type 0 where
   pub within : n ≤ length bytes
   -- The call ends at the first start where the performer is terminated, or else after all bytes.
-  pub stops : (stream : List ℕ) → HasRead parser stream
-      → StopsExactly step is_terminated old (Some N) stream bytes new n
+  pub stops : (stream : List ℕ) → parser.has_read stream
+      → StopsExactly step is_terminated old parser.limit stream bytes new n
   -- The parser goes on after the bytes read.
-  pub reads : (stream : List ℕ) → HasRead parser stream
-      → HasRead next (resumed_stream stream bytes n)
+  pub reads : (stream : List ℕ) → parser.has_read stream
+      → next.has_read (resumed_stream stream bytes n)
   -- At most 5 looks per byte read and 8 more, and at least one per byte read.
-  pub count : looks next ≤ looks parser + 5 * n + 8
-  pub least : looks parser + n ≤ looks next
+  pub count : next.looks ≤ parser.looks + 5 * n + 8
+  pub least : parser.looks + n ≤ next.looks

@@ -1,11 +1,13 @@
 -- What a `LongParser` has read, and before which bytes it may be refused memory.
-use Rattle.std.specs.Prelude.{◌≡◌, ℕ, Bool, ◌+◌, ◌<◌, ◌≤◌, List, [], ◌∷◌, ◌++◌, length, take, None, Result, Ok, Err}
+use Rattle.std.specs.Prelude.{◌≡◌, ℕ, Bool, ◌+◌, ◌<◌, List, [], ◌∷◌, ◌++◌, length, None, Result, Ok, Err}
 use Rattle.std.specs.List.{concat}
 use Rattle.vte_core.specs.declared.parser.long.LongParser.{LongParser}
 use Rattle.vte_core.specs.declared.parser.refused.Refused.{Refused}
+use Rattle.vte_core.specs.Looks.{counted}
 use Rattle.vte_core.specs.machine.ParserFields.{HasReadWithLimit}
 use Rattle.vte_core.specs.machine.Store.{LacksMemoryAt}
 use Rattle.vte_core.specs.Outcome.{ToClose, CommandToClose}
+use Rattle.vte_core.specs.Parser.{Reading, reading}
 use Rattle.vte_core.specs.Stream.{outcome}
 use Rattle.vte_core.specs.SystemCommand.{IsCommandData, most_pieces}
 
@@ -17,16 +19,12 @@ HasReadLong parser stream = HasReadWithLimit None parser.machine stream
 abbrev pub lost_data_long : {A : Type 0} → LongParser A → Bool
 lost_data_long parser = parser.machine.command.lost
 
+abbrev pub reading_of_long : {A : Type 0} → LongParser A → Reading
+reading_of_long parser = reading None parser.machine (counted parser.looks)
+
 -- How many data bytes fit into the memory that a parser has allocated.
 abbrev pub memory_of : {A : Type 0} → LongParser A → ℕ
 memory_of parser = parser.machine.command.capacity
-
--- The copy continues as the parser does: it has read the same, and lost data of the same command.
--- It has as much memory.
-pub record IsCopyOfLong {A : Type 0} (parser copy : LongParser A) : Type 0 where
-  pub reads : (stream : List ℕ) → HasReadLong parser stream → HasReadLong copy stream
-  pub lost : lost_data_long copy ≡ lost_data_long parser
-  pub memory : memory_of parser ≤ memory_of copy
 
 -- A parser's memory doesn't suffice for what it stores and the data bytes that begin at `from`.
 abbrev pub LacksMemory : {A : Type 0} → LongParser A → List ℕ → ℕ → Type 0
@@ -35,11 +33,6 @@ LacksMemory parser bytes from = LacksMemoryAt parser.machine.command bytes from
 -- A parser's memory doesn't suffice for what it stores and `more` data bytes.
 abbrev pub LacksMemoryForMore : {A : Type 0} → LongParser A → ℕ → Type 0
 LacksMemoryForMore parser more = memory_of parser < length parser.machine.command.bytes + more
-
--- The bytes that a call read.
-abbrev pub bytes_read : Result (Unit {0}) Refused → List ℕ → List ℕ
-bytes_read (Ok _) bytes = bytes
-bytes_read (Err refused) bytes = take refused.read bytes
 
 -- How many bytes a call read that may stop early.
 abbrev pub read_count : Result ℕ Refused → ℕ

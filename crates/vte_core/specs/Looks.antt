@@ -10,8 +10,6 @@ use Rattle.vte_core.specs.declared.scan.Reader.{Reader}
 use Rattle.vte_core.specs.declared.scan.Trail.{Trail}
 use Rattle.vte_core.specs.declared.scan.Trail.TheOpen.{Trail-F}
 use Rattle.vte_core.specs.declared.scan.Trail.TheFolds.{fold-Trail}
-use Rattle.vte_core.specs.declared.parser.long.LongParser.{LongParser}
-use Rattle.vte_core.specs.declared.parser.Parser.{Parser}
 
 -- The count of the last step, added to the counts before it.
 abbrev pub count_step : Trail-F ℕ → ℕ
@@ -26,13 +24,6 @@ look_count = fold-Trail ℕ count_step
 abbrev pub looked : Reader → ℕ
 looked reader = look_count reader.trail.value
 
+-- The count of a parser since it was created.
 abbrev pub counted : Looks → ℕ
 counted all = look_count all.trail.value
-
--- The count of a parser since it was created.
-abbrev pub looks : {N : ℕ} → Parser N → ℕ
-looks parser = counted parser.looks
-
--- The count of a parser without a limit since it was created.
-abbrev pub looks_long : {A : Type 0} → LongParser A → ℕ
-looks_long parser = counted parser.looks

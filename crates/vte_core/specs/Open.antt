@@ -1,9 +1,9 @@
 -- What is open at the end of a stream.
-use Rattle.std.specs.Prelude.{ℕ, List, None}
+use Rattle.std.specs.Prelude.{◌≡◌, ◌≢◌, ℕ, Bool, true, false, List, [], Option, None}
 use Rattle.vte_core.specs.declared.parser.open.Open.{Open}
 use Rattle.vte_core.specs.declared.parser.open.Open.TheVariants.{Nothing, Character, EscapeSequence, ControlSequence, DeviceControl, SystemCommand, IgnoredString}
 use Rattle.vte_core.specs.Outcome.{ToClose, NothingToClose, CharacterToClose, EscapeToClose, ControlSequenceToClose, DeviceHeadToClose, DeviceDataToClose, CommandToClose, IgnoredStringToClose}
-use Rattle.vte_core.specs.Stream.{outcome}
+use Rattle.vte_core.specs.Stream.{IsFinished, IsUnfinished, outcome}
 
 abbrev pub kind_to_close : ToClose → Open
 kind_to_close NothingToClose = Nothing
@@ -19,3 +19,19 @@ kind_to_close IgnoredStringToClose = IgnoredString
 -- operating system commands has no effect on it.
 unfoldable pub open_at_end : List ℕ → Open
 open_at_end stream = kind_to_close (outcome None stream).left
+
+-- `open` of a parser that has read these streams
+pub record SaysOpen (limit : Option ℕ) (HasRead : List ℕ → Type 0) (result : Open) : Type 0 where
+  pub which : (stream : List ℕ) → HasRead stream → result ≡ open_at_end stream
+  -- If nothing is, it goes on as a new parser, and more bytes give what they give on their own.
+  pub closed : result ≡ Nothing → (stream : List ℕ) → HasRead stream
+      → HasRead [] × IsFinished limit stream
+  -- If something is, some bytes give something else than on their own: a `0`.
+  pub opens : result ≢ Nothing → (stream : List ℕ) → HasRead stream → IsUnfinished limit stream
+
+-- `is_open`, in the same way
+pub record SaysWhetherOpen (limit : Option ℕ) (HasRead : List ℕ → Type 0)
+    (result : Bool) : Type 0 where
+  pub closed : result ≡ false → (stream : List ℕ) → HasRead stream
+      → HasRead [] × IsFinished limit stream
+  pub opens : result ≡ true → (stream : List ℕ) → HasRead stream → IsUnfinished limit stream

@@ -1,6 +1,8 @@
 -- What a parser has read.
-use Rattle.std.specs.Prelude.{◌≡◌, ℕ, Bool, Some, List}
+use Rattle.std.specs.Prelude.{◌≡◌, ℕ, Bool, Option, Some, List}
+use Rattle.vte_core.specs.declared.parser.machine.Machine.{Machine}
 use Rattle.vte_core.specs.declared.parser.Parser.{Parser}
+use Rattle.vte_core.specs.Looks.{counted}
 use Rattle.vte_core.specs.machine.ParserFields.{HasReadWithLimit}
 
 -- The parser continues as one that has read the stream: more bytes give the events that they add to
@@ -13,7 +15,26 @@ HasRead {N} parser stream = HasReadWithLimit (Some N) parser.machine stream
 abbrev pub lost_data : {N : ℕ} → Parser N → Bool
 lost_data parser = parser.machine.command.lost
 
+-- What contracts know of a parser with a limit or without one: this limit, which streams it has
+-- read, whether it lost data, and its looks.
+pub record Reading : Type 1 where
+  pub limit : Option ℕ
+  pub has_read : List ℕ → Type 0
+  pub lost : Bool
+  pub looks : ℕ
+
+abbrev pub reading : {B : Type 0} → Option ℕ → Machine B → ℕ → Reading
+reading limit machine looks = record {
+  limit = limit;
+  has_read = HasReadWithLimit limit machine;
+  lost = machine.command.lost;
+  looks = looks;
+}
+
+abbrev pub reading_of : {N : ℕ} → Parser N → Reading
+reading_of {N} parser = reading (Some N) parser.machine (counted parser.looks)
+
 -- The copy continues as the parser does: it has read the same, and lost data of the same command.
-pub record IsCopyOf {N : ℕ} (parser copy : Parser N) : Type 0 where
-  pub reads : (stream : List ℕ) → HasRead parser stream → HasRead copy stream
-  pub lost : lost_data copy ≡ lost_data parser
+pub record IsCopyOf (parser copy : Reading) : Type 0 where
+  pub reads : (stream : List ℕ) → parser.has_read stream → copy.has_read stream
+  pub lost : copy.lost ≡ parser.lost

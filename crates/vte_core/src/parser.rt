@@ -2,12 +2,11 @@
 ghost use Rattle.std.specs.Prelude.{◌≡◌, ◌≢◌, true, false, ℕ, List, [], Some, ⊤};
 ghost use Rattle.vte_core.specs.Advance.{ReadsBytes};
 ghost use Rattle.vte_core.specs.AdvanceUntilTerminated.{ReadsUntilTerminated};
-ghost use Rattle.vte_core.specs.declared.parser.open.Open.TheVariants.{Nothing};
 ghost use Rattle.vte_core.specs.EarlyStop.{NoCharacterStops};
-ghost use Rattle.vte_core.specs.Open.{open_at_end};
+ghost use Rattle.vte_core.specs.Open.{SaysOpen, SaysWhetherOpen};
 ghost use Rattle.vte_core.specs.Outcome.{SaysLoss};
-ghost use Rattle.vte_core.specs.Parser.{HasRead, IsCopyOf, lost_data};
-ghost use Rattle.vte_core.specs.Stream.{IsFinished, IsUnfinished, outcome};
+ghost use Rattle.vte_core.specs.Parser.{HasRead, IsCopyOf, lost_data, reading_of};
+ghost use Rattle.vte_core.specs.Stream.{outcome};
 
 mod character;
 mod control_sequence;
@@ -114,7 +113,7 @@ impl<const OSC_RAW_BUF_SIZE: usize> Default for Parser<OSC_RAW_BUF_SIZE> {
 
 /// A clone goes on as the parser would.
 impl<const OSC_RAW_BUF_SIZE: usize> Clone for Parser<OSC_RAW_BUF_SIZE> {
-    ghost is_clone = { λ parser clone. IsCopyOf parser clone };
+    ghost is_clone = { λ parser clone. IsCopyOf (reading_of parser) (reading_of clone) };
 
     // A clone takes no memory.
     ghost is_infallible = { λ _. ⊤ };
@@ -146,26 +145,14 @@ impl<const OSC_RAW_BUF_SIZE: usize> Parser<OSC_RAW_BUF_SIZE> {
     ///
     /// It began at the last ESC, or is at most three bytes of a character.
     pub fn open(&self) -> Open
-        ensures which { (stream : List ℕ) → HasRead self.now stream → result ≡ open_at_end stream }
-        // If nothing is, it goes on as a new parser, and more bytes give what they give on their
-        // own.
-        ensures closed { result ≡ Nothing → (stream : List ℕ) → HasRead self.now stream
-            → HasRead self.now [] × IsFinished (Some OSC_RAW_BUF_SIZE) stream }
-        // If something is, some bytes give something else than on their own: a `0`.
-        ensures opens { result ≢ Nothing → (stream : List ℕ) → HasRead self.now stream
-            → IsUnfinished (Some OSC_RAW_BUF_SIZE) stream }
+        ensures { SaysOpen (Some OSC_RAW_BUF_SIZE) (HasRead self.now) result }
     {
         self.machine.open()
     }
 
     /// Returns whether a character or a sequence is unfinished.
     pub fn is_open(&self) -> bool
-        // If not, it goes on as a new parser, and more bytes give what they give on their own.
-        ensures closed { result ≡ false → (stream : List ℕ) → HasRead self.now stream
-            → HasRead self.now [] × IsFinished (Some OSC_RAW_BUF_SIZE) stream }
-        // If so, some bytes give something else than on their own: a `0`.
-        ensures opens { result ≡ true → (stream : List ℕ) → HasRead self.now stream
-            → IsUnfinished (Some OSC_RAW_BUF_SIZE) stream }
+        ensures { SaysWhetherOpen (Some OSC_RAW_BUF_SIZE) (HasRead self.now) result }
     {
         !matches!(self.open(), Open::Nothing)
     }
@@ -190,11 +177,12 @@ impl<const OSC_RAW_BUF_SIZE: usize> Parser<OSC_RAW_BUF_SIZE> {
         requires no_stop { G.IN_RUNS ≡ true → MAY_STOP ≡ true
             → NoCharacterStops P.layout P.step P.is_terminated }
         ensures all { MAY_STOP ≡ false
-            → ReadsBytes P.step (P.value_of performer.old)
-            (P.value_of performer.new) chunk.entry.bytes.now self.old self.new }
+            → ReadsBytes P.step (P.value_of performer.old) (P.value_of performer.new)
+            chunk.entry.bytes.now (reading_of self.old) (reading_of self.new) }
         ensures stops { MAY_STOP ≡ true
-            → ReadsUntilTerminated P.step P.is_terminated (P.value_of performer.old)
-            (P.value_of performer.new) chunk.entry.bytes.now result self.old self.new }
+            → ReadsUntilTerminated P.step P.is_terminated result (P.value_of performer.old)
+            (P.value_of performer.new) chunk.entry.bytes.now (reading_of self.old)
+            (reading_of self.new) }
     {
         let (mut reader, input) = chunk.open();
         let result = self

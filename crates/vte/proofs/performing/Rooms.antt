@@ -1,9 +1,10 @@
 -- With room for all bytes, a parser reads them all, and each command's joined text fits. No command has more data than
 -- was stored and read, nor more separators than 16; so the contracts of both parsers become those of one.
-use Rattle.vte.proofs.Common.{◌≡◌, ℕ, ◌+◌, ◌≤◌, true, All, Option, Some, None, List, [], ◌∷◌, ◌++◌, length, Result, Ok, Err, refl, arith, concat, take-append_seam, false≢true, nat_tests, All-cons, All-drop, All-head, All-nil, All-tail, All-take, Event, OscDispatch, added, events, LongParser, Refused, added-append, counts_data, events_are_bounded, PerformsAll, PerformsUntilStop, FitsText, HasTextRoom, PerformerValue, ParserHasMemory, KeepsMemory, fits_room, limited_parser_view, long_parser_view}
+use Rattle.vte.proofs.Common.{◌≡◌, ℕ, ◌+◌, ◌≤◌, true, All, Option, Some, None, List, [], ◌∷◌, ◌++◌, length, Result, Ok, Err, false, refl, arith, concat, take-append_seam, nat_tests, All-cons, All-drop, All-head, All-nil, All-tail, All-take, Event, OscDispatch, added, events, LongParser, Refused, added-append, counts_data, events_are_bounded, PerformsAll, PerformsUntilStop, FitsText, HasTextRoom, PerformerValue, ParserHasMemory, KeepsMemory, fits_room, limited_parser_view, long_parser_view}
 use Rattle.vte_core.specs.EventBounds.{IsBounded}
-use Rattle.vte_core.specs.LongParserCalls.{ReadsBytesLong, ReadsUntilTerminatedLong}
+use Rattle.vte_core.specs.LongParserCalls.{ReadsLong}
 use Rattle.vte_core.specs.LongParser.{memory_of, open_command_size, read_count}
+use Rattle.vte_core.specs.Parser.{reading_of}
 use Rattle.vte_core.specs.declared.parser.Parser.{Parser}
 use Rattle.vte_core.specs.Advance.{ReadsBytes}
 use Rattle.vte_core.specs.AdvanceUntilTerminated.{ReadsUntilTerminated}
@@ -49,7 +50,7 @@ short_fits limit size stream bytes room =
 module _ {N : ℕ} {V W : Type 0} {step : PerformerValue V W → Event → PerformerValue V W}
     {old new : PerformerValue V W} {bytes : List ℕ}
     {parser next : Parser N} where
-  pub short_parses : ReadsBytes step old new bytes parser next
+  pub short_parses : ReadsBytes step old new bytes (reading_of parser) (reading_of next)
       → PerformsAll limited_parser_view (Some N) step parser next old new bytes
   short_parses r = record {
     parses =
@@ -62,7 +63,8 @@ module _ {N : ℕ} {V W : Type 0} {step : PerformerValue V W → Event → Perfo
     memory = λ size stream count had. had;
   }
 
-  pub short_stops : {read : ℕ} → ReadsUntilTerminated step (λ lent. lent.terminated) old new bytes read parser next
+  pub short_stops : {read : ℕ}
+      → ReadsUntilTerminated step (λ lent. lent.terminated) read old new bytes (reading_of parser) (reading_of next)
       → PerformsUntilStop limited_parser_view (Some N) step parser next old new bytes read
   short_stops r = record {
     within = r.within;
@@ -110,37 +112,39 @@ module _ {A : Type 0} {parser : LongParser A} {size : ℕ} (stream bytes : List 
 module _ {A V W : Type 0} {step : PerformerValue V W → Event → PerformerValue V W} {old new : PerformerValue V W}
     {bytes : List ℕ}
     {parser next : LongParser A} where
-  pub long_parses : (result : Result (Unit {0}) Refused) → ReadsBytesLong step old new bytes result parser next
+  pub long_parses : (result : Result (Unit {0}) Refused)
+      → ReadsLong 5 step (λ _. false) old new bytes parser next result (λ (_ : Unit {0}). ReadsBytes step)
       → PerformsAll long_parser_view None step parser next old new bytes
   long_parses (Ok _) r = record {
     parses = λ stream n read room. record {
-      performs = r.performs stream read;
+      performs = r.reads.performs stream read;
       fits = long_fits stream bytes n room;
-      reads = r.continues.reads stream read;
-      room = room_left stream bytes n room next r.continues.memory;
+      reads = r.reads.reads stream read;
+      room = room_left stream bytes n room next r.memory;
     };
-    memory = λ size. keeps_room r.continues.memory (omega arith);
+    memory = λ size. keeps_room r.memory (omega arith);
   }
   long_parses (Err refused) r = record {
-    parses = λ stream n read room. absurd (false≢true (r.continues.enough stream read (enough stream bytes n room)));
-    memory = λ size. keeps_room r.continues.memory (omega arith);
+    parses = λ stream n read room. absurd (omega (arith, r.refuses.lacks_all stream read, enough stream bytes n room));
+    memory = λ size. keeps_room r.memory (omega arith);
   }
 
   pub long_stops : (result : Result ℕ Refused)
-      → ReadsUntilTerminatedLong step (λ lent. lent.terminated) old new bytes result parser next
+      → ReadsLong 5 step (λ lent. lent.terminated) old new bytes parser next result
+      (ReadsUntilTerminated step (λ lent. lent.terminated))
       → PerformsUntilStop long_parser_view None step parser next old new bytes (read_count result)
   long_stops (Ok read) r = record {
-    within = r.within;
+    within = r.reads.within;
     stops =
         λ stream n reads room. record {
-          stops = r.stops stream reads;
+          stops = r.reads.stops stream reads;
           fits = long_fits stream bytes n room;
-          reads = r.continues.reads stream reads;
+          reads = r.reads.reads stream reads;
         };
-    memory = λ size. keeps_room r.continues.memory (omega arith);
+    memory = λ size. keeps_room r.memory (omega arith);
   }
   long_stops (Err refused) r = record {
-    within = r.within;
-    stops = λ stream n reads room. absurd (false≢true (r.continues.enough stream reads (enough stream bytes n room)));
-    memory = λ size. keeps_room r.continues.memory (omega arith);
+    within = omega (arith, r.refuses.within);
+    stops = λ stream n reads room. absurd (omega (arith, r.refuses.lacks_all stream reads, enough stream bytes n room));
+    memory = λ size. keeps_room r.memory (omega arith);
   }

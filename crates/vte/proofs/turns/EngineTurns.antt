@@ -1,7 +1,8 @@
 -- From turns to a call: what the private functions ensure of parser, hold and handler is put together into `HasTurned`
 -- and `HasHalted`, and the loop over turns into `TakesTurns` and `TakesTurnsUntilRefused`.
-use Rattle.vte.proofs.Common.{◌≡◌, ℕ, ◌+◌, ◌-◌, ◌<◌, ◌≤◌, Bool, true, List, [], ◌++◌, length, take, drop, refl, ap, sym, ◌∙◌, arith, length-drop, append_assoc, Result, Ok, Err, append_cancel_right, drop_all, drop-drop, take_all, take-append-drop, Refused, ProcessorState, Engine, Meaning, held_of, rules, false, MatchResult, EndsTurn, inside_turn, HasAdvanced, EngineIsAt, HasTaken, EngineView, KeepsMemory, EngineHasMemory, EngineReads, EngineStops, EngineIsAtKeeping, EndsOpen, HasHalted, HasParsedFront, HasParsedWithoutBegin, ArePartsAt, ArePartsAtKeeping, ArePartsAtWithMemory, HasTurned, State, TakesTurnsUntilRefused, TakesTurns, all_bytes, turn, hold_turn, parse, stop, between_turns, done, EngineLacksMemory, EngineReserves}
+use Rattle.vte.proofs.Common.{◌≡◌, ℕ, ◌+◌, ◌-◌, ◌<◌, ◌≤◌, Bool, true, List, [], ◌++◌, length, take, drop, refl, ap, sym, ◌∙◌, arith, length-drop, append-nil, append_assoc, Result, Ok, Err, append_cancel_right, drop_all, drop-drop, take_all, take-append-drop, Refused, ProcessorState, Engine, Meaning, held_of, rules, false, MatchResult, EndsTurn, inside_turn, HasAdvanced, EngineIsAt, HasTaken, EngineView, KeepsMemory, EngineHasMemory, EngineReads, EngineStops, EngineIsAtKeeping, EndsOpen, HasHalted, HasParsedFront, HasParsedWithoutBegin, ArePartsAt, ArePartsAtKeeping, ArePartsAtWithMemory, HasTurned, State, TakesTurnsUntilRefused, TakesTurns, all_bytes, turn, hold_turn, parse, stop, between_turns, done, LacksMemoryForSome, Reserves}
 use Rattle.vte.proofs.turns.EachOnce.{grown_bytes}
+use Rattle.vte.proofs.turns.HoldFacts.{stop_well}
 use Rattle.vte.proofs.turns.Kinds.{refused-by_open, is_held, stop_if_due, turn-holds, turn-parses}
 use Rattle.vte.proofs.turns.Slices.{until_refused-all, open-halts, takes-one, until_refused-grows, until_refused-on, until_refused-well, taken_on}
 
@@ -42,7 +43,7 @@ module _ {P B T A V W : Type 0} {view : EngineView P B T W} {value : V} {s : Sta
       }
 
   -- they stand where they stood, and the handler is the same
-  pub kept-next : {old mid new : Engine P B T A} {more : ℕ} {result : Bool} → EngineReserves view mid new more result
+  pub kept-next : {old mid new : Engine P B T A} {more : ℕ} {result : Bool} → Reserves view mid new more result
       → EngineIsAtKeeping view old mid value s → EngineIsAtKeeping view old new value s
   kept-next r at = record {
     engine_at = record
@@ -55,7 +56,7 @@ module _ {P B T A V W : Type 0} {view : EngineView P B T W} {m : Meaning V W} {s
     {read count n : ℕ} {b : Bool}
     {first old taken : Engine P B T A} {parser : P} {state : ProcessorState T B} {before value : V} where
   pub slice_parsed : HasParsedWithoutBegin m s bytes read (EngineIsAtKeeping view first old before)
-      → EngineReserves view old taken count true
+      → Reserves view old taken count true
       → length slice ≡ count → s.held ≡ []
       → ((t : State V W) (k : ℕ) → ArePartsAtWithMemory view taken.parser taken.state before t (length slice + k)
       → HasParsedFront m t slice n b (ArePartsAtKeeping view taken.parser taken.state parser state value))
@@ -86,14 +87,18 @@ pub stops_update : {P B T A V W : Type 0} {view : EngineView P B T W} {m : Meani
     → ((s : State V W) → EngineIsAt view old before s → EngineIsAtKeeping view mid new value (stop m s))
     → EngineStops view m old new before value
 stops_update {m} keeps ends = record {
-  stops = λ s at. (ends s at).engine_at;
+  stops = record {
+    stops = λ s at. (ends s at).engine_at;
+    each_once = λ s. append-nil (s.parsed ++ s.held);
+    holds_well = stop_well m;
+  };
   memory = λ s at stream count had. (ends s at).memory stream count (keeps stream count had);
 }
 
 pub stops-next : {P B T A V W : Type 0} {view : EngineView P B T W} {m : Meaning V W} {old new : Engine P B T A}
     {before value : V} {s : State V W} → EngineStops view m old new before value
     → EngineIsAt view old before s → EngineIsAtKeeping view old new value (stop m s)
-stops-next stopped at = record { engine_at = stopped.stops _ at; memory = stopped.memory _ at }
+stops-next stopped at = record { engine_at = stopped.stops.stops _ at; memory = stopped.memory _ at }
 
 -- a turn that parses bytes, after a stop if need be
 pub ends_turn : {P B T A V W : Type 0} {view : EngineView P B T W} {m : Meaning V W} {old mid new : Engine P B T A}
@@ -261,7 +266,7 @@ module _ {P B T A V W : Type 0} {view : EngineView P B T W} {m : Meaning V W} {o
   pub engine_reads-until : {refused : Refused}
       → ((s : State V W) → EngineIsAt view old before s
       → HasTaken m s bytes refused.read (EngineIsAtKeeping view old new value))
-      → refused.read < length bytes → EngineLacksMemory view new (length bytes - refused.read)
+      → refused.read < length bytes → LacksMemoryForSome view new (length bytes - refused.read)
       → EngineReads view m old new before value bytes (Err refused)
   engine_reads-until taken less lacks =
       record {

@@ -1,73 +1,16 @@
--- What is true of a processor's engine after a call, and between the parts of a turn.
-use Rattle.std.specs.Prelude.{◌≡◌, ◌⊎◌, ℕ, ◌+◌, ◌-◌, ◌<◌, ◌≤◌, Bool, true, false, List, length, nat_lt, take, drop, Result, IfErr, IfOk}
+-- What is true of a processor's engine between the parts of a turn.
+use Rattle.std.specs.Prelude.{◌≡◌, ℕ, ◌<◌, Bool, List, length, nat_lt, take, drop, Result, IfErr, IfOk}
 use Rattle.vte_core.specs.declared.parser.refused.Refused.{Refused}
 use Rattle.vte_core.specs.Stream.{added, events}
 use Rattle.vte.specs.BeginUpdate.{begin_count}
 use Rattle.vte.specs.Calls.{last_printed}
-use Rattle.vte.specs.LongProcessor.{read_of}
 use Rattle.vte.specs.Memory.{KeepsMemory}
-use Rattle.vte.specs.Processor.{Meaning, State, front_to_begin, most_held, open_turn, parse, stop, turn}
-use Rattle.vte.specs.ProcessorCalls.{IsAt, held_of}
-use Rattle.vte.specs.Refusal.{HasTaken, TakesTurnsUntilRefused}
-use Rattle.vte.specs.machine.Views.{EngineView}
+use Rattle.vte.specs.Processor.{Meaning, State, front_to_begin, open_turn, parse, turn}
+use Rattle.vte.specs.ProcessorCalls.{IsAt}
+use Rattle.vte.specs.Refusal.{TakesTurnsUntilRefused}
+use Rattle.vte.specs.Views.{EngineHasMemory, EngineStandsAt, EngineView}
 use Rattle.vte.specs.declared.ansi.performer.ProcessorState.{ProcessorState}
-use Rattle.vte.specs.declared.ansi.engine.TheConstants.{SLICE}
 use Rattle.vte.specs.declared.ansi.engine.Engine.{Engine}
-
--- ---- what calls of a processor ensure, said of its engine, whatever the limit
-
--- After a stream, the engine has memory for `count` more bytes.
-abbrev pub EngineHasMemory : {P B T A W : Type 0} → EngineView P B T W → Engine P B T A
-    → (stream : List ℕ) → (count : ℕ) → Type 0
-EngineHasMemory view engine =
-    view.reading.has_memory engine.parser (view.room_of engine.state.text)
-
--- Where it stands, as `HasParsedAndHoldsLong` says of a processor; then what `LongProcessor` says
--- of each call.
-pub record EngineStandsAt {P B T A W : Type 0} (view : EngineView P B T W)
-    (engine : Engine P B T A)
-    (parsed held : List ℕ) (timeout : W) : Type 0 where
-  pub has_read : view.reading.has_read engine.parser parsed
-  pub last : engine.state.preceding_char ≡ last_printed (events view.limit parsed)
-  pub timeout_is : view.timeout_of engine.state.timeout ≡ timeout
-  pub holds : held_of engine.hold ≡ held
-  pub has_memory : 0 < length held → EngineHasMemory view engine parsed (length held)
-
-pub record EngineReserves {P B T A W : Type 0} (view : EngineView P B T W)
-    (old new : Engine P B T A) (more : ℕ) (result : Bool) : Type 0 where
-  pub same : (parsed held : List ℕ) (timeout : W) → EngineStandsAt view old parsed held timeout
-      → EngineStandsAt view new parsed held timeout
-  pub room : result ≡ true → (parsed held : List ℕ) (timeout : W)
-      → EngineStandsAt view new parsed held timeout
-      → EngineHasMemory view new parsed (length held + more)
-  pub memory : KeepsMemory (EngineHasMemory view old) (EngineHasMemory view new)
-  pub lacks : result ≡ false → (stream : List ℕ) → view.reading.has_read new.parser stream
-      → ¬ EngineHasMemory view new stream (length (held_of new.hold) + more)
-
-pub record EngineStops {P B T A V W : Type 0} (view : EngineView P B T W)
-    (meaning : Meaning V W) (engine next : Engine P B T A) (old new : V) : Type 0 where
-  pub stops : (state : State V W) → IsAt (EngineStandsAt view engine) old state
-      → IsAt (EngineStandsAt view next) new (stop meaning state)
-  pub memory : (state : State V W) → IsAt (EngineStandsAt view engine) old state
-      → KeepsMemory (EngineHasMemory view engine) (EngineHasMemory view next)
-
-pub record EngineLacksMemory {P B T A W : Type 0} (view : EngineView P B T W)
-    (engine : Engine P B T A) (left : ℕ) : Type 0 where
-  pub more : ℕ
-  pub within : more ≤ left
-  pub few : (more ≤ SLICE) ⊎ (length (held_of engine.hold) + more ≤ most_held)
-  pub lacks : (stream : List ℕ) → view.reading.has_read engine.parser stream
-      → ¬ EngineHasMemory view engine stream (length (held_of engine.hold) + more)
-
-pub record EngineReads {P B T A V W : Type 0} (view : EngineView P B T W)
-    (meaning : Meaning V W) (engine next : Engine P B T A) (old new : V) (bytes : List ℕ)
-    (result : Result (Unit {0}) Refused) : Type 0 where
-  pub takes : (state : State V W) → IsAt (EngineStandsAt view engine) old state
-      → HasTaken meaning state bytes (read_of result bytes) (IsAt (EngineStandsAt view next) new)
-  pub within : IfErr result (λ refused. refused.read < length bytes)
-  pub lacks : IfErr result (λ refused. EngineLacksMemory view next (length bytes - refused.read))
-  pub memory : (state : State V W) → IsAt (EngineStandsAt view engine) old state
-      → KeepsMemory (EngineHasMemory view engine) (EngineHasMemory view next)
 
 -- ---- what is true between the parts of a turn
 

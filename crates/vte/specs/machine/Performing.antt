@@ -6,7 +6,7 @@ use Rattle.std.specs.List.{All}
 use Rattle.vte.specs.BeginUpdate.{update_group_count, update_mode}
 use Rattle.vte.specs.ModeChange.{change_call, change_calls}
 use Rattle.vte.specs.Memory.{KeepsMemory}
-use Rattle.vte.specs.machine.Views.{ParserView}
+use Rattle.vte.specs.Views.{ParserView}
 use Rattle.vte.specs.Processor.{set_times}
 use Rattle.vte.specs.Numbers.{first_numbers}
 use Rattle.vte.specs.machine.Performer.{FitsText, PerformerValue}

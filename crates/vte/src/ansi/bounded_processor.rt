@@ -1,10 +1,10 @@
 //! The processor with a limit of its own.
 ghost use Rattle.std.specs.Prelude.{◌≡◌, [], IfOk, MatchResult, Some, false};
 ghost use Rattle.vte_core.specs.Parser.{lost_data};
-ghost use Rattle.vte_handler.specs.Timeout.{AllowsOnly, IsSteady, timeout_meaning};
+ghost use Rattle.vte_handler.specs.Timeout.{timeout_meaning};
 ghost use Rattle.vte.specs.BoundedProcessor.{HasParsedAndHoldsWithin, held_within, timeout_within};
-ghost use Rattle.vte.specs.Processor.{HoldsWell, meaning_of};
-ghost use Rattle.vte.specs.ProcessorCalls.{CountsHeld, HasParsedAll, ReadsInTurns, SaysParsedLoss, StopsSync};
+ghost use Rattle.vte.specs.Processor.{meaning_of};
+ghost use Rattle.vte.specs.ProcessorCalls.{CountsHeld, Creates, ReadsInTurns, SaysParsedLoss, StopsSync};
 
 use crate::ansi::engine::Engine;
 use crate::ansi::growing_text::GrowingText;
@@ -27,15 +27,8 @@ impl<T: Timeout + Drop, A: Allocator + Copy, const N: usize> BoundedProcessor<T,
     ///
     /// Returns the timeout if memory runs out.
     pub fn new(alloc: A, timeout: T) -> Result<Self, T>
-        ensures stands { MatchResult result
-            (λ processor. HasParsedAndHoldsWithin T.value_of processor [] [] (T.value_of timeout))
-            (λ back. back ≡ timeout) }
-        ensures holds_well { let m = timeout_meaning T.set T.clear T.allows in
-            (IsSteady m → AllowsOnly m (T.value_of timeout) false)
-            → HoldsWell (Some N) m [] [] (T.value_of timeout) }
-        ensures timeout { IfOk result (λ processor. timeout_within processor ≡ timeout) }
-        ensures parses_all { IfOk result
-            (λ processor. HasParsedAll (HasParsedAndHoldsWithin T.value_of processor) []) }
+        ensures { Creates (Some N) (timeout_meaning T.set T.clear T.allows) T.value_of
+            timeout_within (HasParsedAndHoldsWithin T.value_of) timeout result }
     {
         let mut parser = Parser::<N>::new_with_size();
         let mut text = GrowingText::new(alloc);

@@ -1,11 +1,12 @@
 //! What a processor is, whatever its limit. It takes turns: each parses bytes of a call, or holds
 //! them back.
 ghost use Rattle.std.specs.Prelude.{◌≡◌, ℕ, ◌+◌, ◌≤◌, [], length, IfErr, IfOk, MatchResult, ◌-◌, ◌<◌, ◌++◌, nat_le};
-ghost use Rattle.vte.specs.machine.Views.{engine_view};
+ghost use Rattle.vte.specs.Views.{EngineStandsAt, engine_view};
 ghost use Rattle.vte.specs.ProcessorCalls.{held_of};
 ghost use Rattle.vte.specs.machine.Hold.{released_of};
 ghost use Rattle.vte.specs.Processor.{State, hold_turn, meaning_of, most_held, parse, set_times, stop};
-ghost use Rattle.vte.specs.machine.Engine.{EngineIsAtKeeping, EndsOpen, EndsTurn, ArePartsAt, ArePartsAtKeeping, ArePartsAtWithMemory, LeadOn, EngineLacksMemory, EngineReads, EngineReserves, EngineStandsAt, EngineStops};
+ghost use Rattle.vte.specs.machine.Engine.{EngineIsAtKeeping, EndsOpen, EndsTurn, ArePartsAt, ArePartsAtKeeping, ArePartsAtWithMemory, LeadOn};
+ghost use Rattle.vte.specs.LongProcessor.{EngineReads, EngineStops, LacksMemoryForSome, Reserves};
 ghost use Rattle.vte_handler.specs.Timeout.{timeout_meaning};
 
 use crate::ansi::hold::{MOST_HELD, SyncState};
@@ -168,7 +169,7 @@ impl<P: EventParser + Drop, B: TextBuffer + Drop, T: Timeout + Drop, A: Allocato
             self.new (H.value_of handler.old) (H.value_of handler.new)
             (λ s. EndsTurn (meaning_of P.limit H.step T.set T.clear T.allows) s bytes.now result) }
         ensures lacks { IfErr result
-            (λ refused. EngineLacksMemory (engine_view P.limit P.reading B.room T.value_of)
+            (λ refused. LacksMemoryForSome (engine_view P.limit P.reading B.room T.value_of)
             self.new (length bytes.now - refused.read)) }
     {
         let pending = self.state.timeout.pending_timeout();
@@ -207,7 +208,7 @@ impl<P: EventParser + Drop, B: TextBuffer + Drop, T: Timeout + Drop, A: Allocato
             self.new (H.value_of handler.old) (H.value_of handler.new)
             (λ s. EndsOpen (meaning_of P.limit H.step T.set T.clear T.allows) s bytes.now result) }
         ensures lacks { IfErr result
-            (λ refused. EngineLacksMemory (engine_view P.limit P.reading B.room T.value_of)
+            (λ refused. LacksMemoryForSome (engine_view P.limit P.reading B.room T.value_of)
             self.new (length bytes.now - refused.read)) }
     {
         let mut read = 0;
@@ -234,7 +235,7 @@ impl<P: EventParser + Drop, B: TextBuffer + Drop, T: Timeout + Drop, A: Allocato
 
     /// Takes memory for the held bytes and for this many more, and returns whether it is there.
     pub(crate) fn reserve(&mut self, more: usize) -> bool
-        ensures reserved { EngineReserves
+        ensures reserved { Reserves
             (engine_view P.limit P.reading B.room T.value_of) self.old self.new more result }
         ensures hold { self.new.hold ≡ self.old.hold }
     {

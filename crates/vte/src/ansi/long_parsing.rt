@@ -1,7 +1,7 @@
 //! The parser of a processor without a limit. It takes memory before it reads, so that none is
 //! refused on the way.
 ghost use Rattle.std.specs.Prelude.{◌≡◌, ◌+◌, ◌≤◌, ◌^◌, IfSome, None};
-ghost use Rattle.vte.specs.machine.Views.{long_parser_view};
+ghost use Rattle.vte.specs.Views.{long_parser_view};
 ghost use Rattle.vte.specs.declared.ansi.titles.TheConstants.{SEPARATORS};
 
 use crate::ansi::parsing::{EventParser, ParseAs};
@@ -39,7 +39,7 @@ fn joined_size(stored: usize, more: usize) -> Option<usize>
     stored.checked_add(more)?.checked_add(SEPARATORS)
 }
 
-#[tactic(auto, using(crate::proofs::performing::Rooms::long_parses, crate::proofs::performing::Rooms::long_stops))]
+#[tactic(auto, using(crate::proofs::performing::Rooms::long_stops))]
 impl<H: Handler, T: Timeout + Drop, A: Allocator> ParseAs<H, T, LongParser<A>> for Singly {
     #[inline(always)]
     fn advance<B: TextBuffer + Drop>(
@@ -64,7 +64,7 @@ impl<H: Handler, T: Timeout + Drop, A: Allocator> ParseAs<H, T, LongParser<A>> f
     }
 }
 
-#[tactic(auto, using(crate::proofs::performing::Rooms::long_parses, crate::proofs::performing::Rooms::long_stops))]
+#[tactic(auto, using(crate::proofs::performing::Rooms::long_stops))]
 impl<H: HandlerText, T: Timeout + Drop, A: Allocator> ParseAs<H, T, LongParser<A>> for InRuns {
     #[inline(always)]
     fn advance<B: TextBuffer + Drop>(

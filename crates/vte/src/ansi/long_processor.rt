@@ -1,11 +1,12 @@
 //! The processor without a limit.
 ghost use Rattle.std.specs.Prelude.{◌≡◌, ℕ, ◌+◌, false, List, [], length, None, IfOk, MatchResult};
-ghost use Rattle.vte_core.specs.LongParser.{lost_data_long, open_command_size};
-ghost use Rattle.vte_handler.specs.Timeout.{AllowsOnly, IsSteady, timeout_meaning};
-ghost use Rattle.vte.specs.Processor.{HoldsWell, meaning_of};
-ghost use Rattle.vte.specs.LongProcessor.{AdvancesLong, HasParsedAndHoldsLong, IsCopyOfLong, Reserves, StopsSyncLong};
-ghost use Rattle.vte.specs.Memory.{HasFreedMemory, held_long, timeout_long};
-ghost use Rattle.vte.specs.ProcessorCalls.{CountsHeld, HasParsedAll, SaysParsedLoss};
+ghost use Rattle.vte_core.specs.LongParser.{lost_data_long, open_command_size, reading_of_long};
+ghost use Rattle.vte_handler.specs.Timeout.{timeout_meaning};
+ghost use Rattle.vte.specs.Processor.{meaning_of};
+ghost use Rattle.vte.specs.LongProcessor.{AdvancesLong, EngineStops, HasParsedAndHoldsLong, Reserves};
+ghost use Rattle.vte.specs.Memory.{HasFreedMemory, HasMemory, KeepsMemory, held_long, timeout_long};
+ghost use Rattle.vte.specs.ProcessorCalls.{CountsHeld, Creates, IsCopyOf, SaysParsedLoss};
+ghost use Rattle.vte.specs.Views.{long_engine_view};
 
 use crate::ansi::engine::Engine;
 use crate::ansi::growing_text::GrowingText;
@@ -34,7 +35,11 @@ pub struct LongProcessor<T: Timeout + Drop, A: Allocator> {
 
 /// A clone goes on as the processor would, if so does that of its timeout.
 impl<T: Timeout + Clone + Drop, A: Allocator + Clone> Clone for LongProcessor<T, A> {
-    ghost is_clone = { IsCopyOfLong T.is_clone T.value_of };
+    ghost is_clone = { λ processor copy. IsCopyOf T.is_clone T.value_of (timeout_long processor)
+        (timeout_long copy) (HasParsedAndHoldsLong T.value_of processor)
+        (HasParsedAndHoldsLong T.value_of copy) (reading_of_long processor.engine.parser)
+        (reading_of_long copy.engine.parser)
+        × KeepsMemory (HasMemory processor) (HasMemory copy) };
 
     fn clone(&self) -> Result<Self, AllocError> {
         let engine = self.engine.clone()?;
@@ -48,15 +53,8 @@ impl<T: Timeout + Drop, A: Allocator + Copy> LongProcessor<T, A> {
     ///
     /// Returns the timeout if memory runs out.
     pub fn new(alloc: A, timeout: T) -> Result<Self, T>
-        ensures stands { MatchResult result
-            (λ processor. HasParsedAndHoldsLong T.value_of processor [] [] (T.value_of timeout))
-            (λ back. back ≡ timeout) }
-        ensures holds_well { let m = timeout_meaning T.set T.clear T.allows in
-            (IsSteady m → AllowsOnly m (T.value_of timeout) false)
-            → HoldsWell None m [] [] (T.value_of timeout) }
-        ensures timeout { IfOk result (λ processor. timeout_long processor ≡ timeout) }
-        ensures parses_all { IfOk result
-            (λ processor. HasParsedAll (HasParsedAndHoldsLong T.value_of processor) []) }
+        ensures { Creates None (timeout_meaning T.set T.clear T.allows) T.value_of timeout_long
+            (HasParsedAndHoldsLong T.value_of) timeout result }
     {
         let parser = LongParser::new(alloc);
         let text = GrowingText::new(alloc);
@@ -93,7 +91,8 @@ impl<T: Timeout + Drop, A: Allocator> LongProcessor<T, A> {
     /// is there. Calls with no more bytes than that are then never refused memory.
     #[must_use = "the memory may be refused"]
     pub fn reserve(&mut self, more: usize) -> bool
-        ensures { Reserves T.value_of self.old self.new more result }
+        ensures { Reserves (long_engine_view T.value_of) self.old.engine self.new.engine more
+            result }
     {
         self.engine.reserve(more)
     }
@@ -122,20 +121,18 @@ impl<T: Timeout + Drop, A: Allocator> LongProcessor<T, A> {
     /// Stops an update: parses the bytes that are held back, tells the handler that the update has
     /// ended, and clears the timeout. Without an update too, the handler is told. It needs no
     /// memory: what is held back has taken it.
-    #[tactic(auto, using(crate::proofs::replays::LongStandings::stops_long))]
     pub fn stop_sync<H: Handler>(&mut self, handler: &mut H)
-        ensures { StopsSyncLong T.value_of
-            (meaning_of None H.step T.set T.clear T.allows) self.old self.new
+        ensures { EngineStops (long_engine_view T.value_of)
+            (meaning_of None H.step T.set T.clear T.allows) self.old.engine self.new.engine
             (H.value_of handler.old) (H.value_of handler.new) }
     {
         self.engine.stop::<H, Singly>(handler);
     }
 
     /// Stops an update as [`stop_sync`](Self::stop_sync) does. The handler receives text in runs.
-    #[tactic(auto, using(crate::proofs::replays::LongStandings::stops_long))]
     pub fn stop_sync_text<H: HandlerText>(&mut self, handler: &mut H)
-        ensures { StopsSyncLong T.value_of
-            (meaning_of None H.step T.set T.clear T.allows) self.old self.new
+        ensures { EngineStops (long_engine_view T.value_of)
+            (meaning_of None H.step T.set T.clear T.allows) self.old.engine self.new.engine
             (H.value_of handler.old) (H.value_of handler.new) }
     {
         self.engine.stop::<H, InRuns>(handler);

@@ -5,7 +5,7 @@ ghost use Rattle.vte.specs.machine.Performing.{PerformsAll, PerformsUntilStop, p
 ghost use Rattle.vte.specs.Processor.{State, meaning_of, parse};
 ghost use Rattle.vte.specs.machine.Performer.{with_event};
 ghost use Rattle.vte.specs.machine.Engine.{HasParsedFront, ArePartsAtKeeping, ArePartsAtWithMemory};
-ghost use Rattle.vte.specs.machine.Views.{ParserView, engine_view, limited_parser_view};
+ghost use Rattle.vte.specs.Views.{ParserView, engine_view, limited_parser_view};
 ghost use Rattle.vte.specs.Memory.{KeepsMemory};
 ghost use Rattle.vte_handler.specs.Timeout.{timeout_meaning};
 

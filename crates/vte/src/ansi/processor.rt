@@ -1,9 +1,9 @@
 //! The processor. A call of `advance` takes turns, and each turn parses bytes or holds them back.
 ghost use Rattle.std.specs.Prelude.{◌≡◌, [], IfOk, MatchResult, false};
-ghost use Rattle.vte_handler.specs.Timeout.{AllowsOnly, IsSteady, timeout_meaning};
-ghost use Rattle.vte.specs.Processor.{HoldsWell, meaning_of};
-ghost use Rattle.vte.specs.ProcessorCalls.{CountsHeld, HasParsedAll, HasParsedAndHolds, IsCopyOf, ReadsInTurns, SaysParsedLoss, StopsSync, held_in, timeout_in};
-ghost use Rattle.vte_core.specs.Parser.{lost_data};
+ghost use Rattle.vte_handler.specs.Timeout.{timeout_meaning};
+ghost use Rattle.vte.specs.Processor.{meaning_of};
+ghost use Rattle.vte.specs.ProcessorCalls.{CountsHeld, Creates, HasParsedAndHolds, IsCopyOf, ReadsInTurns, SaysParsedLoss, StopsSync, held_in, timeout_in};
+ghost use Rattle.vte_core.specs.Parser.{lost_data, reading_of};
 ghost use Rattle.vte_core.specs.Stream.{usual_limit};
 
 use crate::ansi::engine::Engine;
@@ -46,7 +46,10 @@ pub struct Processor<T: Timeout + Drop, A: Allocator> {
 
 /// A clone goes on as the processor would, if so does that of its timeout.
 impl<T: Timeout + Clone + Drop, A: Allocator + Clone> Clone for Processor<T, A> {
-    ghost is_clone = { IsCopyOf T.is_clone T.value_of };
+    ghost is_clone = { λ processor copy. IsCopyOf T.is_clone T.value_of (timeout_in processor)
+        (timeout_in copy) (HasParsedAndHolds T.value_of processor)
+        (HasParsedAndHolds T.value_of copy) (reading_of processor.engine.parser)
+        (reading_of copy.engine.parser) };
 
     fn clone(&self) -> Result<Self, AllocError> {
         let engine = self.engine.clone()?;
@@ -60,15 +63,8 @@ impl<T: Timeout + Drop, A: Allocator> Processor<T, A> {
     ///
     /// Returns the timeout if memory runs out.
     pub fn new(alloc: A, timeout: T) -> Result<Self, T>
-        ensures stands { MatchResult result
-            (λ processor. HasParsedAndHolds T.value_of processor [] [] (T.value_of timeout))
-            (λ back. back ≡ timeout) }
-        ensures holds_well { let m = timeout_meaning T.set T.clear T.allows in
-            (IsSteady m → AllowsOnly m (T.value_of timeout) false)
-            → HoldsWell usual_limit m [] [] (T.value_of timeout) }
-        ensures timeout { IfOk result (λ processor. timeout_in processor ≡ timeout) }
-        ensures parses_all { IfOk result
-            (λ processor. HasParsedAll (HasParsedAndHolds T.value_of processor) []) }
+        ensures { Creates usual_limit (timeout_meaning T.set T.clear T.allows) T.value_of timeout_in
+            (HasParsedAndHolds T.value_of) timeout result }
     {
         let engine = Engine::new(alloc, ProcessorParser::new(), ProcessorText::new(), timeout)?;
         Ok(Processor { engine })

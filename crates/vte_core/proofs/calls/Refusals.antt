@@ -1,6 +1,6 @@
 -- What a call without a limit stores, and where it stops for lack of memory. What is stored of an open command is said
 -- of its place, so it holds of every parser that is at one.
-use Rattle.vte_core.proofs.Common.{◌≡◌, ℕ, ◌+◌, ◌≤◌, Bool, None, List, [], ◌∷◌, ◌++◌, length, take, Result, Ok, Err, IfErr, IfOk, IsOk, refl, ap, sym, subst, ◌∙◌, length-take, IsAfter, arith, concat, slice_index, Machine, MeetsData, open_data_count, open_command_size, read_count, State, SystemCommand, ProgressAt, IsRefusedInCommand, ReadsUntilRefused, StandsInside, HasReadWithLimit, StandsAtPlace, StandsBy, Place, InSystemCommand, InText, ChunkCall, left_at, Stored, HoldsItems, ToClose, CommandToClose, loses_data, outcome, pieces_of, Refused}
+use Rattle.vte_core.proofs.Common.{◌≡◌, ℕ, ◌+◌, ◌<◌, ◌≤◌, Bool, None, List, [], ◌∷◌, ◌++◌, length, take, refl, ap, sym, subst, ◌∙◌, length-take, IsAfter, arith, concat, slice_index, Machine, MeetsData, open_data_count, open_command_size, State, SystemCommand, ProgressAt, IsRefusedInCommand, ReadsUntilRefused, StandsInside, HasReadWithLimit, StandsAtPlace, StandsBy, Place, InSystemCommand, InText, ChunkCall, left_at, Stored, HoldsItems, ToClose, CommandToClose, loses_data, outcome, pieces_of}
 use Rattle.vte_core.proofs.calls.States.{reads-item}
 use Rattle.vte_core.proofs.calls.Progress.{come-command}
 use Rattle.vte_core.proofs.fields.OpenPieces.{open_for}
@@ -45,20 +45,6 @@ meets_data {parser} {stream} {bytes} {from} refused h =
     }
 
 -- ---- where a call ends
-
--- what is true of the bytes read, whatever a call answers
-pub read_count-by_result : {P : ℕ → Type 0} {Q : Refused → Type 0} {R : ℕ → Type 0} (result : Result ℕ Refused)
-    → IfOk result P
-    → IfErr result Q
-    → ((read : ℕ) → P read → R read) → ((refused : Refused) → Q refused → R refused.read) → R (read_count result)
-read_count-by_result (Ok read) ok err from_ok from_err = from_ok read ok
-read_count-by_result (Err refused) ok err from_ok from_err = from_err refused err
-
--- what can't be an error is an answer
-pub ok-only : {A : Type 0} {Q : Refused → Type 0} (result : Result A Refused) → IfErr result Q
-    → ((refused : Refused) → Q refused → ⊥) → IsOk result
-ok-only (Ok value) err never = refl
-ok-only (Err refused) err never = absurd (never refused err)
 
 -- in a command no character is open
 pub refuses-inside : {V B : Type 0} {call : ChunkCall V} {old new : V} {n : ℕ} {before parser : Machine B}
@@ -139,12 +125,12 @@ pub nothing_stored : {held : Stored} → HoldsItems None held [] → length held
 unfolding pieces_of Rattle.vte_core.specs.SystemCommand.kept_items
 nothing_stored {held} keeps = pieces_stored keeps
 
--- where there was memory for all bytes of the call, none is refused
-pub never_refused : {V B : Type 0} {call : ChunkCall V} {old new : V} {n : ℕ} {before parser : Machine B}
+-- where memory is refused, there wasn't enough for all bytes of the call
+pub lacks_all : {V B : Type 0} {call : ChunkCall V} {old new : V} {n : ℕ} {before parser : Machine B}
     → ReadsUntilRefused call old new n before parser → (stream : List ℕ) → HasReadWithLimit call.limit before stream
-    → open_command_size stream + length call.bytes ≤ before.command.capacity
-    → before.command.capacity ≤ parser.command.capacity → ⊥
-never_refused {call} {n} {parser} r stream h enough kept =
+    → before.command.capacity ≤ parser.command.capacity
+    → before.command.capacity < open_command_size stream + length call.bytes
+lacks_all {call} {n} {parser} r stream h kept =
     let read : List ℕ = take n call.bytes in
     let stored =
     stored_is_open r.refused.inside
@@ -158,6 +144,5 @@ never_refused {call} {n} {parser} r stream h enough kept =
       r.refused.lacks.within,
       r.within,
       length-take n call.bytes,
-      enough,
       kept,
     )

@@ -1,13 +1,12 @@
 //! The parser that keeps operating system commands of any length.
 ghost use Rattle.std.specs.Prelude.{◌≡◌, ◌≢◌, ◌+◌, ◌<◌, ◌≤◌, ℕ, true, false, List, [], None, IfErr, IfOk};
-ghost use Rattle.vte_core.specs.LongParser.{HasReadLong, IsCopyOfLong, LacksMemoryForMore, lost_data_long, memory_of};
+ghost use Rattle.vte_core.specs.LongParser.{HasReadLong, LacksMemoryForMore, lost_data_long, memory_of, reading_of_long};
 ghost use Rattle.vte_core.specs.LongParser.{open_command_size};
-ghost use Rattle.vte_core.specs.Looks.{looks_long};
-ghost use Rattle.vte_core.specs.Open.{open_at_end};
-ghost use Rattle.vte_core.specs.declared.parser.open.Open.TheVariants.{Nothing};
+ghost use Rattle.vte_core.specs.Parser.{IsCopyOf};
+ghost use Rattle.vte_core.specs.Open.{SaysOpen, SaysWhetherOpen};
 ghost use Rattle.vte_core.specs.Outcome.{SaysLoss};
-ghost use Rattle.vte_core.specs.Stream.{IsFinished, IsUnfinished, outcome};
-ghost use Rattle.vte_core.specs.machine.Prelude.{ComesToRun, Costs, NoCharacterStops, ReadsUntilRefused, ReadsUpTo, TellsOutsideRuns, chunk_call, read_before_range, read_count, read_through_range};
+ghost use Rattle.vte_core.specs.Stream.{outcome};
+ghost use Rattle.vte_core.specs.machine.Prelude.{ComesToRun, Costs, NoCharacterStops, ReadsUntilRefused, ReadsUpTo, TellsOutsideRuns, chunk_call, counted, read_before_range, read_count, read_through_range};
 
 use crate::parser::{Machine, Open, Refused, State};
 use crate::scan::{Chunk, CountedPerform, Grain, Looks, RunRange, Singly};
@@ -46,7 +45,8 @@ pub struct LongParser<A: Allocator> {
 
 /// A clone goes on as the parser would. Its looks are counted anew.
 impl<A: Allocator + Clone> Clone for LongParser<A> {
-    ghost is_clone = { λ parser copy. IsCopyOfLong parser copy };
+    ghost is_clone = { λ parser copy. IsCopyOf (reading_of_long parser) (reading_of_long copy)
+        × memory_of parser ≤ memory_of copy };
 
     fn clone(&self) -> Result<Self, AllocError> {
         Ok(LongParser {
@@ -120,7 +120,7 @@ impl<A: Allocator> LongParser<A> {
             → memory_of self.new < open_command_size stream + more }
         // It says the same of the last command's data.
         ensures lost { lost_data_long self.new ≡ lost_data_long self.old }
-        ensures count { looks_long self.new ≡ looks_long self.old }
+        ensures count { counted self.new.looks ≡ counted self.old.looks }
     {
         // A command that has ended needs no memory.
         if !matches!(self.machine.state, State::SystemCommand) {
@@ -140,7 +140,7 @@ impl<A: Allocator> LongParser<A> {
         ensures less { memory_of self.new ≤ memory_of self.old }
         // It says the same of the last command's data.
         ensures lost { lost_data_long self.new ≡ lost_data_long self.old }
-        ensures count { looks_long self.new ≡ looks_long self.old }
+        ensures count { counted self.new.looks ≡ counted self.old.looks }
     {
         // A command that has ended needs no memory.
         if !matches!(self.machine.state, State::SystemCommand) {
@@ -153,27 +153,14 @@ impl<A: Allocator> LongParser<A> {
     ///
     /// It began at the last ESC, or is at most three bytes of a character.
     pub fn open(&self) -> Open
-        ensures which { (stream : List ℕ) → HasReadLong self.now stream
-            → result ≡ open_at_end stream }
-        // If nothing is, it goes on as a new parser, and more bytes give what they give on their
-        // own.
-        ensures closed { result ≡ Nothing → (stream : List ℕ) → HasReadLong self.now stream
-            → HasReadLong self.now [] × IsFinished None stream }
-        // If something is, some bytes give something else than on their own: a `0`.
-        ensures opens { result ≢ Nothing → (stream : List ℕ) → HasReadLong self.now stream
-            → IsUnfinished None stream }
+        ensures { SaysOpen None (HasReadLong self.now) result }
     {
         self.machine.open()
     }
 
     /// Returns whether a character or a sequence is unfinished.
     pub fn is_open(&self) -> bool
-        // If not, it goes on as a new parser, and more bytes give what they give on their own.
-        ensures closed { result ≡ false → (stream : List ℕ) → HasReadLong self.now stream
-            → HasReadLong self.now [] × IsFinished None stream }
-        // If so, some bytes give something else than on their own: a `0`.
-        ensures opens { result ≡ true → (stream : List ℕ) → HasReadLong self.now stream
-            → IsUnfinished None stream }
+        ensures { SaysWhetherOpen None (HasReadLong self.now) result }
     {
         !matches!(self.open(), Open::Nothing)
     }
@@ -197,7 +184,7 @@ impl<A: Allocator> LongParser<A> {
             (P.value_of performer.old) (P.value_of performer.new) refused.read self.old.machine
             self.new.machine) }
         ensures costs { Costs 5 chunk.entry.bytes.now result (read_count result) self.old.machine
-            self.new.machine (looks_long self.old) (looks_long self.new) }
+            self.new.machine (counted self.old.looks) (counted self.new.looks) }
     {
         let (mut reader, input) = chunk.open();
         let result = self
@@ -224,7 +211,7 @@ impl<A: Allocator> LongParser<A> {
             (P.value_of performer.old) (P.value_of performer.new) refused.read self.old.machine
             self.new.machine) }
         ensures costs { Costs 7 chunk.entry.bytes.now result (read_through_range result)
-            self.old.machine self.new.machine (looks_long self.old) (looks_long self.new) }
+            self.old.machine self.new.machine (counted self.old.looks) (counted self.new.looks) }
         ensures outside_runs { (stream : List ℕ) → HasReadLong self.old stream
             → TellsOutsideRuns None stream chunk.entry.bytes.now (read_before_range result) }
     {

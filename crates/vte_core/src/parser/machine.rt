@@ -1,8 +1,8 @@
 //! The state of a parser, and what it has collected.
 ghost use Rattle.std.specs.Prelude.{◌≡◌, ◌≢◌, ℕ, List, []};
 ghost use Rattle.vte_core.specs.declared.parser.open.Open.TheVariants.{Nothing};
-ghost use Rattle.vte_core.specs.Open.{open_at_end};
-ghost use Rattle.vte_core.specs.machine.Prelude.{HasReadWithLimit, IsFinished, SaysLoss, IsUnfinished, outcome};
+ghost use Rattle.vte_core.specs.Open.{SaysOpen};
+ghost use Rattle.vte_core.specs.machine.Prelude.{HasReadWithLimit, SaysLoss, outcome};
 
 use crate::buffer::Buffer;
 use crate::head::Collected;
@@ -45,13 +45,7 @@ impl<B: Buffer> Machine<B> {
 
     /// Returns what is unfinished.
     pub(crate) fn open(&self) -> Open
-        ensures which { (stream : List ℕ) → HasReadWithLimit B.limit self.now stream
-            → result ≡ open_at_end stream }
-        ensures closed { result ≡ Nothing → (stream : List ℕ)
-            → HasReadWithLimit B.limit self.now stream
-            → HasReadWithLimit B.limit self.now [] × IsFinished B.limit stream }
-        ensures opens { result ≢ Nothing → (stream : List ℕ)
-            → HasReadWithLimit B.limit self.now stream → IsUnfinished B.limit stream }
+        ensures { SaysOpen B.limit (HasReadWithLimit B.limit self.now) result }
     {
         self.state.open()
     }

@@ -1,8 +1,7 @@
 //! Runs of text and data in the input, for callers that take them from there.
 ghost use Rattle.std.specs.Prelude.{◌≡◌, ◌+◌, ◌*◌, ◌≤◌, true, false, ℕ, List, Some, IfErr, IfOk, ⊤};
-ghost use Rattle.vte_core.specs.Looks.{looks};
 ghost use Rattle.vte_core.specs.Parser.{HasRead};
-ghost use Rattle.vte_core.specs.machine.Prelude.{Advances, ComesToRun, Costs, HasNoRunAt, HasReadWithLimit, MayReadAt, MovesWithin, Nothing, ReadsUntilRefused, TellsOutsideRuns, Text, chunk_call, looked, read_through_range, read_before_range};
+ghost use Rattle.vte_core.specs.machine.Prelude.{Advances, ComesToRun, Costs, HasNoRunAt, HasReadWithLimit, MayReadAt, MovesWithin, Nothing, ReadsUntilRefused, TellsOutsideRuns, Text, chunk_call, counted, looked, read_through_range, read_before_range};
 
 use crate::buffer::Buffer;
 use crate::class::ESCAPE;
@@ -23,8 +22,8 @@ impl<const OSC_RAW_BUF_SIZE: usize> Parser<OSC_RAW_BUF_SIZE> {
             self.new.machine }
         ensures outside_runs { (stream : List ℕ) → HasRead self.old stream
             → TellsOutsideRuns (Some OSC_RAW_BUF_SIZE) stream chunk.entry.bytes.now result.start }
-        ensures count { looks self.new ≤ looks self.old + 7 * result.end + 8 }
-        ensures least { looks self.old + result.end ≤ looks self.new }
+        ensures count { counted self.new.looks ≤ counted self.old.looks + 7 * result.end + 8 }
+        ensures least { counted self.old.looks + result.end ≤ counted self.new.looks }
     {
         let (mut reader, input) = chunk.open();
         let result = self.machine.drive_to_run(&mut reader, performer, input);

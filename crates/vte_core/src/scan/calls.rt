@@ -4,6 +4,7 @@ ghost use Rattle.std.specs.Prelude.{◌≡◌};
 ghost use Rattle.vte_core.specs.Advance.{ReadsBytes};
 ghost use Rattle.vte_core.specs.AdvanceToRun.{ReadsToRun};
 ghost use Rattle.vte_core.specs.AdvanceUntilTerminated.{ReadsUntilTerminated};
+ghost use Rattle.vte_core.specs.Parser.{reading_of};
 
 use crate::parser::Parser;
 use crate::perform::{Perform, PerformText, PerformThroughText};
@@ -15,8 +16,8 @@ impl<const OSC_RAW_BUF_SIZE: usize> Parser<OSC_RAW_BUF_SIZE> {
     /// However calls split the stream, the events are the same. An unfinished character or sequence
     /// at the end waits for more bytes.
     pub fn advance<P: Perform>(&mut self, performer: &mut P, bytes: &[u8])
-        ensures { ReadsBytes P.step (P.value_of performer.old)
-            (P.value_of performer.new) bytes.now self.old self.new }
+        ensures { ReadsBytes P.step (P.value_of performer.old) (P.value_of performer.new) bytes.now
+            (reading_of self.old) (reading_of self.new) }
     {
         self.drive::<P, Singly, false>(performer, Chunk::new(bytes));
     }
@@ -25,8 +26,8 @@ impl<const OSC_RAW_BUF_SIZE: usize> Parser<OSC_RAW_BUF_SIZE> {
     /// to print in [runs](crate::PerformText), and the data of device control strings in
     /// [slices](crate::PerformText::put_slice).
     pub fn advance_text<P: PerformText>(&mut self, performer: &mut P, bytes: &[u8])
-        ensures { ReadsBytes P.step (P.value_of performer.old)
-            (P.value_of performer.new) bytes.now self.old self.new }
+        ensures { ReadsBytes P.step (P.value_of performer.old) (P.value_of performer.new) bytes.now
+            (reading_of self.old) (reading_of self.new) }
     {
         self.drive::<P, InRuns, false>(performer, Chunk::new(bytes));
     }
@@ -39,8 +40,8 @@ impl<const OSC_RAW_BUF_SIZE: usize> Parser<OSC_RAW_BUF_SIZE> {
     /// of the bytes counts as read.
     #[must_use = "the bytes after the stop are still to be read"]
     pub fn advance_until_terminated<P: Perform>(&mut self, performer: &mut P, bytes: &[u8]) -> usize
-        ensures { ReadsUntilTerminated P.step P.is_terminated (P.value_of performer.old)
-            (P.value_of performer.new) bytes.now result self.old self.new }
+        ensures { ReadsUntilTerminated P.step P.is_terminated result (P.value_of performer.old)
+            (P.value_of performer.new) bytes.now (reading_of self.old) (reading_of self.new) }
     {
         self.drive::<P, Singly, true>(performer, Chunk::new(bytes))
     }
@@ -55,8 +56,8 @@ impl<const OSC_RAW_BUF_SIZE: usize> Parser<OSC_RAW_BUF_SIZE> {
         performer: &mut P,
         bytes: &[u8],
     ) -> usize
-        ensures { ReadsUntilTerminated P.step P.is_terminated (P.value_of performer.old)
-            (P.value_of performer.new) bytes.now result self.old self.new }
+        ensures { ReadsUntilTerminated P.step P.is_terminated result (P.value_of performer.old)
+            (P.value_of performer.new) bytes.now (reading_of self.old) (reading_of self.new) }
     {
         self.drive::<P, InRuns, true>(performer, Chunk::new(bytes))
     }
@@ -86,8 +87,8 @@ impl<const OSC_RAW_BUF_SIZE: usize> Parser<OSC_RAW_BUF_SIZE> {
     #[must_use = "the bytes after the run are still to be read"]
     #[allow(unsafe_code)]
     pub fn advance_to_run<'a, P: Perform>(&mut self, performer: &mut P, bytes: &'a [u8]) -> Run<'a>
-        ensures { ReadsToRun P.step P.is_terminated (P.value_of performer.old)
-            (P.value_of performer.new) bytes.now result self.old self.new }
+        ensures { ReadsToRun P.step P.is_terminated result (P.value_of performer.old)
+            (P.value_of performer.new) bytes.now (reading_of self.old) (reading_of self.new) }
     {
         let range = self.drive_to_run(performer, Chunk::new(bytes));
         // SAFETY: `drive_to_run` found the range in these bytes.

@@ -1,7 +1,12 @@
 //! The calls that read bytes into a [`LongParser`].
 // proof: each makes a [`Chunk`] of its bytes.
-ghost use Rattle.std.specs.Prelude.{◌≡◌};
-ghost use Rattle.vte_core.specs.LongParserCalls.{ReadsBytesLong, ReadsToRunLong, ReadsUntilTerminatedLong};
+ghost use Rattle.std.specs.Prelude.{◌≡◌, ℕ, List, None, IfErr, false};
+ghost use Rattle.vte_core.specs.Advance.{ReadsBytes};
+ghost use Rattle.vte_core.specs.AdvanceToRun.{ReadsToRun};
+ghost use Rattle.vte_core.specs.AdvanceUntilTerminated.{ReadsUntilTerminated};
+ghost use Rattle.vte_core.specs.LongParser.{HasReadLong};
+ghost use Rattle.vte_core.specs.LongParserCalls.{ReadsLong};
+ghost use Rattle.vte_core.specs.OutsideRuns.{TellsOutsideRuns};
 
 use crate::parser::{LongParser, Refused};
 use crate::perform::{Perform, PerformText, PerformThroughText};
@@ -12,8 +17,9 @@ impl<A: Allocator> LongParser<A> {
     /// Reads the next bytes of the stream, and performs the events that they add to it: all of
     /// them, or as many as there is memory for.
     pub fn advance<P: Perform>(&mut self, performer: &mut P, bytes: &[u8]) -> Result<(), Refused>
-        ensures { ReadsBytesLong P.step (P.value_of performer.old)
-            (P.value_of performer.new) bytes.now result self.old self.new }
+        ensures { ReadsLong 5 P.step (λ _. false) (P.value_of performer.old)
+            (P.value_of performer.new) bytes.now self.old self.new result
+            (λ _. ReadsBytes P.step) }
     {
         self.drive::<P, Singly, false>(performer, Chunk::new(bytes))?;
         Ok(())
@@ -27,8 +33,9 @@ impl<A: Allocator> LongParser<A> {
         performer: &mut P,
         bytes: &[u8],
     ) -> Result<(), Refused>
-        ensures { ReadsBytesLong P.step (P.value_of performer.old)
-            (P.value_of performer.new) bytes.now result self.old self.new }
+        ensures { ReadsLong 5 P.step (λ _. false) (P.value_of performer.old)
+            (P.value_of performer.new) bytes.now self.old self.new result
+            (λ _. ReadsBytes P.step) }
     {
         self.drive::<P, InRuns, false>(performer, Chunk::new(bytes))?;
         Ok(())
@@ -45,8 +52,9 @@ impl<A: Allocator> LongParser<A> {
         performer: &mut P,
         bytes: &[u8],
     ) -> Result<usize, Refused>
-        ensures { ReadsUntilTerminatedLong P.step P.is_terminated (P.value_of performer.old)
-            (P.value_of performer.new) bytes.now result self.old self.new }
+        ensures { ReadsLong 5 P.step P.is_terminated (P.value_of performer.old)
+            (P.value_of performer.new) bytes.now self.old self.new result
+            (ReadsUntilTerminated P.step P.is_terminated) }
     {
         self.drive::<P, Singly, true>(performer, Chunk::new(bytes))
     }
@@ -61,8 +69,9 @@ impl<A: Allocator> LongParser<A> {
         performer: &mut P,
         bytes: &[u8],
     ) -> Result<usize, Refused>
-        ensures { ReadsUntilTerminatedLong P.step P.is_terminated (P.value_of performer.old)
-            (P.value_of performer.new) bytes.now result self.old self.new }
+        ensures { ReadsLong 5 P.step P.is_terminated (P.value_of performer.old)
+            (P.value_of performer.new) bytes.now self.old self.new result
+            (ReadsUntilTerminated P.step P.is_terminated) }
     {
         self.drive::<P, InRuns, true>(performer, Chunk::new(bytes))
     }
@@ -76,8 +85,13 @@ impl<A: Allocator> LongParser<A> {
         performer: &mut P,
         bytes: &'a [u8],
     ) -> Result<Run<'a>, Refused>
-        ensures { ReadsToRunLong P.step P.is_terminated (P.value_of performer.old)
-            (P.value_of performer.new) bytes.now result self.old self.new }
+        ensures reads { ReadsLong 7 P.step P.is_terminated (P.value_of performer.old)
+            (P.value_of performer.new) bytes.now self.old self.new result
+            (ReadsToRun P.step P.is_terminated) }
+        // Characters and data are left to a run if memory is refused too.
+        ensures outside_runs { IfErr result (λ refused. (stream : List ℕ)
+            → HasReadLong self.old stream
+            → TellsOutsideRuns None stream bytes.now refused.read) }
     {
         let range = self.drive_to_run(performer, Chunk::new(bytes))?;
         // SAFETY: `drive_to_run` found the range in these bytes.

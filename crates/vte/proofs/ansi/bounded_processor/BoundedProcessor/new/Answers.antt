@@ -1,18 +1,32 @@
 -- The parser has read nothing, and the room that it was given stays with the engine.
-use Rattle.vte.proofs.Common.{HasTextRoom, [], subst, sym}
-use Rattle.vte.proofs.replays.BoundedStandings.{stands-processor}
+use Rattle.vte.proofs.Common.{Err, HasTextRoom, [], ap, subst, sym, rules, ◌∙◌}
+use Rattle.std.proofs.lemmas.Result.{err_from_is_err_and}
 use Rattle.vte.proofs.ansi.bounded_processor.BoundedProcessor.new.Goals as goal
 
 pub new-requires : goal.new-requires
 new-requires g c = record { reads = c.reserve.ensures.reads [] c.new_with_size-parser.ensures }
 
-pub returns-clause-stands : goal.returns-clause-stands
-returns-clause-stands g c =
+pub returns : goal.returns
+returns g c =
     let reads = c.reserve.ensures.reads [] c.new_with_size-parser.ensures in
     let room = c.reserve.ensures.room c.if-not-reserve.false [] reads in
-    stands-processor
-    (subst (λ text. HasTextRoom g.row.N text.size) (sym c.in_ok-engine.ensures.text) room)
-    c.in_ok-engine.ensures.stands
+    let has_room = subst (λ text. HasTextRoom g.row.N text.size) (sym c.in_ok-engine.ensures.text) room in
+    record {
+      stands = record { stands = c.in_ok-engine.ensures.stands; has_room = has_room };
+      holds_well = search rules;
+      timeout = search rules;
+      parses_all = record {
+        timeout = _;
+        stands = record { stands = c.in_ok-engine.ensures.stands; has_room = has_room };
+      };
+    }
 
-pub returns-clause-parses_all : goal.returns-clause-parses_all
-returns-clause-parses_all g c = record { timeout = _; stands = returns-clause-stands g c }
+pub returns-in_err-engine : goal.returns-in_err-engine
+returns-in_err-engine g c =
+    let e = err_from_is_err_and c.from_residual.result c.from_residual.ensures.1 in
+    rw (e.1 ∙ ap Err e.2) (record {
+      stands = search rules;
+      holds_well = search rules;
+      timeout = tt;
+      parses_all = tt;
+    })

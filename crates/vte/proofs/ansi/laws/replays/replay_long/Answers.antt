@@ -1,5 +1,5 @@
 -- As for `replay`; a call that is refused memory ends the list where it is, and says what it lacks.
-use Rattle.vte.proofs.Common.{refl, take_all, LacksMemoryForSome}
+use Rattle.vte.proofs.Common.{refl, take_all, LacksMemoryForSome, long_engine_view}
 use Rattle.vte.proofs.replays.PlainReplays.{replays_all}
 use Rattle.vte.proofs.replays.Replays.{advance_refused, advance_taken, first_lacks, replayed, stop_taken}
 use Rattle.vte.proofs.ansi.laws.replays.replay_long.Goals as goal
@@ -17,19 +17,20 @@ loop-index-preserved g c = λ s at.
           (w.in_default.ensures.all.advances r.next r.is_at))
       | in-StopSync w ↦ rw (w.processor-is, w.handler-is)
           (stop_taken _ s c.args.steps.now _ _ c.loop-index-test.true r w.in-StopSync.is
-          (w.stop_sync.ensures.stops r.next r.is_at))
+          (w.stop_sync.ensures.stops.stops r.next r.is_at))
     ]
 
 pub returns-in-Err-clause-refuses : goal.returns-in-Err-clause-refuses
 returns-in-Err-clause-refuses g c = λ s at.
     let r = c.loop-index.invariant s at in
-    advance_refused _ s c.args.steps.now _ _ c.loop-index-test.true r c.in-Advance.is c.in-Err.ensures.within
-    (c.in-Err.ensures.takes r.next r.is_at)
+    advance_refused _ s c.args.steps.now _ _ c.loop-index-test.true r c.in-Advance.is c.in-Err.ensures.reads.within
+    (c.in-Err.ensures.reads.takes r.next r.is_at)
 
 pub returns-in-Err-clause-lacks : goal.returns-in-Err-clause-lacks
 returns-in-Err-clause-lacks g c =
-    first_lacks (LacksMemoryForSome c.advance.new.self) c.args.steps.now _ _
-    c.loop-index-test.true c.in-Advance.is c.in-Err.ensures.lacks
+    first_lacks
+    (LacksMemoryForSome (long_engine_view g.T.Timeout.value_of) c.advance.new.self.engine) c.args.steps.now _ _
+    c.loop-index-test.true c.in-Advance.is c.in-Err.ensures.reads.lacks
 
 pub returns-clause-replays : goal.returns-clause-replays
 returns-clause-replays g c =

@@ -7,11 +7,18 @@ pub returns-in_err-range : goal.returns-in_err-range
 returns-in_err-range g c =
     let e = err_from_is_err_and c.from_residual.result c.from_residual.ensures.1 in
     let d = c.in_err-range.ensures in
-    rw (e.1 ∙ ap Err e.2, ← c.new.ensures) (to_run-refused _ d.refuses d.costs d.outside_runs)
+    rw (e.1 ∙ ap Err e.2, ← c.new.ensures) (record {
+      reads = to_run-refused _ d.refuses d.costs;
+      outside_runs = d.outside_runs;
+    })
 
 pub returns : goal.returns
 returns g c =
     let d = c.in_ok-range.ensures in
     let t = c.take_run.ensures in
-    to_run-read _ (rw c.new.ensures at d.comes) t.start t.end t.taken (rw c.new.ensures at d.costs)
-    (λ stream h. rw c.new.ensures at d.outside_runs stream h)
+    record {
+      reads =
+          to_run-read _ (rw c.new.ensures at d.comes) t.start t.end t.taken (rw c.new.ensures at d.costs)
+          (λ stream h. rw c.new.ensures at d.outside_runs stream h);
+      outside_runs = tt;
+    }

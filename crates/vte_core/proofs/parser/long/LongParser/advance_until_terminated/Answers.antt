@@ -5,4 +5,4 @@ use Rattle.vte_core.proofs.parser.long.LongParser.advance_until_terminated.Goals
 pub returns : goal.returns
 returns g c =
     rw (← c.new.ensures)
-    (advance-until c.drive.ensures.reads c.drive.ensures.refuses c.drive.ensures.costs)
+    (advance-until c.drive.result c.drive.ensures.reads c.drive.ensures.refuses c.drive.ensures.costs)

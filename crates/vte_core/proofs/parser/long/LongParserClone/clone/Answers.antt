@@ -9,9 +9,11 @@ returns g c =
     let same : c.in_ok-clone.field-0 ≡ c.args.self.now.machine.collected = search (rules, same_from_all_zip) in
     let items = c.in_ok-clone-2.ensures.cases.0 in
     record {
-      cases = record {
-        reads = reads_cloned _ _ _ refl same items;
-        lost = items.lost;
-        memory = c.in_ok-clone-2.ensures.cases.1;
-      };
+      cases = (
+        record {
+          reads = reads_cloned _ _ _ refl same items;
+          lost = items.lost;
+        },
+        c.in_ok-clone-2.ensures.cases.1,
+      );
     }

@@ -249,7 +249,7 @@ impl<'a, 'py> Maker<'a, 'py> {
             let start = self.length - all.len();
             return class.make(py, |_| part(py, whole, start, start + length));
         }
-        match Short::of(all, length) {
+        match Short::of(content) {
             Some(short) => class.make(py, |_| short_text(py, &short)),
             None => class.make(py, |_| text(py, content)),
         }

@@ -95,50 +95,28 @@ fn size(length: usize) -> ffi::Py_ssize_t {
     length as ffi::Py_ssize_t
 }
 
-/// Short content in words, filled up with zeros: Python copies by words what is aligned.
+/// Short content, aligned: Python copies by words what is.
+#[repr(align(8))]
 pub struct Short {
-    words: [u64; Short::WORDS],
+    content: [u8; Short::MOST],
     length: usize,
 }
 
 impl Short {
-    const WORDS: usize = 4;
-    const SIZE: usize = 8;
+    const MOST: usize = 32;
 
-    /// The first bytes of content, unless they are too many.
-    #[inline(always)]
-    pub fn of(content: &[u8], length: usize) -> Option<Self> {
-        let mut words = [0; Self::WORDS];
-        if length > Self::SIZE * Self::WORDS {
-            return None;
-        }
-        let mut at = 0;
-        for word in &mut words {
-            if at >= length {
-                break;
-            }
-            let value = match content.get(at..at + Self::SIZE) {
-                Some(bytes) => u64::from_le_bytes(bytes.try_into().unwrap_or_default()),
-                None => last_word(&content[at..]),
-            };
-            let left = (length - at).min(Self::SIZE) as u32;
-            *word = (value & u64::MAX >> (u64::BITS - 8 * left)).to_le();
-            at += Self::SIZE;
-        }
-        Some(Short { words, length })
+    /// A copy of content, unless it has too many bytes.
+    #[inline]
+    pub fn of(bytes: &[u8]) -> Option<Self> {
+        let mut content = [0; Self::MOST];
+        content.get_mut(..bytes.len())?.copy_from_slice(bytes);
+        let length = bytes.len();
+        Some(Short { content, length })
     }
 
     #[inline]
-    fn is_ascii(&self) -> bool {
-        self.words
-            .iter()
-            .all(|word| word & 0x8080_8080_8080_8080 == 0)
-    }
-
-    #[inline]
-    pub fn bytes(&self) -> &[u8] {
-        // SAFETY: the length is at most that of the words, which have no padding
-        unsafe { std::slice::from_raw_parts(self.words.as_ptr().cast(), self.length) }
+    fn bytes(&self) -> &[u8] {
+        &self.content[..self.length]
     }
 }
 
@@ -148,15 +126,6 @@ fn length_of(first: u32) -> usize {
         .iter()
         .filter(|least| first >= **least)
         .count()
-}
-
-/// Fewer bytes than a word has.
-#[cold]
-fn last_word(bytes: &[u8]) -> u64 {
-    bytes
-        .iter()
-        .rev()
-        .fold(0, |word, byte| word << 8 | u64::from(*byte))
 }
 
 /// A `str` of text in UTF-8, which Python checks.
@@ -171,8 +140,8 @@ pub fn whole(py: Python<'_>, content: &[u8]) -> Made {
     }
     let whole = text(py, content);
     if whole.is_none() {
-        // SAFETY: the lock is held
-        unsafe { ffi::PyErr_Clear() };
+        // texts are then made without it
+        drop(PyErr::take(py));
     }
     whole
 }
@@ -188,10 +157,10 @@ pub fn part(py: Python<'_>, whole: &PyObject, start: usize, end: usize) -> Made 
 /// A `str` of a short text. Beyond ASCII Python gets its characters, because it decodes few slowly.
 pub fn short_text(py: Python<'_>, short: &Short) -> Made {
     let utf8 = short.bytes();
-    if cfg!(windows) || short.is_ascii() {
+    if cfg!(windows) || utf8.is_ascii() {
         return text(py, utf8);
     }
-    let (mut characters, mut count) = ([0; Short::WORDS * Short::SIZE], 0);
+    let (mut characters, mut count) = ([0; Short::MOST], 0);
     for byte in utf8 {
         let bits = u32::from(*byte);
         match bits {

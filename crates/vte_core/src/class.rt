@@ -71,14 +71,6 @@ pub(crate) fn digit_of(byte: u8) -> Option<u32>
     if digit < 10 { Some(digit) } else { None }
 }
 
-/// Returns whether a byte is a separator `:` or `;`.
-pub(crate) fn is_separator(byte: u8) -> bool
-    ensures value { result ≡ is_separator byte }
-    ensures parameter { result ≡ true → is_parameter_text (class_of byte) ≡ true }
-{
-    byte == b':' || byte == b';'
-}
-
 /// Returns whether a byte is a digit or a separator `0`..`;`.
 pub(crate) fn is_parameter_text(byte: u8) -> bool
     ensures { result ≡ is_parameter_text (class_of byte) }

@@ -1,10 +1,10 @@
 //! What is collected of an escape sequence, and of the head of a control sequence or a device
 //! control string.
-ghost use Rattle.std.specs.Prelude.{◌≡◌, ◌<◌, ◌≤◌, ◌+◌, ◌*◌, ◌-◌, ◌↔◌, ◌⊎◌, min, IsTrue, List, ℕ, true, false, [], ◌∷◌, ◌++◌, length, slice_index, IfSome};
+ghost use Rattle.std.specs.Prelude.{◌≡◌, ◌≤◌, ◌+◌, ◌↔◌, ◌⊎◌, min, IsTrue, List, ℕ, true, false, [], ◌∷◌, ◌++◌, length, IfSome};
 ghost use Rattle.vte_core.specs.machine.Prelude.{CountsNumbers, HoldsIntermediates, HoldsHead, IsReady, SameIntermediates, SameNumbers, ReadsHeadUpTo, HoldsNumbers, StandsInHead, class_of, is_head_byte, is_parameter_text};
-ghost use Rattle.vte_core.specs.machine.Prelude.{is_separator, looked, with_open_number};
+ghost use Rattle.vte_core.specs.machine.Prelude.{looked, with_open_number};
 
-use crate::class::{digit_of, is_head_byte, is_intermediate, is_parameter_text, is_separator};
+use crate::class::{digit_of, is_head_byte, is_intermediate, is_parameter_text};
 use crate::params::Params;
 use crate::scan::{Input, Reader};
 use arrayvec::ArrayVec;
@@ -78,7 +78,8 @@ impl Collected {
 
     /// Forgets the numbers, before a head. The ESC before it has forgotten the intermediates.
     pub(crate) fn begin_head(&mut self)
-        ensures { HoldsIntermediates self.old [] → HoldsHead self.new HeadProgress.Entry [] }
+        ensures head { HoldsIntermediates self.old [] → HoldsHead self.new HeadProgress.Entry [] }
+        ensures joined { self.new.joined ≡ false }
     {
         self.params.clear();
         self.number = 0;
@@ -98,28 +99,63 @@ impl Collected {
 
     /// Moves a number that was read into the parameters, or returns true if there are 32 already.
     #[inline(always)]
-    fn settle_number(&mut self, number: u16) -> bool
+    fn settle_number(&mut self, joined: bool, number: u16) -> bool
+        requires { self.old.joined ≡ joined }
         ensures settles { (text : List ℕ) → CountsNumbers (with_open_number self.old number) text
             → HoldsNumbers self.new result text }
         ensures same { SameIntermediates self.old self.new }
+        ensures joined { self.new.joined ≡ self.old.joined }
     {
         if self.params.is_full() {
             return true;
         }
-        self.params.push(self.joined, number);
+        self.params.push(joined, number);
         false
     }
 
-    /// Collects an intermediate or a marker, or finds the head ill-shaped. Returns how far the head
-    /// has been read then.
+    /// Collects a `;` after a number that stands after no colon.
+    #[inline(always)]
+    pub(crate) fn end_number(&mut self)
+        requires { self.old.joined ≡ false }
+        ensures counts { (text : List ℕ) → CountsNumbers self.old text
+            → CountsNumbers self.new (text ++ 0x3b ∷ []) }
+        ensures same { SameIntermediates self.old self.new }
+    {
+        let _ = self.settle_number(false, self.number);
+        self.number = 0;
+    }
+
+    /// Collects a digit or a separator.
+    #[inline(always)]
+    fn collect_parameter_byte(&mut self, byte: u8)
+        requires { is_parameter_text (class_of byte) ≡ true }
+        ensures counts { (text : List ℕ) → CountsNumbers self.old text
+            → CountsNumbers self.new (text ++ byte ∷ []) }
+        ensures same { SameIntermediates self.old self.new }
+    {
+        if let Some(digit) = digit_of(byte) {
+            // 65,535 stands for all greater numbers.
+            let number = (u32::from(self.number) * 10 + digit).min(u32::from(u16::MAX));
+            self.number = number as u16;
+        } else {
+            let _ = self.settle_number(self.joined, self.number);
+            self.joined = byte == b':';
+            self.number = 0;
+        }
+    }
+
+    /// Collects a byte of a head, or finds the head ill-shaped. Returns how far the head has been
+    /// read then.
     #[inline(always)]
     fn collect_head_byte(&mut self, progress: HeadProgress, byte: u8) -> HeadProgress
-        requires head_byte { is_head_byte (class_of byte) ≡ true }
-        requires no_number { (progress ≡ HeadProgress.Entry) ⊎ (progress ≡ HeadProgress.Parameters)
-            → is_parameter_text (class_of byte) ≡ false }
+        requires { is_head_byte (class_of byte) ≡ true }
         ensures { (head : List ℕ) → StandsInHead self.old progress head
             → StandsInHead self.new result (head ++ byte ∷ []) }
     {
+        if is_parameter_text(byte) && progress.may_have_parameters() {
+            self.collect_parameter_byte(byte);
+            return HeadProgress::Parameters;
+        }
         if let HeadProgress::IllShaped = progress {
             return HeadProgress::IllShaped;
         }
@@ -135,8 +171,8 @@ impl Collected {
         HeadProgress::IllShaped
     }
 
-    /// Reads the digits at a position of a head, if any, and the separators too if there may be
-    /// `several` numbers.
+    /// Reads the digits at a position of a head, if any, and `;` too if there may be `several`
+    /// numbers. Most heads have nothing else.
     #[inline(always)]
     pub(crate) fn read_numbers(
         &mut self,
@@ -148,10 +184,11 @@ impl Collected {
     ) -> HeadEnd
         requires in_order { from ≤ length input.bytes.now }
         requires may { reached ≡ HeadProgress.Entry ⊎ reached ≡ HeadProgress.Parameters }
+        requires alone { several ≡ true → self.old.joined ≡ false }
         ensures reads { ReadsHeadUpTo input.entry.bytes.now from reached result self.old self.new }
-        ensures progress { several ≡ true → from < length input.entry.bytes.now
-            → is_parameter_text (class_of (slice_index input.entry.bytes.now from)) ≡ true
-            → (from < result.position) × (result.progress ≡ HeadProgress.Parameters) }
+        ensures may {
+            result.progress ≡ HeadProgress.Entry ⊎ result.progress ≡ HeadProgress.Parameters }
+        ensures joined { self.new.joined ≡ self.old.joined }
         ensures count { looked reader.new + from
             ≡ looked reader.old + min (result.position + 1) (length input.entry.bytes.now) }
     {
@@ -165,9 +202,8 @@ impl Collected {
             if let Some(digit) = digit_of(byte) {
                 // 65,535 stands for all greater numbers.
                 number = (number * 10 + digit).min(u32::from(u16::MAX));
-            } else if several && is_separator(byte) {
-                let _ = self.settle_number(number as u16);
-                self.joined = byte == b':';
+            } else if several && byte == b';' {
+                let _ = self.settle_number(false, number as u16);
                 number = 0;
             } else {
                 next = Some(byte);
@@ -176,10 +212,10 @@ impl Collected {
             position += 1;
         }
         self.number = number as u16;
-        let progress = if from == position {
-            reached
-        } else {
+        let progress = if position > from {
             HeadProgress::Parameters
+        } else {
+            reached
         };
         HeadEnd {
             progress,
@@ -201,11 +237,8 @@ impl Collected {
         requires { from ≤ length input.bytes.now }
         ensures reads { ReadsHeadUpTo input.entry.bytes.now from reached result self.old self.new }
         ensures other { IfSome result.next (λ byte. is_head_byte (class_of byte) ≡ false) }
-        ensures count { looked reader.new + 3 * from
-            ≤ looked reader.old + 2 * result.position
-            + min (result.position + 1) (length input.entry.bytes.now) }
-        ensures least { looked reader.old + min (result.position + 1) (length input.entry.bytes.now)
-            ≤ looked reader.new + from }
+        ensures count { looked reader.new + from
+            ≡ looked reader.old + min (result.position + 1) (length input.entry.bytes.now) }
     {
         let mut progress = reached;
         let mut position = from;
@@ -216,15 +249,8 @@ impl Collected {
                 next = Some(byte);
                 break;
             }
-            if is_parameter_text(byte) && progress.may_have_parameters() {
-                let numbers = self.read_numbers(reader, progress, true, input, position);
-                // As a constant, because the loop over numbers is longer with `numbers.progress`.
-                progress = HeadProgress::Parameters;
-                position = numbers.position;
-            } else {
-                progress = self.collect_head_byte(progress, byte);
-                position += 1;
-            }
+            progress = self.collect_head_byte(progress, byte);
+            position += 1;
         }
         HeadEnd {
             progress,
@@ -236,11 +262,12 @@ impl Collected {
     /// Moves the last number into the parameters, and returns whether there were too many numbers
     /// or intermediates.
     #[inline(always)]
-    pub(crate) fn end_head(&mut self) -> bool
+    pub(crate) fn end_head(&mut self, joined: bool) -> bool
+        requires { self.old.joined ≡ joined }
         ensures { (progress : HeadProgress) (head : List ℕ) → HoldsHead self.old progress head
             → IsReady self.new result head }
     {
-        let too_many_numbers = self.settle_number(self.number);
+        let too_many_numbers = self.settle_number(joined, self.number);
         self.too_many_intermediates || too_many_numbers
     }
 }

@@ -1,5 +1,5 @@
 //! Control sequences.
-ghost use Rattle.std.specs.Prelude.{◌≡◌, ◌+◌, ◌<◌, ◌^◌, ℕ, true, List, ⊤};
+ghost use Rattle.std.specs.Prelude.{◌≡◌, ◌+◌, ◌<◌, ◌^◌, ℕ, true, false, List, ⊤};
 ghost use Rattle.vte_core.specs.machine.Prelude.{Advances, CsiDispatch, Dispatches, HandlesByte, InControlSequence, MayRead, MovesWithin, StandsInHead, TakesByte, chunk_call, class_of, is_final};
 
 use crate::buffer::Buffer;
@@ -9,18 +9,71 @@ use crate::parser::{Machine, State, Unfinished};
 use crate::scan::{CountedPerform, Grain, Input, Reader};
 
 impl<B: Buffer> Machine<B> {
-    /// Goes on with a control sequence whose head has come so far: by digits, by separators too if
-    /// there may be `several` numbers, and by a final byte right after them. Most sequences have at
-    /// most one number: for them this calls nothing before the dispatch. If calls have one byte
-    /// each, most bytes of long sequences come this way.
+    /// Reads the first number of a control sequence, if any, and a final byte right after it. Most
+    /// sequences have no more: for them this calls nothing before the dispatch.
     #[inline(always)]
     pub(crate) fn read_short_head<P: CountedPerform<G>, G: Grain, const MAY_STOP: bool>(
         &mut self,
         reader: &mut Reader,
         performer: &mut P,
         input: Input<'_>,
+        from: usize,
+    ) -> usize
+        requires may_read { MayRead
+            (chunk_call MAY_STOP P.step P.is_terminated B.limit input.bytes.now)
+            (P.value_of performer.old) (State.ControlSequence HeadProgress.Entry) self.old from }
+        requires alone { self.old.collected.joined ≡ false }
+        ensures advances { Advances ⊤
+            (chunk_call MAY_STOP P.step P.is_terminated B.limit input.entry.bytes.now)
+            (P.value_of performer.old) (P.value_of performer.new) from result self.old self.new }
+        ensures moves { MovesWithin 5 0 input.entry.bytes.now from result self.old self.new
+            reader.old reader.new }
+    {
+        let head = self
+            .collected
+            .read_numbers(reader, HeadProgress::Entry, false, input, from);
+        if let Some(byte) = head.next {
+            if is_final(byte) {
+                return self.end_control_sequence(
+                    reader,
+                    performer,
+                    head.progress,
+                    false,
+                    byte,
+                    head.position,
+                );
+            }
+            if byte == b';' {
+                self.collected.end_number();
+                self.state = State::ControlSequence(HeadProgress::Parameters);
+                return self.read_control_sequence::<P, G, MAY_STOP>(
+                    reader,
+                    performer,
+                    input,
+                    HeadProgress::Parameters,
+                    head.position + 1,
+                );
+            }
+        }
+        self.state = State::ControlSequence(head.progress);
+        self.read_control_sequence::<P, G, MAY_STOP>(
+            reader,
+            performer,
+            input,
+            head.progress,
+            head.position,
+        )
+    }
+
+    /// Goes on with a control sequence whose head has come so far: by numbers with `;` between
+    /// them, and by a final byte right after them.
+    #[inline(never)]
+    pub(crate) fn read_control_sequence<P: CountedPerform<G>, G: Grain, const MAY_STOP: bool>(
+        &mut self,
+        reader: &mut Reader,
+        performer: &mut P,
+        input: Input<'_>,
         reached: HeadProgress,
-        several: bool,
         from: usize,
     ) -> usize
         requires { MayRead (chunk_call MAY_STOP P.step P.is_terminated B.limit input.bytes.now)
@@ -28,33 +81,29 @@ impl<B: Buffer> Machine<B> {
         ensures advances { Advances ⊤
             (chunk_call MAY_STOP P.step P.is_terminated B.limit input.entry.bytes.now)
             (P.value_of performer.old) (P.value_of performer.new) from result self.old self.new }
-        ensures moves { MovesWithin 5 0 input.entry.bytes.now from result self.old self.new
+        ensures moves { MovesWithin 4 0 input.entry.bytes.now from result self.old self.new
             reader.old reader.new }
     {
-        if !reached.may_have_parameters() {
-            return self.read_control_sequence::<P, G, MAY_STOP>(
-                reader, performer, input, reached, from,
-            );
+        if !reached.may_have_parameters() || self.collected.joined {
+            return self.read_any_head::<P, G, MAY_STOP>(reader, performer, input, reached, from);
         }
         let head = self
             .collected
-            .read_numbers(reader, reached, several, input, from);
+            .read_numbers(reader, reached, true, input, from);
         if let Some(byte) = head.next {
             if is_final(byte) {
                 return self.end_control_sequence(
                     reader,
                     performer,
                     head.progress,
+                    false,
                     byte,
                     head.position,
                 );
             }
         }
         self.state = State::ControlSequence(head.progress);
-        if head.next.is_none() {
-            return head.position;
-        }
-        self.read_control_sequence::<P, G, MAY_STOP>(
+        self.read_any_head::<P, G, MAY_STOP>(
             reader,
             performer,
             input,
@@ -65,7 +114,7 @@ impl<B: Buffer> Machine<B> {
 
     /// Reads the head of a control sequence, which has come so far, and the byte after it.
     #[inline(never)]
-    pub(crate) fn read_control_sequence<P: CountedPerform<G>, G: Grain, const MAY_STOP: bool>(
+    pub(crate) fn read_any_head<P: CountedPerform<G>, G: Grain, const MAY_STOP: bool>(
         &mut self,
         reader: &mut Reader,
         performer: &mut P,
@@ -89,6 +138,7 @@ impl<B: Buffer> Machine<B> {
                     reader,
                     performer,
                     head.progress,
+                    self.collected.joined,
                     byte,
                     head.position,
                 );
@@ -112,10 +162,12 @@ impl<B: Buffer> Machine<B> {
         reader: &mut Reader,
         performer: &mut P,
         progress: HeadProgress,
+        joined: bool,
         byte: u8,
         position: usize,
     ) -> usize
         requires final_byte { is_final (class_of byte) ≡ true }
+        requires joined { self.old.collected.joined ≡ joined }
         requires room { position + 1 < 2 ^ 64 }
         ensures next { result ≡ position + 1 }
         ensures takes { (head : List ℕ) → StandsInHead self.old.collected progress head
@@ -127,7 +179,7 @@ impl<B: Buffer> Machine<B> {
             self.state = State::Text(Unfinished::Nothing);
             return position + 1;
         }
-        let ignore = self.collected.end_head();
+        let ignore = self.collected.end_head(joined);
         self.dispatch_control_sequence(reader, performer, ignore, byte, position)
     }
 

@@ -63,7 +63,8 @@ impl<B: Buffer> Machine<B> {
             self.state = State::IgnoredString;
             return;
         }
-        let ignore = self.collected.end_head();
+        let joined = self.collected.joined;
+        let ignore = self.collected.end_head(joined);
         performer.hook(reader, &self.collected, ignore, byte);
         self.state = State::DeviceData;
     }

@@ -108,8 +108,8 @@ impl<B: Buffer> Machine<B> {
                 self.read_intermediates::<P, G, MAY_STOP>(reader, performer, input, from)
             }
             State::ControlSequence(progress) => {
-                self.read_short_head::<P, G, MAY_STOP>(
-                    reader, performer, input, progress, true, from,
+                self.read_control_sequence::<P, G, MAY_STOP>(
+                    reader, performer, input, progress, from,
                 )
             }
             State::DeviceControl(progress) => {

@@ -52,11 +52,6 @@ pub(crate) fn digit_of(byte: u8) -> Option<u32> {
     }
 }
 
-/// Returns whether a byte is a separator `:` or `;`.
-pub(crate) fn is_separator(byte: u8) -> bool {
-    byte == b':' || byte == b';'
-}
-
 /// Returns whether a byte is a digit or a separator `0`..`;`.
 pub(crate) fn is_parameter_text(byte: u8) -> bool {
     byte >= b'0' && byte <= b';'

@@ -3,9 +3,7 @@
 //! control string.
 
 use crate::adapter::array_vec::ArrayVec;
-use crate::proved::vte_core::class::{
-    digit_of, is_head_byte, is_intermediate, is_parameter_text, is_separator,
-};
+use crate::proved::vte_core::class::{digit_of, is_head_byte, is_intermediate, is_parameter_text};
 use crate::proved::vte_core::params::Params;
 use crate::proved::vte_core::scan::Reader;
 
@@ -85,18 +83,43 @@ impl Collected {
 
     /// Moves a number that was read into the parameters, or returns true if there are 32 already.
     #[inline(always)]
-    fn settle_number(&mut self, number: u16) -> bool {
+    fn settle_number(&mut self, joined: bool, number: u16) -> bool {
         if self.params.is_full() {
             return true;
         }
-        self.params.push(self.joined, number);
+        self.params.push(joined, number);
         false
     }
 
-    /// Collects an intermediate or a marker, or finds the head ill-shaped. Returns how far the head
-    /// has been read then.
+    /// Collects a `;` after a number that stands after no colon.
+    #[inline(always)]
+    pub(crate) fn end_number(&mut self) {
+        let _ = self.settle_number(false, self.number);
+        self.number = 0;
+    }
+
+    /// Collects a digit or a separator.
+    #[inline(always)]
+    fn collect_parameter_byte(&mut self, byte: u8) {
+        if let Some(digit) = digit_of(byte) {
+            // 65,535 stands for all greater numbers.
+            let number = (u32::from(self.number) * 10 + digit).min(u32::from(u16::MAX));
+            self.number = number as u16;
+        } else {
+            let _ = self.settle_number(self.joined, self.number);
+            self.joined = byte == b':';
+            self.number = 0;
+        }
+    }
+
+    /// Collects a byte of a head, or finds the head ill-shaped. Returns how far the head has been
+    /// read then.
     #[inline(always)]
     fn collect_head_byte(&mut self, progress: HeadProgress, byte: u8) -> HeadProgress {
+        if is_parameter_text(byte) && progress.may_have_parameters() {
+            self.collect_parameter_byte(byte);
+            return HeadProgress::Parameters;
+        }
         if let HeadProgress::IllShaped = progress {
             return HeadProgress::IllShaped;
         }
@@ -112,8 +135,8 @@ impl Collected {
         HeadProgress::IllShaped
     }
 
-    /// Reads the digits at a position of a head, if any, and the separators too if there may be
-    /// `several` numbers.
+    /// Reads the digits at a position of a head, if any, and `;` too if there may be `several`
+    /// numbers. Most heads have nothing else.
     #[inline(always)]
     pub(crate) fn read_numbers(
         &mut self,
@@ -133,9 +156,8 @@ impl Collected {
             if let Some(digit) = digit_of(byte) {
                 // 65,535 stands for all greater numbers.
                 number = (number * 10 + digit).min(u32::from(u16::MAX));
-            } else if several && is_separator(byte) {
-                let _ = self.settle_number(number as u16);
-                self.joined = byte == b':';
+            } else if several && byte == b';' {
+                let _ = self.settle_number(false, number as u16);
                 number = 0;
             } else {
                 next = Some(byte);
@@ -144,10 +166,10 @@ impl Collected {
             position += 1;
         }
         self.number = number as u16;
-        let progress = if from == position {
-            reached
-        } else {
+        let progress = if position > from {
             HeadProgress::Parameters
+        } else {
+            reached
         };
         HeadEnd {
             progress,
@@ -175,15 +197,8 @@ impl Collected {
                 next = Some(byte);
                 break;
             }
-            if is_parameter_text(byte) && progress.may_have_parameters() {
-                let numbers = self.read_numbers(reader, progress, true, input, position);
-                // As a constant, because the loop over numbers is longer with `numbers.progress`.
-                progress = HeadProgress::Parameters;
-                position = numbers.position;
-            } else {
-                progress = self.collect_head_byte(progress, byte);
-                position += 1;
-            }
+            progress = self.collect_head_byte(progress, byte);
+            position += 1;
         }
         HeadEnd {
             progress,
@@ -195,8 +210,8 @@ impl Collected {
     /// Moves the last number into the parameters, and returns whether there were too many numbers
     /// or intermediates.
     #[inline(always)]
-    pub(crate) fn end_head(&mut self) -> bool {
-        let too_many_numbers = self.settle_number(self.number);
+    pub(crate) fn end_head(&mut self, joined: bool) -> bool {
+        let too_many_numbers = self.settle_number(joined, self.number);
         self.too_many_intermediates || too_many_numbers
     }
 }

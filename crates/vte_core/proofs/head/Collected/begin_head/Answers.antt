@@ -4,7 +4,7 @@ use Rattle.vte_core.proofs.fields.HeadSteps.{holds-nothing}
 use Rattle.vte_core.proofs.fields.NumberSteps.{counts-nothing}
 use Rattle.vte_core.proofs.head.Collected.begin_head.Goals as goal
 
-pub returns : goal.returns
-returns c =
+pub returns-clause-head : goal.returns-clause-head
+returns-clause-head c =
     λ holds. holds-nothing _ (record { kept = holds.kept; too_many_intermediates = holds.too_many_intermediates })
     (counts-nothing _ c.clear.ensures refl refl)

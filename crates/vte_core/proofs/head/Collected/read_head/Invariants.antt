@@ -1,12 +1,11 @@
--- The head is read up to this position, with three looks for a byte at most.
-use Rattle.vte_core.proofs.Common.{◌≡◌, ◌+◌, ◌-◌, ◌*◌, ◌≤◌, length, looked, None, ReadsHead}
+-- The head is read up to this position, with one look for each byte.
+use Rattle.vte_core.proofs.Common.{◌≡◌, ◌+◌, ◌-◌, length, looked, None, ReadsHead}
 use Rattle.vte_core.proofs.head.Collected.read_head.Given as goal
 
 abbrev pub invariant-loop-position : goal.invariant-loop-position
 invariant-loop-position l = record {
   reads : ReadsHead l.input.bytes.now l.from l.position l.fn.reached l.progress l.initial.self l.self;
-  count : looked l.reader + 3 * l.from ≤ looked l.initial.reader + 3 * l.position;
-  least : looked l.initial.reader + l.position ≤ looked l.reader + l.from;
+  count : looked l.reader + l.from ≡ looked l.initial.reader + l.position;
   none : l.next ≡ None;
 }
 

@@ -1,9 +1,9 @@
 -- A digit makes the open number longer, a separator settles it and opens another: so the head is read byte by byte. At
 -- the end either no byte was read, and the part of the head is the old one, or it is that of parameters.
-use Rattle.vte_core.proofs.Common.{refl, sym, ◌∙◌, arith, rules}
+use Rattle.vte_core.proofs.Common.{◌≡◌, refl, ◌∙◌, arith, rules, class_of}
 use Rattle.vte_core.proofs.calls.Heads.{progress_after-more, progress_after-none, reads_head-nothing, reads_head-parameter}
 use Rattle.vte_core.proofs.fields.NumberSteps.{counts-digit, counts-separator}
-use Rattle.vte_core.proofs.head.Collected.read_numbers.Goals.{else-loop-position-test, then-loop-position-test+in_default+else-several, in-Some, in_default+then-several+then-is_separator}
+use Rattle.vte_core.proofs.head.Collected.read_numbers.Goals.{else-loop-position-test, then-loop-position-test+in_default+else-several, in-Some, in_default+then-several+then-byte-eq59}
 use Rattle.vte_core.proofs.head.Collected.read_numbers.Goals as goal
 
 -- No byte is read.
@@ -15,10 +15,12 @@ loop-position-init c = record {
   count = omega arith;
   none = refl;
   small = omega arith;
+  joined = refl;
 }
 
 -- A digit, or a separator that is no first byte.
 pub loop-position-preserved : goal.loop-position-preserved
+unfolding class_of
 loop-position-preserved c =
     let v = c.loop-position.invariant in
     let held = c.loop-position.self in
@@ -34,47 +36,53 @@ loop-position-preserved c =
             counts-digit c.at-byte.result k is.0 is.1 refl refl
             (omega (arith, w.min-number.ensures, is.2))) v.reads)
         -- A separator.
-        | in_default+then-several+then-is_separator w ↦
-            let settled = w.settle_number-self.ensures in
-            let separator = w.is_separator.ensures in
-            let is = w.if-is_separator.true in
+        | in_default+then-several+then-byte-eq59 w ↦
+            let settled = w.settle_number.ensures in
+            let is : c.at-byte.result ≡ 59 = w.if-byte-eq59.true in
+            let alone = settled.joined ∙ v.joined ∙ c.requires.alone w.if-several.true in
             rw (w.self-is, w.number-is)
-            (reads_head-parameter c.requires.may (omega arith) c.at-byte.ensures.value (separator.parameter is)
+            (reads_head-parameter c.requires.may (omega arith) c.at-byte.ensures.value (rw is refl)
             (record {
               intermediates = settled.same.intermediates;
               too_many_intermediates =
                   settled.same.too_many_intermediates;
             })
             (λ text k. counts-separator c.at-byte.result k (settled.settles text k)
-            (sym separator.value ∙ is) refl refl refl) v.reads)
+            (rw is refl) refl (alone ∙ rw is refl) refl) v.reads)
       ];
       count = omega arith;
       none = v.none;
       small = search rules;
+      joined = elim c.match-digit_of.branch [
+        | in-Some w ↦ rw w.self-is v.joined
+        | in_default+then-several+then-byte-eq59 w ↦ rw w.self-is (w.settle_number.ensures.joined ∙ v.joined)
+      ];
     }
 
--- No byte was read: the part of the head stays.
-pub returns-then-from-position-clause-reads : goal.returns-then-from-position-clause-reads
-returns-then-from-position-clause-reads c =
+-- Some bytes were read: the part of the head is that of parameters.
+pub returns-then-position-from-clause-reads : goal.returns-then-position-from-clause-reads
+returns-then-position-from-clause-reads c =
     let v = c.loop-position.invariant in
     let high = v.reads.high in
     record {
       head =
-          rw (progress_after-none c.args.reached c.if-from-position.true) at v.reads;
+          rw (progress_after-more c.args.reached c.args.from c.loop-position.position c.if-position-from.true)
+          at v.reads;
       next = elim c.loop-position-test.branch [
         | else-loop-position-test w ↦ rw (w.next-is, v.none) (omega arith)
         | then-loop-position-test+in_default+else-several w ↦ rw w.next-is (omega arith, w.at-byte.ensures.value)
       ];
     }
 
--- Some were: it is that of parameters.
-pub returns-else-from-position-clause-reads : goal.returns-else-from-position-clause-reads
-returns-else-from-position-clause-reads c =
+-- None was: it stays.
+pub returns-else-position-from-clause-reads : goal.returns-else-position-from-clause-reads
+returns-else-position-from-clause-reads c =
     let v = c.loop-position.invariant in
     let high = v.reads.high in
     let low = v.reads.low in
     record {
-      head = rw (progress_after-more c.args.reached c.args.from c.loop-position.position (omega arith)) at v.reads;
+      head = rw (progress_after-none c.args.reached {from = c.args.from} {to = c.loop-position.position} (omega arith))
+          at v.reads;
       next = elim c.loop-position-test.branch [
         | else-loop-position-test w ↦ rw (w.next-is, v.none) (omega arith)
         | then-loop-position-test+in_default+else-several w ↦ rw w.next-is (omega arith, w.at-byte.ensures.value)

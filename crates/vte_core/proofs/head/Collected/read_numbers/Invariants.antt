@@ -11,6 +11,7 @@ invariant-loop-position l = record {
   count : looked l.reader + l.from ≡ looked l.initial.reader + l.position;
   none : l.next ≡ None;
   small : l.number ≤ greatest_number;
+  joined : l.self.joined ≡ l.initial.self.joined;
 }
 
 abbrev pub decreases-loop-position : goal.decreases-loop-position

@@ -13,4 +13,4 @@ returns-then-is_full-clause-settles c = λ text k.
 pub returns-clause-settles : goal.returns-clause-settles
 returns-clause-settles c = λ text k.
     let room : count_of c.args.self.now.params < 32 = grind arith in
-    settles-push k room c.push.ensures
+    settles-push k room (rw c.requires c.push.ensures)

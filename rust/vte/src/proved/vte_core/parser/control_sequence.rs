@@ -8,42 +8,43 @@ use crate::proved::vte_core::parser::{Machine, State, Unfinished};
 use crate::proved::vte_core::scan::{CountedPerform, Grain, Reader};
 
 impl<B: Buffer> Machine<B> {
-    /// Goes on with a control sequence whose head has come so far: by digits, by separators too if
-    /// there may be `several` numbers, and by a final byte right after them. Most sequences have at
-    /// most one number: for them this calls nothing before the dispatch. If calls have one byte
-    /// each, most bytes of long sequences come this way.
+    /// Reads the first number of a control sequence, if any, and a final byte right after it. Most
+    /// sequences have no more: for them this calls nothing before the dispatch.
     #[inline(always)]
     pub(crate) fn read_short_head<P: CountedPerform<G> + ?Sized, G: Grain, const MAY_STOP: bool>(
         &mut self,
         reader: Reader,
         performer: &mut P,
         input: &[u8],
-        reached: HeadProgress,
-        several: bool,
         from: usize,
     ) -> usize {
-        if !reached.may_have_parameters() {
-            return self
-                .read_control_sequence::<P, G, MAY_STOP>(reader, performer, input, reached, from);
-        }
         let head = self
             .collected
-            .read_numbers(reader, reached, several, input, from);
+            .read_numbers(reader, HeadProgress::Entry, false, input, from);
         if let Some(byte) = head.next {
             if is_final(byte) {
                 return self.end_control_sequence(
                     reader,
                     performer,
                     head.progress,
+                    false,
                     byte,
                     head.position,
                 );
             }
+            if byte == b';' {
+                self.collected.end_number();
+                self.state = State::ControlSequence(HeadProgress::Parameters);
+                return self.read_control_sequence::<P, G, MAY_STOP>(
+                    reader,
+                    performer,
+                    input,
+                    HeadProgress::Parameters,
+                    head.position + 1,
+                );
+            }
         }
         self.state = State::ControlSequence(head.progress);
-        if head.next.is_none() {
-            return head.position;
-        }
         self.read_control_sequence::<P, G, MAY_STOP>(
             reader,
             performer,
@@ -53,13 +54,46 @@ impl<B: Buffer> Machine<B> {
         )
     }
 
-    /// Reads the head of a control sequence, which has come so far, and the byte after it.
+    /// Goes on with a control sequence whose head has come so far: by numbers with `;` between
+    /// them, and by a final byte right after them.
     #[inline(never)]
     pub(crate) fn read_control_sequence<
         P: CountedPerform<G> + ?Sized,
         G: Grain,
         const MAY_STOP: bool,
     >(
+        &mut self,
+        reader: Reader,
+        performer: &mut P,
+        input: &[u8],
+        reached: HeadProgress,
+        from: usize,
+    ) -> usize {
+        if !reached.may_have_parameters() || self.collected.joined {
+            return self.read_any_head::<P, G, MAY_STOP>(reader, performer, input, reached, from);
+        }
+        let head = self
+            .collected
+            .read_numbers(reader, reached, true, input, from);
+        if let Some(byte) = head.next {
+            if is_final(byte) {
+                return self.end_control_sequence(
+                    reader,
+                    performer,
+                    head.progress,
+                    false,
+                    byte,
+                    head.position,
+                );
+            }
+        }
+        self.state = State::ControlSequence(head.progress);
+        self.read_any_head::<P, G, MAY_STOP>(reader, performer, input, head.progress, head.position)
+    }
+
+    /// Reads the head of a control sequence, which has come so far, and the byte after it.
+    #[inline(never)]
+    pub(crate) fn read_any_head<P: CountedPerform<G> + ?Sized, G: Grain, const MAY_STOP: bool>(
         &mut self,
         reader: Reader,
         performer: &mut P,
@@ -75,6 +109,7 @@ impl<B: Buffer> Machine<B> {
                     reader,
                     performer,
                     head.progress,
+                    self.collected.joined,
                     byte,
                     head.position,
                 );
@@ -98,6 +133,7 @@ impl<B: Buffer> Machine<B> {
         reader: Reader,
         performer: &mut P,
         progress: HeadProgress,
+        joined: bool,
         byte: u8,
         position: usize,
     ) -> usize {
@@ -105,7 +141,7 @@ impl<B: Buffer> Machine<B> {
             self.state = State::Text(Unfinished::Nothing);
             return position + 1;
         }
-        let ignore = self.collected.end_head();
+        let ignore = self.collected.end_head(joined);
         self.dispatch_control_sequence(reader, performer, ignore, byte, position)
     }
 

@@ -70,7 +70,7 @@ impl<B: Buffer> Machine<B> {
                 self.read_intermediates::<P, G, MAY_STOP>(reader, performer, input, from)
             }
             State::ControlSequence(progress) => self
-                .read_short_head::<P, G, MAY_STOP>(reader, performer, input, progress, true, from),
+                .read_control_sequence::<P, G, MAY_STOP>(reader, performer, input, progress, from),
             State::DeviceControl(progress) => {
                 self.read_device_control::<P, G, MAY_STOP>(reader, performer, input, progress, from)
             }

@@ -26,14 +26,7 @@ impl<B: Buffer> Machine<B> {
         if next < input.len() && reader.at(input, next) == b'[' {
             self.collected.begin_head();
             self.state = State::ControlSequence(HeadProgress::Entry);
-            return self.read_short_head::<P, G, MAY_STOP>(
-                reader,
-                performer,
-                input,
-                HeadProgress::Entry,
-                false,
-                next + 1,
-            );
+            return self.read_short_head::<P, G, MAY_STOP>(reader, performer, input, next + 1);
         }
         self.state = State::Escape;
         self.read_escape::<P, G, MAY_STOP>(reader, performer, input, next)
@@ -56,7 +49,8 @@ impl<B: Buffer> Machine<B> {
             if byte == b'[' {
                 self.collected.begin_head();
                 self.state = State::ControlSequence(HeadProgress::Entry);
-                return self.read_control_sequence::<P, G, MAY_STOP>(
+                // `read_control_sequence` may look at a byte twice.
+                return self.read_any_head::<P, G, MAY_STOP>(
                     reader,
                     performer,
                     input,

@@ -14,7 +14,7 @@ use Rattle.vte_core.proofs.parser.machine.Machine.begin_or_dispatch.Goals as goa
 pub returns-then-byte-eq80-clause-takes : goal.returns-then-byte-eq80-clause-takes
 unfolding sequence_kind
 returns-then-byte-eq80-clause-takes g c = λ s.
-    takes-byte refl (record { by = c.begin_head.ensures (stands-escape _ s) })
+    takes-byte refl (record { by = c.begin_head.ensures.head (stands-escape _ s) })
     (escape-key DeviceControl (class-final _ c.requires.ends) (rw c.if-byte-eq80.true refl) refl)
 
 -- `]`: a command.

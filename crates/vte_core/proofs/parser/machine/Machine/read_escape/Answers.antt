@@ -34,8 +34,8 @@ returns-then-byte-eq91-clause-advances g c =
     advances-then v.advances
     (advances-then
     (advances-bracket v.begun
-    (omega arith) c.at-byte.ensures.value v.may_go_on c.if-byte-eq91.true refl c.begin_head.ensures)
-    c.read_control_sequence.ensures.advances)
+    (omega arith) c.at-byte.ensures.value v.may_go_on c.if-byte-eq91.true refl c.begin_head.ensures.head)
+    c.read_any_head.ensures.advances)
 
 -- Any other byte.
 pub returns-then-byte-ne-ESCAPE-clause-advances : goal.returns-then-byte-ne-ESCAPE-clause-advances

@@ -21,7 +21,7 @@ returns-then-at-eq91-clause-advances g c =
     tt))
     (advances-then
     (advances-bracket {parser = begun} refl
-    (omega arith) c.at.ensures.value c.requires.may_read.may_go_on c.if-at-eq91.true refl c.begin_head.ensures)
+    (omega arith) c.at.ensures.value c.requires.may_read.may_go_on c.if-at-eq91.true refl c.begin_head.ensures.head)
     c.read_short_head.ensures.advances)
 
 pub returns-clause-advances : goal.returns-clause-advances

@@ -1,11 +1,12 @@
--- Numbers first, then a final byte at once, nothing, or the rest of the head.
-use Rattle.vte_core.proofs.Common.{refl, sym, ◌∙◌, rules}
+-- A number first, then a final byte at once, `;` and more numbers, or the rest of the head.
+use Rattle.vte_core.proofs.Common.{◌≡◌, refl, sym, ◌∙◌, rules, class_of}
 use Rattle.vte_core.proofs.bytes.ClassCases.{final_ends_nothing}
-use Rattle.vte_core.proofs.calls.Heads.{ControlHead, advances-head, advances-past_head, performs-head}
+use Rattle.vte_core.proofs.calls.Heads.{ControlHead, advances-head, advances-past_head, performs-head, reads_head-byte, reads_head-then}
 use Rattle.vte_core.proofs.calls.Stretches.{advances-moved, advances-then}
+use Rattle.vte_core.proofs.fields.HeadSteps.{holds-parameter}
 use Rattle.vte_core.proofs.parser.machine.Machine.read_short_head.Goals as goal
 
--- Numbers and a final byte.
+-- A number and a final byte.
 pub returns-then-is_final : goal.returns-then-is_final
 returns-then-is_final g c =
     let read = c.read_numbers-head.ensures in
@@ -14,7 +15,7 @@ returns-then-is_final g c =
     record {
       advances =
           advances-moved (sym d.next)
-          (advances-past_head ControlHead c.requires.begun read.reads.head next c.requires.may_go_on
+          (advances-past_head ControlHead c.requires.may_read.begun read.reads.head next c.requires.may_read.may_go_on
           (performs-head ControlHead c.read_numbers-head.result.progress refl
           (final_ends_nothing _ (sym c.is_final.ensures ∙ c.if-is_final.true)) d.takes) d.handles.settled);
       moves = search rules;
@@ -24,14 +25,24 @@ pub end_control_sequence-requires-clause-room : goal.end_control_sequence-requir
 end_control_sequence-requires-clause-room g c =
     let next = rw c.in-Some.is at c.read_numbers-head.ensures.reads.next in search rules
 
--- Numbers and the end of the call.
-pub returns-then-is_none-clause-advances : goal.returns-then-is_none-clause-advances
-returns-then-is_none-clause-advances g c =
-    advances-head ControlHead c.requires.begun c.read_numbers-head.ensures.reads.head c.requires.may_go_on refl
+-- A number and `;`.
+pub returns-then-byte-eq59-clause-advances : goal.returns-then-byte-eq59-clause-advances
+unfolding class_of
+returns-then-byte-eq59-clause-advances g c =
+    let numbers = c.read_numbers-head.ensures in
+    let next = rw c.in-Some.is at numbers.reads.next in
+    let is : c.in-Some.byte ≡ 59 = c.if-byte-eq59.true in
+    advances-then
+    (advances-head ControlHead c.requires.may_read.begun
+    (reads_head-then numbers.reads.head (reads_head-byte next.0 next.1 (rw is refl) (λ head s.
+    rw is (holds-parameter head 59 numbers.may s refl c.end_number.ensures.same c.end_number.ensures.counts))))
+    c.requires.may_read.may_go_on refl)
+    c.read_control_sequence.ensures.advances
 
--- Numbers and more of the head.
+-- A number and more of the head.
 pub returns-clause-advances : goal.returns-clause-advances
 returns-clause-advances g c =
     advances-then
-    (advances-head ControlHead c.requires.begun c.read_numbers-head.ensures.reads.head c.requires.may_go_on refl)
+    (advances-head ControlHead c.requires.may_read.begun c.read_numbers-head.ensures.reads.head
+    c.requires.may_read.may_go_on refl)
     c.read_control_sequence-2.ensures.advances

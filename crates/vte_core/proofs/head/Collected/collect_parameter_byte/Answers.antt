@@ -1,0 +1,20 @@
+-- A digit makes the open number longer; a separator settles it and opens another.
+use Rattle.vte_core.proofs.Common.{◌≡◌, Bool, true, false, refl, arith}
+use Rattle.vte_core.proofs.fields.NumberSteps.{counts-digit, counts-separator}
+use Rattle.vte_core.proofs.head.Collected.collect_parameter_byte.Goals as goal
+
+pub returns-in-Some-clause-counts : goal.returns-in-Some-clause-counts
+returns-in-Some-clause-counts c = λ text k.
+    let is = c.in-Some.ensures in
+    counts-digit c.args.byte k is.0 is.1 refl refl (omega (arith, c.min-number.ensures, is.2))
+
+-- what no digit is
+left_is_separator : (separator parameter : Bool) → (separator ≡ false → parameter ≡ false) → parameter ≡ true
+    → separator ≡ true
+left_is_separator true parameter other is = refl
+left_is_separator false parameter other is = let not = other refl in cc
+
+pub returns-in_default-clause-counts : goal.returns-in_default-clause-counts
+returns-in_default-clause-counts c = λ text k.
+    counts-separator c.args.byte k (c.settle_number-self.ensures.settles text k)
+    (left_is_separator _ _ c.in_default.ensures c.requires) refl refl refl

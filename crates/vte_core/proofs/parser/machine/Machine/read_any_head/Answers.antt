@@ -1,0 +1,70 @@
+-- The head first. Then nothing is left, or the next byte ends it: final, CAN, SUB or ESC, a control, or one that is
+-- dropped, by its class.
+use Rattle.vte_core.proofs.Common.{refl, sym, ◌∙◌, rules, class_of}
+use Rattle.vte_core.proofs.bytes.ClassCases.{class-control, final_ends_nothing, left_is_dropped}
+use Rattle.vte_core.proofs.calls.Arms.{takes-byte}
+use Rattle.vte_core.proofs.calls.Heads.{ControlHead, advances-head, advances-past_head, performs-head}
+use Rattle.vte_core.proofs.calls.Stretches.{advances-moved}
+use Rattle.vte_core.proofs.fields.PlaceOfState.{stands-by}
+use Rattle.vte_core.proofs.places.PlaceLeads.{byte-dropped, byte-executed}
+use Rattle.vte_core.proofs.parser.machine.Machine.read_any_head.Goals.{then-ends_body, else-ends_body+then-is_plain_control, else-ends_body+else-is_plain_control}
+use Rattle.vte_core.proofs.parser.machine.Machine.read_any_head.Goals as goal
+
+-- A final byte ends the sequence.
+pub returns-then-is_final : goal.returns-then-is_final
+returns-then-is_final g c =
+    let read = c.read_head-head.ensures in
+    let next = rw c.in-Some.is at read.reads.next in
+    let d = c.end_control_sequence.ensures in
+    record {
+      advances =
+          advances-moved (sym d.next)
+          (advances-past_head ControlHead c.requires.begun read.reads.head next c.requires.may_go_on
+          (performs-head ControlHead c.read_head-head.result.progress refl
+          (final_ends_nothing _ (sym c.is_final.ensures ∙ c.if-is_final.true)) d.takes) d.handles.settled);
+      moves = search rules;
+    }
+
+pub end_control_sequence-requires-clause-room : goal.end_control_sequence-requires-clause-room
+end_control_sequence-requires-clause-room g c =
+    let next = rw c.in-Some.is at c.read_head-head.ensures.reads.next in search rules
+
+-- CAN, SUB and ESC leave it, a control is executed inside it, and DEL or a byte from 80 is dropped.
+pub returns-in-Some-clause-advances : goal.returns-in-Some-clause-advances
+returns-in-Some-clause-advances g c =
+    let read = c.read_head-head.ensures in
+    let next = rw c.in-Some.is at read.reads.next in
+    let progress = c.read_head-head.result.progress in
+    let b = c.in-Some.byte in
+    elim c.if-ends_body.branch [
+      -- CAN, SUB or ESC.
+      | then-ends_body w ↦
+          rw (w.self-is, w.performer-is)
+          (advances-past_head ControlHead c.requires.begun read.reads.head next c.requires.may_go_on
+          w.end_body.ensures.performs w.end_body.ensures.handles.settled)
+      -- A control.
+      | else-ends_body+then-is_plain_control w ↦
+          let is = class-control _ (sym w.is_plain_control.ensures ∙ w.if-is_plain_control.true) in
+          rw (w.self-is, w.performer-is)
+          (advances-past_head ControlHead c.requires.begun read.reads.head next c.requires.may_go_on
+          (performs-head ControlHead progress refl (rw is refl) (λ bytes stands.
+          takes-byte w.execute_control.ensures.value (stands-by refl stands)
+          (byte-executed refl is))) tt)
+      -- A byte that is dropped.
+      | else-ends_body+else-is_plain_control w ↦
+          let ordinary = sym c.ends_body.ensures ∙ w.if-ends_body.false in
+          let dropped =
+          left_is_dropped (class_of b) (rw c.in-Some.is at read.other)
+          (sym c.is_final.ensures ∙ c.if-is_final.false) ordinary
+          (sym w.is_plain_control.ensures ∙ w.if-is_plain_control.false) in
+          rw (w.self-is, w.performer-is)
+          (advances-past_head ControlHead c.requires.begun read.reads.head next c.requires.may_go_on
+          (performs-head ControlHead progress refl ordinary (λ bytes stands.
+          takes-byte refl (stands-by refl stands)
+          (byte-dropped refl refl dropped))) tt)
+    ]
+
+-- All bytes are of the head.
+pub returns-clause-advances : goal.returns-clause-advances
+returns-clause-advances g c =
+    advances-head ControlHead c.requires.begun c.read_head-head.ensures.reads.head c.requires.may_go_on refl

@@ -10,7 +10,6 @@
 //! that the performer takes exactly these. [`laws`] has what holds of all streams.
 #![tactic(auto)]
 
-mod automaton;
 mod buffer;
 mod class;
 mod cuts;
@@ -20,6 +19,7 @@ mod params;
 mod parser;
 mod perform;
 mod run;
+mod run_blocks;
 mod scan;
 mod store;
 mod utf8;

@@ -7,7 +7,7 @@
 //! one by one, in blocks, as a copy in a buffer, or as text or data: for a performer, or in a
 //! [`Run`] for the caller.
 ghost use Rattle.std.specs.Prelude.{◌≡◌, ◌+◌, ◌-◌, ◌<◌, ◌≤◌, ℕ, [], ◌∷◌, ◌++◌, false, true, length, drop, map, take, slice_index, vec_capacity, MatchOption, IsUtf8};
-ghost use Rattle.vte_core.specs.machine.Prelude.{AreOfKind, ArePut, IsRange, IsRun, IsTaken, PrintsRun, Put, Tells, after, character_event, counted, is_in, looked, malformed_event, from_to};
+ghost use Rattle.vte_core.specs.machine.Prelude.{AreOfKind, ArePut, IsRange, IsRun, IsTaken, IsWindow, PrintsRun, Put, Tells, after, character_event, counted, is_in, looked, malformed_event, from_to};
 
 mod calls;
 mod counted_perform;
@@ -95,6 +95,15 @@ pub(crate) struct Reader {
 #[derive(Clone, Copy)]
 pub(crate) struct Input<'a> {
     bytes: &'a [u8],
+}
+
+/// Sixteen bytes (`last`), and those one, two and three places before each of them.
+#[derive(Drop)]
+pub(crate) struct Window {
+    pub(crate) third: [u8; 16],
+    pub(crate) second: [u8; 16],
+    pub(crate) first: [u8; 16],
+    pub(crate) last: [u8; 16],
 }
 
 impl<'a> Input<'a> {
@@ -209,6 +218,26 @@ impl Reader {
         let block = *input.bytes[from..].first_chunk::<N>()?;
         self.add(N);
         Some(block)
+    }
+
+    /// Returns the 19 bytes from a position on, or `None` if there are fewer. No copy is read at
+    /// two offsets, because loads across two stores wait for both.
+    #[inline(always)]
+    pub(crate) fn get_window(&mut self, input: Input<'_>, from: usize) -> Option<Window>
+        requires { from ≤ length input.bytes.now }
+        ensures { MatchOption result (looked self.new ≡ looked self.old)
+            (λ window. IsWindow input.entry.bytes.now from window
+            × (looked self.new ≡ looked self.old + 19)) }
+    {
+        let bytes = input.bytes[from..].first_chunk::<19>()?;
+        let window = Window {
+            third: *bytes.first_chunk::<16>()?,
+            second: *bytes[1..].first_chunk::<16>()?,
+            first: *bytes[2..].first_chunk::<16>()?,
+            last: *bytes[3..].first_chunk::<16>()?,
+        };
+        self.add(19);
+        Some(window)
     }
 
     /// Tells a whole character.

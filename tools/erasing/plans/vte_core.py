@@ -117,7 +117,8 @@ VTE_CORE = dict(
             ("impl<'a> Input<'a> { $$$f }", functions_of_input),
             ("Input { bytes: $$x, }", "$x"), ("input.bytes", "input"),
             ("fn text(", "pub(crate) unsafe fn text("), ("fn take_run(", "unsafe fn take_run("),
-            ("input[from..].first_chunk::<N>()", "first_chunk::<N>(&input[from..])"),
+            ("$x[$i..].first_chunk::<$n>()", "first_chunk::<$n>(&$x[$i..])"),
+            ("bytes.first_chunk::<16>()", "first_chunk::<16>(bytes)"),
             ("unsafe {", f"{OF_TEXT}unsafe {{")],
         "vte_core/scan/search": [("input.bytes", "input")],
         "vte_core/parser": [

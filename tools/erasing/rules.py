@@ -32,6 +32,7 @@ OLDER = [
     ("$v.is_sorted()", "$v.windows(2).all(|pair| pair[0] <= pair[1])"),
     ("$v$range.first_chunk::<$n>()", "first_chunk::<$n>(&$v$range)",
      lambda names: names["range"][0] == "["),
+    ("$v.first_chunk::<$n>()", "first_chunk::<$n>($v)", lambda names: names["v"].isidentifier()),
     ("let $v($$p) = $$e else { $$$body };", lambda names: _match(**names)),
     ("$a..$b =>", lambda names: f"{names['a']}..={_before(names['b'])} =>",
      lambda names: names["b"][0].isdigit()),

@@ -139,7 +139,8 @@ TEXTS = [
     ({}, "‹//! ```rattle\n//! f();\n//! ```\n\n›"
      "/// F.\n‹///\n/// ```rattle\n/// f();\n/// ```\n›/// G.\nfn f() {}"),
     (dict(rules=[("$x.b", "k($x)")]), "fn f() { ‹g\n.b›«k(g)»; }"),
-    ({}, "fn f() { ‹a[b..].first_chunk::<2>()›«first_chunk::<2>(&a[b..])»; a.first_chunk::<2>() }"),
+    ({}, "fn f() { ‹a[b..].first_chunk::<2>()›«first_chunk::<2>(&a[b..])» }"),
+    ({}, "fn f() { ‹a.first_chunk::<2>()›«first_chunk::<2>(a)» }"),
     ({}, "fn f() { ‹let A(x) = g(1) else {\n// why\nreturn };›"
      "«let x = match g(1) { A(x) => x, _ => {\n// why\nreturn } };»"
      "‹let B(y) = h else { break; };›«let y = match h { B(y) => y, _ => break, };» }"),

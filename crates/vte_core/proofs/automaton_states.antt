@@ -2,4 +2,5 @@
 pub mod Steps
 pub mod Begins
 pub mod Scanned
+pub mod Windows
 pub mod Readings

@@ -9,7 +9,6 @@
 // says that the performer takes exactly these. [`laws`] has what holds of all streams.
 #![tactic(auto)]
 
-mod automaton;
 mod buffer;
 mod class;
 mod cuts;
@@ -19,6 +18,7 @@ mod params;
 mod parser;
 mod perform;
 mod run;
+mod run_blocks;
 mod scan;
 mod store;
 mod utf8;

@@ -12,7 +12,7 @@ use crate::utf8::{is_continuation, is_lead, is_printed_ascii, may_begin_four, ma
 /// Longer runs go on in blocks.
 // proof: by then single bytes have taken fewer looks than they may, enough to pay for one wasted
 // block.
-const SHORT_RUN: usize = 48;
+const SHORT_RUN: usize = 66;
 
 impl Reader {
     /// Returns whether printed ASCII begins a run at a position: four bytes of it, of which the
@@ -135,7 +135,7 @@ impl Reader {
         requires range { IsRange input.bytes.now from to }
         ensures scans { Scans (IsRun layout) input.entry.bytes.now from result self.old self.new }
         ensures ended { result < to → HasNoRunAt layout input.entry.bytes.now result }
-        // One look per three bytes fewer than a run may take: these pay for the automaton.
+        // One look per three bytes fewer than a run may take: these pay for a wasted block.
         ensures count { 3 * looked self.new + 11 * from ≤ 3 * looked self.old + 11 * result + 12 }
         ensures spare { to ≤ result
             → 3 * looked self.new + 11 * from ≤ 3 * looked self.old + 11 * result }
@@ -158,11 +158,12 @@ impl Reader {
     /// Finds where a long run ends that has come to a position.
     #[inline(never)]
     fn find_run_end_by_blocks(&mut self, input: Input<'_>, from: usize, layout: bool) -> usize
-        requires { from ≤ length input.bytes.now }
+        requires before { 3 ≤ from }
+        requires within { from ≤ length input.bytes.now }
         ensures scans { Scans (IsRun layout) input.entry.bytes.now from result self.old self.new }
         ensures ended { HasNoRunAt layout input.entry.bytes.now result }
-        // 3 * 16 for a block that was read in vain, and 12 as in `find_end_up_to`.
-        ensures count { 3 * looked self.new + 11 * from ≤ 3 * looked self.old + 11 * result + 60 }
+        // 66 as in `skip_run_blocks`, and 12 as in `find_end_up_to`.
+        ensures count { 3 * looked self.new + 11 * from ≤ 3 * looked self.old + 11 * result + 78 }
     {
         let end = self.skip_run_blocks(input, from, layout);
         self.find_end_up_to(input, end, input.len(), layout)

@@ -5,7 +5,7 @@
 // make one of these. Bytes leave this module one by one, in blocks, as a copy in a buffer, or as
 // text or data: for a performer, or in a [`Run`] for the caller.
 ghost use Rattle.std.specs.Prelude.{◌≡◌, ◌+◌, ◌-◌, ◌<◌, ◌≤◌, ℕ, [], ◌∷◌, ◌++◌, false, true, length, drop, map, take, slice_index, vec_capacity, MatchOption, IsUtf8};
-ghost use Rattle.vte_core.specs.machine.Prelude.{AreOfKind, ArePut, IsRange, IsRun, IsTaken, PrintsRun, Put, Tells, after, character_event, counted, is_in, looked, malformed_event, from_to};
+ghost use Rattle.vte_core.specs.machine.Prelude.{AreOfKind, ArePut, IsRange, IsRun, IsTaken, IsWindow, PrintsRun, Put, Tells, after, character_event, counted, is_in, looked, malformed_event, from_to};
 
 mod calls;
 mod counted_perform;
@@ -107,6 +107,15 @@ pub(crate) struct Input<'a> {
     bytes: &'a [u8],
 }
 
+/// Sixteen bytes (`last`), and those one, two and three places before each of them.
+#[derive(Drop)]
+pub(crate) struct Window {
+    pub(crate) third: [u8; 16],
+    pub(crate) second: [u8; 16],
+    pub(crate) first: [u8; 16],
+    pub(crate) last: [u8; 16],
+}
+
 // cargo: /// Returns the bytes up to a position.
 // cargo: #[inline(always)]
 // cargo: pub(crate) fn up_to(input: &[u8], to: usize) -> &[u8] {
@@ -142,8 +151,8 @@ impl<'a> Input<'a> {
 /// The bytes between them must be whole characters. They are if a search for the end of a run,
 /// begun at `from` or after whole characters that stand there, ended at `to`: it passes one
 /// whole character at a time, a byte of ASCII, or a lead byte with all its continuation bytes,
-/// the first of which `may_begin_three` and `may_begin_four` test. The automaton, which passes
-/// blocks, goes back to where no character is open.
+/// the first of which `may_begin_three` and `may_begin_four` test. Blocks whose bytes all fit, as
+/// `follows` tells, may end inside a character: the search then goes back to where it began.
 #[inline(always)]
 #[allow(unsafe_code)]
 // cargo instead: pub(crate) unsafe fn text(bytes: &[u8], from: usize, to: usize) -> &str
@@ -247,6 +256,26 @@ impl Reader {
         let block = *input.bytes[from..].first_chunk::<N>()?;
         self.add(N);
         Some(block)
+    }
+
+    /// Returns the 19 bytes from a position on, or `None` if there are fewer. No copy is read at
+    /// two offsets, because loads across two stores wait for both.
+    #[inline(always)]
+    pub(crate) fn get_window(&mut self, input: Input<'_>, from: usize) -> Option<Window>
+        requires { from ≤ length input.bytes.now }
+        ensures { MatchOption result (looked self.new ≡ looked self.old)
+            (λ window. IsWindow input.entry.bytes.now from window
+            × (looked self.new ≡ looked self.old + 19)) }
+    {
+        let bytes = input.bytes[from..].first_chunk::<19>()?;
+        let window = Window {
+            third: *bytes.first_chunk::<16>()?,
+            second: *bytes[1..].first_chunk::<16>()?,
+            first: *bytes[2..].first_chunk::<16>()?,
+            last: *bytes[3..].first_chunk::<16>()?,
+        };
+        self.add(19);
+        Some(window)
     }
 
     /// Tells a whole character.

@@ -23,14 +23,11 @@ ends-row b {ranges} low same u fit =
 pub data Begins (b : ℕ) : Type 0 where
   prints : IsUtf8Run true (b ∷ []) → next_between b ≡ Between → Begins b
   fails : next_between b ≡ Failed → Begins b
-  opens : (t : AutomatonState) → next_between b ≡ t → t ≢ Between → t ≢ Failed → 0xc0 ≤ b
-      → EndsCharacter b (wanted_ranges t)
-      → Begins b
+  opens : (t : AutomatonState) → next_between b ≡ t → t ≢ Between → EndsCharacter b (wanted_ranges t) → Begins b
 
-begins-opened : (b : ℕ) (t : AutomatonState) → next_between b ≡ t → t ≢ Between → t ≢ Failed → 0xc3 ≤ b
+begins-opened : (b : ℕ) (t : AutomatonState) → next_between b ≡ t → t ≢ Between → 0xc3 ≤ b
     → rows_after_byte b utf8_rows ≡ wanted_ranges t ∷ [] → Begins b
-begins-opened b t is not fine low same =
-    opens t is not fine (omega (arith, low)) (ends-row b low same)
+begins-opened b t is not low same = opens t is not (ends-row b low same)
 
 -- after C2 the table also has controls
 ends-after_c2 : EndsCharacter 0xc2 (from_to 0xa0 0xbf ∷ [])
@@ -57,31 +54,31 @@ begins b =
       | inr from_80 ↦ elim (cases_lt b 0xc2) [
         | inl lone ↦ fails (grind (arith, nat_tests))
         | inr from_c2 ↦ elim (cases_eq b 0xc2) [
-          | inl c2 ↦ subst Begins (sym c2) (opens AfterC2 refl (λ e. cc) (λ e. cc) (omega arith) ends-after_c2)
+          | inl c2 ↦ subst Begins (sym c2) (opens AfterC2 refl (λ e. cc) ends-after_c2)
           | inr past_c2 ↦ elim (cases_lt b 0xe0) [
             | inl short ↦
-                begins-opened b One (grind (arith, nat_tests)) (λ e. cc) (λ e. cc) (omega (arith, from_c2, past_c2))
+                begins-opened b One (grind (arith, nat_tests)) (λ e. cc) (omega (arith, from_c2, past_c2))
                 (grind (arith, nat_tests))
             | inr from_e0 ↦ elim (cases_eq b 0xe0) [
-              | inl e0 ↦ subst Begins (sym e0) (begins-opened 0xe0 AfterE0 refl (λ e. cc) (λ e. cc) (omega arith) refl)
+              | inl e0 ↦ subst Begins (sym e0) (begins-opened 0xe0 AfterE0 refl (λ e. cc) (omega arith) refl)
               | inr past_e0 ↦ elim (cases_lt b 0xf0) [
                 | inl middle ↦ elim (cases_eq b 0xed) [
                   | inl ed ↦
-                      subst Begins (sym ed) (begins-opened 0xed AfterED refl (λ e. cc) (λ e. cc) (omega arith) refl)
+                      subst Begins (sym ed) (begins-opened 0xed AfterED refl (λ e. cc) (omega arith) refl)
                   | inr other ↦
-                      begins-opened b Two (grind (arith, nat_tests)) (λ e. cc) (λ e. cc) (omega (arith, from_e0))
+                      begins-opened b Two (grind (arith, nat_tests)) (λ e. cc) (omega (arith, from_e0))
                       (grind (arith, nat_tests))
                 ]
                 | inr from_f0 ↦ elim (cases_eq b 0xf0) [
                   | inl f0 ↦
-                      subst Begins (sym f0) (begins-opened 0xf0 AfterF0 refl (λ e. cc) (λ e. cc) (omega arith) refl)
+                      subst Begins (sym f0) (begins-opened 0xf0 AfterF0 refl (λ e. cc) (omega arith) refl)
                   | inr past_f0 ↦ elim (cases_lt b 0xf4) [
                     | inl long ↦
-                        begins-opened b Three (grind (arith, nat_tests)) (λ e. cc) (λ e. cc) (omega (arith, from_f0))
+                        begins-opened b Three (grind (arith, nat_tests)) (λ e. cc) (omega (arith, from_f0))
                         (grind (arith, nat_tests))
                     | inr from_f4 ↦ elim (cases_eq b 0xf4) [
                       | inl f4 ↦
-                          subst Begins (sym f4) (begins-opened 0xf4 AfterF4 refl (λ e. cc) (λ e. cc) (omega arith) refl)
+                          subst Begins (sym f4) (begins-opened 0xf4 AfterF4 refl (λ e. cc) (omega arith) refl)
                       | inr past_f4 ↦ fails (grind (arith, nat_tests))
                     ]
                   ]

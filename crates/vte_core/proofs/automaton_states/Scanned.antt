@@ -10,12 +10,6 @@ use Rattle.vte_core.specs.machine.Automaton.{AutomatonState, Between, Failed, ne
 use Rattle.vte_core.proofs.automaton_states.Steps.{wanted_ranges, state_after-append, next_state-failed, phase-between, phase-failed, phase-waiting, phase}
 use Rattle.vte_core.proofs.automaton_states.Begins.{prints, fails, opens, begins}
 
--- From `end` up to `at` stand a first byte and bytes that are none.
-pub record IsBegun (text : List ℕ) (end at : ℕ) : Type 0 where
-  pub some : end < at
-  pub first : 0xc0 ≤ slice_index text end
-  pub later : Each (λ b. b < 0xc0) text (end + 1) at
-
 -- Up to `end` stand characters; the bytes from there up to `at` are those of one that has begun.
 pub record ReadSoFar (text : List ℕ) (at : ℕ) (s : AutomatonState) : Type 0 where
   pub end : ℕ
@@ -23,12 +17,6 @@ pub record ReadSoFar (text : List ℕ) (at : ℕ) (s : AutomatonState) : Type 0 
   pub printable : IsUtf8Run true (take end text)
   pub completes : (u : List ℕ) → fits (wanted_ranges s) u ≡ true → IsUtf8Run true (take (at - end) (drop end text) ++ u)
   pub settled : s ≡ Between → end ≡ at
-  pub begun : s ≢ Between → IsBegun text end at
-  pub short : at + length (wanted_ranges s) ≤ end + 4
-
-wanted_ranges-short : (s : AutomatonState) → length (wanted_ranges s) ≤ 3
-wanted_ranges-short Between = omega arith
-wanted_ranges-short _ = omega arith
 
 none-taken : (text : List ℕ) (at end : ℕ) → end ≡ at → take (at - end) (drop end text) ≡ []
 none-taken text at end same = let none : at - end ≡ 0 = omega (arith, same) in rw none refl
@@ -47,8 +35,6 @@ so_far-printed {text} {at} printed = record {
         | c ∷ v ↦ λ f. absurd (false≢true f)
       ] fit);
   settled = λ _. refl;
-  begun = λ not. absurd (not refl);
-  short = omega arith;
 }
 
 module _ (text : List ℕ) (at : ℕ) (within : at < length text) (s : AutomatonState) (old : ReadSoFar text at s) where
@@ -78,18 +64,15 @@ module _ (text : List ℕ) (at : ℕ) (within : at < length text) (s : Automaton
       (printable-append old.printable whole))
 
   -- A character begins or goes on.
-  so_far-goes_on : (t : AutomatonState) → t ≢ Between → IsBegun text old.end (at + 1)
-      → at + 1 + length (wanted_ranges t) ≤ old.end + 4
+  so_far-goes_on : (t : AutomatonState) → t ≢ Between
       → ((u : List ℕ) → fits (wanted_ranges t) u ≡ true → IsUtf8Run true ((taken ++ b ∷ []) ++ u))
       → ReadSoFar text (at + 1) t
-  so_far-goes_on t not shape short completes = record {
+  so_far-goes_on t not completes = record {
     end = old.end;
     before = omega (arith, old.before);
     printable = old.printable;
     completes = λ u fit. subst (λ x. IsUtf8Run true (x ++ u)) (sym taken-more) (completes u fit);
     settled = λ same. absurd (not same);
-    begun = λ _. shape;
-    short = short;
   }
 
   -- the first byte of a character
@@ -104,14 +87,8 @@ module _ (text : List ℕ) (at : ℕ) (within : at < length text) (s : Automaton
             subst (ReadSoFar text (at + 1)) (sym (e ∙ is))
             (so_far-settles (subst (λ x. IsUtf8Run true (x ++ b ∷ [])) (sym none) printed))
         | fails is ↦ absurd (ok (e ∙ is))
-        | opens t is not fine low completes ↦ subst (ReadSoFar text (at + 1)) (sym (e ∙ is))
+        | opens t is not completes ↦ subst (ReadSoFar text (at + 1)) (sym (e ∙ is))
             (so_far-goes_on t not
-            (record {
-              some = omega (arith, here);
-              first = subst (λ n. 0xc0 ≤ slice_index text n) (sym here) low;
-              later = λ k past below. absurd (omega (arith, here, past, below));
-            })
-            (omega (arith, here, wanted_ranges-short t))
             (λ u fit. subst (λ x. IsUtf8Run true ((x ++ b ∷ []) ++ u)) (sym none) (completes u fit)))
       ]
 
@@ -123,7 +100,6 @@ module _ (text : List ℕ) (at : ℕ) (within : at < length text) (s : Automaton
     | inr misfits ↦ absurd (ok (steps ∙ ap (λ v. cond v t Failed) misfits))
     | inl fit ↦
         let e : next_state s b ≡ t = steps ∙ ap (λ v. cond v t Failed) fit in
-        let k = old.begun not in
         let completes : (u : List ℕ) → fits (wanted_ranges t) u ≡ true → IsUtf8Run true ((taken ++ b ∷ []) ++ u) =
         λ u more. subst (IsUtf8Run true) (sym (append_assoc taken (b ∷ []) u)) (old.completes (b ∷ u)
         (ap (λ ranges. fits ranges (b ∷ u)) is ∙ ap (λ v. v && fits (wanted_ranges t) u) fit ∙ more)) in
@@ -135,15 +111,7 @@ module _ (text : List ℕ) (at : ℕ) (within : at < length text) (s : Automaton
               subst (ReadSoFar text (at + 1)) (sym same) (so_far-settles whole)
           | phase-failed same ↦ absurd (ok (e ∙ same))
           | phase-waiting v r other _ _ _ ↦
-              so_far-goes_on t other
-              (record {
-                some = omega (arith, k.some);
-                first = k.first;
-                later =
-                    each-next (λ c. c < 0xc0) text (old.end + 1) at b k.later refl
-                    (omega (arith, last, (in_range-bounds range b fit).1));
-              })
-              (omega (arith, old.short, ap length is)) completes
+              so_far-goes_on t other completes
         ])
   ]
 
@@ -155,7 +123,7 @@ module _ (text : List ℕ) (at : ℕ) (within : at < length text) (s : Automaton
     | phase-waiting t range not last is steps ↦ so_far-later t range not last is (steps b) ok
   ]
 
-state_after-next : (text : List ℕ) (at : ℕ) → at < length text
+pub state_after-next : (text : List ℕ) (at : ℕ) → at < length text
     → state_after Between (take (at + 1) text) ≡ next_state (state_after Between (take at text)) (slice_index text at)
 state_after-next text at within =
     ap (state_after Between) (take_more text at 0 within)

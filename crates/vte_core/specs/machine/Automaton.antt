@@ -1,6 +1,7 @@
--- The automaton that reads text which may hold HT, LF and CR, byte by byte.
-use Rattle.std.specs.Prelude.{◌≡◌, ◌≢◌, ℕ, ◌+◌, ◌≤◌, true, List, [], ◌∷◌, length, take, ◌==◌, if◌then◌else◌}
-use Rattle.vte_core.specs.machine.TextRun.{IsUtf8Run}
+-- The automaton that reads text which may hold HT, LF and CR, byte by byte, and what the last three
+-- bytes say of its state. No code has these states.
+use Rattle.std.specs.Prelude.{◌≡◌, ℕ, ◌<◌, ◌≤◌, Bool, false, List, [], ◌∷◌, slice_index, ◌==◌, if◌then◌else◌, nat_le}
+use Rattle.vte_core.specs.declared.scan.Window.{Window}
 use Rattle.vte_core.specs.Text.{is_layout}
 use Rattle.vte_core.specs.Utf8.{Range, from_to, is_in}
 
@@ -17,18 +18,6 @@ pub data AutomatonState : Type 0 where
   AfterF4 : AutomatonState
   AfterC2 : AutomatonState
   Failed : AutomatonState
-
-abbrev pub state_code : AutomatonState → ℕ
-state_code Between = 0
-state_code One = 6
-state_code Two = 12
-state_code Three = 18
-state_code AfterE0 = 24
-state_code AfterED = 30
-state_code AfterF0 = 36
-state_code AfterF4 = 42
-state_code AfterC2 = 48
-state_code Failed = 54
 
 abbrev pub next_if_in : Range → AutomatonState → ℕ → AutomatonState
 next_if_in range next b = if is_in range b then next else Failed
@@ -63,15 +52,40 @@ abbrev pub state_after : AutomatonState → List ℕ → AutomatonState
 state_after state [] = state
 state_after state (b ∷ bytes) = state_after (next_state state b) bytes
 
--- The automaton has read the bytes before `at`, which led to the state with this code, and may go
--- on.
-pub record HasScanned (text : List ℕ) (at state : ℕ) : Type 0 where
-  pub within : at ≤ length text
-  pub state_is : state ≡ state_code (state_after Between (take at text))
-  pub going : state_after Between (take at text) ≢ Failed
+-- What the three bytes before a position say of the state there.
+abbrev pub Trails : AutomatonState → ℕ → ℕ → ℕ → Type 0
+Trails Between third second first = (first < 0xc0) × (second < 0xe0) × (third < 0xf0)
+Trails One third second first =
+    (first < 0xc0 → second < 0xe0 → 0xf0 ≤ third) × (first < 0xe0) × (second < 0xf0)
+Trails Two third second first = (first < 0xe0 → 0xf0 ≤ second) × (first < 0xf0)
+Trails Three third second first = 0xf0 ≤ first
+Trails AfterE0 third second first = first ≡ 0xe0
+Trails AfterED third second first = first ≡ 0xed
+Trails AfterF0 third second first = first ≡ 0xf0
+Trails AfterF4 third second first = first ≡ 0xf4
+Trails AfterC2 third second first = (first ≡ 0xc2) × (second < 0xf0)
+Trails Failed third second first = ⊥
 
--- Up to `end` stand whole characters, and up to `at` at most three bytes of another.
-pub record LastEnd (text : List ℕ) (at end : ℕ) : Type 0 where
-  pub before : end ≤ at
-  pub near : at ≤ end + 3
-  pub run : IsUtf8Run true (take end text)
+-- How many of three bytes are those of a character that they leave open.
+abbrev pub open_count : ℕ → ℕ → ℕ → ℕ
+open_count third second first =
+    if nat_le 0xc0 first then 1
+    else if nat_le 0xe0 second then 2
+    else if nat_le 0xf0 third then 3
+    else 0
+
+-- In a run a byte may stand after these three.
+pub record Follows (layout : Bool) (third second first byte : ℕ) : Type 0 where
+  pub leads : (state : AutomatonState) → Trails state third second first
+      → Trails (next_state state byte) second first byte
+  pub above : layout ≡ false → 0x20 ≤ byte
+
+-- The k-th byte of the window may stand there.
+abbrev pub FollowsAt : Bool → Window → ℕ → Type 0
+FollowsAt layout window k =
+    Follows layout (slice_index window.third k) (slice_index window.second k)
+    (slice_index window.first k) (slice_index window.last k)
+
+-- A byte of ASCII in a run that may have HT, LF and CR.
+abbrev pub IsPlain : ℕ → Type 0
+IsPlain b = (next_between b ≡ Between) × (b < 0x80)

@@ -4,7 +4,8 @@
 -- searched; a byte of a sequence takes 3. In runs the search for the end of a run takes at most 4
 -- per byte, and its events 1: 5, the rate of a call. Where a call returns runs, such a search may
 -- find none, and then takes 4; the byte is read with the 3 that are left of 7. A search takes 11/3
--- per byte, so 48 bytes leave 16 for the block of the automaton in which a long run ends.
+-- per byte, so 66 bytes leave 22: for the three before the blocks of a long run, and the window of
+-- 19 in which it ends.
 use Rattle.std.specs.Prelude.{ℕ, ◌≡◌, ◌+◌, ◌*◌, ◌<◌, ◌≤◌, List, length, Result, IfOk}
 use Rattle.vte_core.specs.declared.scan.Reader.{Reader}
 use Rattle.vte_core.specs.declared.parser.machine.Machine.{Machine}

@@ -29,7 +29,7 @@ pub use Rattle.vte_core.specs.machine.Progress.{Advances, IsSettled, ReadsUpTo, 
 pub use Rattle.vte_core.specs.machine.Reading.{ReadsHeadUpTo, with_open_number}
 pub use Rattle.vte_core.specs.machine.Ready.{IsReady}
 pub use Rattle.vte_core.specs.machine.TextRun.{ArePrintedAscii, IsPrintedAscii, IsRun, IsNonEmptyRun, PrintsRun}
-pub use Rattle.vte_core.specs.machine.Scans.{FindsEnd, IsRange, Scans, LooksAtMost}
+pub use Rattle.vte_core.specs.machine.Scans.{FindsEnd, IsRange, IsWindow, Scans, LooksAtMost}
 pub use Rattle.vte_core.specs.machine.Store.{ArePieceEnds, HasCapacity, Stored, HoldsItems, ReservesCapacity, SameItems, cut_pieces, fitting}
 pub use Rattle.vte_core.specs.machine.Takes.{Dispatches, TakesBytes, TakesByte}
 pub use Rattle.vte_core.specs.machine.Tells.{Tells, TellsAll}

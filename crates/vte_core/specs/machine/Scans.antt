@@ -1,6 +1,7 @@
 -- Parts of a call's bytes, how far a search in them goes, and how few looks are taken.
-use Rattle.std.specs.Prelude.{◌≡◌, ℕ, ◌+◌, ◌<◌, ◌≤◌, List, length, min, slice_index}
+use Rattle.std.specs.Prelude.{◌≡◌, ℕ, ◌+◌, ◌<◌, ◌≤◌, List, drop, length, min, slice_index, take}
 use Rattle.vte_core.specs.declared.scan.Reader.{Reader}
+use Rattle.vte_core.specs.declared.scan.Window.{Window}
 use Rattle.vte_core.specs.Looks.{looked}
 use Rattle.vte_core.specs.machine.Each.{Each}
 
@@ -32,3 +33,11 @@ pub record FindsEnd (Is : ℕ → Type 0) (bytes : List ℕ) (from to : ℕ)
 pub record LooksAtMost (most : ℕ) (before after : Reader) : Type 0 where
   pub few : looked after ≤ looked before + most
   pub grows : looked before ≤ looked after
+
+-- The window has the bytes from a position on.
+pub record IsWindow (bytes : List ℕ) (from : ℕ) (window : Window) : Type 0 where
+  pub within : from + 19 ≤ length bytes
+  pub third : window.third ≡ take 16 (drop from bytes)
+  pub second : window.second ≡ take 16 (drop (from + 1) bytes)
+  pub first : window.first ≡ take 16 (drop (from + 2) bytes)
+  pub last : window.last ≡ take 16 (drop (from + 3) bytes)

@@ -6,7 +6,6 @@
 //! [`Parser`] reads a stream in chunks of any length and calls a [`Perform`] for each of its
 //! events. [`LongParser`] is a parser without a limit on the text of operating system commands.
 
-mod automaton;
 mod buffer;
 mod class;
 mod cuts;
@@ -15,6 +14,7 @@ mod params;
 mod parser;
 mod perform;
 mod run;
+mod run_blocks;
 mod scan;
 mod store;
 mod utf8;

@@ -11,7 +11,7 @@ use crate::proved::vte_core::utf8::{
 };
 
 /// Longer runs go on in blocks.
-const SHORT_RUN: usize = 48;
+const SHORT_RUN: usize = 66;
 
 impl Reader {
     /// Returns whether printed ASCII begins a run at a position: four bytes of it, of which the

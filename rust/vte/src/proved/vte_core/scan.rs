@@ -25,6 +25,14 @@ pub(crate) use taken::{RunKind, RunRange};
 #[derive(Clone, Copy)]
 pub(crate) struct Reader {}
 
+/// Sixteen bytes (`last`), and those one, two and three places before each of them.
+pub(crate) struct Window {
+    pub(crate) third: [u8; 16],
+    pub(crate) second: [u8; 16],
+    pub(crate) first: [u8; 16],
+    pub(crate) last: [u8; 16],
+}
+
 /// Returns the bytes up to a position.
 #[inline(always)]
 pub(crate) fn up_to(input: &[u8], to: usize) -> &[u8] {
@@ -38,8 +46,8 @@ pub(crate) fn up_to(input: &[u8], to: usize) -> &[u8] {
 /// The bytes between them must be whole characters. They are if a search for the end of a run,
 /// begun at `from` or after whole characters that stand there, ended at `to`: it passes one
 /// whole character at a time, a byte of ASCII, or a lead byte with all its continuation bytes,
-/// the first of which `may_begin_three` and `may_begin_four` test. The automaton, which passes
-/// blocks, goes back to where no character is open.
+/// the first of which `may_begin_three` and `may_begin_four` test. Blocks whose bytes all fit, as
+/// `follows` tells, may end inside a character: the search then goes back to where it began.
 #[inline(always)]
 #[allow(unsafe_code)]
 pub(crate) unsafe fn text(bytes: &[u8], from: usize, to: usize) -> &str {
@@ -101,6 +109,21 @@ impl Reader {
         let block = *first_chunk::<N>(&input[from..])?;
         self.add(N);
         Some(block)
+    }
+
+    /// Returns the 19 bytes from a position on, or `None` if there are fewer. No copy is read at
+    /// two offsets, because loads across two stores wait for both.
+    #[inline(always)]
+    pub(crate) fn get_window(self, input: &[u8], from: usize) -> Option<Window> {
+        let bytes = first_chunk::<19>(&input[from..])?;
+        let window = Window {
+            third: *first_chunk::<16>(bytes)?,
+            second: *first_chunk::<16>(&bytes[1..])?,
+            first: *first_chunk::<16>(&bytes[2..])?,
+            last: *first_chunk::<16>(&bytes[3..])?,
+        };
+        self.add(19);
+        Some(window)
     }
 
     /// Tells a whole character.

@@ -1,55 +1,119 @@
--- A block after which the automaton has not failed is read; the run ends with the last whole character (`last_end`).
-use Rattle.vte_core.proofs.Common.{drop-drop, false≢true, ◌≡◌, ◌≤◌, ◌+◌, ◌-◌, false, take, drop, ap, sym, subst, ◌∙◌, arith, inl, inr, cases_lt, length-drop, looked, rules, IsUtf8Run}
+-- A block whose bytes all fit is skipped. The run ends before the character that the last bytes leave open.
+use Rattle.vte_core.proofs.Common.{◌≡◌, ◌≤◌, ◌<◌, ◌+◌, ◌-◌, false, drop, arith, false≢true, ◌∙◌, inl, inr, cases_lt, sym, subst, get_or-drop, looked, rules}
 use Rattle.vte_core.specs.machine.Each.{Each}
-use Rattle.vte_core.proofs.bytes.EachLemmas.{each-both, each-block}
-use Rattle.vte_core.proofs.automaton_states.Readings.{has_read-more, run-kept}
-use Rattle.vte_core.proofs.scan.Reader.skip_run_blocks.Goals.{else-not-layout-via-then-not-layout+else-has_control, else-not-layout-via-else-not-layout}
+use Rattle.vte_core.proofs.automaton_states.Readings.{run-kept}
+use Rattle.vte_core.proofs.automaton_states.Windows.{above-block, leads-ascii, leads-block, run-before-open, run-none}
+use Rattle.vte_core.proofs.scan.Reader.skip_run_blocks.Goals.{then-is_ascii, else-is_ascii}
 use Rattle.vte_core.proofs.scan.Reader.skip_run_blocks.Goals as goal
 
-pub loop-block-preserved : goal.loop-block-preserved
-loop-block-preserved c =
-    let bytes = c.args.input.bytes.now in
-    let text = drop c.args.from bytes in
-    let v = c.loop-block.invariant in
-    let block = c.in-Some.ensures in
-    let here = block.1 ∙ ap (take 16) (sym (drop-drop c.loop-block.at c.args.from bytes)) in
-    let plain : c.args.layout ≡ false → Each (λ byte. 0x20 ≤ byte) c.in-Some.block 0 16 =
-    λ no. elim c.else-not-layout.branch [
-      | else-not-layout-via-then-not-layout+else-has_control w ↦ w.has_control.ensures w.if-has_control.false
-      | else-not-layout-via-else-not-layout w ↦ absurd (false≢true (sym no ∙ w.if-not-layout.false))
-    ] in
+pub returns-then-open_bytes-gt0-clause-scans : goal.returns-then-open_bytes-gt0-clause-scans
+returns-then-open_bytes-gt0-clause-scans c = record {
+  low = omega arith;
+  high = c.requires.within;
+  are = run-none c.args.layout c.args.input.bytes.now c.args.from;
+  least = omega (arith, c.open_bytes.ensures.least);
+}
+
+pub overflow_add-plain : goal.overflow_add-plain
+overflow_add-plain c = omega (arith, c.loop-window.invariant.few, c.loop-window.auto.at-fits)
+
+pub loop-window-preserved : goal.loop-window-preserved
+loop-window-preserved c =
+    let v = c.loop-window.invariant in
+    let window = c.in-Some.ensures.0 in
+    let count = c.in-Some.ensures.1 in
+    let early : 3 ≤ c.loop-window.at = omega (arith, v.low, c.requires.before) in
+    let fits = c.goes_on.ensures c.if-not-goes_on.false in
     record {
-      read =
-          has_read-more 16 v.read
-          (omega (arith, block.0, length-drop c.args.from bytes)) here c.state_after_block-next.ensures
-          c.if-next-eq-FAILED.false;
-      kept =
-          λ no. each-both (λ byte. 0x20 ≤ byte) text 0 c.loop-block.at _ (v.kept no)
-          (each-block (λ byte. 0x20 ≤ byte) text c.in-Some.block c.loop-block.at 16 16 here (omega arith) (plain no));
-      whole = λ few. absurd (omega (arith, few));
-      count = omega (arith, v.count, block.2);
+      low = omega (arith, v.low);
+      high = omega (arith, early, window.within);
+      leads =
+          leads-block c.args.layout c.args.input.bytes.now c.in-Some.window c.args.from c.loop-window.at early v.low
+          window fits v.leads 16 (omega arith);
+      kept = λ none.
+          above-block c.args.layout c.args.input.bytes.now c.in-Some.window c.args.from c.loop-window.at early v.low
+          window fits none (v.kept none);
+      whole = λ _. omega (arith, v.low);
+      least = omega (arith, v.least, count);
+      none = λ e. absurd (omega (arith, e, v.low));
+      spare = λ _. elim (cases_lt c.args.from c.loop-window.at) [
+        | inl past ↦ omega (arith, v.spare past, count)
+        | inr here ↦ omega (arith, here, v.none (omega (arith, here, v.low)), v.low, count)
+      ];
+      few = elim c.if-is_ascii.branch [
+        | then-is_ascii w ↦ omega (arith, w.plain-is, v.few)
+        | else-is_ascii w ↦ omega (arith, w.plain-is)
+      ];
+      early = λ e. absurd (omega (arith, e, v.low));
     }
 
-pub returns : goal.returns
-returns c =
-    let text = drop c.args.from c.args.input.bytes.now in
-    let v = c.loop-block.invariant in
-    let last = c.last_end.ensures.last in
-    let end = c.last_end.result in
-    let most : looked c.get_block.new.self ≤ looked c.loop-block.self + 16 = search rules in
-    let least : looked c.loop-block.self ≤ looked c.get_block.new.self = search rules in
+pub loop-window-preserved-then-plain-ge-PLAIN_BLOCKS : goal.loop-window-preserved-then-plain-ge-PLAIN_BLOCKS
+loop-window-preserved-then-plain-ge-PLAIN_BLOCKS c =
+    let v = c.loop-window.invariant in
+    let window = c.in-Some.ensures.0 in
+    let count = c.in-Some.ensures.1 in
+    let early : 3 ≤ c.loop-window.at = omega (arith, v.low, c.requires.before) in
+    let fits = c.goes_on.ensures c.if-not-goes_on.false in
+    let ascii = c.skip_ascii_blocks-at.ensures in
+    let past : c.args.from < c.loop-window.at = elim c.if-is_ascii.branch [
+      | else-is_ascii w ↦ absurd (omega (arith, w.plain-is, c.if-plain-ge-PLAIN_BLOCKS.true))
+      | then-is_ascii w ↦ elim (cases_lt c.args.from c.loop-window.at) [
+        | inl past ↦ past
+        | inr here ↦
+            absurd
+            (omega
+            (arith, w.plain-is, c.if-plain-ge-PLAIN_BLOCKS.true, v.early (omega (arith, here, v.low))))
+      ]
+    ] in
     record {
-      scans = record {
-        low = omega arith;
-        high = omega (arith, c.requires, last.before, v.read.within, length-drop c.args.from c.args.input.bytes.now);
-        are =
-            subst (λ n. IsUtf8Run c.args.layout (take n text))
-            (let e : end ≡ c.args.from + end - c.args.from = omega arith in e)
-            (run-kept c.args.layout text c.loop-block.at end v.kept last.before last.run);
-        least = omega (arith, v.count, least, c.last_end.ensures.count, last.before);
-      };
-      count = elim (cases_lt c.loop-block.at 16) [
-        | inl few ↦ omega (arith, v.whole few, v.count, most, c.last_end.ensures.count, last.before)
-        | inr more ↦ omega (arith, more, v.count, most, c.last_end.ensures.count, last.before, last.near)
-      ];
+      low = omega (arith, v.low, ascii.low);
+      high = ascii.high;
+      leads =
+          leads-ascii c.args.input.bytes.now c.args.from (c.loop-window.at + 16)
+          c.skip_ascii_blocks-at.result (omega (arith, v.low)) ascii.low ascii.high
+          (leads-block c.args.layout c.args.input.bytes.now c.in-Some.window c.args.from c.loop-window.at early v.low
+          window fits v.leads 16 (omega arith)) ascii.closed ascii.plain;
+      kept = λ none. absurd (false≢true (sym none ∙ c.if-layout.true));
+      whole = λ _. omega (arith, v.low, ascii.low);
+      least = omega (arith, v.least, count, ascii.least);
+      none = λ e. absurd (omega (arith, e, v.low, ascii.low));
+      spare = λ _. omega (arith, v.spare past, count, ascii.count, ascii.low);
+      few = omega arith;
+      early = λ _. omega arith;
+    }
+
+pub returns-then-at-from-clause-scans : goal.returns-then-at-from-clause-scans
+returns-then-at-from-clause-scans c =
+    let least : looked c.loop-window.self ≤ looked c.get_window.new.self = search rules in
+    record {
+      low = omega arith;
+      high = c.requires.within;
+      are = run-none c.args.layout c.args.input.bytes.now c.args.from;
+      least =
+          omega
+          (arith, least, c.loop-window.invariant.least, c.open_bytes.ensures.least, c.loop-window.invariant.low);
+    }
+
+pub returns-clause-scans : goal.returns-clause-scans
+returns-clause-scans c =
+    let v = c.loop-window.invariant in
+    let bytes = c.args.input.bytes.now in
+    let text = drop c.args.from bytes in
+    let at = c.loop-window.at in
+    let whole : c.args.from + 16 ≤ at = v.whole (omega (arith, v.low, c.if-at-from.false)) in
+    let last =
+    run-before-open bytes c.args.from at (omega (arith, whole)) v.high v.leads c.open_bytes-2.result
+    c.open_bytes-2.ensures.value in
+    let kept : c.args.layout ≡ false → Each (λ byte. 0x20 ≤ byte) text 0 (at - c.args.from) =
+    λ none k _ low.
+    subst (λ byte. 0x20 ≤ byte) (sym (get_or-drop c.args.from bytes k 0))
+    (v.kept none (c.args.from + k) (omega arith) (omega (arith, low))) in
+    let least : looked c.loop-window.self ≤ looked c.get_window.new.self = search rules in
+    record {
+      low = omega (arith, whole, last.0);
+      high = omega (arith, v.high);
+      are =
+          run-kept c.args.layout text (at - c.args.from) (at - c.open_bytes-2.result - c.args.from) kept
+          (omega (arith, whole, last.0)) last.1;
+      least = omega (arith, v.least, least, c.open_bytes.ensures.least, c.open_bytes-2.ensures.least, last.0, whole);
     }

@@ -1,11 +1,8 @@
 -- What the automaton's state says of the text that it has read: characters that are printed, and then the bytes of one
 -- that has begun. Each step of the automaton keeps that.
 use Rattle.vte_core.proofs.Common.{List, [], add-one, ap, append_assoc, arith, cond, drop, inl, inr, length, length-drop, refl, subst, suc, sym, take, true, zero, ℕ, ◌&&◌, ◌++◌, ◌+◌, ◌-◌, ◌<◌, ◌∙◌, ◌∷◌, ◌≡◌, ◌≢◌, ◌≤◌, take-add, cases_Bool, false≢true, append-nil, get_or-drop, take_more, slice_index, Range, is_in, IsUtf8Run}
-use Rattle.vte_core.specs.machine.Each.{Each}
-use Rattle.vte_core.proofs.bytes.EachLemmas.{each-next}
 use Rattle.vte_core.proofs.bytes.FirstBytes.{fits}
 use Rattle.vte_core.proofs.bytes.Printable.{printable-nil, printable-append}
-use Rattle.vte_core.proofs.bytes.Scalars.{in_range-bounds}
 use Rattle.vte_core.specs.machine.Automaton.{AutomatonState, Between, Failed, next_between, next_if_in, next_state, state_after}
 use Rattle.vte_core.proofs.automaton_states.Steps.{wanted_ranges, state_after-append, next_state-failed, phase-between, phase-failed, phase-waiting, phase}
 use Rattle.vte_core.proofs.automaton_states.Begins.{prints, fails, opens, begins}

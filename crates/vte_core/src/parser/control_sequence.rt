@@ -103,13 +103,7 @@ impl<B: Buffer> Machine<B> {
             }
         }
         self.state = State::ControlSequence(head.progress);
-        self.read_any_head::<P, G, MAY_STOP>(
-            reader,
-            performer,
-            input,
-            head.progress,
-            head.position,
-        )
+        self.read_any_head::<P, G, MAY_STOP>(reader, performer, input, head.progress, head.position)
     }
 
     /// Reads the head of a control sequence, which has come so far, and the byte after it.

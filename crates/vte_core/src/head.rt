@@ -186,7 +186,8 @@ impl Collected {
         requires may { reached ≡ HeadProgress.Entry ⊎ reached ≡ HeadProgress.Parameters }
         requires alone { several ≡ true → self.old.joined ≡ false }
         ensures reads { ReadsHeadUpTo input.entry.bytes.now from reached result self.old self.new }
-        ensures may { result.progress ≡ HeadProgress.Entry ⊎ result.progress ≡ HeadProgress.Parameters }
+        ensures may { result.progress ≡ HeadProgress.Entry
+            ⊎ result.progress ≡ HeadProgress.Parameters }
         ensures joined { self.new.joined ≡ self.old.joined }
         ensures count { looked reader.new + from
             ≡ looked reader.old + min (result.position + 1) (length input.entry.bytes.now) }

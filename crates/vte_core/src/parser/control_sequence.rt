@@ -46,7 +46,7 @@ impl<B: Buffer> Machine<B> {
             if byte == b';' {
                 self.collected.end_number();
                 self.state = State::ControlSequence(HeadProgress::Parameters);
-                return self.read_control_sequence::<P, G, MAY_STOP>(
+                return self.read_more_numbers::<P, G, MAY_STOP>(
                     reader,
                     performer,
                     input,
@@ -56,7 +56,7 @@ impl<B: Buffer> Machine<B> {
             }
         }
         self.state = State::ControlSequence(head.progress);
-        self.read_control_sequence::<P, G, MAY_STOP>(
+        self.read_more_numbers::<P, G, MAY_STOP>(
             reader,
             performer,
             input,
@@ -65,9 +65,31 @@ impl<B: Buffer> Machine<B> {
         )
     }
 
-    /// Goes on with a control sequence whose head has come so far: by numbers with `;` between
-    /// them, and by a final byte right after them.
+    /// Reads further numbers: not inlined, because most sequences have at most one.
     #[inline(never)]
+    fn read_more_numbers<P: CountedPerform<G>, G: Grain, const MAY_STOP: bool>(
+        &mut self,
+        reader: &mut Reader,
+        performer: &mut P,
+        input: Input<'_>,
+        reached: HeadProgress,
+        from: usize,
+    ) -> usize
+        requires { MayRead (chunk_call MAY_STOP P.step P.is_terminated B.limit input.bytes.now)
+            (P.value_of performer.old) (State.ControlSequence reached) self.old from }
+        ensures advances { Advances ⊤
+            (chunk_call MAY_STOP P.step P.is_terminated B.limit input.entry.bytes.now)
+            (P.value_of performer.old) (P.value_of performer.new) from result self.old self.new }
+        ensures moves { MovesWithin 4 0 input.entry.bytes.now from result self.old self.new
+            reader.old reader.new }
+    {
+        self.read_control_sequence::<P, G, MAY_STOP>(reader, performer, input, reached, from)
+    }
+
+    /// Goes on with a control sequence whose head has come so far: by numbers with `;` between
+    /// them, and by a final byte right after them. If calls have one byte each, most bytes of
+    /// sequences come this way.
+    #[inline(always)]
     pub(crate) fn read_control_sequence<P: CountedPerform<G>, G: Grain, const MAY_STOP: bool>(
         &mut self,
         reader: &mut Reader,
@@ -103,6 +125,9 @@ impl<B: Buffer> Machine<B> {
             }
         }
         self.state = State::ControlSequence(head.progress);
+        if head.next.is_none() {
+            return head.position;
+        }
         self.read_any_head::<P, G, MAY_STOP>(reader, performer, input, head.progress, head.position)
     }
 

@@ -35,7 +35,7 @@ impl<B: Buffer> Machine<B> {
             if byte == b';' {
                 self.collected.end_number();
                 self.state = State::ControlSequence(HeadProgress::Parameters);
-                return self.read_control_sequence::<P, G, MAY_STOP>(
+                return self.read_more_numbers::<P, G, MAY_STOP>(
                     reader,
                     performer,
                     input,
@@ -45,7 +45,7 @@ impl<B: Buffer> Machine<B> {
             }
         }
         self.state = State::ControlSequence(head.progress);
-        self.read_control_sequence::<P, G, MAY_STOP>(
+        self.read_more_numbers::<P, G, MAY_STOP>(
             reader,
             performer,
             input,
@@ -54,9 +54,23 @@ impl<B: Buffer> Machine<B> {
         )
     }
 
-    /// Goes on with a control sequence whose head has come so far: by numbers with `;` between
-    /// them, and by a final byte right after them.
+    /// Reads further numbers: not inlined, because most sequences have at most one.
     #[inline(never)]
+    fn read_more_numbers<P: CountedPerform<G> + ?Sized, G: Grain, const MAY_STOP: bool>(
+        &mut self,
+        reader: Reader,
+        performer: &mut P,
+        input: &[u8],
+        reached: HeadProgress,
+        from: usize,
+    ) -> usize {
+        self.read_control_sequence::<P, G, MAY_STOP>(reader, performer, input, reached, from)
+    }
+
+    /// Goes on with a control sequence whose head has come so far: by numbers with `;` between
+    /// them, and by a final byte right after them. If calls have one byte each, most bytes of
+    /// sequences come this way.
+    #[inline(always)]
     pub(crate) fn read_control_sequence<
         P: CountedPerform<G> + ?Sized,
         G: Grain,
@@ -88,6 +102,9 @@ impl<B: Buffer> Machine<B> {
             }
         }
         self.state = State::ControlSequence(head.progress);
+        if head.next.is_none() {
+            return head.position;
+        }
         self.read_any_head::<P, G, MAY_STOP>(reader, performer, input, head.progress, head.position)
     }
 

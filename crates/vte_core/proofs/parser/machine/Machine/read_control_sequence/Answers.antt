@@ -1,4 +1,4 @@
--- Numbers first, then a final byte at once, or the rest of the head.
+-- Numbers first, then a final byte at once, nothing, or the rest of the head.
 use Rattle.vte_core.proofs.Common.{refl, sym, ◌∙◌, rules}
 use Rattle.vte_core.proofs.bytes.ClassCases.{final_ends_nothing}
 use Rattle.vte_core.proofs.calls.Heads.{ControlHead, advances-head, advances-past_head, performs-head}
@@ -23,6 +23,11 @@ returns-then-is_final g c =
 pub end_control_sequence-requires-clause-room : goal.end_control_sequence-requires-clause-room
 end_control_sequence-requires-clause-room g c =
     let next = rw c.in-Some.is at c.read_numbers-head.ensures.reads.next in search rules
+
+-- Numbers and the end of the call.
+pub returns-then-is_none-clause-advances : goal.returns-then-is_none-clause-advances
+returns-then-is_none-clause-advances g c =
+    advances-head ControlHead c.requires.begun c.read_numbers-head.ensures.reads.head c.requires.may_go_on refl
 
 -- Numbers and more of the head.
 pub returns-clause-advances : goal.returns-clause-advances

@@ -37,7 +37,7 @@ returns-then-byte-eq59-clause-advances g c =
     (reads_head-then numbers.reads.head (reads_head-byte next.0 next.1 (rw is refl) (λ head s.
     rw is (holds-parameter head 59 numbers.may s refl c.end_number.ensures.same c.end_number.ensures.counts))))
     c.requires.may_read.may_go_on refl)
-    c.read_control_sequence.ensures.advances
+    c.read_more_numbers.ensures.advances
 
 -- A number and more of the head.
 pub returns-clause-advances : goal.returns-clause-advances
@@ -45,4 +45,4 @@ returns-clause-advances g c =
     advances-then
     (advances-head ControlHead c.requires.may_read.begun c.read_numbers-head.ensures.reads.head
     c.requires.may_read.may_go_on refl)
-    c.read_control_sequence-2.ensures.advances
+    c.read_more_numbers-2.ensures.advances

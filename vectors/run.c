@@ -1,7 +1,7 @@
 // Tries a parser on events.json: cc run.c my_parser.c && ./a.out [WORD ..] <events.json
 //
 // Each vector is tried as it is, in one piece, and byte by byte. A word is a level, a rule, a house
-// rule, or strongest=LEVEL (docs/VECTORS.md): vectors that have it are left out.
+// rule, or strongest=LEVEL (docs/JUDGE.md): vectors that have it are left out.
 #include <signal.h>
 #include <stdio.h>
 #include <stdlib.h>

@@ -2,7 +2,7 @@
 //
 // my_parser.go, of package main, has parsePieces, a function from pieces to event lines. Each
 // vector is tried as it is, in one piece, and byte by byte. A word is a level, a rule, a house
-// rule, or strongest=LEVEL (docs/VECTORS.md): vectors that have it are left out.
+// rule, or strongest=LEVEL (docs/JUDGE.md): vectors that have it are left out.
 package main
 
 import (

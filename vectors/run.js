@@ -2,7 +2,7 @@
 //
 // MY_PARSER.js exports a function from pieces, which are buffers, to event lines. Each vector is
 // tried as it is, in one piece, and byte by byte. A word is a level, a rule, a house rule, or
-// strongest=LEVEL (docs/VECTORS.md): vectors that have it are left out.
+// strongest=LEVEL (docs/JUDGE.md): vectors that have it are left out.
 const fs = require("fs");
 const path = require("path");
 const parsePieces = require(path.resolve(process.argv[2]));

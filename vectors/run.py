@@ -3,7 +3,7 @@
 
 Import it here as `parse_pieces`, a function from pieces to event lines. Each vector is tried as it
 is, in one piece, and byte by byte. A word is a level, a rule, a house rule, or strongest=LEVEL
-(docs/VECTORS.md): vectors that have it are left out.
+(docs/JUDGE.md): vectors that have it are left out.
 """
 import json
 import sys

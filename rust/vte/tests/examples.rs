@@ -162,8 +162,9 @@ fn the_page_shows_examples() {
 fn the_page_names_uses_of_new_items() {
     let folder = Path::new(env!("CARGO_MANIFEST_DIR"));
     let page = fs::read_to_string(folder.join("../../docs/RUST.md")).unwrap_or_default();
-    let list = page.split("surface -->\n\n").nth(1).unwrap_or_default();
-    let list = list.split("\n\n").next().unwrap();
+    let list = page.split("check_public_items -->\n\n").nth(1);
+    assert_eq!(list.is_none(), page.is_empty());
+    let list = list.unwrap_or_default().split("\n\n").next().unwrap();
     for row in list.split("- ").skip(1) {
         let mut spans: Vec<_> = row.split('`').skip(1).step_by(2).collect();
         let file = fs::read_to_string(folder.join(spans.pop().unwrap())).unwrap();

@@ -17,7 +17,7 @@ use memory::{counted, ends_without, refused};
 use refused_command::CuttingParser;
 use support::Pending;
 use vte::ansi::lent::{Handler, LongProcessor};
-use vte::ansi::{BoundedProcessor, HandlerText, PrivateMode, Processor};
+use vte::ansi::{BoundedProcessor, HandlerText, NoMemory, PrivateMode, Processor};
 #[cfg(feature = "__own")]
 use vte::Own;
 use vte::{BoundedParser, LongParser, Perform, Refused};
@@ -160,7 +160,8 @@ fn copies_have_as_much_memory() {
 #[test]
 fn a_processor_without_memory_returns_the_timeout() {
     let answer = refused(|| Processor::with_timeout(Pending(true)));
-    assert!(answer.err().unwrap().timeout.0);
+    let NoMemory { timeout, .. } = answer.err().unwrap();
+    assert!(timeout.0);
     let answer = refused(|| BoundedProcessor::<9, _>::with_timeout(Pending(true)));
     assert!(answer.err().unwrap().timeout.0);
     let answer = refused(|| LongProcessor::new(Pending(true)));

@@ -65,11 +65,11 @@ def test_houses(stream, rules, lines):
 def test_each_house_rule_is_tested_and_on_the_page():
     tried = {word for _, rules, _ in HOUSES for word in rules.split()}
     page = (TOOLS.parent / "docs" / "JUDGE.md").read_text()
-    _, _, page = page.partition("## House rules")
+    page = page.partition("## House rules")[2].partition("\n## ")[0]
     for name, choices in house.CHOICES.items():
         others = choices[1:] if isinstance(choices, tuple) else ["none"]
         assert {f"{name}={value}" for value in others} <= tried
-        row = next(row for row in page.splitlines() if f"**{name}**" in row)
+        row = next(row for row in page.split("\n- ") if f"**{name}**" in row)
         shown = [str(choices)] if isinstance(choices, int) else choices
         assert all(re.search(rf"[ (]{value}\b", row) for value in shown), name
     assert re.findall(r"\*\*([a-z0-9-]+)\*\*", page) == [*house.CHOICES]

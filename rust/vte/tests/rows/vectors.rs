@@ -1,4 +1,4 @@
-//! The vectors of `vectors/*.json`, which docs/VECTORS.md describes, and ways to cut a stream.
+//! The vectors of `vectors/*.json`, which docs/JUDGE.md describes, and ways to cut a stream.
 
 const FILES: [&str; 2] = [
     include_str!("../../../../vectors/events.json"),

@@ -1,7 +1,6 @@
 //! One line per event.
 //!
-//! rust/vte/fuzz and tools/judging have this file too, without features, over the crate `vte`,
-//! which has no runs, and its version 0.10, which asks nobody where to stop.
+//! rust/vte/fuzz has this file too, without features, over the crate `vte`, which has no runs.
 
 use std::fmt::Write;
 
@@ -59,7 +58,7 @@ impl<const KEEPS: bool> EventLines<KEEPS> {
         ignore: bool,
         action: char,
     ) {
-        // that of 0.10 can be endless
+        // an iterator that doesn't end would give more
         let groups = params.iter().take(33).map(|group| join(group, ":"));
         let groups: Vec<String> = groups.collect();
         assert!(groups.len() < 33, "the iterator gives more than 32 groups");

@@ -13,7 +13,7 @@ use std::os::raw::c_char;
 pub type Made = Option<PyObject>;
 
 /// Calls a function of Python that returns a new reference, or null with an error. It gets objects,
-/// numbers, the bytes of a slice, or texts that end in NUL.
+/// numbers, the bytes or characters of a slice, or texts that end in NUL.
 macro_rules! new {
     ($py:expr, $function:ident($($argument:expr),+)) => {
         // SAFETY: the arguments are as said above, and the lock is held
@@ -173,6 +173,7 @@ pub fn short_text(py: Python<'_>, short: &Short) -> Made {
             }
         }
     }
+    // `wchar_t` has 32 bits, but on Windows
     new!(
         py,
         PyUnicode_FromWideChar(characters.as_ptr().cast(), size(count))

@@ -407,6 +407,9 @@ macro_rules! assert_keeps {
             assert_eq!(processor.command_lost_data(), lost, "{command}");
             assert_eq!(processor.clone().command_lost_data(), lost, "{command}");
             let _ = processor.advance(&mut calls, b"\x07");
+            // a further call, which may take memory, doesn't forget it
+            let _ = processor.advance(&mut calls, b"\x00");
+            assert_eq!(processor.command_lost_data(), lost, "{command}");
             // the last one loses a `;` too
             let cut = usize::from(lost) + usize::from(index == 4);
             let kept = &command["2;".len()..command.len() - cut];

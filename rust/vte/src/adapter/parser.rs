@@ -134,8 +134,6 @@ impl<const OSC_RAW_BUF_SIZE: usize> Parser<OSC_RAW_BUF_SIZE> {
 
     /// Returns whether data bytes are in no piece of the operating system command that is open, or
     /// else ended last: those after the 16th piece.
-    ///
-    /// [`shrink`](Self::shrink) forgets it if the command has ended.
     pub fn command_lost_data(&self) -> bool {
         self.0.command_lost_data()
     }

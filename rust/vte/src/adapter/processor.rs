@@ -47,9 +47,6 @@ macro_rules! processor {
             /// Returns whether data bytes are in no piece of the operating system command that is
             /// open, or else ended last: those after the 16th piece, and if there is a limit those
             /// after it. Bytes that are held back don't count.
-            ///
-            /// Without a limit, commands that have ended are forgotten before each 65,536 bytes of
-            /// a call are parsed.
             pub fn command_lost_data(&self) -> bool {
                 self.0.command_lost_data()
             }

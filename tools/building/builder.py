@@ -44,11 +44,17 @@ def stop(message):
 
 
 def proved_program(crate, words=()):
-    """A program of crates/, proved and built now. The build runs it with these words."""
-    folder = TOOLS.parent / "crates" / crate
-    print(f"proving and building {crate} (a first build takes minutes) ..", file=sys.stderr)
-    run(["rt", "run", *["--"] * bool(words), *words], crate, folder=folder)
-    return folder / "out" / crate
+    """A program of crates/, proved and built, which runs it with these words: now, unless it is
+    newer than all sources there, as after `rt ci`."""
+    crates = TOOLS.parent / "crates"
+    program = crates / crate / "out" / crate
+    sources = [TOOLS.parent / "crates.txt", *crates.glob("*/src/**/*"),
+               *crates.glob("*/specs/**/*"), *crates.glob("*/proofs/**/*")]
+    newest = max(file.stat().st_mtime for file in sources)
+    if not program.exists() or program.stat().st_mtime <= newest:
+        print(f"proving and building {crate} (a first build takes minutes) ..", file=sys.stderr)
+        run(["rt", "run", *["--"] * bool(words), *words], crate, folder=crates / crate)
+    return program
 
 
 @functools.cache

@@ -667,6 +667,25 @@ def test_status_of_fuzz(is_clean, finds):
     assert fuzz.run()[0] == (not (is_clean and finds))
 
 
+# ---- building
+
+@pytest.mark.parametrize("newest, is_built", [
+    ("race/out/race", False), ("vte/src/lib.rt", True), ("vte/specs/a/B.antt", True),
+    ("vte/proofs/C.antt", True), ("../crates.txt", True)])
+def test_a_proved_program_is_built_unless_it_is_newer(folder, monkeypatch, newest, is_built):
+    built = []
+    monkeypatch.setattr(builder, "TOOLS", folder / "tools")
+    monkeypatch.setattr(builder, "run", lambda words, *_, **__: built.append(words))
+    for name in ("race/out/race", "vte/src/lib.rt", "vte/specs/a/B.antt", "vte/proofs/C.antt",
+                 "../crates.txt"):
+        os.utime(write(f"crates/{name}", ""), (0, 2 if name == newest else 1))
+    for part in (folder / "crates").rglob("*"):
+        if part.is_dir():
+            os.utime(part, (0, 1))
+    assert builder.proved_program("race") == folder / "crates/race/out/race"
+    assert built == [["rt", "run"]] * is_built
+
+
 # ---- bench/count
 
 LIMITS = """# Instructions

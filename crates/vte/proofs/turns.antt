@@ -4,7 +4,7 @@
 pub mod Kinds
 pub mod EachOnce
 pub mod HoldFacts
--- Of the engine: an open turn by slices, a hold turn by its parts, and the turns of a call.
+-- Of the engine: a parsing turn by slices, a hold turn by its parts, and the turns of a call.
 pub mod Slices
 pub mod HoldTurns
 pub mod EngineTurns

@@ -94,7 +94,7 @@ most_held = 2 ^ 21 - 2
 
 pub data TurnKind : Type 0 where
   -- Outside an update, bytes are parsed.
-  OpenTurn : TurnKind
+  ParsingTurn : TurnKind
   -- An update that has expired is stopped first.
   ExpiredTurn : TurnKind
   -- In an update, bytes are held if there is room for all of them.
@@ -104,7 +104,7 @@ pub data TurnKind : Type 0 where
 
 -- The kind of a turn, by whether the timeout is pending, and how many bytes are held and given.
 abbrev pub kind_of : Bool → ℕ → ℕ → TurnKind
-kind_of false zero given = OpenTurn
+kind_of false zero given = ParsingTurn
 kind_of false (suc held) given = ExpiredTurn
 kind_of true held given = if nat_le (held + given) most_held then HoldTurn else FullTurn
 
@@ -116,9 +116,9 @@ front_to_begin limit parsed (byte ∷ rest) =
     else byte ∷ front_to_begin limit (parsed ++ byte ∷ []) rest
 
 module _ {V W : Type 0} (meaning : Meaning V W) where
-  -- An open turn: bytes are parsed up to the one that begins an update.
-  abbrev pub open_turn : State V W → List ℕ → Turn V W
-  open_turn state bytes =
+  -- A parsing turn: bytes are parsed up to the one that begins an update.
+  abbrev pub parsing_turn : State V W → List ℕ → Turn V W
+  parsing_turn state bytes =
       let front = front_to_begin meaning.limit state.parsed bytes in
       record { state = parse meaning state front; rest = drop (length front) bytes }
 
@@ -151,10 +151,10 @@ module _ {V W : Type 0} (meaning : Meaning V W) where
 
   -- A turn of a kind.
   abbrev pub turn_of : TurnKind → State V W → List ℕ → Turn V W
-  turn_of OpenTurn state bytes = open_turn state bytes
-  turn_of ExpiredTurn state bytes = open_turn (stop meaning state) bytes
+  turn_of ParsingTurn state bytes = parsing_turn state bytes
+  turn_of ExpiredTurn state bytes = parsing_turn (stop meaning state) bytes
   turn_of HoldTurn state bytes = record { state = hold_turn state bytes; rest = [] }
-  turn_of FullTurn state bytes = open_turn (stop meaning state) bytes
+  turn_of FullTurn state bytes = parsing_turn (stop meaning state) bytes
 
   -- A turn, by the timeout's answer.
   abbrev pub turn : Bool → State V W → List ℕ → Turn V W

@@ -1,5 +1,6 @@
--- What calls of a processor ensure, in the words of `Processor`: where it stands, what is true
--- after one call and after a list of calls, and then what each function promises.
+-- What calls of a processor ensure, in the words of `Processor`: what they tell the handler, where
+-- the processor stands, what is true after one call and after a list of calls, and then what each
+-- function promises.
 use Rattle.std.specs.Prelude.{◌≡◌, ℕ, List, ◌++◌, length, drop, [], ◌∷◌, Bool, false, ◌≤◌, None, Option, Result, IfOk, MatchResult, ⊤}
 use Rattle.vte_core.specs.Outcome.{SaysLoss}
 use Rattle.vte_core.specs.Parser.{HasRead, Reading}
@@ -9,15 +10,36 @@ use Rattle.vte_handler.specs.Timeout.{AllowsOnly, IsSteady, TimeoutMeaning}
 use Rattle.vte.specs.Calls.{last_printed, calls}
 use Rattle.vte.specs.Processor.{HoldsWell, HoldsWellAt, Meaning, TakesSteps, State, TakesAllTurns, all_bytes, given_bytes, calls_with_stops, AreInOrder, most_held, stop}
 use Rattle.vte.specs.Synchronized.{after_last_end}
-use Rattle.vte.specs.declared.ansi.hold.SyncState.{SyncState}
+use Rattle.vte.specs.declared.ansi.hold.Hold.{Hold}
 use Rattle.vte.specs.declared.ansi.laws.replays.Step.{Step}
 use Rattle.vte.specs.declared.ansi.laws.replays.Step.TheVariants.{Advance, StopSync}
 use Rattle.vte.specs.declared.ansi.processor.Processor.{Processor}
 
+-- ---- what calls tell the handler
+
+-- Calls that pass these bytes led from a state to another: what became of the bytes, and what the
+-- handler received.
+pub record HasTold {V W : Type 0} (meaning : Meaning V W) (state : State V W) (bytes : List ℕ)
+    (next : State V W) : Type 0 where
+  -- the bytes parsed on the way, and the positions of stops on the way
+  pub more : List ℕ
+  pub positions : List ℕ
+  pub parsed_is : next.parsed ≡ state.parsed ++ more
+  pub stops_are : next.stops ≡ state.stops ++ positions
+  -- The stops were at bytes parsed on the way, each at or after the one before it.
+  pub in_order : AreInOrder (length state.parsed) positions (length next.parsed)
+  -- The bytes held before and those given are those parsed on the way and those held now, each once
+  -- and in order.
+  pub each_once : state.held ++ bytes ≡ more ++ next.held
+  -- The handler has received the calls of the bytes parsed on the way, and one more at each stop.
+  pub handler_is : next.handler
+      ≡ after meaning.step state.handler
+      (calls_with_stops meaning.limit next.parsed (length state.parsed) positions)
+
 -- ---- where a processor stands
 
 -- The held bytes. Those before them in the buffer were released by the last turn.
-abbrev pub held_of : {A : Type 0} → SyncState A → List ℕ
+abbrev pub held_of : {A : Type 0} → Hold A → List ℕ
 held_of hold = drop hold.released hold.bytes.items
 
 abbrev pub held_in : {T A : Type 0} → Processor T A → List ℕ
@@ -63,25 +85,6 @@ pub record HasAdvanced {V W : Type 0} (meaning : Meaning V W) (state : State V W
   pub holds_well : HoldsWellAt meaning state → HoldsWellAt meaning next
   -- Processor and handler are at that state.
   pub is_at : IsNowAt next
-
--- Calls that pass these bytes led from a state to another: what became of the bytes, and what the
--- handler received.
-pub record HasTold {V W : Type 0} (meaning : Meaning V W) (state : State V W) (bytes : List ℕ)
-    (next : State V W) : Type 0 where
-  -- the bytes parsed on the way, and the positions of stops on the way
-  pub more : List ℕ
-  pub positions : List ℕ
-  pub parsed_is : next.parsed ≡ state.parsed ++ more
-  pub stops_are : next.stops ≡ state.stops ++ positions
-  -- The stops were at bytes parsed on the way, each at or after the one before it.
-  pub in_order : AreInOrder (length state.parsed) positions (length next.parsed)
-  -- The bytes held before and those given are those parsed on the way and those held now, each once
-  -- and in order.
-  pub each_once : state.held ++ bytes ≡ more ++ next.held
-  -- The handler has received the calls of the bytes parsed on the way, and one more at each stop.
-  pub handler_is : next.handler
-      ≡ after meaning.step state.handler
-      (calls_with_stops meaning.limit next.parsed (length state.parsed) positions)
 
 -- A list of calls.
 pub record HasReplayed {V W : Type 0} (meaning : Meaning V W) (state : State V W)

@@ -3,16 +3,16 @@
 use Rattle.std.specs.Prelude.{◌≡◌, ℕ, ◌-◌, ◌<◌, ◌++◌, Bool, List, ◌∷◌, length, take, drop}
 use Rattle.vte_core.specs.Stream.{added}
 use Rattle.vte.specs.BeginUpdate.{begin_count}
-use Rattle.vte.specs.Processor.{HoldsWellAt, Meaning, State, TakesTurns, TurnKind, OpenTurn, ExpiredTurn, HoldTurn, FullTurn, all_bytes, given_bytes, kind_of, parse, stop}
+use Rattle.vte.specs.Processor.{HoldsWellAt, Meaning, State, TakesTurns, TurnKind, ParsingTurn, ExpiredTurn, HoldTurn, FullTurn, all_bytes, given_bytes, kind_of, parse, stop}
 use Rattle.vte.specs.ProcessorCalls.{HasReplayed}
 use Rattle.vte.specs.declared.ansi.laws.replays.RefusedStep.{RefusedStep}
 use Rattle.vte.specs.declared.ansi.laws.replays.Step.{Step}
 use Rattle.vte.specs.declared.ansi.laws.replays.Step.TheVariants.{Advance}
 
 module _ {V W : Type 0} (meaning : Meaning V W) where
-  -- An open turn was refused memory: it has parsed the first of its bytes, none of which begins an
-  -- update, and left the others.
-  pub record OpenTurnIsRefused (state : State V W) (bytes : List ℕ) (next : State V W)
+  -- A parsing turn was refused memory: it has parsed the first of its bytes, none of which begins
+  -- an update, and left the others.
+  pub record ParsingTurnIsRefused (state : State V W) (bytes : List ℕ) (next : State V W)
       (left : List ℕ) : Type 0 where
     -- the bytes parsed
     pub front : List ℕ
@@ -24,12 +24,12 @@ module _ {V W : Type 0} (meaning : Meaning V W) where
   -- A turn of this kind was refused memory: never a hold turn, which reads nothing until it has
   -- all the memory that it needs.
   abbrev pub KindIsRefused : TurnKind → State V W → List ℕ → State V W → List ℕ → Type 0
-  KindIsRefused OpenTurn state bytes next left = OpenTurnIsRefused state bytes next left
+  KindIsRefused ParsingTurn state bytes next left = ParsingTurnIsRefused state bytes next left
   KindIsRefused ExpiredTurn state bytes next left =
-      OpenTurnIsRefused (stop meaning state) bytes next left
+      ParsingTurnIsRefused (stop meaning state) bytes next left
   KindIsRefused HoldTurn state bytes next left = ⊥
   KindIsRefused FullTurn state bytes next left =
-      OpenTurnIsRefused (stop meaning state) bytes next left
+      ParsingTurnIsRefused (stop meaning state) bytes next left
 
   -- A turn was refused memory, after this answer of the timeout.
   abbrev pub TurnIsRefused : Bool → State V W → List ℕ → State V W → List ℕ → Type 0

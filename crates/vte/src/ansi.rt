@@ -12,6 +12,7 @@ mod escape_calls;
 mod growing_text;
 mod hold;
 mod input;
+mod joined_text;
 pub mod laws;
 mod long_parsing;
 mod long_processor;
@@ -28,7 +29,6 @@ mod std_sync_handler;
 #[cfg(test)]
 mod tests;
 mod text_buffer;
-mod titles;
 mod values;
 
 pub use bounded_processor::BoundedProcessor;

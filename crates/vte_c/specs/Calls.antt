@@ -4,7 +4,8 @@ use Rattle.vte_core.specs.Event.{Event}
 use Rattle.vte_core.specs.Saved.{HasReadSaved}
 use Rattle.vte_core.specs.Stream.{added, usual_limit}
 use Rattle.vte_core.specs.declared.parser.saved.Saved.{Saved}
-use Rattle.vte_c.specs.Record.{events_in, kinds_in}
+use Rattle.vte_c.specs.Record.{data_kind, events_in, kinds_in, least_data, least_events, text_kind}
+use Rattle.vte_c.specs.Text.{least_text}
 use Rattle.vte_c.specs.Told.{AreEncoded, AreOthers, HasStripped, HasTold, HaveOtherKinds, StopsAtKind, is_stop, no_room, fed_count}
 use Rattle.vte_c.specs.declared.event.VteEvent.{VteEvent}
 use Rattle.vte_c.specs.declared.feed.VteCounts.{VteCounts}
@@ -23,7 +24,8 @@ pub record Feeds (kinds stops : ℕ) (parser next : Saved) (bytes : List ℕ)
     (old_events events : List VteEvent) (old_area area : List ℕ)
     (counts : VteCounts) (result : ℕ) : Type 0 where
   -- With enough room, the result is how many bytes were read.
-  pub enough : 4 ≤ length old_events → 2112 ≤ length old_area → result ≡ fed_count result
+  pub enough : least_events ≤ length old_events → least_data ≤ length old_area
+      → result ≡ fed_count result
   pub within : fed_count result ≤ length bytes
   -- Whatever was told of these kinds before, what is written now comes next, and nothing else.
   pub exact : (told : List Event) (stream rest : List ℕ) →
@@ -38,14 +40,14 @@ pub record Feeds (kinds stops : ℕ) (parser next : Saved) (bytes : List ℕ)
   -- Whatever the parser's bytes are, what was written is in the buffers.
   pub room : (counts.events ≤ length events) × (counts.bytes ≤ length area)
   -- With less than the least room nothing is read or written.
-  pub few : length old_events < 4
+  pub few : length old_events < least_events
       → FeedsNothing parser next old_events events old_area area counts result
-  pub little : length old_area < 2112
+  pub little : length old_area < least_data
       → FeedsNothing parser next old_events events old_area area counts result
   -- With enough room, it reads at least one byte, unless it writes a record among the stops.
   pub progress : (told : List Event) (stream rest : List ℕ) →
       HasTold kinds parser told stream (bytes ++ rest) →
-      4 ≤ length old_events → 2112 ≤ length old_area →
+      least_events ≤ length old_events → least_data ≤ length old_area →
       HaveOtherKinds stops (kinds_in counts.events events) → 0 < length bytes → 0 < result
   -- If a record among the stops is written, at most one follows it.
   pub first : (told : List Event) (stream rest : List ℕ) →
@@ -53,26 +55,27 @@ pub record Feeds (kinds stops : ℕ) (parser next : Saved) (bytes : List ℕ)
       StopsAtKind stops (kinds_in counts.events events)
   -- Unless text or data stop, a record among the stops came with the last byte that was read: no
   -- shorter front of the bytes adds one.
-  pub until : (stream : List ℕ) → HasReadSaved parser stream → is_stop kinds stops 0 ≡ false →
-      is_stop kinds stops 3 ≡ false → (i : ℕ) → i < fed_count result →
+  pub until : (stream : List ℕ) → HasReadSaved parser stream →
+      is_stop kinds stops text_kind ≡ false → is_stop kinds stops data_kind ≡ false →
+      (i : ℕ) → i < fed_count result →
       AreOthers (is_stop kinds stops) (added usual_limit stream (take i bytes))
 
 -- `vte_strip`
 pub record Strips (parser next : Saved) (bytes old_text text : List ℕ)
     (written result : ℕ) : Type 0 where
   -- With enough room, the result is how many bytes were read.
-  pub enough : 16 ≤ length old_text → result ≡ fed_count result
+  pub enough : least_text ≤ length old_text → result ≡ fed_count result
   pub within : fed_count result ≤ length bytes
   -- With enough room, it reads at least one byte, whatever the parser's bytes are.
-  pub progress : 16 ≤ length old_text → 0 < length bytes → 0 < result
+  pub progress : least_text ≤ length old_text → 0 < length bytes → 0 < result
   -- It stops early only where the text of one more byte may not fit.
   pub fills : (given stream rest : List ℕ) → HasStripped parser given stream (bytes ++ rest) →
-      16 ≤ length old_text → result < length bytes → length text < written + 8
+      least_text ≤ length old_text → result < length bytes → length text < written + 8
   -- Whatever text was written before, the text written now comes next, and nothing else.
   pub exact : (given stream rest : List ℕ) → HasStripped parser given stream (bytes ++ rest) →
       HasStripped next (given ++ take written text) stream (drop (fed_count result) bytes ++ rest)
   -- Whatever the parser's bytes are, what was written is in the buffer.
   pub room : written ≤ length text
   -- With less than the least room the result says so, and nothing is read or written.
-  pub little : length old_text < 16 → (result ≡ no_room) × (written ≡ 0) × (next ≡ parser)
+  pub little : length old_text < least_text → (result ≡ no_room) × (written ≡ 0) × (next ≡ parser)
       × (text ≡ old_text)

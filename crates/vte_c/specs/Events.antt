@@ -7,7 +7,7 @@ use Rattle.vte_core.specs.declared.scan.taken.Taken.{Taken}
 use Rattle.vte_core.specs.declared.scan.taken.Taken.TheVariants.{Text, Data, Nothing}
 use Rattle.vte_c.specs.declared.event.VteEvent.{VteEvent}
 use Rattle.vte_c.specs.declared.events.Events.{Events}
-use Rattle.vte_c.specs.Record.{data_of, has, kind_of, may_have_lost, record_of, run_record, without_loss}
+use Rattle.vte_c.specs.Record.{data_kind, data_of, has, kind_of, least_data, least_events, may_have_lost, most_added, record_of, run_record, text_kind, without_loss}
 
 -- What was written, how much that is, how much there is room for, which kinds to write and after
 -- which to stop. It is paused after a command that may have lost data. The names identify the
@@ -41,11 +41,6 @@ room_of room = record {
   events_name = room.events.ghost_name;
   area_name = room.area.ghost_name;
 }
-
--- The maximum number of data bytes of what one byte of a stream adds: an event, and a character
--- after it.
-abbrev pub most_added : ℕ
-most_added = 1092
 
 -- A record is written if there is room for it.
 unfoldable pub with_one : Room → VteEvent → Room
@@ -99,8 +94,10 @@ with_wanted room event = if has room.kinds event.kind then with_one room event e
 -- The record of a run that the parser returned for the bytes from a place on. Without a run a pause
 -- ends.
 abbrev pub with_taken : Room → ℕ → Taken → Room
-with_taken room start (Text text) = with_wanted room (run_record 0 start (length text.now))
-with_taken room start (Data those) = with_wanted room (run_record 3 start (length those.now))
+with_taken room start (Text text) =
+    with_wanted room (run_record text_kind start (length text.now))
+with_taken room start (Data those) =
+    with_wanted room (run_record data_kind start (length those.now))
 with_taken room start Nothing = resumed room
 
 abbrev pub with_run : Room → ℕ → Run → Room
@@ -125,5 +122,5 @@ pub record Starts (room : Room) : Type 0 where
   pub used : room.used ≡ 0
   pub met : room.met ≡ false
   pub paused : room.paused ≡ false
-  pub most : 4 ≤ room.most
-  pub size : 2112 ≤ room.size
+  pub most : least_events ≤ room.most
+  pub size : least_data ≤ room.size

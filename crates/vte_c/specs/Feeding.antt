@@ -6,7 +6,7 @@ use Rattle.vte_core.specs.Parser.{HasRead}
 use Rattle.vte_core.specs.Stream.{added, usual_limit}
 use Rattle.vte_core.specs.declared.parser.Parser.{Parser}
 use Rattle.vte_c.specs.Events.{Room}
-use Rattle.vte_c.specs.Record.{Item, has, item_data, item_events, records_from, reported}
+use Rattle.vte_c.specs.Record.{Item, data_kind, has, item_data, item_events, records_from, reported, text_kind}
 use Rattle.vte_c.specs.Told.{AreOthers, AreReadable, HaveOtherKinds, StopsAtKind, is_stop}
 use Rattle.vte_c.specs.declared.event.VteEvent.{VteEvent}
 
@@ -44,7 +44,8 @@ AreOthersIn room events = AreOthers (is_stop room.kinds room.stops) events
 -- Neither text nor data stop a call into this room.
 abbrev pub StopsAtNone : Room → Type 0
 StopsAtNone room =
-    (is_stop room.kinds room.stops 0 ≡ false) × (is_stop room.kinds room.stops 3 ≡ false)
+    (is_stop room.kinds room.stops text_kind ≡ false)
+    × (is_stop room.kinds room.stops data_kind ≡ false)
 
 -- The room with the records of these items, and their data.
 abbrev pub with_items : Room → List Item → Room

@@ -47,7 +47,44 @@ may_have_lost (OscDispatch pieces bell) =
     has_most (length pieces) (length (flat_map piece_bytes pieces))
 may_have_lost _ = false
 
+-- The maximum number of data bytes of what one byte of a stream adds: an event, and a character
+-- after it.
+abbrev pub most_added : ℕ
+most_added = 1092
+
+-- The least room: how many records the caller's buffer must have, and how many data bytes its area.
+abbrev pub least_events : ℕ
+least_events = 4
+
+abbrev pub least_data : ℕ
+least_data = 2112
+
 -- ---- the record of an event
+
+-- The numbers of the kinds, as in `vte.h`.
+abbrev pub text_kind : ℕ
+text_kind = 0
+
+abbrev pub execute_kind : ℕ
+execute_kind = 1
+
+abbrev pub hook_kind : ℕ
+hook_kind = 2
+
+abbrev pub data_kind : ℕ
+data_kind = 3
+
+abbrev pub unhook_kind : ℕ
+unhook_kind = 4
+
+abbrev pub osc_kind : ℕ
+osc_kind = 5
+
+abbrev pub csi_kind : ℕ
+csi_kind = 6
+
+abbrev pub esc_kind : ℕ
+esc_kind = 7
 
 abbrev pub flag_byte : Bool → ℕ
 flag_byte flag = if flag then 1 else 0
@@ -95,7 +132,8 @@ with_loss event = record event { flag = event.flag % 2 + 2 }
 
 -- A record without that bit, of which no clause speaks.
 unfoldable pub without_loss : VteEvent → VteEvent
-without_loss event = if event.kind == 5 then record event { flag = event.flag % 2 } else event
+without_loss event =
+    if event.kind == osc_kind then record event { flag = event.flag % 2 } else event
 
 abbrev pub with_count : VteEvent → ℕ → VteEvent
 with_count event count = record event { count = count_byte count }
@@ -107,17 +145,18 @@ sequence_record kind groups intermediates ignore final =
 
 -- The record of an event whose data starts at 0.
 abbrev pub record_of : Event → VteEvent
-record_of (Print c) = with_flag (blank_record 0 (length (encode_utf8 c))) true
-record_of (Execute byte) = blank_record 1 byte
+record_of (Print c) = with_flag (blank_record text_kind (length (encode_utf8 c))) true
+record_of (Execute byte) = blank_record execute_kind byte
 record_of (Hook groups intermediates ignore final) =
-    sequence_record 2 groups intermediates ignore final
-record_of (Put byte) = with_flag (blank_record 3 1) true
-record_of Unhook = blank_record 4 0
-record_of (OscDispatch pieces bell) = with_count (with_flag (blank_record 5 0) bell) (length pieces)
+    sequence_record hook_kind groups intermediates ignore final
+record_of (Put byte) = with_flag (blank_record data_kind 1) true
+record_of Unhook = blank_record unhook_kind 0
+record_of (OscDispatch pieces bell) =
+    with_count (with_flag (blank_record osc_kind 0) bell) (length pieces)
 record_of (CsiDispatch groups intermediates ignore final) =
-    sequence_record 6 groups intermediates ignore final
+    sequence_record csi_kind groups intermediates ignore final
 record_of (EscDispatch intermediates ignore byte) =
-    with_flag (with_intermediates (blank_record 7 byte) intermediates) ignore
+    with_flag (with_intermediates (blank_record esc_kind byte) intermediates) ignore
 
 -- The number of an event's kind.
 abbrev pub kind_of : Event → ℕ
@@ -137,8 +176,8 @@ pub data Run : Type 0 where
   DataRun : Run
 
 abbrev pub run_kind : Run → ℕ
-run_kind TextRun = 0
-run_kind DataRun = 3
+run_kind TextRun = text_kind
+run_kind DataRun = data_kind
 
 -- The events of a run: of a text each character is printed, of data each byte is put.
 abbrev pub run_events : Run → List ℕ → List Event
@@ -202,11 +241,13 @@ unfoldable pub event_in : List ℕ → VteEvent → Event
 event_in area event =
     let later = drop event.start area in
     let groups = groups_in event.count later in
-    if event.kind == 1 then Execute event.code
-    else if event.kind == 2 then Hook groups (intermediates_in event) (event.flag == 1) event.code
-    else if event.kind == 4 then Unhook
-    else if event.kind == 5 then OscDispatch (pieces_in event.count later) (event.flag % 2 == 1)
-    else if event.kind == 6
+    if event.kind == execute_kind then Execute event.code
+    else if event.kind == hook_kind
+    then Hook groups (intermediates_in event) (event.flag == 1) event.code
+    else if event.kind == unhook_kind then Unhook
+    else if event.kind == osc_kind
+    then OscDispatch (pieces_in event.count later) (event.flag % 2 == 1)
+    else if event.kind == csi_kind
     then CsiDispatch groups (intermediates_in event) (event.flag == 1) event.code
     else EscDispatch (intermediates_in event) (event.flag == 1) event.code
 
@@ -219,8 +260,8 @@ run_in input area event =
 -- The events that a record represents.
 unfoldable pub events_of : List ℕ → List ℕ → VteEvent → List Event
 events_of input area event =
-    if event.kind == 0 then run_events TextRun (run_in input area event)
-    else if event.kind == 3 then run_events DataRun (run_in input area event)
+    if event.kind == text_kind then run_events TextRun (run_in input area event)
+    else if event.kind == data_kind then run_events DataRun (run_in input area event)
     else event_in area event ∷ []
 
 -- The kinds of the first `count` records.

@@ -32,9 +32,13 @@ with_text room text =
 abbrev pub with_text_of : TextRoom → Event → TextRoom
 with_text_of room event = with_text room (plain_text_of event)
 
+-- The least room: how many bytes the caller's buffer must have.
+abbrev pub least_text : ℕ
+least_text = 16
+
 -- An empty room that has at least the least size.
 pub record StartsText (room : TextRoom) : Type 0 where
   pub text : room.text ≡ []
   pub used : room.used ≡ 0
-  pub size : 16 ≤ room.size
+  pub size : least_text ≤ room.size
   pub fits : room.fits ≡ true

@@ -3,7 +3,7 @@ ghost use Rattle.std.specs.Prelude.{◌≡◌, ◌≤◌, ◌<◌, ◌+◌, ◌-
 ghost use Rattle.std.specs.List.{concat, flat_map};
 ghost use Rattle.vte_core.specs.Event.{OscDispatch, Print};
 ghost use Rattle.vte_core.specs.AdvanceToRun.{run_bytes};
-ghost use Rattle.vte_c.specs.Record.{data_of, group_bytes, has, has_most, piece_bytes, record_of, sequence_record};
+ghost use Rattle.vte_c.specs.Record.{data_of, group_bytes, has, has_most, least_data, least_events, most_added, piece_bytes, record_of, sequence_record};
 
 use crate::event::{self, VteEvent, count_byte, has};
 use vte_core::{Params, Perform, Run, Taken};
@@ -50,7 +50,7 @@ pub(crate) struct Events<'a> {
     ghost size_limit: { size ≡ min (length area.now) (2 ^ 32 - 1) },
     ghost used_limit: { used ≤ size },
     ghost count_limit: { full_count
-        ≡ (if met || paused || nat_lt (size - used) 1092 then 0 else length events.now - 1) },
+        ≡ (if met || paused || nat_lt (size - used) most_added then 0 else length events.now - 1) },
 }
 
 impl<'a> Events<'a> {
@@ -62,8 +62,8 @@ impl<'a> Events<'a> {
         kinds: u32,
         stops: u32,
     ) -> Self
-        requires most { 4 ≤ length events.old }
-        requires size { 2112 ≤ length area.old }
+        requires most { least_events ≤ length events.old }
+        requires size { least_data ≤ length area.old }
         ensures starts { Starts (room_of result) }
         ensures kinds { (room_of result).kinds ≡ kinds }
         ensures stops { (room_of result).stops ≡ stops }

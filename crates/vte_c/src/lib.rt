@@ -12,6 +12,8 @@ ghost use Rattle.vte_core.specs.Saved.{HasReadSaved};
 ghost use Rattle.vte_core.specs.Stream.{IsFinished, IsUnfinished, usual_limit};
 ghost use Rattle.vte_c.specs.Calls.{Feeds, Strips};
 ghost use Rattle.vte_c.specs.OpenCode.{open_code};
+ghost use Rattle.vte_c.specs.Record.{least_data, least_events};
+ghost use Rattle.vte_c.specs.Text.{least_text};
 
 // cargo instead: pub(crate) mod event;
 // cargo instead: pub(crate) use event::VteEvent;
@@ -124,7 +126,7 @@ pub extern "C" fn vte_event_size() -> usize
 /// Returns for how many events there has to be room.
 #[unsafe(no_mangle)]
 pub extern "C" fn vte_least_events() -> usize
-    ensures { result ≡ 4 }
+    ensures { result ≡ least_events }
 {
     feed::LEAST_EVENTS
 }
@@ -132,7 +134,7 @@ pub extern "C" fn vte_least_events() -> usize
 /// Returns for how many data bytes there has to be room.
 #[unsafe(no_mangle)]
 pub extern "C" fn vte_least_data() -> usize
-    ensures { result ≡ 2112 }
+    ensures { result ≡ least_data }
 {
     feed::LEAST_DATA
 }
@@ -140,7 +142,7 @@ pub extern "C" fn vte_least_data() -> usize
 /// Returns for how many bytes of text there has to be room.
 #[unsafe(no_mangle)]
 pub extern "C" fn vte_least_text() -> usize
-    ensures { result ≡ 16 }
+    ensures { result ≡ least_text }
 {
     text::LEAST_TEXT
 }

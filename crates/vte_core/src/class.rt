@@ -4,16 +4,20 @@
 ghost use Rattle.std.specs.Prelude.{◌≡◌, ◌-◌, ◌<◌, ◌≤◌, true, false, MatchOption};
 ghost use Rattle.vte_core.specs.machine.Prelude.{IsCommandData, begins_ignored_string, class_of, dispatches_escape, ends_body, is_plain_control, is_device_data, is_final, is_head_byte, is_intermediate, is_layout, is_parameter_text, is_separator};
 
+const CANCEL: u8 = 0x18;
+
+const SUBSTITUTE: u8 = 0x1a;
+
 pub(crate) const ESCAPE: u8 = 0x1b;
 
 /// Returns whether a byte is a plain control: C0 except CAN, SUB and ESC.
 pub(crate) fn is_plain_control(byte: u8) -> bool
     ensures { result ≡ is_plain_control (class_of byte) }
 {
-    byte < 0x20 && byte != 0x18 && byte != 0x1a && byte != ESCAPE
+    byte < 0x20 && byte != CANCEL && byte != SUBSTITUTE && byte != ESCAPE
 }
 
-/// Returns whether a byte is HT, LF or CR. Compilers make no vector instructions of `||`.
+/// Returns whether a byte is HT, LF or CR. Without `||`, as `run_blocks` wants.
 #[inline(always)]
 pub(crate) fn is_layout(byte: u8) -> bool
     ensures { result ≡ is_layout byte }
@@ -25,7 +29,7 @@ pub(crate) fn is_layout(byte: u8) -> bool
 pub(crate) fn ends_body(byte: u8) -> bool
     ensures { result ≡ ends_body (class_of byte) }
 {
-    byte == 0x18 || byte == 0x1a || byte == ESCAPE
+    byte == CANCEL || byte == SUBSTITUTE || byte == ESCAPE
 }
 
 /// Returns whether a byte is surely none of CAN, SUB and ESC, because it isn't one of 18..1B, which
@@ -33,7 +37,7 @@ pub(crate) fn ends_body(byte: u8) -> bool
 pub(crate) fn cannot_end(byte: u8) -> bool
     ensures { result ≡ true → ends_body (class_of byte) ≡ false }
 {
-    byte < 0x18 || byte > ESCAPE
+    byte < CANCEL || byte > ESCAPE
 }
 
 /// Returns whether a byte is one of the data of a device control string: plain controls and

@@ -5,21 +5,24 @@ ghost use Rattle.std.specs.Iterator.{YieldsFirstRef, item_count, at_most, UpTo};
 ghost use Rattle.std.specs.Iterator.SizeHint.{IsWithinCount};
 ghost use Rattle.std.specs.List.{join_with_byte};
 ghost use Rattle.vte_core.specs.machine.Groups.{AreParts, AreFlatGroups, IsTakenOff};
-ghost use Rattle.vte_core.specs.Parameters.{with_number, count_of, colon, shown, AreGroups};
+ghost use Rattle.vte_core.specs.Parameters.{with_number, count_of, colon, shown, AreGroups, most_numbers};
 
 use arrayvec::ArrayVec;
 use std::fmt;
 use std::iter::FusedIterator;
 use std::marker::Model;
 
+/// How many numbers of a sequence are kept.
+const MOST_NUMBERS: usize = 32;
+
 /// The numbers of a sequence, in groups that are never empty.
 #[derive(Clone, Drop)]
 // cargo: #[doc = include_str!("../../docs/params.md")]
 pub struct Params {
     // all numbers in a row
-    numbers: ArrayVec<u16, 32>,
+    numbers: ArrayVec<u16, MOST_NUMBERS>,
     // how many of them stand in each group
-    lengths: ArrayVec<u8, 32>,
+    lengths: ArrayVec<u8, MOST_NUMBERS>,
 }
 
 impl Model for Params {
@@ -76,7 +79,7 @@ impl Params {
 
     // cargo: #[inline]
     pub(crate) fn is_full(&self) -> bool
-        ensures { IsTrue result ↔ (32 ≤ count_of self.now) }
+        ensures { IsTrue result ↔ (most_numbers ≤ count_of self.now) }
     {
         self.numbers.is_full()
     }
@@ -84,7 +87,7 @@ impl Params {
     /// Adds a number: to the last group if `joined`, or else as a group of its own.
     #[inline(always)]
     pub(crate) fn push(&mut self, joined: bool, value: u16)
-        requires { count_of self.old < 32 }
+        requires { count_of self.old < most_numbers }
         ensures { self.new ≡ with_number self.old (record { joined = joined; value = value }) }
     {
         let length = take_joined(&mut self.lengths, joined);
@@ -102,7 +105,10 @@ impl Params {
 
     /// Returns the parameters with these parts, or none if the lengths don't cover all numbers.
     // cargo: #[cfg(feature = "__own")]
-    pub(crate) fn from_parts(lengths: ArrayVec<u8, 32>, numbers: ArrayVec<u16, 32>) -> Self
+    pub(crate) fn from_parts(
+        lengths: ArrayVec<u8, MOST_NUMBERS>,
+        numbers: ArrayVec<u16, MOST_NUMBERS>,
+    ) -> Self
         ensures { (groups : List (List ℕ)) → AreParts lengths.items numbers.items groups
             → result ≡ groups }
     {
@@ -143,7 +149,7 @@ impl Params {
 
 /// Removes the length of the last group if the next number joins it.
 // cargo: #[inline]
-fn take_joined(lengths: &mut ArrayVec<u8, 32>, joined: bool) -> Option<u8>
+fn take_joined(lengths: &mut ArrayVec<u8, MOST_NUMBERS>, joined: bool) -> Option<u8>
     ensures { IsTakenOff joined lengths.old.items lengths.new.items result }
 {
     if joined { lengths.pop() } else { None }

@@ -43,24 +43,25 @@ use std::alloc::AllocError;
 /// number.
 pub(crate) const MAX_OSC_RAW: usize = 1024;
 
-/// Where in a text or a body the parser stands.
+/// Where in a text or a body the parser stands. The VT500 parser's names stand in brackets; those
+/// with a star end as `HeadProgress` says: `entry`, `param`, `intermediate` or `ignore`.
 #[derive(Clone, Copy)]
 pub(crate) enum State {
-    /// In a text, after the bytes of an unfinished character.
+    /// In a text, after the bytes of an unfinished character (`ground`).
     Text(Unfinished),
-    /// After ESC.
+    /// After ESC (`escape`).
     Escape,
-    /// After ESC and an intermediate.
+    /// After ESC and an intermediate (`escape intermediate`).
     EscapeIntermediate,
-    /// In the head of a control sequence.
+    /// In the head of a control sequence (`csi *`).
     ControlSequence(HeadProgress),
-    /// In the head of a device control string.
+    /// In the head of a device control string (`dcs *`).
     DeviceControl(HeadProgress),
-    /// In the data of a device control string.
+    /// In the data of a device control string (`dcs passthrough`).
     DeviceData,
-    /// In an operating system command.
+    /// In an operating system command (`osc string`).
     SystemCommand,
-    /// In a string that means nothing.
+    /// In a string that means nothing (`sos/pm/apc string`, or `dcs ignore` after its head).
     IgnoredString,
 }
 

@@ -1,8 +1,8 @@
 //! Long runs, by blocks.
 //!
 //! Whether a byte fits depends on the three before it alone. So no test waits for another, and
-//! compilers make vector instructions of those of a block. But the block in which a run ends is
-//! read in vain, so only long runs come here.
+//! compilers make vector instructions of a block's tests, if they have no `&&` and `||`. But the
+//! block in which a run ends is wasted, so only long runs come here.
 ghost use Rattle.std.specs.Prelude.{◌≡◌, ◌+◌, ◌-◌, ◌*◌, ◌<◌, ◌≤◌, ℕ, true, length, slice_index};
 ghost use Rattle.vte_core.specs.machine.Automaton.{Follows, FollowsAt, IsPlain, open_count};
 ghost use Rattle.vte_core.specs.machine.Prelude.{Each, IsRun, Scans, looked};
@@ -12,13 +12,13 @@ use crate::scan::{Input, Reader, Window};
 use crate::utf8::{is_continuation, is_printed_ascii};
 
 /// After so many blocks of ASCII one after another, larger ones are tried: in text with a few other
-/// characters they would mostly be read in vain. Without line ends, ASCII is read by words before.
+/// characters they would mostly be wasted. Without line ends, ASCII is read by words before.
 const PLAIN_BLOCKS: usize = 4;
 
 impl Reader {
     /// Skips blocks of a run, and returns where the last character ended. With `layout`, the run
     /// may hold HT, LF and CR. A block with a byte that fits nowhere, or with another control, is
-    /// read in vain.
+    /// wasted.
     #[inline(never)]
     pub(crate) fn skip_run_blocks(&mut self, input: Input<'_>, from: usize, layout: bool) -> usize
         requires before { 3 ≤ from }
@@ -33,7 +33,7 @@ impl Reader {
         // Two are enough at first, since most runs are of ASCII.
         let mut plain = PLAIN_BLOCKS / 2;
         while let Some(window) = self.get_window(input, at - 3) {
-            if !goes_on(&window, layout) {
+            if !continues_run(&window, layout) {
                 break;
             }
             at += 16;
@@ -89,11 +89,11 @@ impl Reader {
         ensures few { looked self.new ≤ looked self.old + 3 }
         ensures least { looked self.old ≤ looked self.new }
     {
-        if self.at(input, at - 1) >= 0xc0 {
+        if self.byte_at(input, at - 1) >= 0xc0 {
             1
-        } else if self.at(input, at - 2) >= 0xe0 {
+        } else if self.byte_at(input, at - 2) >= 0xe0 {
             2
-        } else if self.at(input, at - 3) >= 0xf0 {
+        } else if self.byte_at(input, at - 3) >= 0xf0 {
             3
         } else {
             0
@@ -111,8 +111,7 @@ fn is_ascii(block: &[u8; 16]) -> bool {
     all
 }
 
-/// Returns whether 32 bytes are printed ASCII, HT, LF or CR. Compilers make vector instructions of
-/// the loop.
+/// Returns whether 32 bytes are printed ASCII, HT, LF or CR.
 #[inline(always)]
 fn is_plain(block: &[u8; 32]) -> bool
     ensures { result ≡ true → Each IsPlain block.now 0 32 }
@@ -124,15 +123,14 @@ fn is_plain(block: &[u8; 32]) -> bool
     all
 }
 
-/// Returns whether 16 bytes go on with a run, after the three before them. Compilers make vector
-/// instructions of the loop.
+/// Returns whether 16 bytes go on with a run, after the three before them.
 #[inline(always)]
-fn goes_on(window: &Window, layout: bool) -> bool
+fn continues_run(window: &Window, layout: bool) -> bool
     ensures { result ≡ true → (k : ℕ) → k < 16 → FollowsAt layout window.now k }
 {
     let mut all = true;
     for k in 0..16 {
-        all &= follows(
+        all &= may_follow(
             window.third[k],
             window.second[k],
             window.first[k],
@@ -143,10 +141,9 @@ fn goes_on(window: &Window, layout: bool) -> bool
     all
 }
 
-/// Returns whether a byte may follow these three in a run. Compilers make no vector instructions of
-/// `&&` and `||`.
+/// Returns whether a byte may follow these three in a run.
 #[inline(always)]
-fn follows(third: u8, second: u8, first: u8, byte: u8, layout: bool) -> bool
+fn may_follow(third: u8, second: u8, first: u8, byte: u8, layout: bool) -> bool
     ensures { result ≡ true → Follows layout third second first byte }
 {
     // Vectors have one instruction for each of these, and two for a comparison.

@@ -93,7 +93,7 @@ impl<'a> Chunk<'a> {
 
 /// Reads the bytes of a call and reports events. It has no bytes: only Rattle's contracts need
 /// its count.
-// proof: it can't be let go: its looks are added to those of the parser.
+// proof: it can't be dropped: its looks are added to those of the parser.
 // cargo: #[derive(Clone, Copy)]
 pub(crate) struct Reader {
     // cargo lacks: only contracts read it
@@ -217,7 +217,7 @@ impl Reader {
     }
 
     /// Returns the byte at an index.
-    pub(crate) fn at(&mut self, input: Input<'_>, index: usize) -> u8
+    pub(crate) fn byte_at(&mut self, input: Input<'_>, index: usize) -> u8
         requires { index < length input.bytes.now }
         ensures value { result ≡ slice_index input.entry.bytes.now index }
         ensures count { looked self.new ≡ looked self.old + 1 }
@@ -228,7 +228,7 @@ impl Reader {
 
     /// Returns the byte at an index, or `None` past the end.
     #[inline(always)]
-    pub(crate) fn get(&mut self, input: Input<'_>, index: usize) -> Option<u8>
+    pub(crate) fn get_byte(&mut self, input: Input<'_>, index: usize) -> Option<u8>
         ensures { MatchOption result
             ((length input.entry.bytes.now ≤ index) × (looked self.new ≡ looked self.old)) (λ byte.
             (index < length input.entry.bytes.now)

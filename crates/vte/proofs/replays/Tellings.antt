@@ -1,7 +1,7 @@
 -- What a handler receives in a list of calls, from a state on: first by what is done there, then by the rest of the
 -- list. By induction over the list; the calls before a stop are those of the bytes up to it, and positions of later
 -- stops only grow.
-use Rattle.vte.proofs.Common.{◌≡◌, ◌≤◌, ℕ, ◌+◌, ◌-◌, inl, inr, Bool, Option, List, [], ◌∷◌, ◌++◌, length, take, refl, ap, sym, ◌∙◌, arith, append_assoc, length-append, cases_Bool, append-nil, subst, drop_all, take-append-add, take-append_seam, take_all, after, Step, Advance, StopSync, added_calls, Meaning, TakesSteps, calls_after, after_last_end, from_begin_update, hold_turn, AreInOrder, calls, calls_between, calls_with_stops, events, State, TakesTurns, TakesTurnsUntilRefused, between_turns, inside_turn, front_to_begin, extend, release, open_turn, stop, turn, done, turns}
+use Rattle.vte.proofs.Common.{◌≡◌, ◌≤◌, ℕ, ◌+◌, ◌-◌, inl, inr, Bool, Option, List, [], ◌∷◌, ◌++◌, length, take, refl, ap, sym, ◌∙◌, arith, append_assoc, length-append, cases_Bool, append-nil, subst, drop_all, take-append-add, take-append_seam, take_all, after, Step, Advance, StopSync, added_calls, Meaning, TakesSteps, calls_after, after_last_end, from_begin_update, hold_turn, AreInOrder, calls, calls_between, calls_with_stops, events, State, TakesTurns, TakesTurnsUntilRefused, between_turns, inside_turn, front_to_begin, extend, release, parsing_turn, stop, turn, done, turns}
 use Rattle.vte.proofs.performing.CallLists.{after_calls-append, added_calls-append}
 use Rattle.vte.proofs.turns.Kinds.{hold_turn-all, hold_turn-rest, is_held, is_stopped, refused-opens, stop_if_due, turn-holds, turn-parses}
 use Rattle.vte.proofs.updates.Sequences.{cases_Option}
@@ -102,7 +102,7 @@ module _ {V W : Type 0} (m : Meaning V W) (end : State V W) where
         told = rw calls_between-none rest.told;
       })
 
-  tells-open : (state : State V W) (bytes : List ℕ) → TellsAt (open_turn m state bytes).state → TellsAt state
+  tells-open : (state : State V W) (bytes : List ℕ) → TellsAt (parsing_turn m state bytes).state → TellsAt state
   tells-open state bytes =
       tells-parse (front_to_begin m.limit state.parsed bytes)
 

@@ -1,6 +1,6 @@
 -- From turns to a call: what the private functions ensure of parser, hold and handler is put together into `HasTurned`
 -- and `HasHalted`, and the loop over turns into `TakesTurns` and `TakesTurnsUntilRefused`.
-use Rattle.vte.proofs.Common.{◌≡◌, ℕ, ◌+◌, ◌-◌, ◌<◌, ◌≤◌, Bool, true, List, [], ◌++◌, length, take, drop, refl, ap, sym, ◌∙◌, arith, length-drop, append-nil, append_assoc, Result, Ok, Err, append_cancel_right, drop_all, drop-drop, take_all, take-append-drop, Refused, ProcessorState, Engine, Meaning, held_of, rules, false, MatchResult, EndsTurn, inside_turn, HasAdvanced, EngineIsAt, HasTaken, EngineView, KeepsMemory, EngineHasMemory, EngineReads, EngineStops, EngineIsAtKeeping, EndsOpen, HasHalted, HasParsedFront, HasParsedWithoutBegin, ArePartsAt, ArePartsAtKeeping, ArePartsAtWithMemory, HasTurned, State, TakesTurnsUntilRefused, TakesTurns, all_bytes, turn, hold_turn, parse, stop, between_turns, done, LacksMemoryForSome, Reserves}
+use Rattle.vte.proofs.Common.{◌≡◌, ℕ, ◌+◌, ◌-◌, ◌<◌, ◌≤◌, Bool, true, List, [], ◌++◌, length, take, drop, refl, ap, sym, ◌∙◌, arith, length-drop, append-nil, append_assoc, Result, Ok, Err, append_cancel_right, drop_all, drop-drop, take_all, take-append-drop, Refused, ProcessorState, Engine, Meaning, held_of, rules, false, MatchResult, EndsTurn, inside_turn, HasAdvanced, EngineIsAt, HasTaken, EngineView, KeepsMemory, EngineHasMemory, EngineReads, EngineStops, EngineIsAtKeeping, EndsParsingTurn, HasHalted, HasParsedFront, HasParsedWithoutBegin, ArePartsAt, ArePartsAtKeeping, ArePartsAtWithMemory, HasTurned, State, TakesTurnsUntilRefused, TakesTurns, all_bytes, turn, hold_turn, parse, stop, between_turns, done, LacksMemoryForSome, Reserves}
 use Rattle.vte.proofs.turns.EachOnce.{grown_bytes}
 use Rattle.vte.proofs.turns.HoldFacts.{stop_well}
 use Rattle.vte.proofs.turns.Kinds.{refused-by_open, is_held, stop_if_due, turn-holds, turn-parses}
@@ -106,7 +106,7 @@ pub ends_turn : {P B T A V W : Type 0} {view : EngineView P B T W} {m : Meaning 
     → m.timeout.allows s.timeout pending → is_held pending s bytes ≡ false
     → KeepsMemory (EngineHasMemory view old) (EngineHasMemory view mid) → (result : Result ℕ Refused)
     → MatchResult result (λ read. read ≤ length bytes) (λ refused. refused.read < length bytes)
-    → EndsOpen m (stop_if_due m pending s) bytes result (EngineIsAtKeeping view mid new value)
+    → EndsParsingTurn m (stop_if_due m pending s) bytes result (EngineIsAtKeeping view mid new value)
     → EndsTurn m s bytes result (EngineIsAtKeeping view old new value)
 ends_turn {m} {s} {bytes} pending allowed parses keeps (Ok read) less e = record {
   turned =

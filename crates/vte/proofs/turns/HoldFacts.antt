@@ -1,6 +1,6 @@
 -- The facts of a hold, `HoldsWell`, are kept by turns and stops: by cases of the timeout's answer and of what a hold
 -- turn keeps, which is all, or starts with a begin-update, or is nothing.
-use Rattle.vte.proofs.Common.{◌≡◌, ℕ, zero, suc, ◌-◌, ◌<◌, ◌≤◌, inl, inr, Bool, true, false, List, [], ◌∷◌, ◌++◌, length, take, refl, sym, length-append, arith, cases_Bool, cases_lt, false≢true, nat_tests, added, TimeoutMeaning, AllowsOnly, IsSteady, begin_count, IsOutsideUpdate, IsInsideUpdate, Meaning, set_times, update_nanos, HoldsWellAt, begin_update, begins_ending_in_last, after_last_end, from_begin_update, part_after_last_end, State, TakesTurns, stop, front_to_begin, open_turn, release, extend, hold_turn, turn, done, turns, most_held, ap, append-nil}
+use Rattle.vte.proofs.Common.{◌≡◌, ℕ, zero, suc, ◌-◌, ◌<◌, ◌≤◌, inl, inr, Bool, true, false, List, [], ◌∷◌, ◌++◌, length, take, refl, sym, length-append, arith, cases_Bool, cases_lt, false≢true, nat_tests, added, TimeoutMeaning, AllowsOnly, IsSteady, begin_count, IsOutsideUpdate, IsInsideUpdate, Meaning, set_times, update_nanos, HoldsWellAt, begin_update, begins_ending_in_last, after_last_end, from_begin_update, part_after_last_end, State, TakesTurns, stop, front_to_begin, parsing_turn, release, extend, hold_turn, turn, done, turns, most_held, ap, append-nil}
 use Rattle.vte.proofs.turns.EachOnce.{stop_if_due_none}
 use Rattle.vte.proofs.updates.Fronts.{front-is}
 use Rattle.vte.proofs.turns.Kinds.{hold_turn-all, hold_turn-rest, is_held, is_stopped, stop_if_due, turn-holds, turn-parses}
@@ -26,10 +26,10 @@ module _ {V W : Type 0} (m : Meaning V W) where
   pub stop_well : (s : State V W) → HoldsWellAt m (stop m s)
   stop_well s = record { no_end = refl; fits = omega arith; steady = λ k. inl (stop_outside s k) }
 
-  -- ---- an open turn
+  -- ---- a parsing turn
 
   open_well : (s : State V W) (r : List ℕ) → s.held ≡ []
-      → (IsSteady m.timeout → IsOutsideUpdate m.timeout s.held s.timeout) → HoldsWellAt m (open_turn m s r).state
+      → (IsSteady m.timeout → IsOutsideUpdate m.timeout s.held s.timeout) → HoldsWellAt m (parsing_turn m s r).state
   open_well s r nothing outside =
       let f = front-is m.limit s.parsed r in
       record {

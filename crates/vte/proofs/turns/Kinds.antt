@@ -1,5 +1,5 @@
 -- Turns by their cases: a hold turn by whether the hold has an end-update, and a turn by whether its bytes are held.
-use Rattle.vte.proofs.Common.{◌≡◌, ◌⊎◌, inl, inr, refl, Bool, true, false, List, [], Some, None, ◌++◌, ◌+◌, ◌||◌, ℕ, zero, suc, length, nat_le, nat_lt, cases_Bool, arith, nat_tests, ExpiredTurn, Meaning, OpenTurn, OpenTurnIsRefused, State, TurnIsRefused, after_last_end, extend, from_begin_update, hold_turn, kind_of, most_held, open_turn, release, stop, turn}
+use Rattle.vte.proofs.Common.{◌≡◌, ◌⊎◌, inl, inr, refl, Bool, true, false, List, [], Some, None, ◌++◌, ◌+◌, ◌||◌, ℕ, zero, suc, length, nat_le, nat_lt, cases_Bool, arith, nat_tests, ExpiredTurn, Meaning, ParsingTurn, ParsingTurnIsRefused, State, TurnIsRefused, after_last_end, extend, from_begin_update, hold_turn, kind_of, most_held, parsing_turn, release, stop, turn}
 use Rattle.std.specs.Prelude.{◌&&◌, if◌then◌else◌}
 
 module _ {V W : Type 0} (m : Meaning V W) (s : State V W) (r : List ℕ) where
@@ -21,12 +21,12 @@ is_stopped pending s = pending || nat_lt 0 (length s.held)
 abbrev pub stop_if_due : {V W : Type 0} → Meaning V W → Bool → State V W → State V W
 stop_if_due m pending s = if is_stopped pending s then stop m s else s
 
--- An open turn, after a stop if need be, was refused memory.
+-- A parsing turn, after a stop if need be, was refused memory.
 abbrev pub OpensAndHalts : {V W : Type 0} → Meaning V W → Bool → State V W → List ℕ → State V W → List ℕ → Type 0
 OpensAndHalts m pending s bytes t left =
-    (is_held pending s bytes ≡ false) × OpenTurnIsRefused m (stop_if_due m pending s) bytes t left
+    (is_held pending s bytes ≡ false) × ParsingTurnIsRefused m (stop_if_due m pending s) bytes t left
 
-kind-not_pending : (held given : ℕ) → ((kind_of false held given ≡ OpenTurn) × (nat_lt 0 held ≡ false))
+kind-not_pending : (held given : ℕ) → ((kind_of false held given ≡ ParsingTurn) × (nat_lt 0 held ≡ false))
     ⊎ ((kind_of false held given ≡ ExpiredTurn) × (nat_lt 0 held ≡ true))
 kind-not_pending zero given = inl (refl, refl)
 kind-not_pending (suc held) given = inr (refl, grind (arith, nat_tests))
@@ -38,7 +38,7 @@ module _ {V W : Type 0} (m : Meaning V W) where
   turn-holds false s r held = absurd (let e : false ≡ true = held in cc)
 
   pub turn-parses : (pending : Bool) (s : State V W) (r : List ℕ) → is_held pending s r ≡ false
-      → turn m pending s r ≡ open_turn m (stop_if_due m pending s) r
+      → turn m pending s r ≡ parsing_turn m (stop_if_due m pending s) r
   turn-parses true s r parses = rw parses refl
   turn-parses false s r parses = elim (kind-not_pending (length s.held) (length r)) [
     | inl e ↦ rw (e.0, e.1) refl

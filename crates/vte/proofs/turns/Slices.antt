@@ -1,14 +1,14 @@
--- An open turn by its slices, and turns that are refused memory. Slices in which no update begins add up to a longer
--- front, so the turn ends where the front of the whole does; where one is refused, `OpenTurnIsRefused` says how far it
--- came.
-use Rattle.vte.proofs.Common.{◌≡◌, ℕ, ◌+◌, ◌-◌, ◌<◌, ◌≤◌, inl, Bool, true, false, nat_lt, List, [], ◌∷◌, ◌++◌, length, take, drop, refl, ap, sym, subst, ◌∙◌, arith, length-append, length-drop, append_assoc, drop-append-add, take-add, nat_tests, append-nil, drop_all, length-take-le, take-append-drop, take_all, take_at, added, IsSteady, begin_count, IsOutsideUpdate, Meaning, HoldsWellAt, HasHalted, HasParsedFront, HasParsedWithoutBegin, HasTakenOpenTurn, TakesAllTurns, OpenTurn, OpenTurnIsRefused, State, TakesTurnsUntilRefused, TakesTurns, front_to_begin, between_turns, done, kind_of, open_turn, parse, turn, turns, inside_turn}
+-- A parsing turn by its slices, and turns that are refused memory. Slices in which no update begins add up to a longer
+-- front, so the turn ends where the front of the whole does; where one is refused, `ParsingTurnIsRefused` says how
+-- far it came.
+use Rattle.vte.proofs.Common.{◌≡◌, ℕ, ◌+◌, ◌-◌, ◌<◌, ◌≤◌, inl, Bool, true, false, nat_lt, List, [], ◌∷◌, ◌++◌, length, take, drop, refl, ap, sym, subst, ◌∙◌, arith, length-append, length-drop, append_assoc, drop-append-add, take-add, nat_tests, append-nil, drop_all, length-take-le, take-append-drop, take_all, take_at, added, IsSteady, begin_count, IsOutsideUpdate, Meaning, HoldsWellAt, HasHalted, HasParsedFront, HasParsedWithoutBegin, HasTakenParsingTurn, TakesAllTurns, ParsingTurn, ParsingTurnIsRefused, State, TakesTurnsUntilRefused, TakesTurns, front_to_begin, between_turns, done, kind_of, parsing_turn, parse, turn, turns, inside_turn}
 use Rattle.vte.proofs.performing.CallLists.{after_calls-append, added_calls-append, added_calls-nothing, set_times-add}
 use Rattle.vte.proofs.turns.EachOnce.{Progresses, grows_on, stop_if_due_grows, stop_if_due_none, parse_grows, turns_grow}
 use Rattle.vte.proofs.updates.Fronts.{begin_count-added, front-after, front-all, front-more, front-some, begin_count-nothing, begin_count-none}
 use Rattle.vte.proofs.turns.Kinds.{OpensAndHalts, refused-opens, stop_if_due, turn-parses}
 use Rattle.vte.proofs.turns.HoldFacts.{stop_if_due_outside, taken_well}
 
--- ---- the slices of an open turn
+-- ---- the slices of a parsing turn
 
 pub slice_size : (bytes : List ℕ) (read : ℕ) {count : ℕ} → read ≤ length bytes → count ≤ length bytes - read
     → length (take (read + count - read) (drop read bytes)) ≡ count
@@ -30,9 +30,9 @@ module _ {V W : Type 0} (m : Meaning V W) where
         append_assoc s.parsed a b,
       ) refl
 
-  open_turn-goes_on : (s t : State V W) (bytes left : List ℕ) → OpenTurnIsRefused m s bytes t left
-      → open_turn m t left ≡ open_turn m s bytes
-  open_turn-goes_on s t bytes left h =
+  parsing_turn-goes_on : (s t : State V W) (bytes left : List ℕ) → ParsingTurnIsRefused m s bytes t left
+      → parsing_turn m t left ≡ parsing_turn m s bytes
+  parsing_turn-goes_on s t bytes left h =
       let front = front_to_begin m.limit (s.parsed ++ h.front) left in
       rw (
         h.state_is,
@@ -63,7 +63,7 @@ module _ {V W : Type 0} (m : Meaning V W) (s : State V W) (bytes : List ℕ) whe
 
   pub open-all : {read : ℕ} {IsNowAt : State V W → Type 0} → HasParsedWithoutBegin m s bytes read IsNowAt
       → length bytes ≤ read
-      → HasTakenOpenTurn m s bytes read IsNowAt
+      → HasTakenParsingTurn m s bytes read IsNowAt
   open-all {read} o all =
       let whole = take_all read bytes all in
       let none : begin_count (added m.limit s.parsed bytes) ≡ 0 = rw whole at o.none_begin in
@@ -100,7 +100,7 @@ module _ {V W : Type 0} (m : Meaning V W) (s : State V W) (bytes : List ℕ) whe
   pub open-ends : {slice : List ℕ} {read n : ℕ} {b : Bool} {old new : State V W → Type 0} (k : ℕ)
       → HasParsedWithoutBegin m s bytes read old → read ≤ length bytes
       → slice ≡ take k (drop read bytes) → HasParsedFront m (parse m s (take read bytes)) slice n b new → b ≡ true
-      → HasTakenOpenTurn m s bytes (read + n) new
+      → HasTakenParsingTurn m s bytes (read + n) new
   open-ends {slice} {read} {n} k o inside is at begun =
       let front = front_to_begin m.limit (s.parsed ++ take read bytes) slice in
       let test : nat_lt 0 (begin_count (added m.limit (s.parsed ++ take read bytes) front)) ≡ true =
@@ -125,7 +125,7 @@ module _ {V W : Type 0} (m : Meaning V W) (s : State V W) (bytes : List ℕ) whe
 
   pub open-halts : {read : ℕ} {IsNowAt : State V W → Type 0} → HasParsedWithoutBegin m s bytes read IsNowAt
       → read < length bytes
-      → OpenTurnIsRefused m s bytes (parse m s (take read bytes)) (drop read bytes)
+      → ParsingTurnIsRefused m s bytes (parse m s (take read bytes)) (drop read bytes)
   open-halts {read} o less = record {
     front = take read bytes;
     bytes_are = take-append-drop read bytes;
@@ -219,9 +219,9 @@ module _ {V W : Type 0} (m : Meaning V W) where
   halts-goes_on : (pending : Bool) (s t : State V W) (bytes left : List ℕ) → OpensAndHalts m pending s bytes t left
       → turn m false t left ≡ turn m pending s bytes
   halts-goes_on pending s t bytes left (parses, h) =
-      let none : kind_of false (length t.held) (length left) ≡ OpenTurn =
+      let none : kind_of false (length t.held) (length left) ≡ ParsingTurn =
       rw (halts-held pending s t bytes left (parses, h)) refl in
-      rw (none, turn-parses m pending s bytes parses) (open_turn-goes_on m (stop_if_due m pending s) t bytes left h)
+      rw (none, turn-parses m pending s bytes parses) (parsing_turn-goes_on m (stop_if_due m pending s) t bytes left h)
 
   halted-turn_goes_on : (pending : Bool) {s t end : State V W} {bytes left : List ℕ}
       → m.timeout.allows s.timeout pending

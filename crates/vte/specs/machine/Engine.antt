@@ -5,7 +5,7 @@ use Rattle.vte_core.specs.Stream.{added, events}
 use Rattle.vte.specs.BeginUpdate.{begin_count}
 use Rattle.vte.specs.Calls.{last_printed}
 use Rattle.vte.specs.Memory.{KeepsMemory}
-use Rattle.vte.specs.Processor.{Meaning, State, front_to_begin, open_turn, parse, turn}
+use Rattle.vte.specs.Processor.{Meaning, State, front_to_begin, parsing_turn, parse, turn}
 use Rattle.vte.specs.ProcessorCalls.{IsAt}
 use Rattle.vte.specs.Refusal.{TakesTurnsUntilRefused}
 use Rattle.vte.specs.Views.{EngineHasMemory, EngineStandsAt, EngineView}
@@ -76,13 +76,13 @@ module _ {V W : Type 0} (meaning : Meaning V W) (state : State V W) (bytes : Lis
     pub rest : (turn meaning pending state bytes).rest ≡ drop read bytes
     pub is_at : IsNowAt (turn meaning pending state bytes).state
 
-  -- An open turn has read `read` bytes, and at least one if there were any.
-  pub record HasTakenOpenTurn (read : ℕ) (IsNowAt : State V W → Type 0) : Type 0 where
+  -- A parsing turn has read `read` bytes, and at least one if there were any.
+  pub record HasTakenParsingTurn (read : ℕ) (IsNowAt : State V W → Type 0) : Type 0 where
     pub progress : 0 < length bytes → 0 < read
-    pub rest : (open_turn meaning state bytes).rest ≡ drop read bytes
-    pub is_at : IsNowAt (open_turn meaning state bytes).state
+    pub rest : (parsing_turn meaning state bytes).rest ≡ drop read bytes
+    pub is_at : IsNowAt (parsing_turn meaning state bytes).state
 
-  -- An open turn has parsed the first `read` bytes, and no update begins in them.
+  -- A parsing turn has parsed the first `read` bytes, and no update begins in them.
   pub record HasParsedWithoutBegin (read : ℕ) (IsNowAt : State V W → Type 0) : Type 0 where
     pub none_begin : begin_count (added meaning.limit state.parsed (take read bytes)) ≡ 0
     pub is_at : IsNowAt (parse meaning state (take read bytes))
@@ -98,7 +98,8 @@ module _ {V W : Type 0} (meaning : Meaning V W) (state : State V W) (bytes : Lis
     pub turned : IfOk result (λ read. HasTurned read IsNowAt)
     pub halted : IfErr result (λ refused. HasHalted refused.read IsNowAt)
 
-  -- How an open turn ends, if memory for it may be refused.
-  pub record EndsOpen (result : Result ℕ Refused) (IsNowAt : State V W → Type 0) : Type 0 where
-    pub opened : IfOk result (λ read. HasTakenOpenTurn read IsNowAt)
+  -- How a parsing turn ends, if memory for it may be refused.
+  pub record EndsParsingTurn (result : Result ℕ Refused) (IsNowAt : State V W → Type 0)
+      : Type 0 where
+    pub opened : IfOk result (λ read. HasTakenParsingTurn read IsNowAt)
     pub halted : IfErr result (λ refused. HasParsedWithoutBegin refused.read IsNowAt)

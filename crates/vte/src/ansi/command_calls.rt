@@ -2,6 +2,7 @@
 ghost use Rattle.std.specs.Prelude.{◌≡◌, ◌≤◌, bytes_eq, codes, map};
 ghost use Rattle.vte.specs.CommandCalls.{all_reset, clipboard_calls, color_calls, dynamic_color_calls, dynamic_calls, dynamic_colors, link_calls, link_to, palette_calls, pointer_calls};
 ghost use Rattle.vte.specs.CommandCalls.{reset_calls, shape_calls, system_command_calls, palette_entry_calls};
+ghost use Rattle.vte.specs.Titles.{title_calls};
 ghost use Rattle.vte_types.specs.Rows.{entry_of};
 ghost use Rattle.vte.specs.machine.Texts.{FitsRoom};
 ghost use Rattle.vte.specs.Numbers.{decimal_number};
@@ -10,12 +11,14 @@ ghost use Rattle.vte_handler.specs.Handler.{after};
 ghost use Rattle.vte_types.specs.CursorIcon.{icon_of};
 
 use crate::ansi::color_text::xparse_color;
+use crate::ansi::joined_text::{join_texts, text_in};
+use crate::ansi::numbers::{parse_number, push_number};
 use crate::ansi::parts::{id_in, strip_word};
 use crate::ansi::text_buffer::TextBuffer;
-use crate::ansi::titles::{join_texts, parse_number, perform_title, push_number, text_in};
 use arrayvec::ArrayString;
 use std::str::FromStr;
 use vte_handler::{Handler, Hyperlink};
+use vte_types::NamedColor::{Background, Cursor, Foreground};
 use vte_types::cursor_icon::CursorIcon;
 use vte_types::{CursorShape, laws};
 
@@ -37,7 +40,7 @@ pub(crate) fn perform_system_command<H: Handler, B: TextBuffer>(
     if let [first, texts @ ..] = pieces {
         let terminator = if bell_terminated { "\x07" } else { "\x1b\\" };
         match *first {
-            b"0" | b"2" => perform_title(handler, text, texts),
+            b"0" | b"2" => set_title(handler, text, texts),
             b"4" => set_palette(handler, texts, terminator),
             b"8" => set_link(handler, text, texts),
             b"10" => set_dynamic_colors(handler, 10, texts, terminator),
@@ -47,10 +50,28 @@ pub(crate) fn perform_system_command<H: Handler, B: TextBuffer>(
             b"50" => set_shape(handler, texts),
             b"52" => use_clipboard(handler, texts, terminator),
             b"104" => reset_colors(handler, texts),
-            b"110" => handler.reset_color(256),
-            b"111" => handler.reset_color(257),
-            b"112" => handler.reset_color(258),
+            b"110" => handler.reset_color(Foreground as usize),
+            b"111" => handler.reset_color(Background as usize),
+            b"112" => handler.reset_color(Cursor as usize),
             _ => {}
+        }
+    }
+}
+
+/// Sets the title that these pieces make: 0 and 2. A title of one piece is lent, and not copied.
+#[tactic(auto, using(crate::proofs::Joining::one_text))]
+fn set_title<H: Handler, B: TextBuffer>(handler: &mut H, text: &mut B, texts: &[&[u8]])
+    requires { FitsRoom (B.room text.old) (map (λ piece. piece.now) texts.now) }
+    ensures told { H.value_of handler.new
+        ≡ after H.step (H.value_of handler.old) (title_calls (map (λ piece. piece.now) texts.now)) }
+    ensures same { B.room text.new ≡ B.room text.old }
+{
+    match texts {
+        [] => {}
+        [title] => handler.set_title(Some(text_in(title, false).unwrap_or("").trim())),
+        _ => {
+            join_texts(text, texts, false);
+            handler.set_title(Some(text.as_str().trim()));
         }
     }
 }
@@ -153,9 +174,9 @@ fn set_dynamic_color<H: Handler>(handler: &mut H, code: usize, terminator: &str,
         (dynamic_color_calls code terminator.now text.now (entry_of dynamic_colors code)) }
 {
     match code {
-        10 => set_color(handler, "10", 256, terminator, text),
-        11 => set_color(handler, "11", 257, terminator, text),
-        12 => set_color(handler, "12", 258, terminator, text),
+        10 => set_color(handler, "10", Foreground as usize, terminator, text),
+        11 => set_color(handler, "11", Background as usize, terminator, text),
+        12 => set_color(handler, "12", Cursor as usize, terminator, text),
         _ => {}
     }
 }

@@ -5,11 +5,11 @@ ghost use Rattle.vte.specs.Views.{EngineStandsAt, engine_view};
 ghost use Rattle.vte.specs.ProcessorCalls.{held_of};
 ghost use Rattle.vte.specs.machine.Hold.{released_of};
 ghost use Rattle.vte.specs.Processor.{State, hold_turn, meaning_of, most_held, parse, set_times, stop};
-ghost use Rattle.vte.specs.machine.Engine.{EngineIsAtKeeping, EndsOpen, EndsTurn, ArePartsAt, ArePartsAtKeeping, ArePartsAtWithMemory, LeadOn};
+ghost use Rattle.vte.specs.machine.Engine.{EngineIsAtKeeping, EndsParsingTurn, EndsTurn, ArePartsAt, ArePartsAtKeeping, ArePartsAtWithMemory, LeadOn};
 ghost use Rattle.vte.specs.LongProcessor.{EngineReads, EngineStops, LacksMemoryForSome, Reserves};
 ghost use Rattle.vte_handler.specs.Timeout.{timeout_meaning};
 
-use crate::ansi::hold::{MOST_HELD, SyncState};
+use crate::ansi::hold::{Hold, MOST_HELD};
 use crate::ansi::parsing::{EventParser, ParseAs, parse_all, parse_until_begin};
 use crate::ansi::performer::{ProcessorState, UPDATE_TIMEOUT_MILLIS};
 use crate::ansi::text_buffer::TextBuffer;
@@ -19,7 +19,7 @@ use vte_core::{Refused, laws};
 use vte_handler::{Handler, Timeout};
 use vte_types::{NamedPrivateMode, PrivateMode};
 
-/// For how many bytes an open turn takes memory at once: little beside the memory of a hold, and
+/// For how many bytes a parsing turn takes memory at once: little beside the memory of a hold, and
 /// enough that few slices are taken.
 const SLICE: usize = 65_536;
 
@@ -28,7 +28,7 @@ const SLICE: usize = 65_536;
 #[derive(Clone, Drop)]
 pub(crate) struct Engine<P: Drop, B: Drop, T: Drop, A: Allocator> {
     pub(crate) parser: P,
-    pub(crate) hold: SyncState<A>,
+    pub(crate) hold: Hold<A>,
     pub(crate) state: ProcessorState<T, B>,
 }
 
@@ -49,7 +49,7 @@ impl<P: EventParser + Drop, B: TextBuffer + Drop, T: Timeout + Drop, A: Allocato
         ensures text { IfOk result (λ engine. engine.state.text ≡ text) }
     {
         laws::empty_stream();
-        match SyncState::new(alloc) {
+        match Hold::new(alloc) {
             Ok(hold) => Ok(Engine {
                 parser,
                 hold,
@@ -184,7 +184,7 @@ impl<P: EventParser + Drop, B: TextBuffer + Drop, T: Timeout + Drop, A: Allocato
         if pending || self.hold.len() > 0 {
             self.stop::<H, G>(handler);
         }
-        self.take_open_turn::<H, G>(handler, bytes)
+        self.take_parsing_turn::<H, G>(handler, bytes)
     }
 
     /// Returns whether there is room to hold this many more bytes.
@@ -196,7 +196,7 @@ impl<P: EventParser + Drop, B: TextBuffer + Drop, T: Timeout + Drop, A: Allocato
 
     /// Parses bytes up to the one that begins an update, a slice at a time, and returns how many.
     /// Memory is taken before each slice.
-    fn take_open_turn<H: Handler, G: ParseAs<H, T, P>>(
+    fn take_parsing_turn<H: Handler, G: ParseAs<H, T, P>>(
         &mut self,
         handler: &mut H,
         bytes: &[u8],
@@ -206,7 +206,8 @@ impl<P: EventParser + Drop, B: TextBuffer + Drop, T: Timeout + Drop, A: Allocato
             (λ refused. refused.read < length bytes.now) }
         ensures opened { LeadOn (engine_view P.limit P.reading B.room T.value_of) self.old
             self.new (H.value_of handler.old) (H.value_of handler.new)
-            (λ s. EndsOpen (meaning_of P.limit H.step T.set T.clear T.allows) s bytes.now result) }
+            (λ s. EndsParsingTurn (meaning_of P.limit H.step T.set T.clear T.allows) s bytes.now
+            result) }
         ensures lacks { IfErr result
             (λ refused. LacksMemoryForSome (engine_view P.limit P.reading B.room T.value_of)
             self.new (length bytes.now - refused.read)) }

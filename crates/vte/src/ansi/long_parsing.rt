@@ -2,12 +2,12 @@
 //! refused on the way.
 ghost use Rattle.std.specs.Prelude.{◌≡◌, ◌+◌, ◌≤◌, ◌^◌, IfSome, None};
 ghost use Rattle.vte.specs.Views.{long_parser_view};
-ghost use Rattle.vte.specs.declared.ansi.titles.TheConstants.{SEPARATORS};
+ghost use Rattle.vte.specs.declared.ansi.joined_text.TheConstants.{SEPARATORS};
 
+use crate::ansi::joined_text::SEPARATORS;
 use crate::ansi::parsing::{EventParser, ParseAs};
 use crate::ansi::performer::Performer;
 use crate::ansi::text_buffer::TextBuffer;
-use crate::ansi::titles::SEPARATORS;
 use std::alloc::Allocator;
 use vte_core::{InRuns, LongParser, Refused, Singly};
 use vte_handler::{Handler, HandlerText, Timeout};

@@ -1,7 +1,9 @@
-//! The numbers of a control sequence.
-ghost use Rattle.std.specs.Prelude.{◌≡◌, ◌<◌, ℕ, List, drop, map};
-ghost use Rattle.vte.specs.Numbers.{first_number as first_of_group, first_of, first_nonzero_or};
+//! The numbers of a control sequence, and those in texts of commands.
+ghost use Rattle.std.specs.Prelude.{◌≡◌, ◌<◌, ◌≤◌, ◌+◌, ◌++◌, ℕ, List, drop, length, map};
+ghost use Rattle.std.specs.Fmt.{decimal};
+ghost use Rattle.vte.specs.Numbers.{decimal_number, first_number as first_of_group, first_of, first_nonzero_or};
 
+use crate::ansi::text_buffer::TextBuffer;
 use vte_core::ParamsIter;
 
 /// An iterator of numbers.
@@ -72,5 +74,35 @@ pub(crate) fn first_number(group: &[u16]) -> u16
     match group {
         [number, ..] => *number,
         [] => 0,
+    }
+}
+
+/// Reads a decimal number of at most 255.
+pub(crate) fn parse_number(digits: &[u8]) -> Option<u8>
+    ensures { result ≡ decimal_number digits.now }
+{
+    if digits.is_empty() {
+        return None;
+    }
+    let mut number: u8 = 0;
+    for byte in digits {
+        let digit = char::from(*byte).to_digit(10)?;
+        number = number.checked_mul(10)?.checked_add(digit as u8)?;
+    }
+    Some(number)
+}
+
+/// Appends a number to a text.
+#[tactic(auto, using(std::proofs::lemmas::Fmt::decimal_digit, std::proofs::lemmas::Fmt::decimal_step))]
+pub(crate) fn push_number<B: TextBuffer>(text: &mut B, number: u8)
+    requires { length (B.held text.old) + length (decimal number) ≤ B.room text.old }
+    ensures pushed { B.held text.new ≡ B.held text.old ++ decimal number }
+    ensures same { B.room text.new ≡ B.room text.old }
+{
+    if number < 10 {
+        text.push(char::from(b'0' + number));
+    } else {
+        push_number(text, number / 10);
+        text.push(char::from(b'0' + number % 10));
     }
 }

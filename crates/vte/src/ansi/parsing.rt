@@ -9,9 +9,9 @@ ghost use Rattle.vte.specs.Views.{ParserView, engine_view, limited_parser_view};
 ghost use Rattle.vte.specs.Memory.{KeepsMemory};
 ghost use Rattle.vte_handler.specs.Timeout.{timeout_meaning};
 
+use crate::ansi::joined_text::{SEPARATORS, TEXT_ROOM};
 use crate::ansi::performer::{Performer, ProcessorState};
 use crate::ansi::text_buffer::TextBuffer;
-use crate::ansi::titles::{SEPARATORS, TEXT_ROOM};
 use arrayvec::ArrayString;
 use std::marker::PhantomData;
 use vte_core::{InRuns, Parser, Singly};

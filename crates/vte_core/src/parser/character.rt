@@ -49,7 +49,7 @@ impl<B: Buffer> Machine<B> {
             self.state = State::Text(Unfinished::One(first));
             return next;
         }
-        let second = reader.at(input, next);
+        let second = reader.byte_at(input, next);
         if !is_continuation(second) {
             performer.print_char(reader, char::REPLACEMENT_CHARACTER);
             return next;
@@ -94,7 +94,7 @@ impl<B: Buffer> Machine<B> {
             self.state = State::Text(Unfinished::Two(first, second));
             return from + 1;
         }
-        let third = reader.at(input, from + 1);
+        let third = reader.byte_at(input, from + 1);
         if !is_continuation(third) {
             performer.print_char(reader, char::REPLACEMENT_CHARACTER);
             return from + 1;
@@ -150,12 +150,12 @@ impl<B: Buffer> Machine<B> {
                 next + 1,
             );
         }
-        let third = reader.at(input, next + 1);
+        let third = reader.byte_at(input, next + 1);
         if !is_continuation(third) {
             performer.print_char(reader, char::REPLACEMENT_CHARACTER);
             return next + 1;
         }
-        let fourth = reader.at(input, next + 2);
+        let fourth = reader.byte_at(input, next + 2);
         if !is_continuation(fourth) {
             performer.print_char(reader, char::REPLACEMENT_CHARACTER);
             return next + 2;
@@ -191,7 +191,7 @@ impl<B: Buffer> Machine<B> {
     {
         let mut unfinished = begun;
         for position in from..input.len() {
-            match unfinished.carried_on(reader.at(input, position)) {
+            match unfinished.with_continuation(reader.byte_at(input, position)) {
                 Carried::Unfinished(more) => unfinished = more,
                 Carried::Whole(c) => {
                     reader.tell_character(performer, c);

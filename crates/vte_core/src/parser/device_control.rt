@@ -88,7 +88,7 @@ impl<B: Buffer> Machine<B> {
             reader.old reader.new }
     {
         for position in from..input.len() {
-            let byte = reader.at(input, position);
+            let byte = reader.byte_at(input, position);
             if !is_device_data(byte) {
                 return self.read_other_in_data::<P, G, MAY_STOP>(
                     reader, performer, input, position, byte,

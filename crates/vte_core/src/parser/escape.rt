@@ -38,7 +38,7 @@ impl<B: Buffer> Machine<B> {
     {
         self.collected.begin_escape();
         let next = from + 1;
-        if next < input.len() && reader.at(input, next) == b'[' {
+        if next < input.len() && reader.byte_at(input, next) == b'[' {
             self.collected.begin_head();
             self.state = State::ControlSequence(HeadProgress::Entry);
             return self.read_short_head::<P, G, MAY_STOP>(reader, performer, input, next + 1);
@@ -66,7 +66,7 @@ impl<B: Buffer> Machine<B> {
             reader.old reader.new }
     {
         for position in from..input.len() {
-            let byte = reader.at(input, position);
+            let byte = reader.byte_at(input, position);
             // Added before the branches, so that the loop over ESC is shorter.
             let next = position + 1;
             if byte == b'[' {
@@ -168,7 +168,7 @@ impl<B: Buffer> Machine<B> {
             reader.old reader.new }
     {
         for position in from..input.len() {
-            let byte = reader.at(input, position);
+            let byte = reader.byte_at(input, position);
             if is_intermediate(byte) {
                 self.collected.collect(byte);
             } else if dispatches_escape(byte) {

@@ -24,7 +24,7 @@ impl<B: Buffer> Machine<B> {
             reader.old reader.new }
     {
         let end = reader.find_string_end(input, from);
-        match reader.get(input, end) {
+        match reader.get_byte(input, end) {
             Some(byte) => self.read_end::<P, G, MAY_STOP>(reader, performer, input, end, byte),
             None => end,
         }

@@ -1,5 +1,5 @@
 //! The parser that keeps operating system commands of any length.
-ghost use Rattle.std.specs.Prelude.{◌≡◌, ◌≢◌, ◌+◌, ◌<◌, ◌≤◌, ℕ, true, false, List, [], None, IfErr, IfOk};
+ghost use Rattle.std.specs.Prelude.{◌≡◌, ◌≢◌, ◌+◌, ◌<◌, ◌≤◌, ℕ, true, false, List, [], None, IfErr, IfOk, length};
 ghost use Rattle.vte_core.specs.LongParser.{HasReadLong, LacksMemoryForMore, lost_data_long, memory_of, reading_of_long};
 ghost use Rattle.vte_core.specs.LongParser.{open_command_size};
 ghost use Rattle.vte_core.specs.Parser.{IsCopyOf};
@@ -43,7 +43,7 @@ pub struct LongParser<A: Allocator> {
     looks: Looks,
 }
 
-/// A clone goes on as the parser would. Its looks are counted anew.
+/// A clone goes on as the parser would. Its looks are counted from 0.
 impl<A: Allocator + Clone> Clone for LongParser<A> {
     ghost is_clone = { λ parser copy. IsCopyOf (reading_of_long parser) (reading_of_long copy)
         × memory_of parser ≤ memory_of copy };
@@ -104,6 +104,21 @@ impl<A: Allocator> LongParser<A> {
         self.machine.command_lost_data()
     }
 
+    /// Removes the bytes of a command that has ended, but not whether it lost data.
+    fn forget_ended_command(&mut self)
+        ensures reads { (stream : List ℕ) → HasReadLong self.old stream
+            → HasReadLong self.new stream }
+        ensures stored { (stream : List ℕ) → HasReadLong self.new stream
+            → length self.new.machine.command.bytes ≡ open_command_size stream }
+        ensures memory { memory_of self.new ≡ memory_of self.old }
+        ensures lost { lost_data_long self.new ≡ lost_data_long self.old }
+        ensures count { counted self.new.looks ≡ counted self.old.looks }
+    {
+        if !matches!(self.machine.state, State::SystemCommand) {
+            self.machine.command.remove_items();
+        }
+    }
+
     /// Takes memory for this many more data bytes of an operating system command, and returns
     /// whether it is there. Calls with no more bytes than that are then never refused memory.
     #[must_use = "the memory may be refused"]
@@ -122,10 +137,7 @@ impl<A: Allocator> LongParser<A> {
         ensures lost { lost_data_long self.new ≡ lost_data_long self.old }
         ensures count { counted self.new.looks ≡ counted self.old.looks }
     {
-        // A command that has ended needs no memory.
-        if !matches!(self.machine.state, State::SystemCommand) {
-            self.machine.command.remove_items();
-        }
+        self.forget_ended_command();
         self.machine.command.reserve(more)
     }
 
@@ -142,10 +154,7 @@ impl<A: Allocator> LongParser<A> {
         ensures lost { lost_data_long self.new ≡ lost_data_long self.old }
         ensures count { counted self.new.looks ≡ counted self.old.looks }
     {
-        // A command that has ended needs no memory.
-        if !matches!(self.machine.state, State::SystemCommand) {
-            self.machine.command.remove_items();
-        }
+        self.forget_ended_command();
         self.machine.command.shrink_to_fit();
     }
 
@@ -164,6 +173,7 @@ impl<A: Allocator> LongParser<A> {
     {
         !matches!(self.open(), Open::Nothing)
     }
+
     /// Reads the bytes of a call, as many as there is memory for, and returns how many: all of
     /// them, or up to a stop if `MAY_STOP`.
     pub(crate) fn drive<P: CountedPerform<G>, G: Grain, const MAY_STOP: bool>(

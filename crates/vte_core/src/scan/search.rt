@@ -120,7 +120,7 @@ impl Reader {
         ensures count { looked self.new + from ≡ looked self.old + min (result + 1) to }
     {
         for end in from..to {
-            if ends_body(self.at(input, end)) {
+            if ends_body(self.byte_at(input, end)) {
                 return end;
             }
         }
@@ -128,8 +128,7 @@ impl Reader {
     }
 }
 
-/// Returns whether none of 16 bytes can end a string. Compilers make vector instructions of the
-/// loop.
+/// Returns whether none of 16 bytes can end a string.
 #[inline(always)]
 fn is_ignored_block(block: &[u8; 16]) -> bool
     ensures { IsTrue result → AreIgnored block.now 0 16 }

@@ -11,6 +11,7 @@ mod escape_calls;
 mod growing_text;
 mod hold;
 mod input;
+mod joined_text;
 mod long_parsing;
 mod long_processor;
 mod numbers;
@@ -20,7 +21,6 @@ mod performer;
 mod release;
 mod rendition;
 mod text_buffer;
-mod titles;
 mod values;
 
 pub use bounded_processor::BoundedProcessor;

@@ -1,14 +1,18 @@
 // Written by tools/erase from crates/vte_core/src/class.rt: edit that one.
 //! The classes of bytes.
 
+const CANCEL: u8 = 0x18;
+
+const SUBSTITUTE: u8 = 0x1a;
+
 pub(crate) const ESCAPE: u8 = 0x1b;
 
 /// Returns whether a byte is a plain control: C0 except CAN, SUB and ESC.
 pub(crate) fn is_plain_control(byte: u8) -> bool {
-    byte < 0x20 && byte != 0x18 && byte != 0x1a && byte != ESCAPE
+    byte < 0x20 && byte != CANCEL && byte != SUBSTITUTE && byte != ESCAPE
 }
 
-/// Returns whether a byte is HT, LF or CR. Compilers make no vector instructions of `||`.
+/// Returns whether a byte is HT, LF or CR. Without `||`, as `run_blocks` wants.
 #[inline(always)]
 pub(crate) fn is_layout(byte: u8) -> bool {
     (byte == b'\t') | (byte == b'\n') | (byte == b'\r')
@@ -16,13 +20,13 @@ pub(crate) fn is_layout(byte: u8) -> bool {
 
 /// Returns whether a byte is CAN, SUB or ESC, which end whatever is open.
 pub(crate) fn ends_body(byte: u8) -> bool {
-    byte == 0x18 || byte == 0x1a || byte == ESCAPE
+    byte == CANCEL || byte == SUBSTITUTE || byte == ESCAPE
 }
 
 /// Returns whether a byte is surely none of CAN, SUB and ESC, because it isn't one of 18..1B, which
 /// compilers test by one comparison.
 pub(crate) fn cannot_end(byte: u8) -> bool {
-    byte < 0x18 || byte > ESCAPE
+    byte < CANCEL || byte > ESCAPE
 }
 
 /// Returns whether a byte is one of the data of a device control string: plain controls and

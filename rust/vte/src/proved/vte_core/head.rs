@@ -7,6 +7,9 @@ use crate::proved::vte_core::class::{digit_of, is_head_byte, is_intermediate, is
 use crate::proved::vte_core::params::Params;
 use crate::proved::vte_core::scan::Reader;
 
+/// How many intermediates of a sequence are kept, a marker among them.
+const MOST_INTERMEDIATES: usize = 2;
+
 /// How far a head has been read.
 #[derive(Clone, Copy)]
 pub(crate) enum HeadProgress {
@@ -39,7 +42,7 @@ pub(crate) struct HeadEnd {
 #[derive(Clone)]
 pub(crate) struct Collected {
     // the first two, a marker among them
-    pub(crate) intermediates: ArrayVec<u8, 2>,
+    pub(crate) intermediates: ArrayVec<u8, MOST_INTERMEDIATES>,
     // whether there were more
     pub(crate) too_many_intermediates: bool,
     // the first 32 numbers, without the one that is being read
@@ -152,7 +155,7 @@ impl Collected {
         let mut position = from;
         let mut next = None;
         while position < input.len() {
-            let byte = reader.at(input, position);
+            let byte = reader.byte_at(input, position);
             if let Some(digit) = digit_of(byte) {
                 // 65,535 stands for all greater numbers.
                 number = (number * 10 + digit).min(u32::from(u16::MAX));
@@ -192,7 +195,7 @@ impl Collected {
         let mut position = from;
         let mut next = None;
         while position < input.len() {
-            let byte = reader.at(input, position);
+            let byte = reader.byte_at(input, position);
             if !is_head_byte(byte) {
                 next = Some(byte);
                 break;

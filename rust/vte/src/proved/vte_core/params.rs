@@ -5,14 +5,17 @@ use crate::adapter::array_vec::ArrayVec;
 use core::fmt;
 use core::iter::FusedIterator;
 
+/// How many numbers of a sequence are kept.
+const MOST_NUMBERS: usize = 32;
+
 /// The numbers of a sequence, in groups that are never empty.
 #[derive(Clone)]
 #[doc = include_str!("../../docs/params.md")]
 pub struct Params {
     // all numbers in a row
-    numbers: ArrayVec<u16, 32>,
+    numbers: ArrayVec<u16, MOST_NUMBERS>,
     // how many of them stand in each group
-    lengths: ArrayVec<u8, 32>,
+    lengths: ArrayVec<u8, MOST_NUMBERS>,
 }
 
 /// An iterator over the groups of a [`Params`], each a slice of its numbers.
@@ -58,7 +61,10 @@ impl Params {
 
     /// Returns the parameters with these parts, or none if the lengths don't cover all numbers.
     #[cfg(feature = "__own")]
-    pub(crate) fn from_parts(lengths: ArrayVec<u8, 32>, numbers: ArrayVec<u16, 32>) -> Self {
+    pub(crate) fn from_parts(
+        lengths: ArrayVec<u8, MOST_NUMBERS>,
+        numbers: ArrayVec<u16, MOST_NUMBERS>,
+    ) -> Self {
         if are_lengths(lengths.as_slice(), numbers.as_slice()) {
             Params { numbers, lengths }
         } else {
@@ -88,7 +94,7 @@ impl Params {
 
 /// Removes the length of the last group if the next number joins it.
 #[inline]
-fn take_joined(lengths: &mut ArrayVec<u8, 32>, joined: bool) -> Option<u8> {
+fn take_joined(lengths: &mut ArrayVec<u8, MOST_NUMBERS>, joined: bool) -> Option<u8> {
     if joined {
         lengths.pop()
     } else {

@@ -2,7 +2,8 @@
 //! Where a run of printed text ends. `scan/taken.rt` has the runs that callers take.
 //!
 //! A word is eight bytes. No word is tried before a run has begun with single bytes, so that no
-//! byte is read often. Outside `scan`, a reader has only `at`, `get` and `get_block` for that.
+//! byte is read often. Outside `scan`, a reader has only `byte_at`, `get_byte`, `get_block`
+//! and `get_window` for that.
 
 use crate::proved::vte_core::class::is_layout;
 use crate::proved::vte_core::scan::{CountedPerform, Grain, Reader};
@@ -19,8 +20,8 @@ impl Reader {
     #[inline(always)]
     pub(crate) fn begins_ascii_run(self, input: &[u8], at: usize, next: Option<u8>) -> bool {
         matches!(next, Some(second) if is_printed_ascii(second))
-            && matches!(self.get(input, at + 2), Some(third) if is_printed_ascii(third))
-            && matches!(self.get(input, at + 3), Some(fourth) if is_printed_ascii(fourth))
+            && matches!(self.get_byte(input, at + 2), Some(third) if is_printed_ascii(third))
+            && matches!(self.get_byte(input, at + 3), Some(fourth) if is_printed_ascii(fourth))
     }
 
     /// Finds where the run ends that begins with four bytes of ASCII, which were looked at.
@@ -49,8 +50,8 @@ impl Reader {
         from: usize,
         first: u8,
     ) -> usize {
-        match self.get(input, from + 1) {
-            Some(second) if is_continuation(second) => match self.get(input, from + 2) {
+        match self.get_byte(input, from + 1) {
+            Some(second) if is_continuation(second) => match self.get_byte(input, from + 2) {
                 Some(third) if first < 0xe0 => {
                     if is_lead(third) && is_printed_pair(first, second) {
                         self.find_run_end_for(performer, input, from + 2)
@@ -98,7 +99,7 @@ impl Reader {
     fn find_end_up_to(self, input: &[u8], from: usize, to: usize, layout: bool) -> usize {
         let mut end = from;
         while end < to {
-            let byte = self.at(input, end);
+            let byte = self.byte_at(input, end);
             if is_printed_ascii(byte) {
                 end = self.find_ascii_end(input, end + 1);
             } else {
@@ -134,18 +135,18 @@ impl Reader {
             }
             return None;
         }
-        let second = self.get(input, from + 1)?;
+        let second = self.get_byte(input, from + 1)?;
         if first < 0xe0 {
             if is_printed_pair(first, second) {
                 return Some(from + 2);
             }
         } else if first < 0xf0 {
-            if may_begin_three(first, second) && is_continuation(self.get(input, from + 2)?) {
+            if may_begin_three(first, second) && is_continuation(self.get_byte(input, from + 2)?) {
                 return Some(from + 3);
             }
         } else if may_begin_four(first, second)
-            && is_continuation(self.get(input, from + 2)?)
-            && is_continuation(self.get(input, from + 3)?)
+            && is_continuation(self.get_byte(input, from + 2)?)
+            && is_continuation(self.get_byte(input, from + 3)?)
         {
             return Some(from + 4);
         }
@@ -156,8 +157,8 @@ impl Reader {
     /// alone, then words are taken.
     #[inline(always)]
     fn find_ascii_end(self, input: &[u8], from: usize) -> usize {
-        match self.get(input, from) {
-            Some(second) if is_printed_ascii(second) => match self.get(input, from + 1) {
+        match self.get_byte(input, from) {
+            Some(second) if is_printed_ascii(second) => match self.get_byte(input, from + 1) {
                 Some(third) if is_printed_ascii(third) => self.find_end_by_words(input, from + 2),
                 _ => from + 1,
             },

@@ -90,14 +90,14 @@ impl Reader {
     }
 
     /// Returns the byte at an index.
-    pub(crate) fn at(self, input: &[u8], index: usize) -> u8 {
+    pub(crate) fn byte_at(self, input: &[u8], index: usize) -> u8 {
         self.add(1);
         input[index]
     }
 
     /// Returns the byte at an index, or `None` past the end.
     #[inline(always)]
-    pub(crate) fn get(self, input: &[u8], index: usize) -> Option<u8> {
+    pub(crate) fn get_byte(self, input: &[u8], index: usize) -> Option<u8> {
         let byte = *input.get(index)?;
         self.add(1);
         Some(byte)

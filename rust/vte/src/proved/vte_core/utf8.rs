@@ -33,7 +33,7 @@ impl Unfinished {
 
     /// Adds a byte to those of an open character.
     #[inline(always)]
-    pub(crate) fn carried_on(self, byte: u8) -> Carried {
+    pub(crate) fn with_continuation(self, byte: u8) -> Carried {
         match self {
             Unfinished::One(first) if may_be_second(first, byte) => {
                 if first < 0xe0 {
@@ -126,7 +126,7 @@ fn whole_character(code: u32) -> Carried {
 /// Returns the character of two bytes.
 #[inline(always)]
 pub(crate) fn character_of_two(first: u8, second: u8) -> char {
-    // below the surrogates whatever the bytes are, as compilers see
+    // The remainders leave at most 7FF, below the surrogates: compilers see it, and drop the test.
     char::from_u32(number_of_two(first, second)).unwrap_or(char::REPLACEMENT_CHARACTER)
 }
 

@@ -13,7 +13,7 @@ loop-position-preserved c =
     record {
       reads =
           reads_head-then v.reads
-          (reads_head-byte (omega arith) c.at-byte.ensures.value is c.collect_head_byte-progress.ensures);
+          (reads_head-byte (omega arith) c.byte_at-byte.ensures.value is c.collect_head_byte-progress.ensures);
       count = omega arith;
       none = v.none;
     }

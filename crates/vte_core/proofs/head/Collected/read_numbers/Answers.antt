@@ -30,24 +30,24 @@ loop-position-preserved c =
         | in-Some w ↦
             let is = rw w.in-Some.is at c.digit_of.ensures in
             rw (w.self-is, w.number-is)
-            (reads_head-parameter c.requires.may (omega arith) c.at-byte.ensures.value is.3
+            (reads_head-parameter c.requires.may (omega arith) c.byte_at-byte.ensures.value is.3
             (record { intermediates = refl; too_many_intermediates = refl })
             (λ text k.
-            counts-digit c.at-byte.result k is.0 is.1 refl refl
+            counts-digit c.byte_at-byte.result k is.0 is.1 refl refl
             (omega (arith, w.min-number.ensures, is.2))) v.reads)
         -- A separator.
         | in_default+then-several+then-byte-eq59 w ↦
             let settled = w.settle_number.ensures in
-            let is : c.at-byte.result ≡ 59 = w.if-byte-eq59.true in
+            let is : c.byte_at-byte.result ≡ 59 = w.if-byte-eq59.true in
             let alone = settled.joined ∙ v.joined ∙ c.requires.alone w.if-several.true in
             rw (w.self-is, w.number-is)
-            (reads_head-parameter c.requires.may (omega arith) c.at-byte.ensures.value (rw is refl)
+            (reads_head-parameter c.requires.may (omega arith) c.byte_at-byte.ensures.value (rw is refl)
             (record {
               intermediates = settled.same.intermediates;
               too_many_intermediates =
                   settled.same.too_many_intermediates;
             })
-            (λ text k. counts-separator c.at-byte.result k (settled.settles text k)
+            (λ text k. counts-separator c.byte_at-byte.result k (settled.settles text k)
             (rw is refl) refl (alone ∙ rw is refl) refl) v.reads)
       ];
       count = omega arith;
@@ -70,7 +70,7 @@ returns-then-position-from-clause-reads c =
           at v.reads;
       next = elim c.loop-position-test.branch [
         | else-loop-position-test w ↦ rw (w.next-is, v.none) (omega arith)
-        | then-loop-position-test+in_default+else-several w ↦ rw w.next-is (omega arith, w.at-byte.ensures.value)
+        | then-loop-position-test+in_default+else-several w ↦ rw w.next-is (omega arith, w.byte_at-byte.ensures.value)
       ];
     }
 
@@ -85,6 +85,6 @@ returns-else-position-from-clause-reads c =
           at v.reads;
       next = elim c.loop-position-test.branch [
         | else-loop-position-test w ↦ rw (w.next-is, v.none) (omega arith)
-        | then-loop-position-test+in_default+else-several w ↦ rw w.next-is (omega arith, w.at-byte.ensures.value)
+        | then-loop-position-test+in_default+else-several w ↦ rw w.next-is (omega arith, w.byte_at-byte.ensures.value)
       ];
     }

@@ -23,8 +23,8 @@ loop-end-preserved-then-is_printed_ascii c =
     let v = c.loop-end.invariant in
     let bytes = c.args.input.bytes.now in
     let ascii = c.find_ascii_end-end.ensures in
-    let printed : IsPrintedAscii (slice_index bytes c.loop-end.end) = subst IsPrintedAscii c.at-byte.ensures.value
-    (printed-in_range c.at-byte.result (sym c.is_printed_ascii.ensures ∙ c.if-is_printed_ascii.true)) in
+    let printed : IsPrintedAscii (slice_index bytes c.loop-end.end) = subst IsPrintedAscii c.byte_at-byte.ensures.value
+    (printed-in_range c.byte_at-byte.result (sym c.is_printed_ascii.ensures ∙ c.if-is_printed_ascii.true)) in
     record {
       scans = scans-run v.scans (record {
         low = omega (arith, ascii.scans.low);
@@ -32,9 +32,9 @@ loop-end-preserved-then-is_printed_ascii c =
         are =
             run-ascii _ _ _ _
             (each-both IsPrintedAscii _ _ _ _ (each-one IsPrintedAscii bytes c.loop-end.end printed) ascii.scans.are);
-        least = omega (arith, ascii.scans.least, c.at-byte.ensures.count);
+        least = omega (arith, ascii.scans.least, c.byte_at-byte.ensures.count);
       });
-      count = omega (arith, v.count, ascii.count, c.at-byte.ensures.count);
+      count = omega (arith, v.count, ascii.count, c.byte_at-byte.ensures.count);
     }
 
 -- What else a run goes on by.
@@ -47,7 +47,7 @@ loop-end-preserved c =
         low = omega (arith, other.progress);
         high = other.high;
         are = other.run;
-        least = omega (arith, other.count, c.at-byte.ensures.count);
+        least = omega (arith, other.count, c.byte_at-byte.ensures.count);
       });
-      count = omega (arith, v.count, other.count, other.progress, c.at-byte.ensures.count);
+      count = omega (arith, v.count, other.count, other.progress, c.byte_at-byte.ensures.count);
     }

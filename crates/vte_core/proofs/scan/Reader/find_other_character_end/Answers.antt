@@ -6,7 +6,7 @@ use Rattle.vte_core.proofs.bytes.RunEnds.{ends-single, ends-long, ends-two, ends
 use Rattle.vte_core.proofs.bytes.Printable.{run-layout}
 use Rattle.vte_core.proofs.bytes.Scalars.{in_range-bounds}
 use Rattle.vte_core.proofs.dividing.PrintableCharacters.{run-two, run-three, run-four}
-use Rattle.vte_core.proofs.scan.Reader.find_other_character_end.Goals.{else-layout-via-then-layout+else-is_layout, else-layout-via-else-layout, else-may_begin_three-via-then-may_begin_three+in_ok-get+else-is_continuation, else-may_begin_three-via-else-may_begin_three, else-may_begin_four-via-then-may_begin_four+in_ok-get-2+then-is_continuation-2+in_ok-get-3+else-is_continuation-3 as fourth-misfits, else-may_begin_four-via-then-may_begin_four+in_ok-get-2+else-is_continuation-2, else-may_begin_four-via-else-may_begin_four}
+use Rattle.vte_core.proofs.scan.Reader.find_other_character_end.Goals.{else-layout-via-then-layout+else-is_layout, else-layout-via-else-layout, else-may_begin_three-via-then-may_begin_three+in_ok-get_byte+else-is_continuation, else-may_begin_three-via-else-may_begin_three, else-may_begin_four-via-then-may_begin_four+in_ok-get_byte-2+then-is_continuation-2+in_ok-get_byte-3+else-is_continuation-3 as fourth-misfits, else-may_begin_four-via-then-may_begin_four+in_ok-get_byte-2+else-is_continuation-2, else-may_begin_four-via-else-may_begin_four}
 use Rattle.vte_core.proofs.scan.Reader.find_other_character_end.Goals as goal
 
 -- HT, LF or CR, if the performer keeps them: a run of one byte.
@@ -29,7 +29,7 @@ returns-then-is_printed_pair-clause-run c =
 -- A character of three bytes, all in their ranges.
 pub returns-then-is_continuation-clause-run : goal.returns-then-is_continuation-clause-run
 returns-then-is_continuation-clause-run c =
-    let third = c.in_ok-get.ensures in
+    let third = c.in_ok-get_byte.ensures in
     run-three c.args.input.bytes.now c.args.from
     (omega (arith, third.0)) c.requires.looked_at c.in_ok-second.ensures.1
     third.1 c.if-first-lt224.false c.if-first-lt240.true
@@ -38,8 +38,8 @@ returns-then-is_continuation-clause-run c =
 -- A character of four bytes, all in their ranges.
 pub returns-then-is_continuation-3-clause-run : goal.returns-then-is_continuation-3-clause-run
 returns-then-is_continuation-3-clause-run c =
-    let third = c.in_ok-get-2.ensures in
-    let fourth = c.in_ok-get-3.ensures in
+    let third = c.in_ok-get_byte-2.ensures in
+    let fourth = c.in_ok-get_byte-3.ensures in
     let lead = in_range-bounds (from_to 0xc2 0xf4) c.args.first (sym c.is_lead.ensures ∙ c.if-not-is_lead.false) in
     run-four c.args.input.bytes.now c.args.from
     (omega (arith, fourth.0)) c.requires.looked_at c.in_ok-second.ensures.1 third.1 fourth.1
@@ -62,22 +62,22 @@ returns-in_err-second-clause-ended c none =
     ends-long c.args.layout _ c.args.from c.args.first c.requires.within c.requires.looked_at
     (sym c.is_lead.ensures ∙ c.if-not-is_lead.false) (λ more. absurd (omega (arith, more, c.in_err-second.ensures.0)))
 
-pub returns-in_err-get-clause-ended : goal.returns-in_err-get-clause-ended
-returns-in_err-get-clause-ended c none =
+pub returns-in_err-get_byte-clause-ended : goal.returns-in_err-get_byte-clause-ended
+returns-in_err-get_byte-clause-ended c none =
     ends-three c.args.layout _ c.args.from c.args.first c.requires.within c.requires.looked_at c.if-first-lt224.false
-    c.if-first-lt240.true (λ more second third. absurd (omega (arith, more, c.in_err-get.ensures.0)))
+    c.if-first-lt240.true (λ more second third. absurd (omega (arith, more, c.in_err-get_byte.ensures.0)))
 
-pub returns-in_err-get-2-clause-ended : goal.returns-in_err-get-2-clause-ended
-returns-in_err-get-2-clause-ended c none =
+pub returns-in_err-get_byte-2-clause-ended : goal.returns-in_err-get_byte-2-clause-ended
+returns-in_err-get_byte-2-clause-ended c none =
     ends-four c.args.layout _ c.args.from c.args.first c.requires.within c.requires.looked_at c.if-first-lt240.false
     (sym c.is_lead.ensures ∙ c.if-not-is_lead.false) (λ more second third fourth.
-    absurd (omega (arith, more, c.in_err-get-2.ensures.0)))
+    absurd (omega (arith, more, c.in_err-get_byte-2.ensures.0)))
 
-pub returns-in_err-get-3-clause-ended : goal.returns-in_err-get-3-clause-ended
-returns-in_err-get-3-clause-ended c none =
+pub returns-in_err-get_byte-3-clause-ended : goal.returns-in_err-get_byte-3-clause-ended
+returns-in_err-get_byte-3-clause-ended c none =
     ends-four c.args.layout _ c.args.from c.args.first c.requires.within c.requires.looked_at c.if-first-lt240.false
     (sym c.is_lead.ensures ∙ c.if-not-is_lead.false) (λ more second third fourth.
-    absurd (omega (arith, more, c.in_err-get-3.ensures.0)))
+    absurd (omega (arith, more, c.in_err-get_byte-3.ensures.0)))
 
 -- A second byte that does not continue the first one, or gives a control of C1.
 pub returns-else-is_printed_pair-clause-ended : goal.returns-else-is_printed_pair-clause-ended
@@ -98,10 +98,10 @@ returns-else-may_begin_three-clause-ended c none =
     ends-three c.args.layout _ c.args.from c.args.first c.requires.within c.requires.looked_at c.if-first-lt224.false
     c.if-first-lt240.true (λ more second third. elim c.else-may_begin_three.branch [
       -- The third.
-      | else-may_begin_three-via-then-may_begin_three+in_ok-get+else-is_continuation w ↦
+      | else-may_begin_three-via-then-may_begin_three+in_ok-get_byte+else-is_continuation w ↦
           false≢true
           (sym (sym w.is_continuation.ensures ∙ w.if-is_continuation.false)
-          ∙ ap (is_in (from_to 0x80 0xbf)) w.in_ok-get.ensures.1 ∙ third)
+          ∙ ap (is_in (from_to 0x80 0xbf)) w.in_ok-get_byte.ensures.1 ∙ third)
       -- The second.
       | else-may_begin_three-via-else-may_begin_three w ↦
           false≢true
@@ -118,12 +118,12 @@ returns-else-may_begin_four-clause-ended c none =
       | fourth-misfits w ↦
           false≢true
           (sym (sym w.is_continuation-then-is_continuation-2.ensures ∙ w.if-is_continuation-3.false)
-          ∙ ap (is_in (from_to 0x80 0xbf)) w.in_ok-get-3.ensures.1 ∙ fourth)
+          ∙ ap (is_in (from_to 0x80 0xbf)) w.in_ok-get_byte-3.ensures.1 ∙ fourth)
       -- The third.
-      | else-may_begin_four-via-then-may_begin_four+in_ok-get-2+else-is_continuation-2 w ↦
+      | else-may_begin_four-via-then-may_begin_four+in_ok-get_byte-2+else-is_continuation-2 w ↦
           false≢true
           (sym (sym w.is_continuation-then-may_begin_four.ensures ∙ w.if-is_continuation-2.false)
-          ∙ ap (is_in (from_to 0x80 0xbf)) w.in_ok-get-2.ensures.1 ∙ third)
+          ∙ ap (is_in (from_to 0x80 0xbf)) w.in_ok-get_byte-2.ensures.1 ∙ third)
       -- The second.
       | else-may_begin_four-via-else-may_begin_four w ↦
           false≢true

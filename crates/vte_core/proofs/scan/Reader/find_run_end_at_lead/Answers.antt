@@ -22,7 +22,7 @@ pub returns-in-Some-2-clause-run : goal.returns-in-Some-2-clause-run
 returns-in-Some-2-clause-run g c = λ _.
     let bytes = c.args.input.bytes.now in
     let second = c.in-Some.ensures in
-    let third = c.in-Some-get.ensures in
+    let third = c.in-Some-get_byte.ensures in
     let rest = c.find_run_end_for-in-Some-2.ensures in
     run-append g.P.CountedPerform.layout bytes c.args.from (c.args.from + 3) c.find_run_end_for-in-Some-2.result
     (omega arith) rest.scans.low

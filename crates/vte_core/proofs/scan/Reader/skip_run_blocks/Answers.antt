@@ -23,7 +23,7 @@ loop-window-preserved c =
     let window = c.in-Some.ensures.0 in
     let count = c.in-Some.ensures.1 in
     let early : 3 ≤ c.loop-window.at = omega (arith, v.low, c.requires.before) in
-    let fits = c.goes_on.ensures c.if-not-goes_on.false in
+    let fits = c.continues_run.ensures c.if-not-continues_run.false in
     record {
       low = omega (arith, v.low);
       high = omega (arith, early, window.within);
@@ -53,7 +53,7 @@ loop-window-preserved-then-plain-ge-PLAIN_BLOCKS c =
     let window = c.in-Some.ensures.0 in
     let count = c.in-Some.ensures.1 in
     let early : 3 ≤ c.loop-window.at = omega (arith, v.low, c.requires.before) in
-    let fits = c.goes_on.ensures c.if-not-goes_on.false in
+    let fits = c.continues_run.ensures c.if-not-continues_run.false in
     let ascii = c.skip_ascii_blocks-at.ensures in
     let past : c.args.from < c.loop-window.at = elim c.if-is_ascii.branch [
       | else-is_ascii w ↦ absurd (omega (arith, w.plain-is, c.if-plain-ge-PLAIN_BLOCKS.true))

@@ -3,14 +3,14 @@
 
 use crate::adapter::array_string::ArrayString;
 use crate::proved::vte::ansi::color_text::xparse_color;
+use crate::proved::vte::ansi::joined_text::{join_texts, text_in};
+use crate::proved::vte::ansi::numbers::{parse_number, push_number};
 use crate::proved::vte::ansi::parts::{id_in, strip_word};
 use crate::proved::vte::ansi::text_buffer::TextBuffer;
-use crate::proved::vte::ansi::titles::{
-    join_texts, parse_number, perform_title, push_number, text_in,
-};
 use crate::proved::vte_handler::{Handler, Hyperlink};
 use crate::proved::vte_types::cursor_icon::CursorIcon;
 use crate::proved::vte_types::CursorShape;
+use crate::proved::vte_types::NamedColor::{Background, Cursor, Foreground};
 use core::str::FromStr;
 
 /// Makes the calls of an operating system command.
@@ -23,7 +23,7 @@ pub(crate) fn perform_system_command<H: Handler + ?Sized, B: TextBuffer>(
     if let [first, texts @ ..] = pieces {
         let terminator = if bell_terminated { "\x07" } else { "\x1b\\" };
         match *first {
-            b"0" | b"2" => perform_title(handler, text, texts),
+            b"0" | b"2" => set_title(handler, text, texts),
             b"4" => set_palette(handler, texts, terminator),
             b"8" => set_link(handler, text, texts),
             b"10" => set_dynamic_colors(handler, 10, texts, terminator),
@@ -33,10 +33,22 @@ pub(crate) fn perform_system_command<H: Handler + ?Sized, B: TextBuffer>(
             b"50" => set_shape(handler, texts),
             b"52" => use_clipboard(handler, texts, terminator),
             b"104" => reset_colors(handler, texts),
-            b"110" => handler.reset_color(256),
-            b"111" => handler.reset_color(257),
-            b"112" => handler.reset_color(258),
+            b"110" => handler.reset_color(Foreground as usize),
+            b"111" => handler.reset_color(Background as usize),
+            b"112" => handler.reset_color(Cursor as usize),
             _ => {}
+        }
+    }
+}
+
+/// Sets the title that these pieces make: 0 and 2. A title of one piece is lent, and not copied.
+fn set_title<H: Handler + ?Sized, B: TextBuffer>(handler: &mut H, text: &mut B, texts: &[&[u8]]) {
+    match texts {
+        [] => {}
+        [title] => handler.set_title(Some(text_in(title, false).unwrap_or("").trim())),
+        _ => {
+            join_texts(text, texts, false);
+            handler.set_title(Some(text.as_str().trim()));
         }
     }
 }
@@ -124,9 +136,9 @@ fn set_dynamic_color<H: Handler + ?Sized>(
     text: &[u8],
 ) {
     match code {
-        10 => set_color(handler, "10", 256, terminator, text),
-        11 => set_color(handler, "11", 257, terminator, text),
-        12 => set_color(handler, "12", 258, terminator, text),
+        10 => set_color(handler, "10", Foreground as usize, terminator, text),
+        11 => set_color(handler, "11", Background as usize, terminator, text),
+        12 => set_color(handler, "12", Cursor as usize, terminator, text),
         _ => {}
     }
 }

@@ -2,7 +2,7 @@
 //! What a processor is, whatever its limit. It takes turns: each parses bytes of a call, or holds
 //! them back.
 
-use crate::proved::vte::ansi::hold::{SyncState, MOST_HELD};
+use crate::proved::vte::ansi::hold::{Hold, MOST_HELD};
 use crate::proved::vte::ansi::parsing::{parse_all, parse_until_begin, EventParser, ParseAs};
 use crate::proved::vte::ansi::performer::{ProcessorState, UPDATE_TIMEOUT_MILLIS};
 use crate::proved::vte::ansi::text_buffer::TextBuffer;
@@ -11,7 +11,7 @@ use crate::proved::vte_handler::{Handler, Timeout};
 use crate::proved::vte_types::{NamedPrivateMode, PrivateMode};
 use core::time::Duration;
 
-/// For how many bytes an open turn takes memory at once: little beside the memory of a hold, and
+/// For how many bytes a parsing turn takes memory at once: little beside the memory of a hold, and
 /// enough that few slices are taken.
 const SLICE: usize = 65_536;
 
@@ -20,7 +20,7 @@ const SLICE: usize = 65_536;
 #[derive(Clone)]
 pub(crate) struct Engine<P, B, T> {
     pub(crate) parser: P,
-    pub(crate) hold: SyncState,
+    pub(crate) hold: Hold,
     pub(crate) state: ProcessorState<T, B>,
 }
 
@@ -28,7 +28,7 @@ impl<P: EventParser, B: TextBuffer, T: Timeout> Engine<P, B, T> {
     /// Creates an engine of a parser that has read nothing, with memory for a hold. Returns the
     /// timeout if memory runs out.
     pub(crate) fn new(parser: P, text: B, timeout: T) -> Result<Self, T> {
-        match SyncState::new() {
+        match Hold::new() {
             Ok(hold) => Ok(Engine {
                 parser,
                 hold,
@@ -113,7 +113,7 @@ impl<P: EventParser, B: TextBuffer, T: Timeout> Engine<P, B, T> {
         if pending || self.hold.len() > 0 {
             self.stop::<H, G>(handler);
         }
-        self.take_open_turn::<H, G>(handler, bytes)
+        self.take_parsing_turn::<H, G>(handler, bytes)
     }
 
     /// Returns whether there is room to hold this many more bytes.
@@ -123,7 +123,7 @@ impl<P: EventParser, B: TextBuffer, T: Timeout> Engine<P, B, T> {
 
     /// Parses bytes up to the one that begins an update, a slice at a time, and returns how many.
     /// Memory is taken before each slice.
-    fn take_open_turn<H: Handler + ?Sized, G: ParseAs<H, T, P>>(
+    fn take_parsing_turn<H: Handler + ?Sized, G: ParseAs<H, T, P>>(
         &mut self,
         handler: &mut H,
         bytes: &[u8],

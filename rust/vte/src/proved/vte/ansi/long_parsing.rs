@@ -2,10 +2,10 @@
 //! The parser of a processor without a limit. It takes memory before it reads, so that none is
 //! refused on the way.
 
+use crate::proved::vte::ansi::joined_text::SEPARATORS;
 use crate::proved::vte::ansi::parsing::{EventParser, ParseAs};
 use crate::proved::vte::ansi::performer::Performer;
 use crate::proved::vte::ansi::text_buffer::TextBuffer;
-use crate::proved::vte::ansi::titles::SEPARATORS;
 use crate::proved::vte_core::{InRuns, LongParser, Refused, Singly};
 use crate::proved::vte_handler::{Handler, HandlerText, Timeout};
 

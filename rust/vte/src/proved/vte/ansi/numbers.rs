@@ -1,6 +1,7 @@
 // Written by tools/erase from crates/vte/src/ansi/numbers.rt: edit that one.
-//! The numbers of a control sequence.
+//! The numbers of a control sequence, and those in texts of commands.
 
+use crate::proved::vte::ansi::text_buffer::TextBuffer;
 use crate::proved::vte_core::ParamsIter;
 
 /// An iterator of numbers.
@@ -40,5 +41,28 @@ pub(crate) fn first_number(group: &[u16]) -> u16 {
     match group {
         [number, ..] => *number,
         [] => 0,
+    }
+}
+
+/// Reads a decimal number of at most 255.
+pub(crate) fn parse_number(digits: &[u8]) -> Option<u8> {
+    if digits.is_empty() {
+        return None;
+    }
+    let mut number: u8 = 0;
+    for byte in digits {
+        let digit = char::from(*byte).to_digit(10)?;
+        number = number.checked_mul(10)?.checked_add(digit as u8)?;
+    }
+    Some(number)
+}
+
+/// Appends a number to a text.
+pub(crate) fn push_number<B: TextBuffer>(text: &mut B, number: u8) {
+    if number < 10 {
+        text.push(char::from(b'0' + number));
+    } else {
+        push_number(text, number / 10);
+        text.push(char::from(b'0' + number % 10));
     }
 }

@@ -2,9 +2,9 @@
 //! The parser, together with what a processor lends it. The references are separate parameters, not
 //! fields of one struct, so that the performer can borrow each.
 
+use crate::proved::vte::ansi::joined_text::SEPARATORS;
 use crate::proved::vte::ansi::performer::{Performer, ProcessorState};
 use crate::proved::vte::ansi::text_buffer::TextBuffer;
-use crate::proved::vte::ansi::titles::SEPARATORS;
 use crate::proved::vte_core::{InRuns, Parser, Singly};
 use crate::proved::vte_handler::{Handler, HandlerText, Timeout};
 use core::marker::PhantomData;

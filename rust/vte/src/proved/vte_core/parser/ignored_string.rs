@@ -19,7 +19,7 @@ impl<B: Buffer> Machine<B> {
         from: usize,
     ) -> usize {
         let end = reader.find_string_end(input, from);
-        match reader.get(input, end) {
+        match reader.get_byte(input, end) {
             Some(byte) => self.read_end::<P, G, MAY_STOP>(reader, performer, input, end, byte),
             None => end,
         }

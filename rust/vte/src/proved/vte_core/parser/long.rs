@@ -61,25 +61,27 @@ impl LongParser {
         self.machine.command_lost_data()
     }
 
+    /// Removes the bytes of a command that has ended, but not whether it lost data.
+    #[inline]
+    fn forget_ended_command(&mut self) {
+        if !matches!(self.machine.state, State::SystemCommand) {
+            self.machine.command.remove_items();
+        }
+    }
+
     /// Takes memory for this many more data bytes of an operating system command, and returns
     /// whether it is there. Calls with no more bytes than that are then never refused memory.
     #[inline]
     #[must_use = "the memory may be refused"]
     pub fn reserve(&mut self, more: usize) -> bool {
-        // A command that has ended needs no memory.
-        if !matches!(self.machine.state, State::SystemCommand) {
-            self.machine.command.remove_items();
-        }
+        self.forget_ended_command();
         self.machine.command.reserve(more)
     }
 
     /// Gives back the memory that an open operating system command doesn't need.
     #[inline]
     pub fn shrink(&mut self) {
-        // A command that has ended needs no memory.
-        if !matches!(self.machine.state, State::SystemCommand) {
-            self.machine.command.remove_items();
-        }
+        self.forget_ended_command();
         self.machine.command.shrink_to_fit();
     }
 
@@ -96,6 +98,7 @@ impl LongParser {
     pub fn is_open(&self) -> bool {
         !matches!(self.open(), Open::Nothing)
     }
+
     /// Reads the bytes of a call, as many as there is memory for, and returns how many: all of
     /// them, or up to a stop if `MAY_STOP`.
     pub(crate) fn drive<P: CountedPerform<G> + ?Sized, G: Grain, const MAY_STOP: bool>(

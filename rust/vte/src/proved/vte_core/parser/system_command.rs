@@ -28,7 +28,7 @@ impl<B: Buffer> Machine<B> {
             return Err(Refused { read: from });
         }
         self.command.push_data(reader, input, from, end);
-        let byte = match reader.get(input, end) {
+        let byte = match reader.get_byte(input, end) {
             Some(byte) => byte,
             None => return Ok(end),
         };

@@ -29,7 +29,7 @@ fn print_ascii<P: CountedPerform<G> + ?Sized, G: Grain>(
     from: usize,
     first: u8,
 ) -> AsciiRun {
-    let next = reader.get(input, from + 1);
+    let next = reader.get_byte(input, from + 1);
     if reader.begins_ascii_run(input, from, next) {
         let end = reader.find_ascii_run_end(performer, input, from);
         // SAFETY: ASCII stands at `from`, and the search passes whole characters.
@@ -64,7 +64,7 @@ impl<B: Buffer> Machine<B> {
         };
         while position < input.len() {
             while position < front.len() {
-                let mut byte = reader.at(front, position);
+                let mut byte = reader.byte_at(front, position);
                 if G::IN_RUNS && is_printed_ascii(byte) {
                     let run = print_ascii(reader, performer, input, position, byte);
                     position = run.end;

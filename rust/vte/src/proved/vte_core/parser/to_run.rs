@@ -56,7 +56,7 @@ impl<B: Buffer> Machine<B> {
                             kind: RunKind::OfData,
                         });
                     }
-                    let byte = reader.at(input, position);
+                    let byte = reader.byte_at(input, position);
                     self.read_other_in_data::<P, Singly, true>(
                         reader, performer, input, position, byte,
                     )
@@ -77,7 +77,7 @@ impl<B: Buffer> Machine<B> {
         from: usize,
     ) -> usize {
         let mut position = from;
-        let mut byte = reader.at(input, from);
+        let mut byte = reader.byte_at(input, from);
         if is_lead(byte) {
             return self.read_character::<P, Singly, true>(reader, performer, input, from, byte);
         }
@@ -87,7 +87,7 @@ impl<B: Buffer> Machine<B> {
             if position == input.len() || performer.terminated() {
                 return position;
             }
-            byte = reader.at(input, position);
+            byte = reader.byte_at(input, position);
             if is_printed_ascii(byte) || is_lead(byte) {
                 return position;
             }

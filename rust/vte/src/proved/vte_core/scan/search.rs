@@ -88,7 +88,7 @@ impl Reader {
     #[inline(always)]
     fn find_ending_byte(self, input: &[u8], from: usize, to: usize) -> usize {
         for end in from..to {
-            if ends_body(self.at(input, end)) {
+            if ends_body(self.byte_at(input, end)) {
                 return end;
             }
         }
@@ -96,8 +96,7 @@ impl Reader {
     }
 }
 
-/// Returns whether none of 16 bytes can end a string. Compilers make vector instructions of the
-/// loop.
+/// Returns whether none of 16 bytes can end a string.
 #[inline(always)]
 fn is_ignored_block(block: &[u8; 16]) -> bool {
     let mut all = true;

@@ -7,7 +7,7 @@ use Rattle.vte.proofs.turns.EngineTurns.{after-next, ends_turn, kept-next, next-
 use Rattle.vte.proofs.ansi.engine.Engine.turn.Goals as goal
 use Rattle.vte.proofs.ansi.engine.Engine.turn.Goals.{else-pending-via-else-pending, else-pending-via-then-pending+else-has_room, else-pending-2+else-len-gt0, then-pending-2, then-pending-2-via-else-pending-2+then-len-gt0, then-pending-2-via-then-pending-2}
 
--- An open turn: the bytes are not to be held, and what was pending or held is stopped first, as `opened` says.
+-- A parsing turn: the bytes are not to be held, and what was pending or held is stopped first, as `opened` says.
 pub returns-clause-turned : goal.returns-clause-turned
 returns-clause-turned g c = λ s at.
     let pending = c.pending_timeout-pending.result in
@@ -42,8 +42,9 @@ returns-clause-turned g c = λ s at.
           rw (w.self-is, w.handler-is, free) (next-at at)
     ] in
     ends_turn pending
-    (rw at.stands.timeout_is at c.pending_timeout-pending.ensures) parses here.memory _ c.take_open_turn.ensures.within
-    (c.take_open_turn.ensures.opened _ here.engine_at)
+    (rw at.stands.timeout_is at c.pending_timeout-pending.ensures) parses here.memory _
+    c.take_parsing_turn.ensures.within
+    (c.take_parsing_turn.ensures.opened _ here.engine_at)
 
 -- A hold turn: an update is pending, and there is room for all bytes and memory for them.
 pub returns-then-has_room-clause-turned : goal.returns-then-has_room-clause-turned

@@ -54,9 +54,9 @@ returns-then-not-is_continuation-clause-advances g c =
     let misfits = sym c.is_continuation.ensures ∙ c.if-not-is_continuation.true in
     advances-first r.may_read (lead_of_two _ r.lead.low) r.lead.high
     (completes-broken (goes-second c.args.self.now (lead_of_three _ r.lead.low) second r.within r.looked_at)
-    (λ more. third-broken c.args.first c.args.second c.at-third.result more misfits)
+    (λ more. third-broken c.args.first c.args.second c.byte_at-third.result more misfits)
     r.may_read.begun c.print_char-then-not-is_continuation.ensures.value
-    (omega (arith, r.within, c.if-next-len.false)) c.at-third.ensures.value)
+    (omega (arith, r.within, c.if-next-len.false)) c.byte_at-third.ensures.value)
 
 -- The fourth byte does not continue: broken after three.
 pub returns-then-not-is_continuation-2-clause-advances : goal.returns-then-not-is_continuation-2-clause-advances
@@ -67,9 +67,10 @@ returns-then-not-is_continuation-2-clause-advances g c =
     let misfits = sym c.is_continuation-2.ensures ∙ c.if-not-is_continuation-2.true in
     let within : c.args.from + 1 + 2 < length c.args.input.bytes.now = omega (arith, r.within, c.if-next-len.false) in
     advances-first r.may_read (lead_of_two _ r.lead.low) r.lead.high
-    (completes-broken (goes-third c.args.self.now r.lead.low second third within r.looked_at c.at-third.ensures.value)
-    (λ more. fourth-broken c.args.first c.args.second c.at-third.result c.at-fourth.result more misfits)
-    r.may_read.begun c.print_char-then-not-is_continuation-2.ensures.value within c.at-fourth.ensures.value)
+    (completes-broken (goes-third c.args.self.now r.lead.low second third within r.looked_at
+    c.byte_at-third.ensures.value)
+    (λ more. fourth-broken c.args.first c.args.second c.byte_at-third.result c.byte_at-fourth.result more misfits)
+    r.may_read.begun c.print_char-then-not-is_continuation-2.ensures.value within c.byte_at-fourth.ensures.value)
 
 -- The run that the character begins: the four bytes, and what follows them.
 pub tell_text-requires-clause-run : goal.tell_text-requires-clause-run
@@ -85,8 +86,8 @@ tell_text-requires-clause-run g c =
     (omega (arith, rest.scans.low))
     (run-four bytes from
     (omega (arith, r.within, c.if-next-len.false)) r.may_read.looked_at r.looked_at
-    (c.at-third.ensures.value ∙ ap (slice_index bytes) to_third)
-    (c.at-fourth.ensures.value ∙ ap (slice_index bytes) to_fourth) r.lead.low r.lead.high
+    (c.byte_at-third.ensures.value ∙ ap (slice_index bytes) to_third)
+    (c.byte_at-fourth.ensures.value ∙ ap (slice_index bytes) to_fourth) r.lead.low r.lead.high
     (sym c.may_begin_four.ensures ∙ c.if-not-may_begin_four.false)
     (sym c.is_continuation.ensures ∙ c.if-not-is_continuation.false)
     (sym c.is_continuation-2.ensures ∙ c.if-not-is_continuation-2.false))
@@ -115,6 +116,7 @@ returns-clause-advances g c =
     second third fourth in
     let within : c.args.from + 1 + 2 < length c.args.input.bytes.now = omega (arith, r.within, c.if-next-len.false) in
     advances-first r.may_read (lead_of_two _ r.lead.low) r.lead.high
-    (completes-whole (goes-third c.args.self.now r.lead.low second third within r.looked_at c.at-third.ensures.value)
+    (completes-whole (goes-third c.args.self.now r.lead.low second third within r.looked_at
+    c.byte_at-third.ensures.value)
     (λ more. (spells.is_whole, c.character_of_four.ensures)) r.may_read.begun
-    c.tell_character.ensures.value within c.at-fourth.ensures.value (next_counted _))
+    c.tell_character.ensures.value within c.byte_at-fourth.ensures.value (next_counted _))

@@ -32,9 +32,9 @@ returns-then-not-is_continuation-clause-completes g c =
     let second = sym c.may_begin_three.ensures ∙ c.if-not-may_begin_three.false in
     let misfits = sym c.is_continuation.ensures ∙ c.if-not-is_continuation.true in
     completes-broken (goes-second c.args.self.now c.requires.lead.low second r.within r.looked_at)
-    (λ more. third-broken c.args.first c.args.second c.at-third.result more misfits) r.begun
+    (λ more. third-broken c.args.first c.args.second c.byte_at-third.result more misfits) r.begun
     c.print_char-then-not-is_continuation.ensures.value
-    (omega (arith, r.within, c.if-from-len.false)) c.at-third.ensures.value
+    (omega (arith, r.within, c.if-from-len.false)) c.byte_at-third.ensures.value
 
 -- Three bytes spell a character.
 pub returns-clause-completes : goal.returns-clause-completes
@@ -46,4 +46,4 @@ returns-clause-completes g c =
     spells-three c.requires.lead.low c.requires.lead.high second third in
     completes-whole (goes-second c.args.self.now c.requires.lead.low second r.within r.looked_at)
     (λ more. (spells.is_whole, c.character_of_three.ensures)) r.begun c.tell_character.ensures.value
-    (omega (arith, r.within, c.if-from-len.false)) c.at-third.ensures.value (counted _)
+    (omega (arith, r.within, c.if-from-len.false)) c.byte_at-third.ensures.value (counted _)

@@ -14,7 +14,7 @@ loop-position-preserved g c =
     record {
       goes =
           goes-more v.goes c.in-Unfinished.ensures
-          (omega (arith, c.loop-position-test.true, c.len-position-end.ensures)) c.at.ensures.value;
+          (omega (arith, c.loop-position-test.true, c.len-position-end.ensures)) c.byte_at.ensures.value;
       same = v.same;
       spends = search rules;
     }
@@ -24,14 +24,14 @@ pub returns-in-Whole-clause-completes : goal.returns-in-Whole-clause-completes
 returns-in-Whole-clause-completes g c =
     let v = c.loop-position.invariant in
     completes-whole v.goes c.in-Whole.ensures refl (rw v.same at c.tell_character.ensures.value)
-    (omega (arith, c.loop-position-test.true, c.len-position-end.ensures)) c.at.ensures.value refl
+    (omega (arith, c.loop-position-test.true, c.len-position-end.ensures)) c.byte_at.ensures.value refl
 
 -- It breaks the character.
 pub returns-in-Broken-clause-completes : goal.returns-in-Broken-clause-completes
 returns-in-Broken-clause-completes g c =
     let v = c.loop-position.invariant in
     completes-broken v.goes c.in-Broken.ensures refl (rw v.same at c.print_char.ensures.value)
-    (omega (arith, c.loop-position-test.true, c.len-position-end.ensures)) c.at.ensures.value
+    (omega (arith, c.loop-position-test.true, c.len-position-end.ensures)) c.byte_at.ensures.value
 
 -- No byte is left.
 pub returns-clause-completes : goal.returns-clause-completes

@@ -18,11 +18,11 @@ pub returns-then-not-is_continuation-clause-advances : goal.returns-then-not-is_
 returns-then-not-is_continuation-clause-advances g c =
     let r = c.requires in
     let misfits =
-    second-lone c.args.first c.at-second.result (sym c.is_continuation.ensures ∙ c.if-not-is_continuation.true) in
+    second-lone c.args.first c.byte_at-second.result (sym c.is_continuation.ensures ∙ c.if-not-is_continuation.true) in
     advances-first r.may_read r.lead r.fits
     (completes-broken (goes-nowhere c.args.self.now (unfinished-some _ _))
-    (λ more. second-broken c.args.first c.at-second.result more misfits)
-    r.may_read.begun c.print_char.ensures.value (omega arith) c.at-second.ensures.value)
+    (λ more. second-broken c.args.first c.byte_at-second.result more misfits)
+    r.may_read.begun c.print_char.ensures.value (omega arith) c.byte_at-second.ensures.value)
 
 -- Two bytes spell a character.
 pub returns-then-first-lt224-clause-advances : goal.returns-then-first-lt224-clause-advances
@@ -34,7 +34,7 @@ returns-then-first-lt224-clause-advances g c =
     advances-first r.may_read r.lead r.fits
     (completes-whole (goes-nowhere c.args.self.now (unfinished-some _ _))
     (λ more. (spells.is_whole, c.character_of_two.ensures))
-    r.may_read.begun c.tell_character.ensures.value (omega arith) c.at-second.ensures.value refl)
+    r.may_read.begun c.tell_character.ensures.value (omega arith) c.byte_at-second.ensures.value refl)
 
 -- Three bytes.
 pub returns-then-first-lt240-clause-advances : goal.returns-then-first-lt240-clause-advances

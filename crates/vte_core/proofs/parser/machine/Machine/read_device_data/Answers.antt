@@ -27,7 +27,8 @@ loop-position-preserved g c =
     let is = sym c.is_device_data.ensures ∙ c.if-not-is_device_data.false in
     record {
       advances = advances-then v.advances
-          (advances-part (advances-in v.begun (omega arith) c.at-byte.ensures.value v.may_go_on (data_ends_nothing _ is)
+          (advances-part (advances-in v.begun (omega arith) c.byte_at-byte.ensures.value v.may_go_on
+          (data_ends_nothing _ is)
           (takes-in_data c.loop-position.self
           (takes-byte c.put_byte.ensures.value (stands-by v.begun tt)
           (data-put is))) (settled-by v.begun tt)));
@@ -45,7 +46,7 @@ returns-then-terminated-clause-advances g c =
     let v = c.loop-position.invariant in
     let is = sym c.is_device_data.ensures ∙ c.if-not-is_device_data.false in
     advances-then v.advances
-    (advances-part (advances-in v.begun (omega arith) c.at-byte.ensures.value v.may_go_on (data_ends_nothing _ is)
+    (advances-part (advances-in v.begun (omega arith) c.byte_at-byte.ensures.value v.may_go_on (data_ends_nothing _ is)
     (takes-in_data c.loop-position.self
     (takes-byte c.put_byte.ensures.value (stands-by v.begun tt)
     (data-put is))) (settled-by v.begun tt)))
@@ -56,7 +57,7 @@ returns-then-not-this-clause-advances g c =
     let v = c.loop-position.invariant in
     let found = c.find_device_data_end-end.ensures in
     let are =
-    first-put c.args.input.bytes.now c.at-byte.ensures.value
+    first-put c.args.input.bytes.now c.byte_at-byte.ensures.value
     (sym c.is_device_data.ensures ∙ c.if-not-is_device_data.false) found.are in
     advances-then v.advances
     (advances-data v.begun (omega (arith, found.low)) found.high are

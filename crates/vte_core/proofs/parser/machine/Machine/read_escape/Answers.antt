@@ -21,7 +21,7 @@ loop-position-preserved g c =
     record {
       advances =
           advances-then v.advances
-          (advances-again v.begun (omega arith) c.at-byte.ensures.value v.may_go_on c.if-byte-ne-ESCAPE.false);
+          (advances-again v.begun (omega arith) c.byte_at-byte.ensures.value v.may_go_on c.if-byte-ne-ESCAPE.false);
       may_go_on = v.may_go_on;
       begun = v.begun;
       spends = search rules;
@@ -34,7 +34,7 @@ returns-then-byte-eq91-clause-advances g c =
     advances-then v.advances
     (advances-then
     (advances-bracket v.begun
-    (omega arith) c.at-byte.ensures.value v.may_go_on c.if-byte-eq91.true refl c.begin_head.ensures.head)
+    (omega arith) c.byte_at-byte.ensures.value v.may_go_on c.if-byte-eq91.true refl c.begin_head.ensures.head)
     c.read_any_head.ensures.advances)
 
 -- Any other byte.
@@ -44,7 +44,7 @@ returns-then-byte-ne-ESCAPE-clause-advances g c =
     let read = c.read_after_escape.ensures in
     advances-then v.advances
     (advances-when (rw v.begun tt)
-    (advances-byte (omega arith) c.at-byte.ensures.value v.may_go_on read.performs read.handles.settled))
+    (advances-byte (omega arith) c.byte_at-byte.ensures.value v.may_go_on read.performs read.handles.settled))
 
 pub returns-clause-advances : goal.returns-clause-advances
 returns-clause-advances g c = advances-moved (omega arith) c.loop-position.invariant.advances

@@ -24,7 +24,7 @@ loop-position-init g c =
 pub loop-position-preserved : goal.loop-position-preserved
 loop-position-preserved g c =
     let v = c.loop-position.invariant in
-    let b = c.at-byte.result in
+    let b = c.byte_at-byte.result in
     let parser = c.loop-position.self in
     record {
       advances = advances-then v.advances (elim c.if-is_intermediate.branch [
@@ -32,7 +32,7 @@ loop-position-preserved g c =
         | then-is_intermediate w ↦
             let is = class-intermediate _ (sym c.is_intermediate.ensures ∙ w.if-is_intermediate.true) in
             rw w.self-is
-            (advances-when tt (advances-in v.begun (omega arith) c.at-byte.ensures.value v.may_go_on (rw is refl)
+            (advances-when tt (advances-in v.begun (omega arith) c.byte_at-byte.ensures.value v.may_go_on (rw is refl)
             (takes-in_escape parser (λ ints holds. takes-byte refl
             (stands-by v.begun (w.collect.ensures.holds ints holds)) (intermediate-more is)))
             (settled-by v.begun tt)))
@@ -44,7 +44,7 @@ loop-position-preserved g c =
             (sym w.dispatches_escape.ensures ∙ w.if-dispatches_escape.false) ordinary
             (sym w.is_plain_control.ensures ∙ w.if-is_plain_control.false) in
             rw w.self-is
-            (advances-when tt (advances-in v.begun (omega arith) c.at-byte.ensures.value v.may_go_on ordinary
+            (advances-when tt (advances-in v.begun (omega arith) c.byte_at-byte.ensures.value v.may_go_on ordinary
             (takes-in_escape parser
             (λ ints holds.
             takes-byte refl (stands-by v.begun holds)
@@ -62,12 +62,13 @@ loop-position-preserved g c =
 pub returns-then-dispatches_escape-clause-advances : goal.returns-then-dispatches_escape-clause-advances
 returns-then-dispatches_escape-clause-advances g c =
     let v = c.loop-position.invariant in
-    let b = c.at-byte.result in
+    let b = c.byte_at-byte.result in
     let ends = sym c.dispatches_escape.ensures ∙ c.if-dispatches_escape.true in
     let d = c.dispatch_escape.ensures in
     advances-then v.advances
     (advances-when tt
-    (advances-in v.begun (omega arith) c.at-byte.ensures.value v.may_go_on (dispatch_ends_nothing (class_of b) ends)
+    (advances-in v.begun (omega arith) c.byte_at-byte.ensures.value v.may_go_on
+    (dispatch_ends_nothing (class_of b) ends)
     (takes-in_escape c.loop-position.self
     (λ ints holds. takes-byte
     (rw (holds.kept, holds.too_many_intermediates) at d.tells.value) (stands-text_begun d.text)
@@ -80,16 +81,16 @@ returns-then-ends_body-clause-advances g c =
     let d = c.end_body.ensures in
     advances-then v.advances
     (advances-when (rw v.begun tt)
-    (advances-byte (omega arith) c.at-byte.ensures.value v.may_go_on d.performs d.handles.settled))
+    (advances-byte (omega arith) c.byte_at-byte.ensures.value v.may_go_on d.performs d.handles.settled))
 
 -- A control is executed inside the sequence.
 pub returns-then-is_plain_control-clause-advances : goal.returns-then-is_plain_control-clause-advances
 returns-then-is_plain_control-clause-advances g c =
     let v = c.loop-position.invariant in
-    let b = c.at-byte.result in
+    let b = c.byte_at-byte.result in
     let is = class-control _ (sym c.is_plain_control.ensures ∙ c.if-is_plain_control.true) in
     advances-then v.advances
-    (advances-when tt (advances-in v.begun (omega arith) c.at-byte.ensures.value v.may_go_on (rw is refl)
+    (advances-when tt (advances-in v.begun (omega arith) c.byte_at-byte.ensures.value v.may_go_on (rw is refl)
     (takes-in_escape c.loop-position.self
     (λ ints holds. takes-byte c.execute_control.ensures.value (stands-by v.begun holds)
     (byte-executed refl is))) (settled-by v.begun tt)))

@@ -10,8 +10,8 @@ use Rattle.vte_core.proofs.parser.machine.Machine.read_sequence.Goals as goal
 abbrev escaped : {B : Type 0} → Machine B → Collected → Machine B
 escaped before collected = record { state = Escape; collected = collected; command = before.command }
 
-pub returns-then-at-eq91-clause-advances : goal.returns-then-at-eq91-clause-advances
-returns-then-at-eq91-clause-advances g c =
+pub returns-then-byte_at-eq91-clause-advances : goal.returns-then-byte_at-eq91-clause-advances
+returns-then-byte_at-eq91-clause-advances g c =
     let begun = escaped c.args.self.now c.begin_escape.new.self in
     advances-then
     (advances-escape c.requires.may_read.begun c.requires.may_read.within c.requires.escape
@@ -21,7 +21,8 @@ returns-then-at-eq91-clause-advances g c =
     tt))
     (advances-then
     (advances-bracket {parser = begun} refl
-    (omega arith) c.at.ensures.value c.requires.may_read.may_go_on c.if-at-eq91.true refl c.begin_head.ensures.head)
+    (omega arith) c.byte_at.ensures.value c.requires.may_read.may_go_on c.if-byte_at-eq91.true
+    refl c.begin_head.ensures.head)
     c.read_short_head.ensures.advances)
 
 pub returns-clause-advances : goal.returns-clause-advances

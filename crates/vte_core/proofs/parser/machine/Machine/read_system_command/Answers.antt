@@ -39,7 +39,7 @@ returns-clause-advances g c =
     let begun = r.begun in
     let found = c.find_command_data_end-end.ensures in
     let byte = c.in-Some.byte in
-    let here = rw c.in-Some.is at c.get.ensures in
+    let here = rw c.in-Some.is at c.get_byte.ensures in
     let after_data : Machine _ =
     record { state = c.args.self.now.state; collected = c.args.self.now.collected; command = c.push_data.new.self } in
     let within : c.find_command_data_end-end.result < length c.args.input.bytes.now = here.0 in

@@ -57,7 +57,7 @@ at g c =
         begun = v.settled within;
         may_go_on = v.may_go_on;
         within = within;
-        looked_at = c.at-byte.ensures.value
+        looked_at = c.byte_at-byte.ensures.value
             ∙ c.loop-position.invariant.same _ (omega (arith, c.loop-position-2-test.true));
       })
     ]

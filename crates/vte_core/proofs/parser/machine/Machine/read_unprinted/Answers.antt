@@ -22,9 +22,9 @@ loop-byte-init g c =
             begun = may_read.begun;
             may_go_on = may_read.may_go_on;
             within = may_read.within;
-            looked_at = c.at-byte.ensures.value;
+            looked_at = c.byte_at-byte.ensures.value;
           };
-      other = rw c.at-byte.ensures.value (ends-unprinted _ _ may_read.within c.requires.other);
+      other = rw c.byte_at-byte.ensures.value (ends-unprinted _ _ may_read.within c.requires.other);
       lone = sym c.is_lead.ensures ∙ c.if-is_lead.false;
       spends = search rules;
       seen = search rules;
@@ -43,7 +43,7 @@ loop-byte-preserved g c =
         begun = v.may_read.begun;
         may_go_on = λ _. sym c.terminated.ensures ∙ c.if-terminated.false;
         within = omega arith;
-        looked_at = c.at-byte-in-loop-byte.ensures.value;
+        looked_at = c.byte_at-byte-in-loop-byte.ensures.value;
       };
       other = sym c.is_printed_ascii.ensures ∙ c.if-is_printed_ascii.false;
       lone = sym c.is_lead-else-is_printed_ascii.ensures ∙ c.if-is_lead-2.false;

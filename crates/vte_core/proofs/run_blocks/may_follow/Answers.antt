@@ -4,7 +4,7 @@ use Rattle.std.proofs.Common.{nat_eq, nat_lt}
 use Rattle.std.proofs.lemmas.Bool.{or_parts}
 use Rattle.std.proofs.Math.Bool.{beq}
 use Rattle.vte_core.proofs.automaton_states.Windows.{leads}
-use Rattle.vte_core.proofs.run_blocks.follows.Goals as goal
+use Rattle.vte_core.proofs.run_blocks.may_follow.Goals as goal
 
 same : (x y : Bool) → beq x y ≡ true → x ≡ y
 same true true e = refl

@@ -1,8 +1,8 @@
 -- A text more is joined, for which there is room (`Joining`), or one that is left out changes nothing.
 use Rattle.vte.proofs.Common.{◌∙◌, ap, arith}
 use Rattle.vte.proofs.Joining.{joins-begin, joins-more, joins-room, joins-same}
-use Rattle.vte.proofs.ansi.titles.join_texts.Goals as goal
-use Rattle.vte.proofs.ansi.titles.join_texts.Goals.{in-Some, in_default}
+use Rattle.vte.proofs.ansi.joined_text.join_texts.Goals as goal
+use Rattle.vte.proofs.ansi.joined_text.join_texts.Goals.{in-Some, in_default}
 
 pub loop-piece-init : goal.loop-piece-init
 loop-piece-init g c = record { joins = joins-begin c.clear.ensures.empty c.requires; same = c.clear.ensures.same }

@@ -1,6 +1,6 @@
 -- The slices so far begin no update, and are parsed. Each has at least one byte, so the loop reads all.
 use Rattle.vte.proofs.Common.{◌<◌, ◌≤◌, length, meaning_of, EngineIsAt, engine_view, EngineIsAtKeeping, HasParsedWithoutBegin, State}
-use Rattle.vte.proofs.ansi.engine.Engine.take_open_turn.Given as goal
+use Rattle.vte.proofs.ansi.engine.Engine.take_parsing_turn.Given as goal
 
 abbrev pub invariant-loop-slice : goal.invariant-loop-slice
 invariant-loop-slice g l =

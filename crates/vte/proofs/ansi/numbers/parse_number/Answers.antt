@@ -3,8 +3,8 @@ use Rattle.std.specs.Char.{digit_value}
 use Rattle.std.specs.Str.Parse.{digits_value_after}
 use Rattle.std.proofs.Common.{◌*◌}
 use Rattle.vte.proofs.Common.{◌≡◌, ℕ, ◌+◌, ◌<◌, ◌≤◌, List, [], ◌∷◌, None, Some, false, true, nat_lt, length, drop, drop_all, drop_more, get_or, refl, sym, ◌∙◌, and-false, arith, nat_tests, rules, decimal_number}
-use Rattle.vte.proofs.ansi.titles.parse_number.Invariants.{number_after}
-use Rattle.vte.proofs.ansi.titles.parse_number.Goals as goal
+use Rattle.vte.proofs.ansi.numbers.parse_number.Invariants.{number_after}
+use Rattle.vte.proofs.ansi.numbers.parse_number.Goals as goal
 
 grows : (number : ℕ) (digits : List ℕ) → number ≤ digits_value_after 10 number digits
 grows number [] = omega arith

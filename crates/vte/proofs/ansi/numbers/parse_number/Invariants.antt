@@ -3,7 +3,7 @@ use Rattle.std.specs.Str.{all_ascii_digits}
 use Rattle.std.specs.Str.Parse.{digits_value_after}
 use Rattle.vte.proofs.Common.{◌≡◌, ◌<◌, ℕ, List, Option, Some, None, nat_lt, drop, decimal_number}
 use Rattle.std.specs.Prelude.{◌&&◌, if◌then◌else◌}
-use Rattle.vte.proofs.ansi.titles.parse_number.Given as goal
+use Rattle.vte.proofs.ansi.numbers.parse_number.Given as goal
 
 -- the number that digits write after those of another
 abbrev pub number_after : ℕ → List ℕ → Option ℕ

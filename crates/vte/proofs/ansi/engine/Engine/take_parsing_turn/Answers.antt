@@ -3,8 +3,8 @@
 use Rattle.vte.proofs.Common.{refl, sym, arith, ◌∙◌}
 use Rattle.vte.proofs.turns.Slices.{begin-whole, open-all, open-ends, open-more, open-nothing, slice_size}
 use Rattle.vte.proofs.turns.EngineTurns.{kept-next, next-at, slice_parsed}
-use Rattle.vte.proofs.ansi.engine.Engine.take_open_turn.Goals as goal
-use Rattle.vte.proofs.ansi.engine.Engine.take_open_turn.Goals.{then-begins-via-then-begins, then-begins-via-else-begins+then-read-bytes}
+use Rattle.vte.proofs.ansi.engine.Engine.take_parsing_turn.Goals as goal
+use Rattle.vte.proofs.ansi.engine.Engine.take_parsing_turn.Goals.{then-begins-via-then-begins, then-begins-via-else-begins+then-read-bytes}
 
 -- Before the first slice nothing is read.
 pub loop-slice-init : goal.loop-slice-init

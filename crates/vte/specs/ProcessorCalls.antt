@@ -10,7 +10,7 @@ use Rattle.vte_handler.specs.Timeout.{AllowsOnly, IsSteady, TimeoutMeaning}
 use Rattle.vte.specs.Calls.{last_printed, calls}
 use Rattle.vte.specs.Processor.{HoldsWell, HoldsWellAt, Meaning, TakesSteps, State, TakesAllTurns, all_bytes, given_bytes, calls_with_stops, AreInOrder, most_held, stop}
 use Rattle.vte.specs.Synchronized.{after_last_end}
-use Rattle.vte.specs.declared.ansi.hold.Hold.{Hold}
+use Rattle.vte.specs.declared.ansi.hold.SyncState.{SyncState}
 use Rattle.vte.specs.declared.ansi.laws.replays.Step.{Step}
 use Rattle.vte.specs.declared.ansi.laws.replays.Step.TheVariants.{Advance, StopSync}
 use Rattle.vte.specs.declared.ansi.processor.Processor.{Processor}
@@ -39,7 +39,7 @@ pub record HasTold {V W : Type 0} (meaning : Meaning V W) (state : State V W) (b
 -- ---- where a processor stands
 
 -- The held bytes. Those before them in the buffer were released by the last turn.
-abbrev pub held_of : {A : Type 0} → Hold A → List ℕ
+abbrev pub held_of : {A : Type 0} → SyncState A → List ℕ
 held_of hold = drop hold.released hold.bytes.items
 
 abbrev pub held_in : {T A : Type 0} → Processor T A → List ℕ

@@ -5,7 +5,7 @@ use Rattle.std.proofs.lemmas.List.{nil_from_length}
 use Rattle.vte.proofs.turns.Kinds.{hold_turn-all, hold_turn-rest}
 use Rattle.vte.proofs.turns.Slices.{parse-nothing}
 use Rattle.vte.proofs.updates.Sequences.{cases_Option, stays_held, suffix-length}
-use Rattle.vte.specs.declared.ansi.hold.Hold.{Hold}
+use Rattle.vte.specs.declared.ansi.hold.SyncState.{SyncState}
 
 module _ {V W : Type 0} (m : Meaning V W) where
   abbrev cut : State V W → List ℕ → State V W
@@ -42,7 +42,7 @@ module _ {V W : Type 0} (m : Meaning V W) where
 
 -- the hold has the new bytes, and the timeout was set as often as they begin updates
 module _ {P B T A V W : Type 0} {view : EngineView P B T W} (m : Meaning V W) {s : State V W} {more : List ℕ}
-    {old : Engine P B T A} {hold : Hold A} {timeout : T} {begins : ℕ} {value : V}
+    {old : Engine P B T A} {hold : SyncState A} {timeout : T} {begins : ℕ} {value : V}
     (at : EngineIsAt view old value s) (added : IsAdded s.held more hold begins)
     (is_set : view.timeout_of timeout ≡ set_times m.timeout begins (view.timeout_of old.state.timeout))
     (room : view.reading.has_memory old.parser (view.room_of old.state.text) s.parsed

@@ -2,11 +2,11 @@
 use Rattle.std.specs.Prelude.{◌≡◌, ℕ, ◌+◌, ◌-◌, ◌<◌, ◌≤◌, ◌&&◌, false, eqb, Option, Some, None, List, ◌++◌, length, take, drop, slice_index}
 use Rattle.vte.specs.ProcessorCalls.{held_of}
 use Rattle.vte.specs.Synchronized.{after_last_end, begin_update, begins_ending_in_last, begins_with, end_update, from_begin_update, part_after_last_end}
-use Rattle.vte.specs.declared.ansi.hold.Hold.{Hold}
+use Rattle.vte.specs.declared.ansi.hold.SyncState.{SyncState}
 use Rattle.vte.specs.declared.ansi.release.Release.{Release}
 
 -- The bytes before the held ones, which the last turn released.
-abbrev pub released_of : {A : Type 0} → Hold A → List ℕ
+abbrev pub released_of : {A : Type 0} → SyncState A → List ℕ
 released_of hold = take hold.released hold.bytes.items
 
 -- What stays held of a text: all of it or, if there is an end-update, what follows the last one
@@ -30,7 +30,7 @@ pub record Adds (bytes : List ℕ) (new : ℕ) (added : Release) : Type 0 where
   pub released : added.released ≡ length bytes - length (still_held bytes)
 
 -- Bytes were added to those that were held.
-pub record IsAdded {A : Type 0} (held more : List ℕ) (hold : Hold A)
+pub record IsAdded {A : Type 0} (held more : List ℕ) (hold : SyncState A)
     (begins : ℕ) : Type 0 where
   pub held_is : held_of hold ≡ still_held (held ++ more)
   pub released_is : released_of hold

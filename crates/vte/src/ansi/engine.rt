@@ -9,7 +9,7 @@ ghost use Rattle.vte.specs.machine.Engine.{EngineIsAtKeeping, EndsParsingTurn, E
 ghost use Rattle.vte.specs.LongProcessor.{EngineReads, EngineStops, LacksMemoryForSome, Reserves};
 ghost use Rattle.vte_handler.specs.Timeout.{timeout_meaning};
 
-use crate::ansi::hold::{Hold, MOST_HELD};
+use crate::ansi::hold::{MOST_HELD, SyncState};
 use crate::ansi::parsing::{EventParser, ParseAs, parse_all, parse_until_begin};
 use crate::ansi::performer::{ProcessorState, UPDATE_TIMEOUT_MILLIS};
 use crate::ansi::text_buffer::TextBuffer;
@@ -28,7 +28,7 @@ const SLICE: usize = 65_536;
 #[derive(Clone, Drop)]
 pub(crate) struct Engine<P: Drop, B: Drop, T: Drop, A: Allocator> {
     pub(crate) parser: P,
-    pub(crate) hold: Hold<A>,
+    pub(crate) hold: SyncState<A>,
     pub(crate) state: ProcessorState<T, B>,
 }
 
@@ -49,7 +49,7 @@ impl<P: EventParser + Drop, B: TextBuffer + Drop, T: Timeout + Drop, A: Allocato
         ensures text { IfOk result (λ engine. engine.state.text ≡ text) }
     {
         laws::empty_stream();
-        match Hold::new(alloc) {
+        match SyncState::new(alloc) {
             Ok(hold) => Ok(Engine {
                 parser,
                 hold,

@@ -16,7 +16,7 @@ pub(crate) const MOST_HELD: usize = ROOM - 2;
 
 /// The held bytes, none of which end an update, after those that were released last.
 #[derive(Drop)]
-pub(crate) struct Hold<A: Allocator> {
+pub(crate) struct SyncState<A: Allocator> {
     bytes: Vec<u8, A>,
     released: usize,
     ghost within: { released ≤ length bytes.items },
@@ -27,7 +27,7 @@ pub(crate) struct Hold<A: Allocator> {
     ghost room: { ROOM ≤ vec_capacity bytes },
 }
 
-impl<A: Allocator + Clone> Clone for Hold<A> {
+impl<A: Allocator + Clone> Clone for SyncState<A> {
     ghost use Rattle.vte.specs.ProcessorCalls.{held_of};
 
     ghost is_clone = { λ hold clone. held_of clone ≡ held_of hold };
@@ -37,11 +37,11 @@ impl<A: Allocator + Clone> Clone for Hold<A> {
         // as much memory
         bytes.reserve(self.bytes.capacity() - bytes.len())?;
         let released = self.released;
-        Ok(Hold { bytes, released })
+        Ok(SyncState { bytes, released })
     }
 }
 
-impl<A: Allocator> Hold<A> {
+impl<A: Allocator> SyncState<A> {
     ghost use Rattle.vte.specs.machine.Hold.{IsAdded, released_of};
     ghost use Rattle.vte.specs.ProcessorCalls.{CountsHeld, held_of};
 
@@ -50,7 +50,7 @@ impl<A: Allocator> Hold<A> {
         ensures { IfOk result (λ hold. held_of hold ≡ []) }
     {
         let bytes = Vec::with_capacity(alloc, ROOM)?;
-        Ok(Hold { bytes, released: 0 })
+        Ok(SyncState { bytes, released: 0 })
     }
 
     /// Returns the number of held bytes.

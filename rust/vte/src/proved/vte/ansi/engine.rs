@@ -2,7 +2,7 @@
 //! What a processor is, whatever its limit. It takes turns: each parses bytes of a call, or holds
 //! them back.
 
-use crate::proved::vte::ansi::hold::{Hold, MOST_HELD};
+use crate::proved::vte::ansi::hold::{SyncState, MOST_HELD};
 use crate::proved::vte::ansi::parsing::{parse_all, parse_until_begin, EventParser, ParseAs};
 use crate::proved::vte::ansi::performer::{ProcessorState, UPDATE_TIMEOUT_MILLIS};
 use crate::proved::vte::ansi::text_buffer::TextBuffer;
@@ -20,7 +20,7 @@ const SLICE: usize = 65_536;
 #[derive(Clone)]
 pub(crate) struct Engine<P, B, T> {
     pub(crate) parser: P,
-    pub(crate) hold: Hold,
+    pub(crate) hold: SyncState,
     pub(crate) state: ProcessorState<T, B>,
 }
 
@@ -28,7 +28,7 @@ impl<P: EventParser, B: TextBuffer, T: Timeout> Engine<P, B, T> {
     /// Creates an engine of a parser that has read nothing, with memory for a hold. Returns the
     /// timeout if memory runs out.
     pub(crate) fn new(parser: P, text: B, timeout: T) -> Result<Self, T> {
-        match Hold::new() {
+        match SyncState::new() {
             Ok(hold) => Ok(Engine {
                 parser,
                 hold,

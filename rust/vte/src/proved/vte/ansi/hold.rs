@@ -12,17 +12,17 @@ pub(crate) const MOST_HELD: usize = ROOM - 2;
 
 /// The held bytes, none of which end an update, after those that were released last.
 #[derive(Clone)]
-pub(crate) struct Hold {
+pub(crate) struct SyncState {
     bytes: Vec<u8>,
     released: usize,
 }
 
-impl Hold {
+impl SyncState {
     /// Allocates the memory.
     #[inline]
     pub(crate) fn new() -> Result<Self, AllocError> {
         let bytes = Vec::with_capacity(ROOM)?;
-        Ok(Hold { bytes, released: 0 })
+        Ok(SyncState { bytes, released: 0 })
     }
 
     /// Returns the number of held bytes.

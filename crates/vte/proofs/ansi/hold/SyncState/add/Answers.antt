@@ -2,7 +2,7 @@
 -- whole hold has (`find_release`).
 use Rattle.vte.proofs.Common.{ℕ, List, refl, rules, ◌≡◌, ◌++◌, ◌-◌, ◌∙◌, ap, length, length-append, length-drop, drop, take, take_all, arith, Adds, IsHeldTail, held_of}
 use Rattle.vte.proofs.updates.Sequences.{stays_held, stays-is}
-use Rattle.vte.proofs.ansi.hold.Hold.add.Goals as goal
+use Rattle.vte.proofs.ansi.hold.SyncState.add.Goals as goal
 
 is_end : {bytes old more : List ℕ} {start len : ℕ} → bytes ≡ old ++ more → len ≡ length old → start ≡ len - 7
     → IsHeldTail old more (take (length bytes - start) (drop start bytes)) start

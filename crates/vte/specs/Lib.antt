@@ -61,6 +61,7 @@ pub use Rattle.vte_core.specs.Laws
 pub use Rattle.vte_core.specs.LongParser
 pub use Rattle.vte_core.specs.LongParserCalls
 pub use Rattle.vte_core.specs.Looks
+pub use Rattle.vte_core.specs.Open
 pub use Rattle.vte_core.specs.Outcome
 pub use Rattle.vte_core.specs.Parameters
 pub use Rattle.vte_core.specs.Parser

@@ -46,7 +46,7 @@ pub use Rattle.vte.specs.machine.Hold.{Adds, IsAdded, IsHeldTail, released_of, s
 pub use Rattle.vte.specs.ProcessorCalls.{StopsSync, HasAdvanced, HasParsedAll, HasParsedAndHolds, IsAt, ReadsInTurns, HasReplayed, HasTold, Replays, StandingPredicate, held_of}
 pub use Rattle.vte.specs.machine.Performing.{PerformsAll, PerformsUntilStop, performer_value, with_private_mode, with_private_modes}
 pub use Rattle.vte.specs.BoundedProcessor.{HasParsedAndHoldsWithin}
-pub use Rattle.vte.specs.LongProcessor.{EngineReads, EngineStops, HasParsedAndHoldsLong, LacksMemoryForSome, AdvancesLong, Reserves}
+pub use Rattle.vte.specs.LongProcessor.{EngineReads, EngineStops, HasParsedAndHoldsLong, LacksMemoryForSome, LacksMemoryLong, AdvancesLong, Reserves}
 pub use Rattle.vte.specs.Memory.{HasMemory, HasTextRoom, ParserHasMemory, KeepsMemory}
 pub use Rattle.vte.specs.Numbers.{decimal_number, first_number, first_numbers}
 pub use Rattle.vte.specs.Parts.{first_after, parts_of}

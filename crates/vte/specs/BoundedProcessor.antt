@@ -1,6 +1,7 @@
 -- What calls of a processor with a limit of its own ensure: the same as those of `Processor`, whose
 -- limit is 1,024.
 use Rattle.std.specs.Prelude.{ℕ, List}
+use Rattle.vte_core.specs.declared.parser.Parser.{Parser}
 use Rattle.vte.specs.Memory.{HasTextRoom}
 use Rattle.vte.specs.ProcessorCalls.{held_of}
 use Rattle.vte.specs.Views.{EngineStandsAt, bounded_engine_view}
@@ -11,6 +12,9 @@ held_within processor = held_of processor.engine.hold
 
 abbrev pub timeout_within : {T A : Type 0} {N : ℕ} → BoundedProcessor T A N → T
 timeout_within processor = processor.engine.state.timeout
+
+abbrev pub parser_within : {T A : Type 0} {N : ℕ} → BoundedProcessor T A N → Parser N
+parser_within processor = processor.engine.parser
 
 -- `HasParsedAndHolds`, with room for a text that is joined from all data of a command.
 pub record HasParsedAndHoldsWithin {T A W : Type 0} {N : ℕ} (timeout_of : T → W)

@@ -43,6 +43,16 @@ pub record Reserves {P B T A W : Type 0} (view : EngineView P B T W)
   pub lacks : result ≡ false → (stream : List ℕ) → view.reading.has_read new.parser stream
       → ¬ EngineHasMemory view new stream (length (held_of new.hold) + more)
 
+-- These two, of a processor without a limit.
+abbrev pub LacksMemoryLong : {T A W : Type 0} → (T → W) → LongProcessor T A → (left : ℕ) → Type 0
+LacksMemoryLong timeout_of processor =
+    LacksMemoryForSome (long_engine_view timeout_of) processor.engine
+
+abbrev pub ReservesLong : {T A W : Type 0} → (T → W) → (processor next : LongProcessor T A)
+    → (more : ℕ) → Bool → Type 0
+ReservesLong timeout_of processor next =
+    Reserves (long_engine_view timeout_of) processor.engine next.engine
+
 -- How many bytes a call read.
 abbrev pub read_of : Result (Unit {0}) Refused → List ℕ → ℕ
 read_of (Ok _) bytes = length bytes
@@ -67,6 +77,11 @@ module _ {P B T A V W : Type 0} (view : EngineView P B T W) (meaning : Meaning V
     pub lacks : IfErr result (λ refused. LacksMemoryForSome view next (length bytes - refused.read))
     pub memory : (state : State V W) → IsAt (EngineStandsAt view engine) old state
         → KeepsMemory (EngineHasMemory view engine) (EngineHasMemory view next)
+
+abbrev pub StopsLong : {T A V W : Type 0} → (T → W) → Meaning V W
+    → (processor next : LongProcessor T A) → (old new : V) → Type 0
+StopsLong timeout_of meaning processor next =
+    EngineStops (long_engine_view timeout_of) meaning processor.engine next.engine
 
 -- What a call without a limit ensures beyond `EngineReads`.
 pub record AdvancesLong {T A V W : Type 0} (timeout_of : T → W) (meaning : Meaning V W)

@@ -29,9 +29,12 @@ held_long processor = held_of processor.engine.hold
 abbrev pub timeout_long : {T A : Type 0} → LongProcessor T A → T
 timeout_long processor = processor.engine.state.timeout
 
+abbrev pub parser_long : {T A : Type 0} → LongProcessor T A → LongParser A
+parser_long processor = processor.engine.parser
+
 -- After the stream, the processor can parse `count` more bytes and is refused no memory.
 abbrev pub HasMemory : {T A : Type 0} → LongProcessor T A → (stream : List ℕ) → (count : ℕ) → Type 0
-HasMemory processor = ParserHasMemory processor.engine.parser processor.engine.state.text.size
+HasMemory processor = ParserHasMemory (parser_long processor) processor.engine.state.text.size
 
 -- Memory that was there (`had`) is still there (`has`), so that later calls can use what was
 -- reserved.
@@ -41,4 +44,4 @@ KeepsMemory had has = (stream : List ℕ) (count : ℕ) → had stream count →
 -- The processor has given back its memory: that for data of a command, and that to join a text.
 abbrev pub HasFreedMemory : {T A : Type 0} → LongProcessor T A → Type 0
 HasFreedMemory processor =
-    (memory_of processor.engine.parser ≡ 0) × (string_capacity processor.engine.state.text.text ≡ 0)
+    (memory_of (parser_long processor) ≡ 0) × (string_capacity processor.engine.state.text.text ≡ 0)

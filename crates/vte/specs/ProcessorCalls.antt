@@ -5,6 +5,7 @@ use Rattle.std.specs.Prelude.{◌≡◌, ℕ, List, ◌++◌, length, drop, [], 
 use Rattle.vte_core.specs.Outcome.{SaysLoss}
 use Rattle.vte_core.specs.Parser.{HasRead, Reading}
 use Rattle.vte_core.specs.Stream.{events, outcome, usual_limit}
+use Rattle.vte_core.specs.declared.parser.Parser.{Parser}
 use Rattle.vte_handler.specs.Handler.{after}
 use Rattle.vte_handler.specs.Timeout.{AllowsOnly, IsSteady, TimeoutMeaning}
 use Rattle.vte.specs.Calls.{last_printed, calls}
@@ -47,6 +48,9 @@ held_in processor = held_of processor.engine.hold
 
 abbrev pub timeout_in : {T A : Type 0} → Processor T A → T
 timeout_in processor = processor.engine.state.timeout
+
+abbrev pub parser_in : {T A : Type 0} → Processor T A → Parser 1024
+parser_in processor = processor.engine.parser
 
 -- The processor has parsed bytes, and holds those that follow. It knows the last printed character.
 pub record HasParsedAndHolds {T A W : Type 0} (timeout_of : T → W) (processor : Processor T A)

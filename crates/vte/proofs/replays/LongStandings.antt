@@ -1,6 +1,6 @@
 -- A call of a processor without a limit is refused no memory that was there for all its bytes: room for the held and
 -- the given bytes at the start leaves room for what is left, turn by turn.
-use Rattle.vte.proofs.Common.{◌≡◌, ℕ, ◌+◌, ◌-◌, ◌<◌, List, ◌++◌, length, Result, Ok, Err, refl, ap, arith, length-append, Refused, counts_data, AdvancesLong, Bor, Meaning, IsAt, HasMemory, HasParsedAndHoldsLong, HasTaken, LacksMemoryForSome, EngineReads, State, drop, length-drop, long_engine_view}
+use Rattle.vte.proofs.Common.{◌≡◌, ℕ, ◌+◌, ◌-◌, ◌<◌, List, ◌++◌, length, Result, Ok, Err, refl, ap, arith, length-append, Refused, counts_data, AdvancesLong, Bor, Meaning, IsAt, HasMemory, HasParsedAndHoldsLong, HasTaken, LacksMemoryLong, EngineReads, State, drop, length-drop, long_engine_view}
 use Rattle.vte.proofs.replays.Standings.{reads_in_turns}
 use Rattle.vte.specs.declared.ansi.long_processor.LongProcessor.{LongProcessor}
 use Rattle.vte.proofs.turns.Slices.{until_refused-grows}
@@ -9,7 +9,7 @@ module _ {T A V W : Type 0} {timeout_of : T → W} {m : Meaning V W} {new : Long
     {s : State V W} {bytes : List ℕ} where
   had_memory : (read : ℕ) → read < length bytes
       → HasTaken m s bytes read (IsAt (HasParsedAndHoldsLong timeout_of new) value)
-      → LacksMemoryForSome (long_engine_view timeout_of) new.engine (length bytes - read)
+      → LacksMemoryLong timeout_of new (length bytes - read)
       → HasMemory new s.parsed (length s.held + length bytes) → ⊥
   had_memory read less taken lacks room =
       let t = taken.next in

@@ -2,7 +2,7 @@
 ghost use Rattle.std.specs.Prelude.{◌≡◌, [], IfOk, MatchResult, Some, false};
 ghost use Rattle.vte_core.specs.Parser.{lost_data};
 ghost use Rattle.vte_handler.specs.Timeout.{timeout_meaning};
-ghost use Rattle.vte.specs.BoundedProcessor.{HasParsedAndHoldsWithin, held_within, timeout_within};
+ghost use Rattle.vte.specs.BoundedProcessor.{HasParsedAndHoldsWithin, held_within, parser_within, timeout_within};
 ghost use Rattle.vte.specs.Processor.{meaning_of};
 ghost use Rattle.vte.specs.ProcessorCalls.{CountsHeld, Creates, ReadsInTurns, SaysParsedLoss, StopsSync};
 
@@ -59,7 +59,7 @@ impl<T: Timeout + Drop, A: Allocator, const N: usize> BoundedProcessor<T, A, N> 
     /// open, the last one: those after the first `N`, and those after the 16th piece. Bytes that
     /// are held back don't count.
     pub fn command_lost_data(&self) -> bool
-        ensures lost { result ≡ lost_data self.now.engine.parser }
+        ensures lost { result ≡ lost_data (parser_within self.now) }
         ensures open { SaysParsedLoss (Some N)
             (HasParsedAndHoldsWithin T.value_of self.now) result }
     {

@@ -3,10 +3,9 @@ ghost use Rattle.std.specs.Prelude.{◌≡◌, ℕ, ◌+◌, false, List, [], le
 ghost use Rattle.vte_core.specs.LongParser.{lost_data_long, open_command_size, reading_of_long};
 ghost use Rattle.vte_handler.specs.Timeout.{timeout_meaning};
 ghost use Rattle.vte.specs.Processor.{meaning_of};
-ghost use Rattle.vte.specs.LongProcessor.{AdvancesLong, EngineStops, HasParsedAndHoldsLong, Reserves};
-ghost use Rattle.vte.specs.Memory.{HasFreedMemory, HasMemory, KeepsMemory, held_long, timeout_long};
+ghost use Rattle.vte.specs.LongProcessor.{AdvancesLong, HasParsedAndHoldsLong, ReservesLong, StopsLong};
+ghost use Rattle.vte.specs.Memory.{HasFreedMemory, HasMemory, KeepsMemory, held_long, parser_long, timeout_long};
 ghost use Rattle.vte.specs.ProcessorCalls.{CountsHeld, Creates, IsCopyOf, SaysParsedLoss};
-ghost use Rattle.vte.specs.Views.{long_engine_view};
 
 use crate::ansi::engine::Engine;
 use crate::ansi::growing_text::GrowingText;
@@ -37,8 +36,8 @@ pub struct LongProcessor<T: Timeout + Drop, A: Allocator> {
 impl<T: Timeout + Clone + Drop, A: Allocator + Clone> Clone for LongProcessor<T, A> {
     ghost is_clone = { λ processor copy. IsCopyOf T.is_clone T.value_of (timeout_long processor)
         (timeout_long copy) (HasParsedAndHoldsLong T.value_of processor)
-        (HasParsedAndHoldsLong T.value_of copy) (reading_of_long processor.engine.parser)
-        (reading_of_long copy.engine.parser)
+        (HasParsedAndHoldsLong T.value_of copy) (reading_of_long (parser_long processor))
+        (reading_of_long (parser_long copy))
         × KeepsMemory (HasMemory processor) (HasMemory copy) };
 
     fn clone(&self) -> Result<Self, AllocError> {
@@ -81,7 +80,7 @@ impl<T: Timeout + Drop, A: Allocator> LongProcessor<T, A> {
     /// Returns whether data bytes are in no piece of the operating system command that is open, or
     /// else ended last: those after the 16th piece. Bytes that are held back don't count.
     pub fn command_lost_data(&self) -> bool
-        ensures lost { result ≡ lost_data_long self.now.engine.parser }
+        ensures lost { result ≡ lost_data_long (parser_long self.now) }
         ensures open { SaysParsedLoss None (HasParsedAndHoldsLong T.value_of self.now) result }
     {
         self.engine.parser.command_lost_data()
@@ -91,8 +90,7 @@ impl<T: Timeout + Drop, A: Allocator> LongProcessor<T, A> {
     /// is there. Calls with no more bytes than that are then never refused memory.
     #[must_use = "the memory may be refused"]
     pub fn reserve(&mut self, more: usize) -> bool
-        ensures { Reserves (long_engine_view T.value_of) self.old.engine self.new.engine more
-            result }
+        ensures { ReservesLong T.value_of self.old self.new more result }
     {
         self.engine.reserve(more)
     }
@@ -109,8 +107,8 @@ impl<T: Timeout + Drop, A: Allocator> LongProcessor<T, A> {
             → open_command_size parsed ≡ 0
             → HasFreedMemory self.new }
         // It says the same of the last command's data.
-        ensures lost { lost_data_long self.new.engine.parser
-            ≡ lost_data_long self.old.engine.parser }
+        ensures lost { lost_data_long (parser_long self.new)
+            ≡ lost_data_long (parser_long self.old) }
     {
         if self.engine.hold.len() == 0 {
             self.engine.parser.shrink();
@@ -122,8 +120,8 @@ impl<T: Timeout + Drop, A: Allocator> LongProcessor<T, A> {
     /// ended, and clears the timeout. Without an update too, the handler is told. It needs no
     /// memory: what is held back has taken it.
     pub fn stop_sync<H: Handler>(&mut self, handler: &mut H)
-        ensures { EngineStops (long_engine_view T.value_of)
-            (meaning_of None H.step T.set T.clear T.allows) self.old.engine self.new.engine
+        ensures { StopsLong T.value_of
+            (meaning_of None H.step T.set T.clear T.allows) self.old self.new
             (H.value_of handler.old) (H.value_of handler.new) }
     {
         self.engine.stop::<H, Singly>(handler);
@@ -131,8 +129,8 @@ impl<T: Timeout + Drop, A: Allocator> LongProcessor<T, A> {
 
     /// Stops an update as [`stop_sync`](Self::stop_sync) does. The handler receives text in runs.
     pub fn stop_sync_text<H: HandlerText>(&mut self, handler: &mut H)
-        ensures { EngineStops (long_engine_view T.value_of)
-            (meaning_of None H.step T.set T.clear T.allows) self.old.engine self.new.engine
+        ensures { StopsLong T.value_of
+            (meaning_of None H.step T.set T.clear T.allows) self.old self.new
             (H.value_of handler.old) (H.value_of handler.new) }
     {
         self.engine.stop::<H, InRuns>(handler);

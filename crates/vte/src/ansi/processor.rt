@@ -2,7 +2,7 @@
 ghost use Rattle.std.specs.Prelude.{◌≡◌, [], IfOk, MatchResult, false};
 ghost use Rattle.vte_handler.specs.Timeout.{timeout_meaning};
 ghost use Rattle.vte.specs.Processor.{meaning_of};
-ghost use Rattle.vte.specs.ProcessorCalls.{CountsHeld, Creates, HasParsedAndHolds, IsCopyOf, ReadsInTurns, SaysParsedLoss, StopsSync, held_in, timeout_in};
+ghost use Rattle.vte.specs.ProcessorCalls.{CountsHeld, Creates, HasParsedAndHolds, IsCopyOf, ReadsInTurns, SaysParsedLoss, StopsSync, held_in, parser_in, timeout_in};
 ghost use Rattle.vte_core.specs.Parser.{lost_data, reading_of};
 ghost use Rattle.vte_core.specs.Stream.{usual_limit};
 
@@ -48,8 +48,8 @@ pub struct Processor<T: Timeout + Drop, A: Allocator> {
 impl<T: Timeout + Clone + Drop, A: Allocator + Clone> Clone for Processor<T, A> {
     ghost is_clone = { λ processor copy. IsCopyOf T.is_clone T.value_of (timeout_in processor)
         (timeout_in copy) (HasParsedAndHolds T.value_of processor)
-        (HasParsedAndHolds T.value_of copy) (reading_of processor.engine.parser)
-        (reading_of copy.engine.parser) };
+        (HasParsedAndHolds T.value_of copy) (reading_of (parser_in processor))
+        (reading_of (parser_in copy)) };
 
     fn clone(&self) -> Result<Self, AllocError> {
         let engine = self.engine.clone()?;
@@ -88,7 +88,7 @@ impl<T: Timeout + Drop, A: Allocator> Processor<T, A> {
     /// open, the last one: those after the first 1,024, and those after the 16th piece. Bytes that
     /// are held back don't count.
     pub fn command_lost_data(&self) -> bool
-        ensures lost { result ≡ lost_data self.now.engine.parser }
+        ensures lost { result ≡ lost_data (parser_in self.now) }
         ensures open { SaysParsedLoss usual_limit (HasParsedAndHolds T.value_of self.now) result }
     {
         self.engine.parser.command_lost_data()

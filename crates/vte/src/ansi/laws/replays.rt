@@ -1,7 +1,6 @@
 //! Lists of a processor's calls.
 ghost use Rattle.std.specs.Prelude.{None, IfOk, IfErr};
-ghost use Rattle.vte.specs.LongProcessor.{HasParsedAndHoldsLong, LacksMemoryForSome};
-ghost use Rattle.vte.specs.Views.{long_engine_view};
+ghost use Rattle.vte.specs.LongProcessor.{HasParsedAndHoldsLong, LacksMemoryLong};
 ghost use Rattle.vte.specs.Processor.{State, meaning_of};
 ghost use Rattle.vte.specs.ProcessorCalls.{HasParsedAndHolds, IsAt, Replays};
 ghost use Rattle.vte.specs.Refusal.{HasReplayedUntil, left_by};
@@ -69,8 +68,7 @@ pub fn replay_long<H: Handler, T: Timeout + Drop, A: Allocator>(
         HasReplayedUntil (meaning_of None H.step T.set T.clear T.allows) state steps.now refused
         (IsAt (HasParsedAndHoldsLong T.value_of processor.new) (H.value_of handler.new))) }
     ensures lacks { IfErr result
-        (λ refused. LacksMemoryForSome (long_engine_view T.value_of) processor.new.engine
-        (left_by steps.now refused)) }
+        (λ refused. LacksMemoryLong T.value_of processor.new (left_by steps.now refused)) }
 {
     for (index, step) in steps.iter().enumerate() {
         match step {

@@ -1,5 +1,5 @@
 -- As for `replay`; a call that is refused memory ends the list where it is, and says what it lacks.
-use Rattle.vte.proofs.Common.{refl, take_all, LacksMemoryForSome, long_engine_view}
+use Rattle.vte.proofs.Common.{refl, take_all, LacksMemoryLong}
 use Rattle.vte.proofs.replays.PlainReplays.{replays_all}
 use Rattle.vte.proofs.replays.Replays.{advance_refused, advance_taken, first_lacks, replayed, stop_taken}
 use Rattle.vte.proofs.ansi.laws.replays.replay_long.Goals as goal
@@ -29,7 +29,7 @@ returns-in-Err-clause-refuses g c = λ s at.
 pub returns-in-Err-clause-lacks : goal.returns-in-Err-clause-lacks
 returns-in-Err-clause-lacks g c =
     first_lacks
-    (LacksMemoryForSome (long_engine_view g.T.Timeout.value_of) c.advance.new.self.engine) c.args.steps.now _ _
+    (LacksMemoryLong g.T.Timeout.value_of c.advance.new.self) c.args.steps.now _ _
     c.loop-index-test.true c.in-Advance.is c.in-Err.ensures.reads.lacks
 
 pub returns-clause-replays : goal.returns-clause-replays

@@ -39,6 +39,8 @@ pub record Reserves {P B T A W : Type 0} (view : EngineView P B T W)
       → EngineStandsAt view new parsed held timeout
       → EngineHasMemory view new parsed (length held + more)
   pub memory : KeepsMemory (EngineHasMemory view old) (EngineHasMemory view new)
+  -- It says the same of the last command's data.
+  pub lost : view.reading.lost new.parser ≡ view.reading.lost old.parser
   -- On `false`, there isn't.
   pub lacks : result ≡ false → (stream : List ℕ) → view.reading.has_read new.parser stream
       → ¬ EngineHasMemory view new stream (length (held_of new.hold) + more)

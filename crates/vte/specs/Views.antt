@@ -1,9 +1,9 @@
 -- What the parts of an engine mean, of a processor with a limit and of one without, and where it
 -- stands. Of the types, `P` is the parser, `B` its buffer for texts, `T` the timeout, `W` the
 -- timeout's value, and `A` the allocator.
-use Rattle.std.specs.Prelude.{◌≡◌, ℕ, ◌<◌, List, None, Option, Some, length}
-use Rattle.vte_core.specs.LongParser.{HasReadLong}
-use Rattle.vte_core.specs.Parser.{HasRead}
+use Rattle.std.specs.Prelude.{◌≡◌, ℕ, ◌<◌, Bool, List, None, Option, Some, length}
+use Rattle.vte_core.specs.LongParser.{HasReadLong, lost_data_long}
+use Rattle.vte_core.specs.Parser.{HasRead, lost_data}
 use Rattle.vte_core.specs.declared.parser.Parser.{Parser}
 use Rattle.vte_core.specs.declared.parser.long.LongParser.{LongParser}
 use Rattle.vte_core.specs.Stream.{events}
@@ -13,21 +13,24 @@ use Rattle.vte.specs.ProcessorCalls.{held_of}
 use Rattle.vte.specs.declared.ansi.engine.Engine.{Engine}
 use Rattle.vte.specs.declared.ansi.growing_text.GrowingText.{GrowingText}
 
--- A parser: the streams that it has read, and for how many more bytes it has memory after each,
--- with a text of `size` bytes.
+-- A parser: the streams that it has read, for how many more bytes it has memory after each, with a
+-- text of `size` bytes, and whether it lost data of the command that is open or ended last.
 pub record ParserView (P : Type 0) : Type 1 where
   pub has_read : P → List ℕ → Type 0
   pub has_memory : P → (size : ℕ) → List ℕ → ℕ → Type 0
+  pub lost : P → Bool
 
 -- With a limit it needs memory only for a text of a fixed size, which holds what is joined.
 abbrev pub limited_parser_view : {N : ℕ} → ParserView (Parser N)
 limited_parser_view {N} = record {
   has_read = HasRead;
   has_memory = λ parser size stream count. HasTextRoom N size;
+  lost = lost_data;
 }
 
 abbrev pub long_parser_view : {A : Type 0} → ParserView (LongParser A)
-long_parser_view = record { has_read = HasReadLong; has_memory = ParserHasMemory }
+long_parser_view =
+    record { has_read = HasReadLong; has_memory = ParserHasMemory; lost = lost_data_long }
 
 -- The parser, with its limit, the buffer for texts and the timeout.
 pub record EngineView (P B T W : Type 0) : Type 1 where

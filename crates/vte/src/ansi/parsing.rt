@@ -30,7 +30,7 @@ pub(crate) trait EventParser {
     /// How many data bytes of an operating system command it keeps, if there is a limit.
     ghost limit: { Option ℕ };
 
-    /// Which streams it has read, and for which bytes it has memory.
+    /// Which streams it has read, for which bytes it has memory, and whether data were lost.
     ghost reading: { ParserView Self };
 
     /// Takes memory for held bytes and for more, and for the texts that are joined from them.
@@ -42,6 +42,7 @@ pub(crate) trait EventParser {
             → reading.has_memory self.new (B.room text.new) stream (held + more) }
         ensures memory { KeepsMemory (reading.has_memory self.old (B.room text.old))
             (reading.has_memory self.new (B.room text.new)) }
+        ensures lost { reading.lost self.new ≡ reading.lost self.old }
         ensures lacks { result ≡ false → (stream : List ℕ) → reading.has_read self.new stream
             → ¬ reading.has_memory self.new (B.room text.new) stream (held + more) };
 }

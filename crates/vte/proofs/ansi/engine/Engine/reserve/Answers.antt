@@ -15,5 +15,6 @@ returns-clause-reserved g c = record {
       λ yes parsed held timeout had.
       rw (← had.holds, ← c.len.ensures.count) (c.reserve.ensures.room yes parsed had.has_read);
   memory = c.reserve.ensures.memory;
+  lost = c.reserve.ensures.lost;
   lacks = λ no stream reads. rw (← c.len.ensures.count) (c.reserve.ensures.lacks no stream reads);
 }

@@ -49,7 +49,7 @@ pub use Rattle.vte.specs.BoundedProcessor.{HasParsedAndHoldsWithin}
 pub use Rattle.vte.specs.LongProcessor.{EngineReads, EngineStops, HasParsedAndHoldsLong, LacksMemoryForSome, LacksMemoryLong, AdvancesLong, Reserves}
 pub use Rattle.vte.specs.Memory.{HasMemory, HasTextRoom, ParserHasMemory, KeepsMemory}
 pub use Rattle.vte.specs.Numbers.{decimal_number, first_number, first_numbers}
-pub use Rattle.vte.specs.Parts.{first_after, parts_of}
+pub use Rattle.vte.specs.Split.{first_after, split_by}
 pub use Rattle.vte.specs.machine.Performer.{FitsText, PerformerValue, with_event}
 pub use Rattle.vte.specs.machine.Engine.{EngineIsAt, EngineIsAtKeeping, EndsParsingTurn, EndsTurn, HasHalted, HasParsedFront, HasParsedWithoutBegin, ArePartsAt, ArePartsAtKeeping, ArePartsAtWithMemory, HasTakenParsingTurn, HasTurned}
 pub use Rattle.vte.specs.Views.{EngineHasMemory, EngineStandsAt, ParserView, EngineView, bounded_engine_view, long_parser_view, engine_view, limited_parser_view, long_engine_view}

@@ -1,6 +1,6 @@
 -- Colours as texts, as X11's XParseColor reads them.
 use Rattle.std.specs.Prelude.{ℕ, Bool, List, [], ◌∷◌, if◌then◌else◌, ◌==◌, ◌&&◌, ◌*◌, ◌-◌, ◌/◌, ◌^◌, nat_le, length, take, drop, codes, Option, None, option_map}
-use Rattle.vte.specs.Parts.{parts_of}
+use Rattle.vte.specs.Split.{split_by}
 use Rattle.vte_types.specs.Hex.{hex_number}
 use Rattle.vte_types.specs.RgbText.{color_by}
 use Rattle.vte_types.specs.Words.{read_by}
@@ -44,7 +44,7 @@ color_of_thirds digits =
 -- `rgb:` and three components, or `#` and three components with the same number of digits.
 abbrev pub xparse_forms : List (List ℕ × (List ℕ → Option Rgb))
 xparse_forms =
-    (codes "rgb:", λ text. color_of_parts (parts_of 0x2f text)) ∷
+    (codes "rgb:", λ text. color_of_parts (split_by 0x2f text)) ∷
     (codes "#", color_of_thirds) ∷
     []
 

@@ -5,7 +5,7 @@ use Rattle.std.specs.List.{filter_map, range_with_len}
 use Rattle.vte.specs.ColorText.{xparse_color_of}
 use Rattle.vte.specs.OptionalCalls.{for_some}
 use Rattle.vte.specs.Numbers.{decimal_number}
-use Rattle.vte.specs.Parts.{first_after, parts_of}
+use Rattle.vte.specs.Split.{first_after, split_by}
 use Rattle.vte_types.specs.Rows.{Row, entry_of}
 use Rattle.vte.specs.Titles.{joined_texts, text_in, title_calls}
 use Rattle.vte_handler.specs.Call.{Call}
@@ -50,7 +50,7 @@ palette_calls terminator texts =
 -- 8: a link. Its identity is the text after `id=` in the first part that starts with it.
 abbrev pub id_of : List ℕ → Option (List ℕ)
 id_of parameters =
-    option_and_then (text_in false) (first_after (codes "id=") (parts_of 0x3a parameters))
+    option_and_then (text_in false) (first_after (codes "id=") (split_by 0x3a parameters))
 
 abbrev pub link_to : List ℕ → List ℕ → Option Link
 link_to parameters [] = None

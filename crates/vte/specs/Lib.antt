@@ -11,7 +11,7 @@ pub mod ColorReading
 pub mod Rendition
 pub mod ControlCalls
 -- Those of operating system commands.
-pub mod Parts
+pub mod Split
 pub mod ColorText
 pub mod Titles
 pub mod CommandCalls
@@ -64,6 +64,7 @@ pub use Rattle.vte_core.specs.Looks
 pub use Rattle.vte_core.specs.Open
 pub use Rattle.vte_core.specs.Outcome
 pub use Rattle.vte_core.specs.Parameters
+pub use Rattle.vte_core.specs.Parts
 pub use Rattle.vte_core.specs.Parser
 pub use Rattle.vte_core.specs.Perform
 pub use Rattle.vte_core.specs.OutsideRuns

@@ -18,12 +18,12 @@ mod long_parsing;
 mod long_processor;
 mod numbers;
 mod parsing;
-mod parts;
 mod performer;
 // cargo lacks: the adapter has it
 mod processor;
 mod release;
 mod rendition;
+mod split;
 // cargo lacks: the adapter has it
 mod std_sync_handler;
 #[cfg(test)]

@@ -3,12 +3,12 @@
 use Rattle.std.specs.Prelude.{ℕ, ◌+◌, ◌≤◌, Bool, true, false, List, [], ◌∷◌, length, nat_le, Option, Some, None}
 use Rattle.std.specs.Borrow.{Bor}
 use Rattle.std.specs.List.{concat}
-use Rattle.vte.specs.Parts.{parts_of}
+use Rattle.vte.specs.Split.{split_by}
 
 -- The parts of what is left, if anything is.
 abbrev pub parts_left : ℕ → Option (Bor (List ℕ)) → List (List ℕ)
 parts_left separator None = []
-parts_left separator (Some text) = parts_of separator text.now
+parts_left separator (Some text) = split_by separator text.now
 
 -- What is added for a text: `;` and the text, or of the first the text alone.
 abbrev pub text_to_join : Bool → List ℕ → List ℕ

@@ -13,7 +13,7 @@ ghost use Rattle.vte_types.specs.CursorIcon.{icon_of};
 use crate::ansi::color_text::xparse_color;
 use crate::ansi::joined_text::{join_texts, text_in};
 use crate::ansi::numbers::{parse_number, push_number};
-use crate::ansi::parts::{id_in, strip_word};
+use crate::ansi::split::{id_in, strip_word};
 use crate::ansi::text_buffer::TextBuffer;
 use arrayvec::ArrayString;
 use std::str::FromStr;

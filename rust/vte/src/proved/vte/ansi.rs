@@ -16,10 +16,10 @@ mod long_parsing;
 mod long_processor;
 mod numbers;
 mod parsing;
-mod parts;
 mod performer;
 mod release;
 mod rendition;
+mod split;
 mod text_buffer;
 mod values;
 

@@ -5,7 +5,7 @@ use crate::adapter::array_string::ArrayString;
 use crate::proved::vte::ansi::color_text::xparse_color;
 use crate::proved::vte::ansi::joined_text::{join_texts, text_in};
 use crate::proved::vte::ansi::numbers::{parse_number, push_number};
-use crate::proved::vte::ansi::parts::{id_in, strip_word};
+use crate::proved::vte::ansi::split::{id_in, strip_word};
 use crate::proved::vte::ansi::text_buffer::TextBuffer;
 use crate::proved::vte_handler::{Handler, Hyperlink};
 use crate::proved::vte_types::cursor_icon::CursorIcon;

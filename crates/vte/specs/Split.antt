@@ -10,5 +10,5 @@ first_after word [] = None
 first_after word (text ∷ texts) = option_or (after_word word text) (first_after word texts)
 
 -- The parts of a text between separators.
-abbrev pub parts_of : ℕ → List ℕ → List (List ℕ)
-parts_of separator text = slice_split (λ b. b == separator) text
+abbrev pub split_by : ℕ → List ℕ → List (List ℕ)
+split_by separator text = slice_split (λ b. b == separator) text

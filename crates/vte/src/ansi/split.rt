@@ -1,6 +1,6 @@
 //! Prefixes of texts, and parts between separators.
 ghost use Rattle.std.specs.Prelude.{◌≡◌, ◌<◌, ◌∷◌, codes, length, option_map, IfSome};
-ghost use Rattle.vte.specs.Parts.{first_after, parts_of};
+ghost use Rattle.vte.specs.Split.{first_after, split_by};
 ghost use Rattle.vte.specs.machine.Texts.{parts_left};
 ghost use Rattle.vte_types.specs.Words.{after_word};
 
@@ -18,7 +18,7 @@ pub(crate) fn strip_word<'a>(text: &'a [u8], word: &[u8]) -> Option<&'a [u8]>
 /// Splits a text at its first separator: returns the part before it, and what follows it if there
 /// is one.
 pub(crate) fn split_at_first(text: &[u8], separator: u8) -> (&[u8], Option<&[u8]>)
-    ensures parts { parts_of separator text.now ≡ result.0.now ∷ parts_left separator result.1 }
+    ensures parts { split_by separator text.now ≡ result.0.now ∷ parts_left separator result.1 }
     ensures shorter { IfSome result.1 (λ rest. length rest.now < length text.now) }
 {
     match text.iter().position(|byte| *byte == separator) {
@@ -30,7 +30,7 @@ pub(crate) fn split_at_first(text: &[u8], separator: u8) -> (&[u8], Option<&[u8]
 /// Returns what follows `id=` in the first part that starts with it.
 pub(crate) fn id_in(parameters: &[u8]) -> Option<&[u8]>
     ensures { option_map (λ rest. rest.now) result
-        ≡ first_after (codes "id=") (parts_of 0x3a parameters.now) }
+        ≡ first_after (codes "id=") (split_by 0x3a parameters.now) }
 {
     let mut left = Some(parameters);
     while let Some(text) = left {

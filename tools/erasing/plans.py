@@ -15,7 +15,7 @@ READER = [
     ("let result = $$e; self.looks.add(reader); result", "$e"), ("self.looks.add(reader);", ""),
     ("input.up_to(", "up_to(input, "), ("input.bytes", "input"),
     # inlined by rustc before LLVM sees its caller, it would move a branch of the loop over text
-    ("reader.tell_text(performer, input, $$p);",
+    ("reader.report_text(performer, input, $$p);",
      "performer.print_text(reader, unsafe { text(input, $p) });"),
     ("take_run(bytes, range)", "unsafe { take_run(bytes, range) }"),
     ("Taken::Text(text($$a))", "Taken::Text(unsafe { text($a) })"),

@@ -17,13 +17,13 @@ pub use Rattle.std.specs.Str.{IsUtf8, bytes_eq, chars}
 pub use Rattle.vte_core.proofs.showing.Shown.{after_colon, after_semicolon, group_text, group_written, groups_written, shown-nil}
 pub use Rattle.vte_core.specs.EventBounds.{IsBounded, AreFromOneByte}
 pub use Rattle.vte_core.specs.EarlyStop.{IsStart, StopsExactly, breaks_at, resumed_stream}
-unfoldable pub use Rattle.vte_core.specs.EarlyStop.{told_before}
+unfoldable pub use Rattle.vte_core.specs.EarlyStop.{reported_before}
 pub use Rattle.vte_core.specs.Event.{CsiDispatch, EscDispatch, Event, Execute, Hook, OscDispatch, Print, replacement}
 pub use Rattle.vte_core.specs.Parameters.{AreGroups, count_of, greatest_number, semicolon}
 unfoldable pub use Rattle.vte_core.specs.Parameters.{shown}
 pub use Rattle.vte_core.specs.Parser.{HasRead}
 pub use Rattle.vte_core.specs.Perform.{after}
-pub use Rattle.vte_core.specs.EarlyStopLaws.{GoesOnFromPositions, TellsUnits}
+pub use Rattle.vte_core.specs.EarlyStopLaws.{GoesOnFromPositions, ReportsUnits}
 pub use Rattle.vte_core.specs.Stream.{added, events, usual_limit}
 pub use Rattle.vte_core.specs.Text.{is_layout, run_event}
 pub use Rattle.vte_core.specs.declared.parser.Parser.{Parser}

@@ -1,8 +1,8 @@
 -- What a record holds after texts. It holds the texts of all events if there is room at each start: by induction over
 -- the places, from one start to the next.
 use Rattle.event_log.proofs.Common.{◌≡◌, ℕ, zero, suc, ◌+◌, ◌<◌, ◌≤◌, Bool, false, List, [], ◌∷◌, ◌++◌, length, inl, inr, refl, sym, ap, subst, ◌∙◌, usual_limit}
-use Rattle.event_log.proofs.Common.{append_assoc, append-nil, length-append, arith, take-append_seam, cases_Bool, le-leb, nat_tests, flat_map-append, flat_map, AreFromOneByte, IsStart, told_before, Event, after}
-use Rattle.event_log.proofs.Common.{TellsUnits, Record, BeginsLine, ExtendsLine, EndsLine, has_room_after, record_in, is_to_be_written, most_bytes, with_event, with_text, Lines}
+use Rattle.event_log.proofs.Common.{append_assoc, append-nil, length-append, arith, take-append_seam, cases_Bool, le-leb, nat_tests, flat_map-append, flat_map, AreFromOneByte, IsStart, reported_before, Event, after}
+use Rattle.event_log.proofs.Common.{ReportsUnits, Record, BeginsLine, ExtendsLine, EndsLine, has_room_after, record_in, is_to_be_written, most_bytes, with_event, with_text, Lines}
 use Rattle.vte_core.proofs.streams.Performing.{after_events-append}
 
 -- ---- one text
@@ -78,7 +78,7 @@ HasRoomForUnit held = length held.bytes + most_of_unit ≤ most_bytes
 pub half_has_room : (held : Record) → is_to_be_written held ≡ false → HasRoomForUnit held
 half_has_room held asked = grind (arith, nat_tests)
 
-module _ (text_of : Event → List ℕ) (small : IsSmall text_of) (units : TellsUnits usual_limit) (stream bytes : List ℕ)
+module _ (text_of : Event → List ℕ) (small : IsSmall text_of) (units : ReportsUnits usual_limit) (stream bytes : List ℕ)
     (old : Record) (kept : old.lost ≡ false)
     (room : HasRoomForUnit old) where
   abbrev Takes : List Event → Type 0
@@ -97,8 +97,8 @@ module _ (text_of : Event → List ℕ) (small : IsSmall text_of) (units : Tells
   -- By induction on m: what was reported before a place is what was reported at an earlier start, and one unit.
   takes_below : (m i : ℕ) → i < m → i ≤ length bytes
       → ((j : ℕ) → j < i → IsStart stream bytes j
-      → HasRoomForUnit (after (with_event text_of) old (told_before usual_limit stream bytes j)))
-      → Takes (told_before usual_limit stream bytes i)
+      → HasRoomForUnit (after (with_event text_of) old (reported_before usual_limit stream bytes j)))
+      → Takes (reported_before usual_limit stream bytes i)
   takes_below zero i below within rooms = absurd (omega arith)
   takes_below (suc m) i below within rooms =
       let u = units stream bytes i within in
@@ -108,14 +108,14 @@ module _ (text_of : Event → List ℕ) (small : IsSmall text_of) (units : Tells
             let earlier : t.start < i = t.earlier in
             let before = takes_below m t.start (omega arith) (omega arith) (λ j h. rooms j (omega arith)) in
             rw t.events_are
-            (takes_unit (told_before usual_limit stream bytes t.start) u.unit before (rooms t.start earlier t.starts)
-            u.brief)
+            (takes_unit (reported_before usual_limit stream bytes t.start) u.unit before
+            (rooms t.start earlier t.starts) u.brief)
       ])
 
   -- If there was room at each start before a place, all texts were taken.
   pub takes_told : (i : ℕ) → i ≤ length bytes
       → ((j : ℕ) → j < i → IsStart stream bytes j
-      → HasRoomForUnit (after (with_event text_of) old (told_before usual_limit stream bytes j)))
-      → after (with_event text_of) old (told_before usual_limit stream bytes i)
-      ≡ record_of (old.bytes ++ flat_map text_of (told_before usual_limit stream bytes i)) false
+      → HasRoomForUnit (after (with_event text_of) old (reported_before usual_limit stream bytes j)))
+      → after (with_event text_of) old (reported_before usual_limit stream bytes i)
+      ≡ record_of (old.bytes ++ flat_map text_of (reported_before usual_limit stream bytes i)) false
   takes_told i within rooms = takes_below (i + 1) i (omega arith) within rooms

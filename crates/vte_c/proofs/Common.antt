@@ -19,14 +19,14 @@ pub use Rattle.event_log.specs.Plain.{plain_text}
 unfoldable pub use Rattle.event_log.specs.Plain.{plain_text_of}
 pub use Rattle.vte_core.specs.EventBounds.{IsBounded, AreFromOneByte, IsShort}
 pub use Rattle.vte_core.specs.EarlyStop.{ComesTo, IsStart, breaks}
-unfoldable pub use Rattle.vte_core.specs.EarlyStop.{breaks_at, resumed_stream, told_before}
+unfoldable pub use Rattle.vte_core.specs.EarlyStop.{breaks_at, resumed_stream, reported_before}
 pub use Rattle.vte_core.specs.Event.{CsiDispatch, EscDispatch, Event, Execute, Hook, OscDispatch, Print, Put, Unhook, replacement}
 pub use Rattle.vte_core.specs.Laws.{OpensSilently}
 pub use Rattle.vte_core.specs.Parameters.{AreGroups, count_of}
 pub use Rattle.vte_core.specs.Parser.{HasRead}
 pub use Rattle.vte_core.specs.Perform.{after}
 pub use Rattle.vte_core.specs.Saved.{HasReadSaved}
-pub use Rattle.vte_core.specs.EarlyStopLaws.{GoesOnFromPositions, TellsUnits}
+pub use Rattle.vte_core.specs.EarlyStopLaws.{GoesOnFromPositions, ReportsUnits}
 pub use Rattle.vte_core.specs.Stream.{added, usual_limit}
 unfoldable pub use Rattle.vte_core.specs.Stream.{events, open_character}
 pub use Rattle.vte_core.specs.declared.parser.Parser.{Parser}

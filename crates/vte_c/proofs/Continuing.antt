@@ -2,7 +2,7 @@
 -- the next part: what the parts add is joined.
 use Rattle.vte_c.proofs.Common.{AreFirst, Continues, Event, GoesOnFromPositions, List, Print, [], add_assoc, added, ap, append-nil, append_assoc, arith, breaks, usual_limit}
 use Rattle.vte_c.proofs.Common.{breaks_at, cases_Bool, drop, drop-drop, inl, inr, length, length-drop, open_character, refl, replacement, resumed_stream, suc, sym, take, take-add}
-use Rattle.vte_c.proofs.Common.{take-append-drop, told_before, true, zero, zero-add, ℕ, ◌++◌, ◌+◌, ◌∙◌, ◌∷◌, ◌≡◌, ◌≤◌}
+use Rattle.vte_c.proofs.Common.{take-append-drop, reported_before, true, zero, zero-add, ℕ, ◌++◌, ◌+◌, ◌∙◌, ◌∷◌, ◌≡◌, ◌≤◌}
 use Rattle.vte_core.proofs.stops.Units.{added-append}
 use Rattle.vte_core.proofs.streams.After.{added-nothing}
 
@@ -62,7 +62,7 @@ breaks-next (a ∷ opened) byte xs ys = refl
 broken_first : GoesOnFromPositions usual_limit → (stream unread : List ℕ) (k : ℕ)
     → breaks (open_character stream) unread ≡ true
     → AreFirst (added usual_limit stream (take k unread)) (Print replacement ∷ added usual_limit [] (take k unread))
-unfolding told_before resumed_stream breaks_at
+unfolding reported_before resumed_stream breaks_at
 broken_first goes_on stream unread zero broken =
     record { others = Print replacement ∷ added usual_limit [] []; parts = rw (added-nothing usual_limit stream) refl }
 broken_first goes_on stream [] (suc k) broken =
@@ -73,12 +73,12 @@ broken_first goes_on stream (byte ∷ unread) (suc k) broken =
     rw (append-nil stream) (breaks-next (open_character stream) byte (take k unread) unread ∙ broken) in
     first_same
     (sym
-    (rw (append-nil front, told_before, resumed_stream, breaks_it, added-nothing usual_limit stream) at
+    (rw (append-nil front, reported_before, resumed_stream, breaks_it, added-nothing usual_limit stream) at
     (goes_on stream front [] 0)))
 
 pub continues-call : GoesOnFromPositions usual_limit → (since bytes : List ℕ) (n : ℕ)
-    → Continues since (resumed_stream since bytes n) bytes n (told_before usual_limit since bytes n)
-unfolding told_before resumed_stream breaks_at
+    → Continues since (resumed_stream since bytes n) bytes n (reported_before usual_limit since bytes n)
+unfolding reported_before resumed_stream breaks_at
 continues-call goes_on since bytes n = elim (cases_Bool (breaks_at since bytes n)) [
   | inl broken ↦ rw broken (record {
     goes_on = λ more. rw broken at (goes_on since bytes more n);

@@ -1,10 +1,10 @@
 -- A call goes on (`ReadsOn`) by calls of the parser, whose events are written as long as there is room, and by the runs
 -- that these return. One step after another is a longer one (`goes-then`).
 use Rattle.vte_c.proofs.Common.{AreCharacters, Bool, ComesTo, DataRun, Event, ReadsOn, GoesOnFromPositions, HasReadOn, HasItems, HasRead, HaveOtherRecords, InInput, IsRunOfKind, usual_limit}
-use Rattle.vte_c.proofs.Common.{IsRunAt, List, OpensSilently, Parser, Print, Put, Room, Run, Single, Starts, StopsAtNone, TellsUnits, TextRun, [], added, after, ap}
+use Rattle.vte_c.proofs.Common.{IsRunAt, List, OpensSilently, Parser, Print, Put, Room, Run, Single, Starts, StopsAtNone, ReportsUnits, TextRun, [], added, after, ap}
 use Rattle.vte_c.proofs.Common.{append-nil, arith, breaks_at, cases_Bool, cases_lt, chars, data_of, drop, drop-drop, false, false≢true, filter-append, flat_map, flat_map-append}
 use Rattle.vte_c.proofs.Common.{has, if◌then◌else◌, inl, inr, is_full, is_stop, item_events, kind_of, len_utf8_bounds, length, length-append, length-drop, length-encode, map}
-use Rattle.vte_c.proofs.Common.{nat_tests, refl, replacement, reported, resumed, run_events, run_kind, run_record, resumed_stream, subst, sym, take, told_before, true, with_event}
+use Rattle.vte_c.proofs.Common.{nat_tests, refl, replacement, reported, resumed, run_events, run_kind, run_record, resumed_stream, subst, sym, take, reported_before, true, with_event}
 use Rattle.vte_c.proofs.Common.{with_items, with_run, with_taken, with_wanted, zero-add, ℕ, ◌++◌, ◌+◌, ◌-◌, ◌<◌, ◌∙◌, ◌∷◌, ◌≡◌, ◌≤◌}
 use Rattle.vte_core.proofs.streams.After.{added-nothing}
 use Rattle.vte_core.specs.AdvanceToRun.{IsLongestRun, ReturnsRun, run_bytes, run_events as returned_events, taken_bytes}
@@ -99,14 +99,14 @@ goes_on_at_first old true starts others =
 
 -- The code cites these laws of the parser.
 pub record Laws : Type 0 where
-  pub units : TellsUnits usual_limit
+  pub units : ReportsUnits usual_limit
   pub goes_on : GoesOnFromPositions usual_limit
   pub silent : OpensSilently usual_limit
 
 module _ (old new : Room) (since bytes : List ℕ) (from n : ℕ) (laws : Laws) (free : is_full old ≡ false)
     (s : ComesTo with_event is_full old usual_limit since (drop from bytes) new n) where
   abbrev told_at : ℕ → List Event
-  told_at i = told_before usual_limit since (drop from bytes) i
+  told_at i = reported_before usual_limit since (drop from bytes) i
 
   -- All that was told is written, since the room wasn't full at any start that the call came to.
   told_written : (i : ℕ) → i ≤ n
@@ -252,7 +252,7 @@ module _ (old mid new : Room) (since bytes : List ℕ) (from : ℕ) (run : Retur
   -- With room for what two bytes add, a call reads one, unless a record that stops was written.
   pub further : Starts old → from < length bytes → new ≡ with_run mid from run
       → HaveOtherRecords old.stops new.events → 0 < run.end
-  unfolding told_before
+  unfolding reported_before
   further starts some is others = elim (cases_lt 0 run.end) [
     | inl more ↦ more
     | inr none ↦

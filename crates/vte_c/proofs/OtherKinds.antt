@@ -3,7 +3,7 @@
 use Rattle.vte_c.proofs.Common.{AreOthers, Bool, DataRun, Event, HaveOtherKinds, HaveOtherRecords, InInput, IsStart, Item, List, OpensSilently, Print, Put, Run, Single, usual_limit}
 use Rattle.vte_c.proofs.Common.{TextRun, VteEvent, [], add-one, added, append_assoc, arith, breaks_at, cases_Bool, chars, drop, false, flat_map, get_or, has, has_kind}
 use Rattle.vte_c.proofs.Common.{if◌then◌else◌, inl, inr, is_stop, item_data, item_events, kind_of, length, map, open_character, or_parts, records_from, refl, replacement, reported}
-use Rattle.vte_c.proofs.Common.{run_events, run_kind, suc, take, take-add, take_more, told_before, zero, ℕ, ◌++◌, ◌+◌, ◌-◌, ◌<◌, ◌∷◌, ◌≡◌, ◌≤◌}
+use Rattle.vte_c.proofs.Common.{run_events, run_kind, suc, take, take-add, take_more, reported_before, zero, ℕ, ◌++◌, ◌+◌, ◌-◌, ◌<◌, ◌∷◌, ◌≡◌, ◌≤◌}
 use Rattle.vte_core.proofs.stops.Units.{added-append}
 use Rattle.vte_core.proofs.streams.After.{added-nothing}
 
@@ -79,10 +79,11 @@ others_earlier stop stream bytes i n earlier h =
 
 module _ (stop : ℕ → Bool) (no_text : stop 0 ≡ false) (stream bytes : List ℕ) (n : ℕ) (within : n ≤ length bytes)
     (silent : OpensSilently usual_limit)
-    (asked : (i : ℕ) → i < n → IsStart stream bytes i → AreOthers stop (told_before usual_limit stream bytes i)) where
+    (asked : (i : ℕ) → i < n → IsStart stream bytes i
+    → AreOthers stop (reported_before usual_limit stream bytes i)) where
   at_start : (i : ℕ) → i < n → open_character (stream ++ take i bytes) ≡ []
       → AreOthers stop (added usual_limit stream (take i bytes))
-  unfolding told_before
+  unfolding reported_before
   at_start i earlier closed =
       others_front stop (added usual_limit stream (take i bytes))
       (if breaks_at stream bytes i then Print replacement ∷ [] else [])

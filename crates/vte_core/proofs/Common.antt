@@ -26,7 +26,7 @@ unfoldable pub use Rattle.vte_core.specs.ControlSequence.{control_sequence_end, 
 pub use Rattle.vte_core.specs.DeviceControl.{ends_device_data}
 unfoldable pub use Rattle.vte_core.specs.DeviceControl.{device_data_outcome, device_control_after_head, device_control_outcome}
 pub use Rattle.vte_core.specs.EarlyStop.{ComesTo, IsStart, NoCharacterStops, StopsExactly, breaks}
-unfoldable pub use Rattle.vte_core.specs.EarlyStop.{breaks_at, resumed_stream, told_before}
+unfoldable pub use Rattle.vte_core.specs.EarlyStop.{breaks_at, resumed_stream, reported_before}
 unfoldable pub use Rattle.vte_core.specs.Escape.{escape_outcome}
 pub use Rattle.vte_core.specs.Event.{CsiDispatch, EscDispatch, Event, Execute, Hook, OscDispatch, Print, Put, Unhook, replacement}
 pub use Rattle.vte_core.specs.Head.{Head, head_after, reported_intermediates}
@@ -37,8 +37,8 @@ unfoldable pub use Rattle.vte_core.specs.SequenceKind.{sequence_kind}
 pub use Rattle.vte_core.specs.Laws.{AreParameters, CountsData, DispatchesShown}
 pub use Rattle.vte_core.specs.LongParser.{MeetsData, open_data_count, open_command_size, read_count}
 pub use Rattle.vte_core.specs.Looks.{looked}
-pub use Rattle.vte_core.specs.OutsideRuns.{AddsOutsideRuns, IsOutsideRuns, PrintsNoAscii, TellsOutsideRuns}
-pub use Rattle.vte_core.specs.Outcome.{SaysLoss, NothingToClose, ToClose, CharacterToClose, CommandToClose, Outcome, events_before_escape, closing_events, leaves, tell, open_bytes}
+pub use Rattle.vte_core.specs.OutsideRuns.{AddsOutsideRuns, IsOutsideRuns, PrintsNoAscii, ReportsOutsideRuns}
+pub use Rattle.vte_core.specs.Outcome.{SaysLoss, NothingToClose, ToClose, CharacterToClose, CommandToClose, Outcome, events_before_escape, closing_events, leaves, report, open_bytes}
 pub use Rattle.vte_core.specs.Parameters.{AreGroups, Number, colon, count_of, greatest_number, grouped, is_colon, is_separator, most_numbers, number_of, numbers_of, semicolon, with_number}
 unfoldable pub use Rattle.vte_core.specs.Parameters.{groups_of, has_too_many_numbers, numbers, shown}
 pub use Rattle.vte_core.specs.Perform.{after}
@@ -90,7 +90,7 @@ open_at _ = []
 
 -- The events of more bytes after a place.
 abbrev pub events_from : Option ℕ → Place → List ℕ → List Event
-events_from limit place more = (outcome_from limit place more).told
+events_from limit place more = (outcome_from limit place more).reported
 
 -- How far a head has been read after numbers that stand from one position to another.
 abbrev pub progress_after : HeadProgress → ℕ → ℕ → HeadProgress

@@ -4,7 +4,7 @@
 pub mod Common
 -- From a byte to its class, and from bytes to UTF-8 and to texts cut at a byte.
 pub mod bytes
--- From a text or head to what it gives, by its definition alone, and to what is told where a character breaks.
+-- From a text or head to what it gives, by its definition alone, and to what is reported where a character breaks.
 pub mod shapes
 -- From a text to its division, which is std's too.
 pub mod dividing
@@ -14,7 +14,7 @@ pub mod fields
 pub mod places
 -- From a text or body to a stream (`after-reads`), and what follows a broken character.
 pub mod streams
--- From places to what is told before a position of a call: early stops (`goes_on_from`).
+-- From places to what is reported before a position of a call: early stops (`goes_on_from`).
 pub mod stops
 -- From one position of a call to the next (`advances-then`). The answers of `parser/` use it.
 pub mod calls

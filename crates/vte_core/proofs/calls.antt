@@ -1,6 +1,6 @@
 -- How a call goes on, from one position to the next.
 
--- The place of a state, and what is told from position to position.
+-- The place of a state, and what is reported from position to position.
 pub mod States
 pub mod Progress
 pub mod AddedEvents

@@ -1,4 +1,4 @@
--- What one byte tells after each place, and where it leads.
+-- What one byte reports after each place, and where it leads.
 
 -- By the kind of place and of byte.
 pub mod BriefLemmas

@@ -1,6 +1,6 @@
 -- From a text or a body to a whole stream: laws of streams.
 
--- What is unfinished, whatever the limit, and which events no run tells.
+-- What is unfinished, whatever the limit, and which events no run reports.
 pub mod OpenEnds
 pub mod OutsideRuns
 -- From a byte to bytes, and from the place after a stream to that after more of it.

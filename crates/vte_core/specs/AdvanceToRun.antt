@@ -7,7 +7,7 @@ use Rattle.vte_core.specs.declared.scan.taken.Taken.TheVariants.{Text, Data, Not
 use Rattle.vte_core.specs.Class.{IsDeviceData}
 use Rattle.vte_core.specs.EarlyStop.{ComesTo, resumed_stream}
 use Rattle.vte_core.specs.Event.{Event, Print, Put}
-use Rattle.vte_core.specs.OutsideRuns.{TellsOutsideRuns}
+use Rattle.vte_core.specs.OutsideRuns.{ReportsOutsideRuns}
 use Rattle.vte_core.specs.Parser.{Reading}
 use Rattle.vte_core.specs.Stream.{added}
 use Rattle.vte_core.specs.Text.{HasNoRunAt, HasNoControls}
@@ -51,7 +51,7 @@ pub record ReturnsRun {V : Type 0} (step : V → Event → V) (is_terminated : V
     (limit : Option ℕ) (HasReadBefore : List ℕ → Type 0)
     (bytes : List ℕ) (run : Run) : Type 0 where
   pub stands : IsRunIn bytes run
-  -- The performer takes what is told before the run, and nothing of the run.
+  -- The performer takes what is reported before the run, and nothing of the run.
   pub comes : (stream : List ℕ) → HasReadBefore stream
       → ComesTo step is_terminated old limit stream bytes new run.start
   -- A call that performs the run would add its events.
@@ -71,7 +71,7 @@ pub record ReadsToRun {V : Type 0} (step : V → Event → V) (is_terminated : V
       → next.has_read (resumed_stream stream bytes run.start ++ run_bytes run)
   -- Characters and data are left to the run.
   pub outside_runs : (stream : List ℕ) → parser.has_read stream
-      → TellsOutsideRuns parser.limit stream bytes run.start
+      → ReportsOutsideRuns parser.limit stream bytes run.start
   -- At most 7 looks per byte read and 8 more, and at least one per byte read.
   pub count : next.looks ≤ parser.looks + 7 * run.end + 8
   pub least : parser.looks + run.end ≤ next.looks

@@ -7,7 +7,7 @@ use Rattle.vte_core.specs.DeviceControl.{device_control_outcome}
 use Rattle.vte_core.specs.Escape.{escape_outcome}
 use Rattle.vte_core.specs.Event.{Execute}
 use Rattle.vte_core.specs.IgnoredString.{ignored_string_outcome}
-use Rattle.vte_core.specs.Outcome.{Outcome, EscapeToClose, leaves, tell}
+use Rattle.vte_core.specs.Outcome.{Outcome, EscapeToClose, leaves, report}
 use Rattle.vte_core.specs.CutBefore.{cut_before}
 use Rattle.vte_core.specs.SystemCommand.{system_command_outcome}
 use Rattle.vte_core.specs.Text.{text_outcome, executed_events}
@@ -25,7 +25,7 @@ sequence_outcome limit EscapeSequence key bytes = escape_outcome (key ∷ bytes)
 abbrev pub body_rest : Option ℕ → List ℕ → Outcome
 body_rest limit [] = leaves EscapeToClose
 body_rest limit (key ∷ bytes) =
-    if is_cancel (class_of key) then tell (Execute key ∷ []) (text_outcome bytes)
+    if is_cancel (class_of key) then report (Execute key ∷ []) (text_outcome bytes)
     else sequence_outcome limit (sequence_kind key) key bytes
 
 -- The key is the first byte among 20..7E, CAN and SUB. Before it, plain controls are executed and
@@ -33,4 +33,4 @@ body_rest limit (key ∷ bytes) =
 unfoldable pub body_outcome : Option ℕ → List ℕ → Outcome
 body_outcome limit bytes =
     let cut = cut_before (λ b. is_key (class_of b)) bytes in
-    tell (executed_events cut.inside) (body_rest limit cut.rest)
+    report (executed_events cut.inside) (body_rest limit cut.rest)

@@ -3,7 +3,7 @@ use Rattle.std.specs.Prelude.{ℕ, List, [], ◌∷◌, if◌then◌else◌}
 use Rattle.vte_core.specs.Class.{class_of, is_cancel, ends_head}
 use Rattle.vte_core.specs.Event.{Event, Execute, CsiDispatch}
 use Rattle.vte_core.specs.Head.{head_of, head_bytes, is_well_shaped, sequence_event}
-use Rattle.vte_core.specs.Outcome.{Outcome, ControlSequenceToClose, leaves, tell}
+use Rattle.vte_core.specs.Outcome.{Outcome, ControlSequenceToClose, leaves, report}
 use Rattle.vte_core.specs.CutBefore.{cut_before}
 use Rattle.vte_core.specs.Text.{text_outcome, executed_events}
 
@@ -18,11 +18,11 @@ control_sequence_end head end =
 -- The end, and the text that follows it. Without an end the sequence stays open.
 abbrev pub control_sequence_rest : List ℕ → List ℕ → Outcome
 control_sequence_rest head [] = leaves ControlSequenceToClose
-control_sequence_rest head (end ∷ text) = tell (control_sequence_end head end) (text_outcome text)
+control_sequence_rest head (end ∷ text) = report (control_sequence_end head end) (text_outcome text)
 
 -- The end is the first of 40..7E, CAN and SUB. Before it, plain controls are executed, 20..3F are
 -- the head, and the rest is dropped.
 unfoldable pub control_sequence_outcome : List ℕ → Outcome
 control_sequence_outcome bytes =
     let cut = cut_before (λ b. ends_head (class_of b)) bytes in
-    tell (executed_events cut.inside) (control_sequence_rest (head_bytes cut.inside) cut.rest)
+    report (executed_events cut.inside) (control_sequence_rest (head_bytes cut.inside) cut.rest)

@@ -5,7 +5,7 @@ use Rattle.vte_core.specs.Class.{class_of, is_cancel, is_device_data, ends_head}
 use Rattle.vte_core.specs.Event.{Event, Execute, Hook, Put, Unhook}
 use Rattle.vte_core.specs.Head.{head_of, head_bytes, is_well_shaped, sequence_event}
 use Rattle.vte_core.specs.IgnoredString.{ignored_string_outcome}
-use Rattle.vte_core.specs.Outcome.{Outcome, DeviceHeadToClose, DeviceDataToClose, leaves, tell}
+use Rattle.vte_core.specs.Outcome.{Outcome, DeviceHeadToClose, DeviceDataToClose, leaves, report}
 use Rattle.vte_core.specs.CutBefore.{cut_before}
 use Rattle.vte_core.specs.Text.{text_outcome}
 
@@ -24,23 +24,23 @@ device_data_end end = if is_cancel (class_of end) then Unhook ∷ Execute end �
 -- The end of the data, and the text that follows it. Without an end the data stay open.
 abbrev pub device_data_rest : List ℕ → Outcome
 device_data_rest [] = leaves DeviceDataToClose
-device_data_rest (end ∷ text) = tell (device_data_end end) (text_outcome text)
+device_data_rest (end ∷ text) = report (device_data_end end) (text_outcome text)
 
 -- The data of a hooked string end at the first 9C, CAN or SUB. Plain controls and 20..7E are put,
 -- and the rest is dropped.
 unfoldable pub device_data_outcome : List ℕ → Outcome
 device_data_outcome bytes =
     let cut = cut_before ends_device_data bytes in
-    tell (map Put (filter (λ b. is_device_data (class_of b)) cut.inside))
+    report (map Put (filter (λ b. is_device_data (class_of b)) cut.inside))
     (device_data_rest cut.rest)
 
 -- CAN and SUB are executed. A final byte hooks if the head is well shaped; otherwise the string is
 -- ignored.
 unfoldable pub device_control_after_head : List ℕ → ℕ → List ℕ → Outcome
 device_control_after_head head end bytes =
-    if is_cancel (class_of end) then tell (Execute end ∷ []) (text_outcome bytes)
+    if is_cancel (class_of end) then report (Execute end ∷ []) (text_outcome bytes)
     else if is_well_shaped (head_of head)
-    then tell (sequence_event Hook (head_of head) end ∷ []) (device_data_outcome bytes)
+    then report (sequence_event Hook (head_of head) end ∷ []) (device_data_outcome bytes)
     else ignored_string_outcome bytes
 
 -- The end of the head, and the bytes that follow it. Without an end the head stays open.

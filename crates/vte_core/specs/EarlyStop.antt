@@ -27,13 +27,13 @@ pub record IsStart (stream bytes : List ℕ) (i : ℕ) : Type 0 where
 
 -- The events reported before position i: those that the first i bytes add, and U+FFFD if the next
 -- byte breaks a character.
-unfoldable pub told_before : Option ℕ → List ℕ → List ℕ → ℕ → List Event
-told_before limit stream bytes i =
+unfoldable pub reported_before : Option ℕ → List ℕ → List ℕ → ℕ → List Event
+reported_before limit stream bytes i =
     added limit stream (take i bytes)
     ++ (if breaks_at stream bytes i then Print replacement ∷ [] else [])
 
 -- The stream from which the parser continues after a stop at n: the empty one if the next byte
--- breaks a character, because U+FFFD was told for that character already.
+-- breaks a character, because U+FFFD was reported for that character already.
 unfoldable pub resumed_stream : List ℕ → List ℕ → ℕ → List ℕ
 resumed_stream stream bytes n = if breaks_at stream bytes n then [] else stream ++ take n bytes
 
@@ -44,7 +44,7 @@ module _ {V : Type 0} (step : V → Event → V) (is_terminated : V → Bool) (o
   -- The performer was terminated at no start before i.
   abbrev pub NeverStopsBefore : ℕ → Type 0
   NeverStopsBefore i = (start : ℕ) → start < i → IsStart stream bytes start
-      → is_terminated (after step old (told_before limit stream bytes start)) ≡ false
+      → is_terminated (after step old (reported_before limit stream bytes start)) ≡ false
 
   -- The performer has received the events of the first i bytes, and was terminated at no start
   -- before i.
@@ -52,11 +52,11 @@ module _ {V : Type 0} (step : V → Event → V) (is_terminated : V → Bool) (o
     pub performed : value ≡ after step old (added limit stream (take i bytes))
     pub earlier : NeverStopsBefore i
 
-  -- The call came to position n: the performer took what is told before it, and was terminated at
-  -- no start before it.
+  -- The call came to position n: the performer took what is reported before it, and was terminated
+  -- at no start before it.
   pub record ComesTo (new : V) (n : ℕ) : Type 0 where
     pub within : n ≤ length bytes
-    pub performed : new ≡ after step old (told_before limit stream bytes n)
+    pub performed : new ≡ after step old (reported_before limit stream bytes n)
     pub earlier : NeverStopsBefore n
     pub starts : n < length bytes → IsStart stream bytes n
     -- The bytes from there on in a further call leave the performer as one call with all bytes

@@ -1,7 +1,7 @@
 -- Laws of early stops, which functions of `laws` state as contracts.
 use Rattle.std.specs.Prelude.{◌≡◌, ◌⊎◌, ℕ, ◌<◌, ◌≤◌, List, [], ◌++◌, length, drop, Option}
 use Rattle.vte_core.specs.EventBounds.{AreFromOneByte}
-use Rattle.vte_core.specs.EarlyStop.{IsStart, told_before, resumed_stream}
+use Rattle.vte_core.specs.EarlyStop.{IsStart, reported_before, resumed_stream}
 use Rattle.vte_core.specs.Event.{Event}
 use Rattle.vte_core.specs.Stream.{added}
 
@@ -10,27 +10,28 @@ use Rattle.vte_core.specs.Stream.{added}
 abbrev pub GoesOnFromPositions : Option ℕ → Type 0
 GoesOnFromPositions limit = (stream bytes more : List ℕ) (n : ℕ) →
     added limit stream (bytes ++ more)
-    ≡ told_before limit stream bytes n
+    ≡ reported_before limit stream bytes n
     ++ added limit (resumed_stream stream bytes n) (drop n bytes ++ more)
 
 -- These events had been reported at a start before position i.
-pub record AreToldAtStart (limit : Option ℕ) (stream bytes : List ℕ) (i : ℕ)
+pub record AreReportedAtStart (limit : Option ℕ) (stream bytes : List ℕ) (i : ℕ)
     (events : List Event) : Type 0 where
   pub start : ℕ
   pub earlier : start < i
   pub starts : IsStart stream bytes start
-  pub events_are : events ≡ told_before limit stream bytes start
+  pub events_are : events ≡ reported_before limit stream bytes start
 
 -- What is reported before a position is what was reported at an earlier start, if any, and one
 -- brief unit.
-pub record TellsUnit (limit : Option ℕ) (stream bytes : List ℕ) (i : ℕ) : Type 0 where
+pub record ReportsUnit (limit : Option ℕ) (stream bytes : List ℕ) (i : ℕ) : Type 0 where
   pub before : List Event
   pub unit : List Event
-  pub parts : told_before limit stream bytes i ≡ before ++ unit
+  pub parts : reported_before limit stream bytes i ≡ before ++ unit
   pub brief : AreFromOneByte limit unit
-  pub begun : (before ≡ []) ⊎ AreToldAtStart limit stream bytes i before
+  pub begun : (before ≡ []) ⊎ AreReportedAtStart limit stream bytes i before
 
--- `TellsUnit` for each position: a performer that is asked at each start is asked after each unit.
-abbrev pub TellsUnits : Option ℕ → Type 0
-TellsUnits limit = (stream bytes : List ℕ) (i : ℕ) → i ≤ length bytes
-    → TellsUnit limit stream bytes i
+-- `ReportsUnit` for each position: a performer that is asked at each start is asked after each
+-- unit.
+abbrev pub ReportsUnits : Option ℕ → Type 0
+ReportsUnits limit = (stream bytes : List ℕ) (i : ℕ) → i ≤ length bytes
+    → ReportsUnit limit stream bytes i

@@ -4,7 +4,7 @@ use Rattle.std.specs.List.{filter}
 use Rattle.vte_core.specs.Class.{class_of, is_cancel, is_intermediate, ends_escape}
 use Rattle.vte_core.specs.Event.{Event, Execute, EscDispatch}
 use Rattle.vte_core.specs.Intermediates.{first_two, are_too_many}
-use Rattle.vte_core.specs.Outcome.{Outcome, EscapeToClose, leaves, tell}
+use Rattle.vte_core.specs.Outcome.{Outcome, EscapeToClose, leaves, report}
 use Rattle.vte_core.specs.CutBefore.{cut_before}
 use Rattle.vte_core.specs.Text.{text_outcome, executed_events}
 
@@ -18,12 +18,12 @@ escape_end intermediates end =
 abbrev pub escape_rest : List ℕ → List ℕ → Outcome
 escape_rest intermediates [] = leaves EscapeToClose
 escape_rest intermediates (end ∷ text) =
-    tell (escape_end intermediates end ∷ []) (text_outcome text)
+    report (escape_end intermediates end ∷ []) (text_outcome text)
 
 -- The end is the first of 30..7E, CAN and SUB. Before it, plain controls are executed and 20..2F
 -- are the intermediates.
 unfoldable pub escape_outcome : List ℕ → Outcome
 escape_outcome bytes =
     let cut = cut_before (λ b. ends_escape (class_of b)) bytes in
-    tell (executed_events cut.inside)
+    report (executed_events cut.inside)
     (escape_rest (filter (λ b. is_intermediate (class_of b)) cut.inside) cut.rest)

@@ -2,28 +2,29 @@
 -- definitions, not with code.
 use Rattle.std.specs.Prelude.{replicate, ◌≡◌, ℕ, true, false, List, [], ◌∷◌, ◌++◌, map, Option, codes}
 use Rattle.std.specs.List.{repeat}
-use Rattle.vte_core.specs.EarlyStop.{resumed_stream, told_before}
+use Rattle.vte_core.specs.EarlyStop.{resumed_stream, reported_before}
 use Rattle.vte_core.specs.declared.parser.open.Open.{Open}
 use Rattle.vte_core.specs.declared.parser.open.Open.TheVariants.{Nothing, Character, EscapeSequence, ControlSequence, DeviceControl, SystemCommand, IgnoredString}
 use Rattle.vte_core.specs.Event.{Event, Print, Execute, Hook, Put, Unhook, OscDispatch, CsiDispatch, EscDispatch}
 use Rattle.vte_core.specs.Open.{open_at_end}
 use Rattle.vte_core.specs.Outcome.{ToClose, CommandToClose}
-use Rattle.vte_core.specs.OutsideRuns.{TellsOutsideRuns}
+use Rattle.vte_core.specs.OutsideRuns.{ReportsOutsideRuns}
 use Rattle.vte_core.specs.Parts.{parts_of}
 use Rattle.vte_core.specs.Stream.{events, outcome}
 
 -- A stream and its events.
 pub record Example : Type 0 where
   pub stream : List ℕ
-  pub told : List Event
+  pub reported : List Event
 
 abbrev pub gives : List ℕ → List Event → Example
-gives stream told = record { stream = stream; told = told }
+gives stream reported = record { stream = stream; reported = reported }
 
 -- Each example has exactly its events, with a buffer of this size.
 abbrev pub AreRight : Option ℕ → List Example → Type 0
 AreRight limit examples =
-    map (λ example. events limit example.stream) examples ≡ map (λ example. example.told) examples
+    map (λ example. events limit example.stream) examples
+    ≡ map (λ example. example.reported) examples
 
 abbrev pub text_examples : List Example
 text_examples =
@@ -222,30 +223,30 @@ ignored_string_examples =
     ∷ gives (codes "\u{1b}^a\u{1b}_b\u{18}c") (Execute 0x18 ∷ Print 0x63 ∷ [])
     ∷ []
 
--- A position of a call: the stream that was read before it, its bytes, what is told before the
+-- A position of a call: the stream that was read before it, its bytes, what is reported before the
 -- position, and the stream from which the parser continues after a stop there.
 pub record StopExample : Type 0 where
   pub stream : List ℕ
   pub bytes : List ℕ
   pub position : ℕ
-  pub told : List Event
+  pub reported : List Event
   pub resumed : List ℕ
 
 abbrev pub AreStops : Option ℕ → List StopExample → Type 0
 AreStops limit examples =
-    (map (λ at. told_before limit at.stream at.bytes at.position) examples
-    ≡ map (λ at. at.told) examples)
+    (map (λ at. reported_before limit at.stream at.bytes at.position) examples
+    ≡ map (λ at. at.reported) examples)
     × (map (λ at. resumed_stream at.stream at.bytes at.position) examples
     ≡ map (λ at. at.resumed) examples)
 
 abbrev pub stop_examples : List StopExample
 stop_examples =
-    -- `a` breaks the open character, for which U+FFFD is told before it
+    -- `a` breaks the open character, for which U+FFFD is reported before it
     record {
       stream = [];
       bytes = 0xe4 ∷ 0xbf ∷ codes "a";
       position = 2;
-      told = Print 0xfffd ∷ [];
+      reported = Print 0xfffd ∷ [];
       resumed = [];
     }
     -- an earlier call began the character: it is completed, or broken at once
@@ -253,14 +254,14 @@ stop_examples =
       stream = 0xe4 ∷ [];
       bytes = 0xbf ∷ 0x99 ∷ codes "a";
       position = 2;
-      told = Print 0x4fd9 ∷ [];
+      reported = Print 0x4fd9 ∷ [];
       resumed = 0xe4 ∷ 0xbf ∷ 0x99 ∷ [];
     }
     ∷ record {
       stream = 0xe4 ∷ [];
       bytes = codes "a";
       position = 0;
-      told = Print 0xfffd ∷ [];
+      reported = Print 0xfffd ∷ [];
       resumed = [];
     }
     -- inside a sequence no character is open
@@ -268,7 +269,7 @@ stop_examples =
       stream = codes "a\u{1b}";
       bytes = codes "[1m";
       position = 1;
-      told = [];
+      reported = [];
       resumed = codes "a\u{1b}[";
     }
     ∷ []
@@ -354,7 +355,7 @@ string_end_examples =
 -- A call that returns runs completes the open character, and doesn't perform the next one.
 abbrev pub LeavesTextToRun : Option ℕ → Type 0
 LeavesTextToRun limit =
-    TellsOutsideRuns limit (0xe4 ∷ []) (0xbf ∷ 0x99 ∷ 0xe6 ∷ 0x97 ∷ 0xa5 ∷ []) 5 → ⊥
+    ReportsOutsideRuns limit (0xe4 ∷ []) (0xbf ∷ 0x99 ∷ 0xe6 ∷ 0x97 ∷ 0xa5 ∷ []) 5 → ⊥
 
 -- A stream, a size, and the parts of this size, each with its events.
 pub record PartsExample : Type 0 where

@@ -71,7 +71,7 @@ GivesCharacters limit text =
 -- A command that bytes dispatch, or leave open, has no more data than was open before them and they
 -- can add.
 pub record CountsData (stream bytes : List ℕ) : Type 0 where
-  pub told : All (IsBounded (Some (open_command_size stream + length bytes)))
+  pub reported : All (IsBounded (Some (open_command_size stream + length bytes)))
       (added None stream bytes)
   pub left : open_command_size (stream ++ bytes) ≤ open_command_size stream + length bytes
 

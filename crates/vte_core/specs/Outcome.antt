@@ -37,18 +37,18 @@ open_bytes _ = []
 
 pub record Outcome : Type 0 where
   -- the events, whatever follows
-  pub told : List Event
+  pub reported : List Event
   -- what an ESC at the end would close
   pub left : ToClose
 
 -- An outcome without events, which leaves this to close.
 abbrev pub leaves : ToClose → Outcome
-leaves left = record { told = []; left = left }
+leaves left = record { reported = []; left = left }
 
 -- An outcome with these events before its own.
-abbrev pub tell : List Event → Outcome → Outcome
-tell events rest = record { told = events ++ rest.told; left = rest.left }
+abbrev pub report : List Event → Outcome → Outcome
+report events rest = record { reported = events ++ rest.reported; left = rest.left }
 
 -- All events if an ESC follows.
 abbrev pub events_before_escape : Outcome → List Event
-events_before_escape outcome = outcome.told ++ closing_events outcome.left
+events_before_escape outcome = outcome.reported ++ closing_events outcome.left

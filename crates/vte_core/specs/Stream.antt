@@ -3,7 +3,7 @@ use Rattle.std.specs.Prelude.{◌≡◌, ◌≢◌, ℕ, List, [], ◌∷◌, �
 use Rattle.std.specs.Prelude.{if◌then◌else◌, ◌==◌}
 use Rattle.vte_core.specs.Body.{body_outcome}
 use Rattle.vte_core.specs.Event.{Event, Print}
-use Rattle.vte_core.specs.Outcome.{Outcome, open_bytes, tell, events_before_escape}
+use Rattle.vte_core.specs.Outcome.{Outcome, open_bytes, report, events_before_escape}
 use Rattle.vte_core.specs.Text.{text_outcome}
 
 abbrev pub escape : ℕ
@@ -25,7 +25,7 @@ cut_at_escape (b ∷ stream) =
 abbrev pub with_bodies : Option ℕ → Outcome → List (List ℕ) → Outcome
 with_bodies limit part [] = part
 with_bodies limit part (body ∷ bodies) =
-    tell (events_before_escape part) (with_bodies limit (body_outcome limit body) bodies)
+    report (events_before_escape part) (with_bodies limit (body_outcome limit body) bodies)
 
 -- The limit of `Parser::new`.
 abbrev pub usual_limit : Option ℕ
@@ -38,7 +38,7 @@ outcome limit stream =
     with_bodies limit (text_outcome cut.text) cut.bodies
 
 unfoldable pub events : Option ℕ → List ℕ → List Event
-events limit stream = (outcome limit stream).told
+events limit stream = (outcome limit stream).reported
 
 -- The events that more bytes add to those of the stream, which stay as they are
 -- (`laws::events_grow`).

@@ -3,7 +3,7 @@ use Rattle.std.specs.Prelude.{◌≢◌, ◌≤◌, ℕ, Bool, true, false, ◌|
 use Rattle.std.specs.List.{concat, filter, slice_split}
 use Rattle.vte_core.specs.Class.{class_of, is_cancel}
 use Rattle.vte_core.specs.Event.{Event, Execute, OscDispatch}
-use Rattle.vte_core.specs.Outcome.{Outcome, CommandToClose, leaves, tell}
+use Rattle.vte_core.specs.Outcome.{Outcome, CommandToClose, leaves, report}
 use Rattle.vte_core.specs.Parameters.{semicolon}
 use Rattle.vte_core.specs.CutBefore.{cut_before}
 use Rattle.vte_core.specs.Text.{text_outcome}
@@ -65,7 +65,7 @@ command_end pieces end =
 -- The end, and the text that follows it. Without an end the command stays open.
 abbrev pub system_command_rest : List (List ℕ) → Bool → List ℕ → Outcome
 system_command_rest pieces lost [] = leaves (CommandToClose pieces lost)
-system_command_rest pieces lost (end ∷ text) = tell (command_end pieces end) (text_outcome text)
+system_command_rest pieces lost (end ∷ text) = report (command_end pieces end) (text_outcome text)
 
 -- The end is the first of BEL, CAN and SUB.
 unfoldable pub system_command_outcome : Option ℕ → List ℕ → Outcome

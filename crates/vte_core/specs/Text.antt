@@ -4,7 +4,7 @@ use Rattle.std.specs.List.{All, filter}
 use Rattle.std.specs.Str.{chars}
 use Rattle.vte_core.specs.Class.{class_of, is_plain_control}
 use Rattle.vte_core.specs.Event.{Event, Print, Execute, replacement}
-use Rattle.vte_core.specs.Outcome.{Outcome, NothingToClose, CharacterToClose, leaves, tell}
+use Rattle.vte_core.specs.Outcome.{Outcome, NothingToClose, CharacterToClose, leaves, report}
 use Rattle.vte_core.specs.Utf8.{is_well_formed, is_truncated, scalar_of, segments}
 
 -- C0 and C1: U+0000..U+001F and U+0080..U+009F.
@@ -59,9 +59,9 @@ abbrev pub segments_outcome : List (List ℕ) → Outcome
 segments_outcome [] = leaves NothingToClose
 segments_outcome (segment ∷ []) =
     if is_truncated segment then leaves (CharacterToClose segment)
-    else tell (segment_event segment ∷ []) (leaves NothingToClose)
+    else report (segment_event segment ∷ []) (leaves NothingToClose)
 segments_outcome (segment ∷ next ∷ more) =
-    tell (segment_event segment ∷ []) (segments_outcome (next ∷ more))
+    report (segment_event segment ∷ []) (segments_outcome (next ∷ more))
 
 unfoldable pub text_outcome : List ℕ → Outcome
 text_outcome text = segments_outcome (segments text)

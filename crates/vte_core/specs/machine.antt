@@ -11,7 +11,7 @@ pub mod Ready
 pub mod ParserFields
 pub mod OpenStates
 -- What a byte does to the performer and to the parser.
-pub mod Tells
+pub mod Reports
 pub mod Takes
 -- How far a call has come; what each function requires, reads and costs.
 pub mod Progress

@@ -11,7 +11,7 @@ ghost use Rattle.vte_core.specs.Examples.{AreDivided, AreLeft, AreStops, LeavesT
 ghost use Rattle.vte_core.specs.Examples.{AreOpen, text_end_examples, sequence_end_examples, string_end_examples};
 ghost use Rattle.vte_core.specs.Laws.{AreParameters, AreWellFormed, Resyncs, CountsData, DispatchesShown, GivesCharacters, Grows, IsDecoded, IsEncoding, OpensLate, OpensSilently};
 ghost use Rattle.vte_core.specs.Perform.{after};
-ghost use Rattle.vte_core.specs.EarlyStopLaws.{GoesOnFromPositions, TellsUnits};
+ghost use Rattle.vte_core.specs.EarlyStopLaws.{GoesOnFromPositions, ReportsUnits};
 ghost use Rattle.vte_core.specs.Parts.{AreCuts, EndsWithEscape, GiveEvents, parts_at};
 ghost use Rattle.vte_core.specs.Stream.{added, events, usual_limit};
 ghost use Rattle.vte_core.specs.Utf8.{is_well_formed, segments};
@@ -90,10 +90,10 @@ pub fn opens_late()
 /// What a call that stops early has reported, followed by what the unread bytes add from there, is
 /// what all bytes add. From one start to the next it reports at most two events, and the second of
 /// them is a character or an executed byte.
-#[tactic(auto, using(crate::proofs::stops::Units::goes_on_from, crate::proofs::stops::Units::tells_units))]
+#[tactic(auto, using(crate::proofs::stops::Units::goes_on_from, crate::proofs::stops::Units::reports_units))]
 pub fn early_stops()
     ensures goes_on { (limit : Option ℕ) → GoesOnFromPositions limit }
-    ensures units { (limit : Option ℕ) → TellsUnits limit }
+    ensures units { (limit : Option ℕ) → ReportsUnits limit }
 {}
 
 /// After CAN and SUB, and from each ESC on, bytes give what they give at the start of a stream.
@@ -133,7 +133,7 @@ pub fn utf8_agrees()
 {}
 
 /// A `str` without ESC gives one event for each of its characters.
-#[tactic(auto, using(crate::proofs::calls::TextRuns::told_as_characters))]
+#[tactic(auto, using(crate::proofs::calls::TextRuns::reported_as_characters))]
 pub fn text_by_characters()
     ensures { (limit : Option ℕ) (text : List ℕ) → IsUtf8 text → GivesCharacters limit text }
 {}

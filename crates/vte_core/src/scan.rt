@@ -5,7 +5,7 @@
 // make one of these. Bytes leave this module one by one, in blocks, as a copy in a buffer, or as
 // text or data: for a performer, or in a [`Run`] for the caller.
 ghost use Rattle.std.specs.Prelude.{◌≡◌, ◌+◌, ◌-◌, ◌<◌, ◌≤◌, ℕ, [], ◌∷◌, ◌++◌, false, true, length, drop, map, take, slice_index, vec_capacity, MatchOption, IsUtf8};
-ghost use Rattle.vte_core.specs.machine.Prelude.{AreOfKind, ArePut, IsRange, IsRun, IsTaken, IsWindow, PrintsRun, Put, Tells, after, character_event, counted, is_in, looked, malformed_event, from_to};
+ghost use Rattle.vte_core.specs.machine.Prelude.{AreOfKind, ArePut, IsRange, IsRun, IsTaken, IsWindow, PrintsRun, Put, Reports, after, character_event, counted, is_in, looked, malformed_event, from_to};
 
 mod calls;
 mod counted_perform;
@@ -152,7 +152,7 @@ impl<'a> Input<'a> {
 /// begun at `from` or after whole characters that stand there, ended at `to`: it passes one
 /// whole character at a time, a byte of ASCII, or a lead byte with all its continuation bytes,
 /// the first of which `may_begin_three` and `may_begin_four` test. Blocks whose bytes all fit, as
-/// `follows` tells, may end inside a character: the search then goes back to where it began.
+/// `may_follow` tests, may end inside a character: the search then goes back to where it began.
 #[inline(always)]
 #[allow(unsafe_code)]
 // cargo instead: pub(crate) unsafe fn text(bytes: &[u8], from: usize, to: usize) -> &str
@@ -278,15 +278,15 @@ impl Reader {
         Some(window)
     }
 
-    /// Tells a whole character.
+    /// Reports a whole character.
     #[inline(always)]
     #[tactic(auto, unfolding(crate::specs::Text::character_event))]
-    pub(crate) fn tell_character<P: CountedPerform<G>, G: Grain>(
+    pub(crate) fn report_character<P: CountedPerform<G>, G: Grain>(
         &mut self,
         performer: &mut P,
         c: char,
     )
-        ensures { Tells P.step (P.value_of performer.old) (P.value_of performer.new)
+        ensures { Reports P.step (P.value_of performer.old) (P.value_of performer.new)
             (character_event c) self.old self.new }
     {
         match c {
@@ -295,11 +295,11 @@ impl Reader {
         }
     }
 
-    /// Tells a byte that is neither printed nor a lead byte: a control, or a malformed sequence
+    /// Reports a byte that is neither printed nor a lead byte: a control, or a malformed sequence
     /// alone.
     #[inline(always)]
     #[tactic(auto, unfolding(crate::specs::Text::character_event, crate::specs::Text::malformed_event))]
-    pub(crate) fn tell_lone_byte<P: CountedPerform<G>, G: Grain>(
+    pub(crate) fn report_lone_byte<P: CountedPerform<G>, G: Grain>(
         &mut self,
         performer: &mut P,
         byte: u8,
@@ -319,9 +319,9 @@ impl Reader {
     }
 
     // cargo lacks: the crate calls `print_text`
-    /// Tells the run of text that stands from one position to another, which counts its bytes.
+    /// Reports the run of text that stands from one position to another, which counts its bytes.
     #[inline(always)]
-    pub(crate) fn tell_text<P: CountedPerform<G>, G: Grain>(
+    pub(crate) fn report_text<P: CountedPerform<G>, G: Grain>(
         &mut self,
         performer: &mut P,
         input: Input<'_>,
@@ -339,9 +339,9 @@ impl Reader {
         performer.print_text(self, text(input.bytes, from, to));
     }
 
-    /// Tells the data that stand from one position to another.
+    /// Reports the data that stand from one position to another.
     #[inline(always)]
-    pub(crate) fn tell_data<P: CountedPerform<G>, G: Grain>(
+    pub(crate) fn report_data<P: CountedPerform<G>, G: Grain>(
         &mut self,
         performer: &mut P,
         input: Input<'_>,

@@ -1,7 +1,7 @@
 //! The store of an operating system command.
 ghost use Rattle.std.specs.Prelude.{◌≡◌, ◌≢◌, ◌+◌, ◌-◌, ◌≤◌, ◌<◌, List, ℕ, [], ◌∷◌, ◌++◌, length, drop, map, take, false, ◌↔◌, IsTrue, All};
 ghost use Rattle.std.specs.List.Sorted.{IsNonDecreasing};
-ghost use Rattle.vte_core.specs.machine.Prelude.{ArePieceEnds, HasCapacity, Stored, IsRange, HoldsItems, OscDispatch, ReservesCapacity, SameItems, LooksAtMost, Tells, cut_pieces, most_pieces};
+ghost use Rattle.vte_core.specs.machine.Prelude.{ArePieceEnds, HasCapacity, Stored, IsRange, HoldsItems, OscDispatch, ReservesCapacity, SameItems, LooksAtMost, Reports, cut_pieces, most_pieces};
 
 use crate::buffer::Buffer;
 use crate::scan::{CountedPerform, Grain, Input, Reader};
@@ -152,7 +152,7 @@ impl<B: Buffer> Store<B> {
         performer: &mut P,
         bell_terminated: bool,
     )
-        ensures { Tells P.step (P.value_of performer.old) (P.value_of performer.new)
+        ensures { Reports P.step (P.value_of performer.old) (P.value_of performer.new)
             (OscDispatch (cut_pieces self.now.bytes self.now.ends) bell_terminated)
             reader.old reader.new }
     {

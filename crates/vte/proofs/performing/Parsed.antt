@@ -1,6 +1,6 @@
 -- What parsed bytes make of a handler and a timeout. A performer's value steps by events; all events together make the
 -- calls of their rows and set the timeout once per begin of an update. An early stop is the front up to the begin.
-use Rattle.vte.proofs.Common.{◌≡◌, ℕ, ◌+◌, ◌<◌, inl, inr, Bool, false, ◌||◌, nat_lt, All, List, [], ◌∷◌, ◌++◌, length, take, refl, ap, sym, ◌∙◌, arith, or-false, cases_lt, false≢true, nat_tests, All-head, All-tail, told_before, resumed_stream, StopsExactly, Event, added, events, starts-settled, resumed_stream-settled, told-settled, events_grow, after, ProcessorState, begin_count, begins_in_event, calls_of, calls_from, last_printed_after, last_printed, last_printed_from, performer_value, Meaning, set_times, FitsText, PerformerValue, with_event, engine_view, ArePartsAt, ArePartsAtKeeping, KeepsMemory, State, parse, front_to_begin, ParserView}
+use Rattle.vte.proofs.Common.{◌≡◌, ℕ, ◌+◌, ◌<◌, inl, inr, Bool, false, ◌||◌, nat_lt, All, List, [], ◌∷◌, ◌++◌, length, take, refl, ap, sym, ◌∙◌, arith, or-false, cases_lt, false≢true, nat_tests, All-head, All-tail, reported_before, resumed_stream, StopsExactly, Event, added, events, starts-settled, resumed_stream-settled, reported-settled, events_grow, after, ProcessorState, begin_count, begins_in_event, calls_of, calls_from, last_printed_after, last_printed, last_printed_from, performer_value, Meaning, set_times, FitsText, PerformerValue, with_event, engine_view, ArePartsAt, ArePartsAtKeeping, KeepsMemory, State, parse, front_to_begin, ParserView}
 use Rattle.vte_core.specs.Perform.{after as performed}
 use Rattle.vte.specs.declared.ansi.performer.Performer.{Performer}
 use Rattle.vte.proofs.performing.CallLists.{after_calls-append, added_calls-events, last_printed-append, set_times-add}
@@ -100,9 +100,9 @@ module _ {V W : Type 0} (m : Meaning V W) {old new : PerformerValue V W} (goes_o
   front : IsFront m.limit p r (length (front_to_begin m.limit p r))
   front = front-is m.limit p r
 
-  terminated_at : (i : ℕ) → (performed (with_event m.step m.timeout) old (told_before m.limit p r i)).terminated
+  terminated_at : (i : ℕ) → (performed (with_event m.step m.timeout) old (reported_before m.limit p r i)).terminated
       ≡ nat_lt 0 (begin_count (added m.limit p (take i r)))
-  terminated_at i = terminated_by m old (told_before m.limit p r i) ∙ rw (goes_on, begin_count-told m.limit p r i)
+  terminated_at i = terminated_by m old (reported_before m.limit p r i) ∙ rw (goes_on, begin_count-told m.limit p r i)
 
   size-not_before : n < length (front_to_begin m.limit p r) → ⊥
   size-not_before less =
@@ -134,7 +134,7 @@ module _ {V W : Type 0} (m : Meaning V W) {old new : PerformerValue V W} (goes_o
   stop_performs =
       let f =
       front in
-      rw (f.is, ← stops_at_front, ← told-settled m.limit p r n (rw stops_at_front (breaks_at-front f)))
+      rw (f.is, ← stops_at_front, ← reported-settled m.limit p r n (rw stops_at_front (breaks_at-front f)))
       stop.comes.performed
 
   pub stop_terminated : new.terminated ≡ nat_lt 0 (begin_count (added m.limit p (front_to_begin m.limit p r)))

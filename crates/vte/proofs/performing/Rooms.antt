@@ -97,7 +97,7 @@ module _ {A : Type 0} {parser : LongParser A} {size : ℕ} (stream bytes : List 
   long_fits : All (FitsText size) (added None stream bytes)
   long_fits =
       events_fit size (open_command_size stream + length bytes) (added None stream bytes) (omega (arith, room.joined))
-      (let counts = counts_data stream bytes in counts.told)
+      (let counts = counts_data stream bytes in counts.reported)
 
   room_left : (next : LongParser A) → memory_of parser ≤ memory_of next → ParserHasMemory next size (stream ++ bytes) n
   room_left next kept =

@@ -1,7 +1,7 @@
 -- An early stop reads exactly the front up to the byte that begins an update. Such a byte ends a control sequence, so
 -- no character is open or broken there, and the front is the shortest that adds a begin.
-use Rattle.vte_core.proofs.shapes.Told.{breaks_at-all, breaks_at-settled, told-broken}
-use Rattle.vte.proofs.Common.{◌≡◌, ℕ, zero, suc, ◌+◌, ◌<◌, ◌≤◌, inl, inr, false, nat_lt, Option, List, [], ◌∷◌, ◌++◌, length, take, refl, ap, subst, ◌∙◌, append_assoc, arith, cases_Bool, cases_lt, nat_tests, append-nil, take_all, breaks_at, told_before, Event, Print, replacement, added, open_character, told-settled, added-append, added-nothing, opens_silently, begin_count, EndsInBegin, front_to_begin}
+use Rattle.vte_core.proofs.shapes.Reported.{breaks_at-all, breaks_at-settled, reported-broken}
+use Rattle.vte.proofs.Common.{◌≡◌, ℕ, zero, suc, ◌+◌, ◌<◌, ◌≤◌, inl, inr, false, nat_lt, Option, List, [], ◌∷◌, ◌++◌, length, take, refl, ap, subst, ◌∙◌, append_assoc, arith, cases_Bool, cases_lt, nat_tests, append-nil, take_all, breaks_at, reported_before, Event, Print, replacement, added, open_character, reported-settled, added-append, added-nothing, opens_silently, begin_count, EndsInBegin, front_to_begin}
 
 -- ---- how often bytes begin an update
 
@@ -19,15 +19,15 @@ begin_count-added limit p a r =
 
 -- a broken character begins no update
 pub begin_count-told : (limit : Option ℕ) (p r : List ℕ) (i : ℕ)
-    → begin_count (told_before limit p r i) ≡ begin_count (added limit p (take i r))
+    → begin_count (reported_before limit p r i) ≡ begin_count (added limit p (take i r))
 begin_count-told limit p r i = elim (cases_Bool (breaks_at p r i)) [
   | inl broken ↦
       rw (
-        told-broken limit p r i broken,
+        reported-broken limit p r i broken,
         begin_count-append (added limit p (take i r))
             (Print replacement ∷ []),
       ) (omega arith)
-  | inr whole ↦ rw (told-settled limit p r i whole)
+  | inr whole ↦ rw (reported-settled limit p r i whole)
 ]
 
 -- ---- the front by its length

@@ -1,6 +1,6 @@
--- What is told from position to position. A call is followed with a performer that keeps all events; so what any
--- performer receives is a function of the bytes, and a stretch that tells no run is known by its events.
-use Rattle.vte_core.proofs.Common.{◌≡◌, ℕ, ◌+◌, ◌<◌, inl, inr, false, Option, List, [], ◌∷◌, ◌++◌, length, take, refl, ap, sym, ◌∙◌, append_assoc, append-nil, arith, cases_Bool, slice_index, false≢true, All, All-append, All-cons, All-nil, Event, Print, replacement, after, added, told_before, resumed_stream, breaks_at, State, Text, DeviceData, Machine, StandsBy, StandsAt, StandsInside, BytesLead, ChunkCall, chunk_call, Place, InText, InDeviceData, IsAfter, AddsOutsideRuns, IsOutsideRuns}
+-- What is reported from position to position. A call is followed with a performer that keeps all events; so what any
+-- performer receives is a function of the bytes, and a stretch that reports no run is known by its events.
+use Rattle.vte_core.proofs.Common.{◌≡◌, ℕ, ◌+◌, ◌<◌, inl, inr, false, Option, List, [], ◌∷◌, ◌++◌, length, take, refl, ap, sym, ◌∙◌, append_assoc, append-nil, arith, cases_Bool, slice_index, false≢true, All, All-append, All-cons, All-nil, Event, Print, replacement, after, added, reported_before, resumed_stream, breaks_at, State, Text, DeviceData, Machine, StandsBy, StandsAt, StandsInside, BytesLead, ChunkCall, chunk_call, Place, InText, InDeviceData, IsAfter, AddsOutsideRuns, IsOutsideRuns}
 use Rattle.vte_core.specs.machine.Completes.{AddsCharacter}
 use Rattle.vte_core.specs.machine.Progress.{HasProgress}
 use Rattle.vte_core.specs.machine.ToRun.{IsReadOutsideRuns}
@@ -8,7 +8,7 @@ use Rattle.vte_core.proofs.calls.Progress.{stretch-added}
 use Rattle.vte_core.proofs.fields.PlaceOfState.{IsPlace}
 use Rattle.vte_core.proofs.places.PlaceSteps.{steps}
 use Rattle.vte_core.proofs.places.TextSteps.{AreOutsideRuns, IsOutsideRunsAt}
-use Rattle.vte_core.proofs.shapes.Told.{told-settled, told-broken}
+use Rattle.vte_core.proofs.shapes.Reported.{reported-settled, reported-broken}
 use Rattle.vte_core.proofs.bytes.EachLemmas.{one_byte}
 use Rattle.vte_core.proofs.streams.After.{added-reads}
 
@@ -36,16 +36,17 @@ kept-is {given} c = c.performed ∙ after-keep [] given
 
 module _ {V B : Type 0} {call : ChunkCall V} {old value : V} {stream : List ℕ} {i : ℕ} {parser : Machine B} where
   pub keeps-at : StandsAt call old value stream i parser
-      → StandsAt (keeping call.limit call.bytes) [] (told_before call.limit stream call.bytes i) stream i parser
+      → StandsAt (keeping call.limit call.bytes) [] (reported_before call.limit stream call.bytes i) stream i parser
   keeps-at s = record { place = s.place; stands = s.stands; settled = s.settled; has_come = came-kept s.has_come }
 
   pub keeps-inside : StandsInside call old value stream i parser
       → StandsInside (keeping call.limit call.bytes) [] (added call.limit stream (take i call.bytes)) stream i parser
   keeps-inside s = record { place = s.place; stands = s.stands; has_come = came-kept s.has_come }
 
-pub told-at : {B : Type 0} {value : List Event} {limit : Option ℕ} {stream bytes : List ℕ} {i : ℕ} {parser : Machine B}
-    → StandsAt (keeping limit bytes) [] value stream i parser → value ≡ told_before limit stream bytes i
-told-at s = kept-is s.has_come
+pub reported-at : {B : Type 0} {value : List Event} {limit : Option ℕ} {stream bytes : List ℕ} {i : ℕ}
+    {parser : Machine B} → StandsAt (keeping limit bytes) [] value stream i parser
+    → value ≡ reported_before limit stream bytes i
+reported-at s = kept-is s.has_come
 
 pub added-inside : {B : Type 0} {value : List Event} {limit : Option ℕ} {stream bytes : List ℕ} {i : ℕ}
     {parser : Machine B} → StandsInside (keeping limit bytes) [] value stream i parser
@@ -68,17 +69,17 @@ outside_runs-place limit _ parser (InText u) b outside s = absurd s
 outside_runs-place limit _ parser InDeviceData b outside s = absurd s
 outside_runs-place limit _ parser _ b outside s = tt
 
--- ---- what is told between two positions
+-- ---- what is reported between two positions
 
 module _ {limit : Option ℕ} {stream bytes : List ℕ} {i : ℕ} where
-  pub adds-same : {j : ℕ} → told_before limit stream bytes i ≡ told_before limit stream bytes j
+  pub adds-same : {j : ℕ} → reported_before limit stream bytes i ≡ reported_before limit stream bytes j
       → AddsOutsideRuns limit stream bytes i j
   adds-same e =
       record {
         events = [];
         events_are = All-nil IsOutsideRuns;
         parts = sym e
-            ∙ sym (append-nil (told_before limit stream bytes i));
+            ∙ sym (append-nil (reported_before limit stream bytes i));
       }
 
   pub adds-then : {j k : ℕ} → AddsOutsideRuns limit stream bytes i j
@@ -88,7 +89,7 @@ module _ {limit : Option ℕ} {stream bytes : List ℕ} {i : ℕ} where
     events_are = All-append IsOutsideRuns a.events b.events a.events_are b.events_are;
     parts =
         b.parts ∙ ap (λ (es : List Event). es ++ b.events) a.parts
-        ∙ append_assoc (told_before limit stream bytes i) a.events b.events;
+        ∙ append_assoc (reported_before limit stream bytes i) a.events b.events;
   }
 
   pub adds-reads : {b : ℕ} {place next : Place} {these : List Event}
@@ -97,7 +98,7 @@ module _ {limit : Option ℕ} {stream bytes : List ℕ} {i : ℕ} where
       → All IsOutsideRuns these → AddsOutsideRuns limit stream bytes i (i + 1)
   adds-reads {b} {place} {next} {these} within is a r is_place are =
       let one = one_byte bytes i b within is in
-      let before : List Event = told_before limit stream bytes i in
+      let before : List Event = reported_before limit stream bytes i in
       let all : added limit stream (take (i + 1) bytes) ≡ before ++ these =
       stretch-added limit stream bytes i (i + 1) (omega arith)
       ∙ ap (λ (es : List Event). before ++ es)
@@ -110,13 +111,14 @@ module _ {limit : Option ℕ} {stream bytes : List ℕ} {i : ℕ} where
               All-append IsOutsideRuns these (Print replacement ∷ []) are
               (All-cons IsOutsideRuns (Print replacement) [] refl (All-nil IsOutsideRuns));
           parts =
-              told-broken limit stream bytes (i + 1) broken ∙ ap (λ (es : List Event). es ++ Print replacement ∷ []) all
+              reported-broken limit stream bytes (i + 1) broken
+              ∙ ap (λ (es : List Event). es ++ Print replacement ∷ []) all
               ∙ append_assoc before these (Print replacement ∷ []);
         }
         | inr whole ↦ record {
           events = these;
           events_are = are;
-          parts = told-settled limit stream bytes (i + 1) whole
+          parts = reported-settled limit stream bytes (i + 1) whole
               ∙ all;
         }
       ]
@@ -126,11 +128,11 @@ module _ {limit : Option ℕ} {stream bytes : List ℕ} {i : ℕ} where
       → IsPlace place → IsOutsideRunsAt place b → AddsOutsideRuns limit stream bytes i (i + 1)
   adds-outside_runs {b} {place} within is a is_place outside =
       let s = steps is_place in
-      adds-reads within is a s.reads s.is_place (outside_runs-all s.told (s.outside_runs outside))
+      adds-reads within is a s.reads s.is_place (outside_runs-all s.reported (s.outside_runs outside))
 
-  -- what is told of a character whose first byte told nothing
+  -- what is reported of a character whose first byte reported nothing
   pub adds-character : {begun : List ℕ} {j : ℕ} (a : AddsCharacter limit stream begun bytes (i + 1) j)
-      → told_before limit stream bytes i ≡ added limit stream (take (i + 1) bytes) → All IsOutsideRuns a.events
+      → reported_before limit stream bytes i ≡ added limit stream (take (i + 1) bytes) → All IsOutsideRuns a.events
       → AddsOutsideRuns limit stream bytes i j
   adds-character a silent are =
       record {

@@ -8,11 +8,11 @@ use Rattle.vte_core.proofs.streams.Performing.{takes-performs}
 use Rattle.vte_core.proofs.places.StreamLemmas.{no_escape, reads-escape}
 
 module _ {V B : Type 0} {step : V → Event → V} {old new : V} {limit : Option ℕ} where
-  pub takes-byte : {place : Place} {byte : ℕ} {parser : Machine B} {told : List Event} {next : Place}
-      → new ≡ after step old told → StandsAtPlace limit parser next → Leads limit place byte told next
+  pub takes-byte : {place : Place} {byte : ℕ} {parser : Machine B} {reported : List Event} {next : Place}
+      → new ≡ after step old reported → StandsAtPlace limit parser next → Leads limit place byte reported next
       → TakesByte step old new limit place byte parser
-  takes-byte {told} {next} performed stands leads =
-      record { told = told; next = next; performed = performed; stands = stands; leads = leads }
+  takes-byte {reported} {next} performed stands leads =
+      record { reported = reported; next = next; performed = performed; stands = stands; leads = leads }
 
   -- a byte other than CAN, SUB and ESC, read in a state
   pub performs-in : {b : ℕ} {state : State} {parser next : Machine B}
@@ -33,7 +33,7 @@ module _ {V B : Type 0} {step : V → Event → V} {old new : V} {limit : Option
       reads-escape (stands-place s) in
       subst (λ c. TakesBytes step old new limit place (c ∷ []) next) (sym is)
       (record {
-        told = closing_events_at limit place;
+        reported = closing_events_at limit place;
         next = AtEscape;
         performed = closed;
         stands = stands-by e holds;

@@ -1,13 +1,13 @@
 -- A byte between characters: it is one (`performs-printed`), a control or malformed (`performs-single`), or the first
 -- of one (`performs-opened`). What the code does is what `places/PlaceLeads` says of the byte, and the parser is at the
--- next place. A single byte tells nothing that a run would (`advances-single`).
+-- next place. A single byte reports nothing that a run would (`advances-single`).
 use Rattle.vte_core.proofs.Common.{◌≡◌, ◌≢◌, ℕ, ◌+◌, ◌<◌, ◌≤◌, inl, inr, true, false, Option, List, [], ◌∷◌, length, refl, ap, sym, subst, ◌∙◌, arith, cases_lt, nat_tests, slice_index, Advances, Machine, Text, Nothing, Event, Print, replacement, StandsAtPlace, TakesBytes, Place, InText, IsSettledPlace, Carries, escape, character_event, malformed_event, from_to, is_in, is_truncated, is_well_formed, Unfinished, All-cons, All-nil, IsOutsideRuns, Execute, is_control_character, AddsOutsideRuns, IsAfter, resumed_stream, BytesLead, All, cases_Bool, ChunkCall}
 use Rattle.vte_core.specs.declared.utf8.Carried.TheVariants.{Unfinished as StillUnfinished}
 use Rattle.vte_core.proofs.bytes.CarriedLemmas.{begins_none}
 use Rattle.vte_core.proofs.bytes.FirstBytes.{ascii-alone}
 use Rattle.vte_core.proofs.fields.PlaceOfState.{stands-by}
 use Rattle.vte_core.proofs.calls.CallEnds.{settled-by}
-use Rattle.vte_core.proofs.calls.Stretches.{advances-byte, advances-telling, not_escape, performs-begun}
+use Rattle.vte_core.proofs.calls.Stretches.{advances-byte, advances-reporting, not_escape, performs-begun}
 use Rattle.vte_core.specs.machine.Prelude.{MayReadByte}
 use Rattle.vte_core.proofs.calls.States.{place-settled_text}
 use Rattle.vte_core.proofs.places.PlaceLeads.{text-lone, text-unfinished, text-whole}
@@ -27,7 +27,7 @@ module _ {V B : Type 0} {step : V → Event → V} {old new : V} {limit : Option
   performs-whole e n whole performed =
       performs-begun e n
       (λ s. record {
-        told = character_event b ∷ [];
+        reported = character_event b ∷ [];
         next = InText [];
         performed = performed;
         stands = s;
@@ -42,7 +42,7 @@ module _ {V B : Type 0} {step : V → Event → V} {old new : V} {limit : Option
   performs-lone e n whole more performed =
       performs-begun e n
       (λ s. record {
-        told = malformed_event (b ∷ []) ∷ [];
+        reported = malformed_event (b ∷ []) ∷ [];
         next = InText [];
         performed = performed;
         stands = s;
@@ -53,11 +53,11 @@ module _ {V B : Type 0} {step : V → Event → V} {old new : V} {limit : Option
   pub performs-printed : {c : ℕ} → parser.state ≡ Text Nothing → is_in (from_to 0x20 0x7f) b ≡ true → c ≡ b
       → new ≡ step old (Print c) → (place : Place) → StandsAtPlace limit parser place → IsSettledPlace place
       → TakesBytes step old new limit place (b ∷ []) parser
-  performs-printed e printed same told =
+  performs-printed e printed same reported =
       let low : 0x20 ≤ b = grind (arith, nat_tests) in
       let high : b < 0x80 = grind (arith, nat_tests) in
       performs-whole e (λ escape. omega (arith, escape, low)) (ascii-alone b high).is_whole
-      (told ∙ ap (λ x. step old (Print x)) same ∙ ap (step old) (sym (character_event-printed b printed)))
+      (reported ∙ ap (λ x. step old (Print x)) same ∙ ap (step old) (sym (character_event-printed b printed)))
 
   -- a byte that is neither printed nor begins a longer one
   pub performs-single : parser.state ≡ Text Nothing → b ≢ escape
@@ -81,19 +81,19 @@ performs-opened {limit} {b} {v} {next} e n carries state =
     let more : is_truncated (b ∷ []) ≡ true = rw carries.0 at carries.1 in
     performs-begun e n
     (λ s. record {
-      told = [];
+      reported = [];
       next = InText (b ∷ []);
       performed = refl;
       stands = stands-by state (carries.0, more);
       leads = text-unfinished;
     })
 
--- ---- what a byte tells that is neither printed nor begins a longer one
+-- ---- what a byte reports that is neither printed nor begins a longer one
 
 record Single (limit : Option ℕ) (b : ℕ) : Type 0 where
-  told : List Event
-  reads : BytesLead limit (InText []) (b ∷ []) told (InText [])
-  events_are : All IsOutsideRuns told
+  reported : List Event
+  reads : BytesLead limit (InText []) (b ∷ []) reported (InText [])
+  events_are : All IsOutsideRuns reported
 
 outside_runs-malformed : (b : ℕ) → All IsOutsideRuns (malformed_event (b ∷ []) ∷ [])
 unfolding malformed_event
@@ -107,7 +107,7 @@ byte-single : (limit : Option ℕ) (b : ℕ) → b ≢ escape → is_in (from_to
     → Single limit b
 byte-single limit b n other no_lead = elim (cases_lt b 0x80) [
   | inl low ↦ record {
-    told = character_event b ∷ [];
+    reported = character_event b ∷ [];
     reads =
         reads-byte (not_escape b n)
         (text-whole (ascii-alone b low).is_whole);
@@ -116,7 +116,7 @@ byte-single limit b n other no_lead = elim (cases_lt b 0x80) [
   | inr high ↦
       let lone = begins_none b high no_lead in
       record {
-        told = malformed_event (b ∷ []) ∷ [];
+        reported = malformed_event (b ∷ []) ∷ [];
         reads =
             reads-byte (not_escape b n)
             (text-lone lone.is_whole lone.is_open);
@@ -142,7 +142,7 @@ pub advances-single : {outside V B : Type 0} {call : ChunkCall V} {old new : V} 
     → (0x80 ≤ b → new ≡ call.step old (malformed_event (b ∷ [])))
     → Advances outside call old new i (i + 1) parser parser
 advances-single r n other no_lead control malformed =
-    advances-telling
+    advances-reporting
     (advances-byte r.within r.looked_at r.may_go_on (performs-single r.begun n no_lead control malformed)
     (settled-by r.begun tt))
     (λ stream place s. adds-single _ r.begun n other no_lead r.within r.looked_at s)

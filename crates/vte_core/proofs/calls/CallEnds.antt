@@ -3,7 +3,7 @@
 use Rattle.vte_core.proofs.Common.{◌≡◌, ℕ, ◌<◌, ◌≤◌, true, Option, List, [], ◌++◌, length, refl, sym, subst, arith, Machine, State, Text, Nothing, StopsExactly, resumed_stream, IsSettled, ReadsUpTo, StandsAt, StandsInside, StandsAtPlace, StandsBy, HasReadWithLimit, after, Place, InText, ChunkCall, IsSettledPlace, added, bytes_of, Unfinished, ComesTo}
 use Rattle.vte_core.proofs.calls.Progress.{come-all, come-settled, come-nowhere, come-performs, come-starts, come-to}
 use Rattle.vte_core.proofs.fields.PlaceOfState.{stands-place}
-use Rattle.vte_core.proofs.shapes.Told.{resumed_stream-all}
+use Rattle.vte_core.proofs.shapes.Reported.{resumed_stream-all}
 
 -- ---- between characters
 

@@ -1,5 +1,5 @@
--- A call inside a character, over any number of its bytes: it tells nothing while the character goes on (`GoesOn`), and
--- then completes it (`completes-all`, `completes-whole`, `completes-broken`), a byte at a time by
+-- A call inside a character, over any number of its bytes: it reports nothing while the character goes on (`GoesOn`),
+-- and then completes it (`completes-all`, `completes-whole`, `completes-broken`), a byte at a time by
 -- `calls/InsideCharacters`.
 use Rattle.vte_core.proofs.Common.{◌≡◌, ◌≢◌, ℕ, ◌+◌, ◌<◌, ◌≤◌, inl, inr, true, List, [], ◌∷◌, ◌++◌, length, refl, ap, sym, subst, ◌∙◌, arith, slice_index, Machine, Text, Nothing, One, Two, Three, Event, Print, replacement, StandsInside, bytes_of, may_continue, second_range, Carries, character_event, from_to, is_in, is_truncated, is_well_formed, scalar_of, Unfinished, added, All-cons, All-nil, IsOutsideRuns, append-nil, append_assoc, drop, drop_more, take, take-add, ChunkCall}
 use Rattle.vte_core.specs.declared.utf8.Carried.TheVariants.{Unfinished as StillUnfinished, Whole, Broken}
@@ -8,7 +8,7 @@ use Rattle.vte_core.specs.machine.Completes.{Completes}
 use Rattle.vte_core.proofs.calls.InsideCharacters.{carried-broken, carried-more, carried-whole, in_text, inside-open, inside-same, unfinished-some, truncated-some}
 use Rattle.vte_core.proofs.calls.CallEnds.{inside-all, inside-moved}
 use Rattle.vte_core.proofs.streams.OutsideRuns.{length-longer}
-use Rattle.vte_core.proofs.calls.AddedEvents.{added-inside, keeps-inside, told-at, keeping}
+use Rattle.vte_core.proofs.calls.AddedEvents.{added-inside, keeps-inside, reported-at, keeping}
 use Rattle.vte_core.proofs.streams.Performing.{open_truncated}
 use Rattle.std.proofs.lemmas.List.{drop-drop}
 
@@ -31,7 +31,7 @@ character-byte bytes i n begun {j} {u} within far is are =
     ∙ character-bytes bytes i j n 1 begun far are
 
 -- From position i, inside a character of the bytes `begun`, a call has come to position j, inside one of
--- the bytes `u`, and told nothing.
+-- the bytes `u`, and reported nothing.
 pub record GoesOn {V B : Type 0} (call : ChunkCall V) (value : V) (i j : ℕ) (begun u : Unfinished)
     (next : Machine B) : Type 0 where
   pub inside : (old : V) (stream : List ℕ) (parser : Machine B) → parser.state ≡ Text begun
@@ -82,7 +82,7 @@ module _ {V B : Type 0} {call : ChunkCall V} {value : V} {i : ℕ} {begun : Unfi
     adds = λ old stream parser e s. record {
       events = [];
       parts =
-          sym (told-at (inside-all (inside-moved end (goes.kept stream parser e (keeps-inside s))) all))
+          sym (reported-at (inside-all (inside-moved end (goes.kept stream parser e (keeps-inside s))) all))
           ∙ sym (append-nil (added call.limit stream (take i call.bytes)));
       events_are = inl (All-nil IsOutsideRuns);
     };
@@ -105,7 +105,7 @@ module _ {V B : Type 0} {call : ChunkCall V} {value : V} {i : ℕ} {begun : Unfi
         record {
           events = character_event c ∷ [];
           parts =
-              sym (told-at
+              sym (reported-at
               (carried-whole {next = next} refl more whole state refl
               (goes.kept stream parser e (keeps-inside s)) within is later));
           events_are = inr (record {
@@ -132,7 +132,7 @@ module _ {V B : Type 0} {call : ChunkCall V} {value : V} {i : ℕ} {begun : Unfi
         record {
           events = Print replacement ∷ [];
           parts =
-              sym (told-at
+              sym (reported-at
               (carried-broken {next = next} refl more (carries more) state refl
               (goes.kept stream parser e (keeps-inside s)) within is));
           events_are = inl (All-cons IsOutsideRuns (Print replacement) [] refl (All-nil IsOutsideRuns));
@@ -149,12 +149,12 @@ module _ {V B : Type 0} {call : ChunkCall V} {value : V} {i : ℕ} {begun : Unfi
     text = c.text;
     adds = λ old stream begun_parser e s.
         let opened = inside-open e s in
-        let told = c.adds old stream (in_text parser u) refl (goes.inside old stream begun_parser e s) in
+        let reported = c.adds old stream (in_text parser u) refl (goes.inside old stream begun_parser e s) in
         let silent = added-inside (goes.kept stream begun_parser e (keeps-inside s)) in
         record {
-          events = told.events;
-          parts = told.parts ∙ ap (λ (es : List Event). es ++ told.events) (sym silent);
-          events_are = elim told.events_are [
+          events = reported.events;
+          parts = reported.parts ∙ ap (λ (es : List Event). es ++ reported.events) (sym silent);
+          events_are = elim reported.events_are [
             | inl others ↦ inl others
             | inr whole ↦
                 let same : bytes_of u ++ take whole.n (drop j call.bytes)

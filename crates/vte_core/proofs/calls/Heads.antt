@@ -10,7 +10,7 @@ use Rattle.vte_core.proofs.calls.Stretches.{advances-byte, advances-when, advanc
 use Rattle.vte_core.proofs.fields.HeadSteps.{holds-parameter}
 use Rattle.vte_core.proofs.fields.PlaceOfState.{IsPlace, stands-in}
 use Rattle.vte_core.proofs.places.PlaceLeads.{control-head, device-head}
-use Rattle.vte_core.proofs.calls.AddedEvents.{adds-same, keeps-at, told-at}
+use Rattle.vte_core.proofs.calls.AddedEvents.{adds-same, keeps-at, reported-at}
 use Rattle.vte_core.proofs.bytes.EachLemmas.{one_byte}
 use Rattle.vte_core.proofs.places.StreamLemmas.{no_escape, reads-byte}
 
@@ -211,7 +211,7 @@ module _ {V : Type 0} {call : ChunkCall V} where
     goes_on = λ old stream s. stands-head shape begun reads may_go_on state s;
     settled = λ _. settled-by state (head-settled shape progress);
     outside_runs = λ _ old stream s.
-        adds-same (told-at
+        adds-same (reported-at
         (stands-head {next = next} shape begun reads (λ does. absurd (false≢true does)) state (keeps-at s)));
   }
 

@@ -1,12 +1,12 @@
 -- A byte inside a character, whose bytes the parser has: the character goes on with it, is whole, or is broken before
 -- it (`carried-more`, `carried-whole`, `carried-broken`). The place is a text with these bytes open, so
--- `places/PlaceLeads` and `shapes/Told` say what the byte tells.
+-- `places/PlaceLeads` and `shapes/Reported` say what the byte reports.
 use Rattle.vte_core.proofs.Common.{◌≡◌, ◌≢◌, ℕ, ◌+◌, ◌<◌, inl, inr, true, Option, List, [], ◌∷◌, ◌++◌, length, refl, ap, sym, subst, ◌∙◌, slice_index, Machine, Text, Nothing, Print, replacement, ProgressInside, StandsAt, StandsInside, StandsAtPlace, StandsBy, Place, InText, bytes_of, may_continue, Carries, character_event, is_truncated, scalar_of, Unfinished, HasReadWithLimit, open_at, open_character, ChunkCall}
 use Rattle.vte_core.specs.declared.utf8.Carried.TheVariants.{Unfinished as StillUnfinished, Whole, Broken}
 use Rattle.vte_core.proofs.fields.PlaceOfState.{may_continue-truncated, stands-by, stands-in, stands-place}
 use Rattle.vte_core.proofs.places.PlaceLeads.{text-unfinished, text-whole}
 use Rattle.vte_core.proofs.streams.Performing.{carried_is_no_escape}
-use Rattle.vte_core.proofs.shapes.Told.{breaks-broken, breaks-unfinished, breaks-whole}
+use Rattle.vte_core.proofs.shapes.Reported.{breaks-broken, breaks-unfinished, breaks-whole}
 use Rattle.vte_core.proofs.calls.Progress.{come-settled, come-broken, come-carried}
 use Rattle.vte_core.proofs.streams.After.{after-open_character}
 use Rattle.vte_core.proofs.places.StreamLemmas.{reads-byte}

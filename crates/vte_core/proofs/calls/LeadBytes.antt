@@ -1,5 +1,5 @@
--- What a character tells that a lead byte begins: a call that completes it from the second byte on (`Completes`) does
--- from the first what any call does (`Advances`). What it tells is no printed character where no run could begin.
+-- What a character reports that a lead byte begins: a call that completes it from the second byte on (`Completes`) does
+-- from the first what any call does (`Advances`). What it reports is no printed character where no run could begin.
 use Rattle.vte_core.proofs.Common.{◌+◌, ◌<◌, ◌≤◌, ◌≡◌, ◌∷◌, ℕ, suc, refl, ap, sym, ◌∙◌, arith, inl, inr, false, drop, drop_more, take, HasNoRunAt, Machine, Text, Nothing, One, Advances, ChunkCall, All, IsOutsideRuns, false≢true, subst}
 use Rattle.vte_core.specs.machine.Prelude.{Completes, MayReadByte}
 use Rattle.vte_core.proofs.bytes.CarriedLemmas.{first_truncated}
@@ -29,8 +29,8 @@ advances-first {call} {i} {first} {parser} r lead fits completes = record {
       (λ does. absurd (false≢true does))
       (performs-opened {step = keep} r.begun (λ e. omega (arith, e, lead)) (refl, first_truncated first lead fits) refl)
       (keeps-at s) in
-      let told = completes.adds value stream (in_text parser (One first)) refl inside in
-      adds-character told (added-inside {parser = in_text parser (One first)} silent) (elim told.events_are [
+      let reported = completes.adds value stream (in_text parser (One first)) refl inside in
+      adds-character reported (added-inside {parser = in_text parser (One first)} silent) (elim reported.events_are [
         | inl others ↦ others
         | inr whole ↦
             let cut : take (whole.n + 1) (drop i call.bytes) ≡ first ∷ take whole.n (drop (i + 1) call.bytes) =

@@ -7,7 +7,7 @@ use Rattle.vte_core.specs.AdvanceUntilTerminated.{ReadsUntilTerminated}
 use Rattle.vte_core.specs.EarlyStop.{NeverStopsBefore}
 use Rattle.vte_core.specs.LongParserCalls.{IsRefusedMemory, ReadsLong}
 use Rattle.vte_core.specs.machine.ToRun.{ComesToRun, IsTaken, bytes_at}
-use Rattle.vte_core.proofs.Common.{◌≡◌, TellsOutsideRuns, ℕ, Bool, List, None, length, Result, Ok, Err, IfErr, IfOk, refl, arith, false, read_count, ReadsUpTo, Event, Machine, ChunkCall, ReadsUntilRefused, true, Refused, chunk_call}
+use Rattle.vte_core.proofs.Common.{◌≡◌, ReportsOutsideRuns, ℕ, Bool, List, None, length, Result, Ok, Err, IfErr, IfOk, refl, arith, false, read_count, ReadsUpTo, Event, Machine, ChunkCall, ReadsUntilRefused, true, Refused, chunk_call}
 use Rattle.vte_core.proofs.calls.ToRun.{reads-run, returns-run}
 use Rattle.vte_core.specs.declared.parser.long.LongParser.{LongParser}
 use Rattle.vte_core.specs.LongParser.{HasReadLong}
@@ -144,7 +144,7 @@ module _ {A V : Type 0} {step : V → Event → V} {is_terminated : V → Bool} 
       → ComesToRun (chunk_call true step is_terminated None bytes) old new place parser.machine next.machine
       → run.start ≡ place.start → run.end ≡ place.end → IsTaken place.kind (bytes_at bytes place) run.taken
       → Costs 7 bytes (Ok place) place.end parser.machine next.machine (counted parser.looks) (counted next.looks)
-      → ((stream : List ℕ) → HasReadLong parser stream → TellsOutsideRuns None stream bytes place.start)
+      → ((stream : List ℕ) → HasReadLong parser stream → ReportsOutsideRuns None stream bytes place.start)
       → ReadsLong 7 step is_terminated old new bytes parser next (Ok run) (ReadsToRun step is_terminated)
   to_run-read run comes starts ends taken costs others = record {
     reads = record {

@@ -31,10 +31,10 @@ unfolding class_of sequence_kind
 probe-zero = record { class = refl; key = refl; low = omega arith; high = omega arith; other = refl }
 
 -- what a digit gives after a stream
-probe-gives : {limit : Option ℕ} {stream : List ℕ} {place next : Place} {b : ℕ} {told : List Event}
-    → IsProbe b → IsAfter limit stream place → Leads limit place b told next → IsPlace next
-    → added limit stream (b ∷ []) ≡ told
-probe-gives {limit} {stream} {place} {next} {b} {told} d a leads =
+probe-gives : {limit : Option ℕ} {stream : List ℕ} {place next : Place} {b : ℕ} {reported : List Event}
+    → IsProbe b → IsAfter limit stream place → Leads limit place b reported next → IsPlace next
+    → added limit stream (b ∷ []) ≡ reported
+probe-gives {limit} {stream} {place} {next} {b} {reported} d a leads =
     added-reads a (reads-byte d.other leads)
 
 -- it breaks a character
@@ -45,7 +45,7 @@ probe-in_character {limit} {u} {b} d is a =
     let tests = ascii-breaks u b is d.high in
     let broken = text_outcome-broken u b is tests.is_whole tests.is_open in
     added-after (b ∷ []) a
-    ∙ ap (λ o. o.told) (waits-byte limit (InText u) (InText []) b (Print replacement ∷ []) [] d.other broken)
+    ∙ ap (λ o. o.reported) (waits-byte limit (InText u) (InText []) b (Print replacement ∷ []) [] d.other broken)
 
 -- it isn't printed alone, but between characters
 probe-not_alone : {limit : Option ℕ} {stream : List ℕ} {place : Place} {b : ℕ}

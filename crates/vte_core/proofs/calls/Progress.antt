@@ -1,5 +1,5 @@
 -- How a call comes from one position to the next, to its end, or to a stop. A stretch of bytes that leads to a place
--- adds its events to those told so far; at starts among them a call that may stop may stop.
+-- adds its events to those reported so far; at starts among them a call that may stop may stop.
 --
 -- `come-nowhere`: the start of a call
 -- `come-byte`: past a byte before which the call may stop; `come-carried`: past one inside a character
@@ -8,12 +8,12 @@
 -- or the next byte breaks the open one; `come-command`: back from there
 -- `come-starts`: there something starts
 -- `come-to`, `come-performs`: the public clauses of a call that stops, and of one that reads all
-use Rattle.vte_core.proofs.Common.{◌≡◌, ℕ, zero, suc, ◌+◌, ◌-◌, ◌<◌, ◌≤◌, inl, inr, true, false, Option, List, [], ◌∷◌, ◌++◌, length, take, drop, refl, ap, sym, subst, ◌∙◌, append_assoc, arith, slice_index, cases_Bool, cases_lt, append-nil, drop_more, take-add, breaks, breaks_at, IsStart, told_before, resumed_stream, Event, Print, replacement, after, added, open_character, ProgressAt, ProgressInside, MayGoOn, BytesLead, Place, InText, ChunkCall, InSystemCommand, IsAfter, IsSettledPlace, open_at, ComesTo}
+use Rattle.vte_core.proofs.Common.{◌≡◌, ℕ, zero, suc, ◌+◌, ◌-◌, ◌<◌, ◌≤◌, inl, inr, true, false, Option, List, [], ◌∷◌, ◌++◌, length, take, drop, refl, ap, sym, subst, ◌∙◌, append_assoc, arith, slice_index, cases_Bool, cases_lt, append-nil, drop_more, take-add, breaks, breaks_at, IsStart, reported_before, resumed_stream, Event, Print, replacement, after, added, open_character, ProgressAt, ProgressInside, MayGoOn, BytesLead, Place, InText, ChunkCall, InSystemCommand, IsAfter, IsSettledPlace, open_at, ComesTo}
 use Rattle.vte_core.proofs.streams.After.{after-left, after-nothing, after-open_character, after-reads, added-reads, added-nothing}
 use Rattle.vte_core.proofs.calls.States.{reads-item}
 use Rattle.vte_core.proofs.fields.PlaceOfState.{IsPlace, open_at-settled}
 use Rattle.vte_core.proofs.streams.Performing.{after_events-append}
-use Rattle.vte_core.proofs.shapes.Told.{breaks_at-all, breaks_at-settled, breaks_at-byte, no_start, starts-settled, starts-broken, resumed_stream-settled, resumed_stream-broken, told-all, told-settled, told-broken}
+use Rattle.vte_core.proofs.shapes.Reported.{breaks_at-all, breaks_at-settled, breaks_at-byte, no_start, starts-settled, starts-broken, resumed_stream-settled, resumed_stream-broken, reported-all, reported-settled, reported-broken}
 use Rattle.vte_core.proofs.bytes.EachLemmas.{one_byte}
 use Rattle.vte_core.proofs.stops.Units.{added_from, after_from, breaks_there, goes_on_from}
 
@@ -52,8 +52,8 @@ module _ (limit : Option ℕ) (stream bytes : List ℕ) (i j : ℕ) (further : i
       (after_from here stretch (breaks_at stream bytes i) stretch-breaks a)
 
   pub stretch-added : added limit stream (take j bytes)
-      ≡ told_before limit stream bytes i ++ added limit (resumed_stream stream bytes i) stretch
-  unfolding told_before resumed_stream
+      ≡ reported_before limit stream bytes i ++ added limit (resumed_stream stream bytes i) stretch
+  unfolding reported_before resumed_stream
   stretch-added =
       ap (added limit stream) (stretch-ends bytes i j further)
       ∙ added_from limit stream (take i bytes) stretch (breaks_at stream bytes i) stretch-breaks
@@ -61,11 +61,11 @@ module _ (limit : Option ℕ) (stream bytes : List ℕ) (i j : ℕ) (further : i
 module _ {V : Type 0} {call : ChunkCall V} {old : V} {stream : List ℕ} where
   -- ---- from inside to a place
 
-  -- no character is broken here: nothing is told more
+  -- no character is broken here: nothing is reported more
   come-whole : {value : V} {i : ℕ} {place : Place} → breaks_at stream call.bytes i ≡ false
       → ProgressInside call old value stream i place → ProgressAt call old value stream i place
   come-whole {i} whole c =
-      rw (told-settled call.limit stream call.bytes i whole, resumed_stream-settled stream call.bytes i whole) c
+      rw (reported-settled call.limit stream call.bytes i whole, resumed_stream-settled stream call.bytes i whole) c
 
   pub come-settled : {value : V} {i : ℕ} {place : Place} → IsPlace place → IsSettledPlace place
       → ProgressInside call old value stream i place → ProgressAt call old value stream i place
@@ -79,7 +79,7 @@ module _ {V : Type 0} {call : ChunkCall V} {old : V} {stream : List ℕ} where
       → ProgressInside call old value stream i place → ProgressAt call old value stream i place
   come-all {i} all c = come-whole (breaks_at-all stream call.bytes i all) c
 
-  -- U+FFFD is told for a character that the next byte breaks, and the parser stands as at first
+  -- U+FFFD is reported for a character that the next byte breaks, and the parser stands as at first
   pub come-broken : {value new : V} {i b : ℕ} {place : Place} → IsPlace place → i < length call.bytes
       → b ≡ slice_index call.bytes i → breaks (open_at place) (b ∷ []) ≡ true
       → new ≡ call.step value (Print replacement) → ProgressInside call old value stream i place
@@ -93,7 +93,7 @@ module _ {V : Type 0} {call : ChunkCall V} {old : V} {stream : List ℕ} where
             performed ∙ ap (λ v. call.step v (Print replacement)) c.performed
             ∙ sym (after_events-append call.step old (added call.limit stream (take i call.bytes))
             (Print replacement ∷ []))
-            ∙ ap (after call.step old) (sym (told-broken call.limit stream call.bytes i here));
+            ∙ ap (after call.step old) (sym (reported-broken call.limit stream call.bytes i here));
         is_after =
             subst (λ s. IsAfter call.limit s (InText [])) (sym (resumed_stream-broken stream call.bytes i here))
             after-nothing;
@@ -107,16 +107,16 @@ module _ {V : Type 0} {call : ChunkCall V} {old : V} {stream : List ℕ} where
   pub come-further : {value new : V} {i j : ℕ} {place next : Place} {these : List Event} → i < j → j ≤ length call.bytes
       → (call.may_stop ≡ true → IsStart stream call.bytes i → call.is_terminated value ≡ false)
       → (call.may_stop ≡ true → (k : ℕ) → i < k → k < j
-      → call.is_terminated (after call.step old (told_before call.limit stream call.bytes k)) ≡ false)
+      → call.is_terminated (after call.step old (reported_before call.limit stream call.bytes k)) ≡ false)
       → BytesLead call.limit place (take (j - i) (drop i call.bytes)) these next → new ≡ after call.step value these
       → IsPlace next → ProgressAt call old value stream i place → ProgressInside call old new stream j next
   come-further {value} {i} {j} {place} {next}
       {these} in_order within here inside r performed is_place c = record {
         performed =
             performed ∙ ap (λ v. after call.step v these) c.performed
-            ∙ sym (after_events-append call.step old (told_before call.limit stream call.bytes i) these)
+            ∙ sym (after_events-append call.step old (reported_before call.limit stream call.bytes i) these)
             ∙ ap (after call.step old) (sym (stretch-added call.limit stream call.bytes i j in_order
-            ∙ ap (λ (es : List Event). told_before call.limit stream call.bytes i ++ es)
+            ∙ ap (λ (es : List Event). reported_before call.limit stream call.bytes i ++ es)
             (added-reads c.is_after r is_place)));
         is_after =
             stretch-after call.limit stream call.bytes i j in_order next
@@ -128,7 +128,7 @@ module _ {V : Type 0} {call : ChunkCall V} {old : V} {stream : List ℕ} where
             | inr same ↦
                 let same : k ≡ i = omega (arith, from, same) in
                 subst (λ n. IsStart stream call.bytes n
-                → call.is_terminated (after call.step old (told_before call.limit stream call.bytes n)) ≡ false)
+                → call.is_terminated (after call.step old (reported_before call.limit stream call.bytes n)) ≡ false)
                 (sym same) (λ s. ap call.is_terminated (sym c.performed) ∙ here does s) start
           ]
         ];
@@ -197,7 +197,7 @@ module _ {V : Type 0} {call : ChunkCall V} {old : V} {stream : List ℕ} where
   come-back : {value : V} {i : ℕ} {place : Place} → breaks_at stream call.bytes i ≡ false
       → ProgressAt call old value stream i place → ProgressInside call old value stream i place
   come-back {i} whole c =
-      rw (told-settled call.limit stream call.bytes i whole, resumed_stream-settled stream call.bytes i whole) at c
+      rw (reported-settled call.limit stream call.bytes i whole, resumed_stream-settled stream call.bytes i whole) at c
 
   -- in a command no character was broken
   pub come-command : {value : V} {i : ℕ} {items : List ℕ} → ProgressAt call old value stream i (InSystemCommand items)
@@ -241,10 +241,10 @@ module _ {V : Type 0} {call : ChunkCall V} {old : V} {stream : List ℕ} where
         starts = starts;
         goes_on =
             ap (λ v. after call.step v (added call.limit (resumed_stream stream call.bytes n) unread)) c.performed
-            ∙ sym (after_events-append call.step old (told_before call.limit stream call.bytes n)
+            ∙ sym (after_events-append call.step old (reported_before call.limit stream call.bytes n)
             (added call.limit (resumed_stream stream call.bytes n) unread))
             ∙ ap (after call.step old)
-            (ap (λ x. told_before call.limit stream call.bytes n
+            (ap (λ x. reported_before call.limit stream call.bytes n
             ++ added call.limit (resumed_stream stream call.bytes n) x)
             (sym (append-nil unread)) ∙ sym (goes_on_from call.limit stream call.bytes [] n)
             ∙ ap (added call.limit stream) (append-nil call.bytes));
@@ -253,4 +253,4 @@ module _ {V : Type 0} {call : ChunkCall V} {old : V} {stream : List ℕ} where
   -- the public clause of a call that reads all bytes
   pub come-performs : {value : V} {n : ℕ} {place : Place} → n ≡ length call.bytes
       → ProgressAt call old value stream n place → value ≡ after call.step old (added call.limit stream call.bytes)
-  come-performs {n} all c = c.performed ∙ ap (after call.step old) (told-all call.limit stream call.bytes n all)
+  come-performs {n} all c = c.performed ∙ ap (after call.step old) (reported-all call.limit stream call.bytes n all)

@@ -45,5 +45,5 @@ unfolding class_of sequence_kind
 advances-bracket {call} {parser} begun within is may_go_on bracket state holds =
     advances-when tt (advances-in begun within is may_go_on (rw bracket refl)
     (takes-at_escape parser
-    (λ before. takes-byte {told = []} {next = InControlSequence []} refl (stands-by state (holds before))
+    (λ before. takes-byte {reported = []} {next = InControlSequence []} refl (stands-by state (holds before))
     (rw bracket (escape-key _ refl refl refl)))) (settled-by state tt))

@@ -1,6 +1,6 @@
 -- What a run of text does to a call's progress: its characters one by one do the same. By induction over the
 -- characters, and for the performer by its contract over the whole run.
-use Rattle.vte_core.proofs.Common.{cases_Bool, inl, inr, Bool, List, Option, [], ap, arith, drop, false, length, map, refl, subst, sym, take, true, ℕ, ◌++◌, ◌+◌, ◌-◌, ◌<◌, ◌∙◌, ◌∷◌, ◌≡◌, ◌≢◌, ◌≤◌, encode, false≢true, append-nil, take-append-drop, All-append, All-head, All-nil, All-tail, All, slice_index, breaks_at, resumed_stream, told_before, Event, Print, replacement, after, added, cut_at_escape, escape, with_bodies, events, ChunkCall, run_event, character_event, is_control_character, malformed_event, text_outcome, Text, Machine, Nothing, BytesLead, StandsAtPlace, InText, encodes, nat_tests, outcome_from, Advances, ProgressAt, MayGoOn, StandsAt, StandsInside, chars, IsUtf8, NoCharacterStops, IsUtf8Run, IsPrintedAscii, PrintsRun, StaysInRun, ends_run}
+use Rattle.vte_core.proofs.Common.{cases_Bool, inl, inr, Bool, List, Option, [], ap, arith, drop, false, length, map, refl, subst, sym, take, true, ℕ, ◌++◌, ◌+◌, ◌-◌, ◌<◌, ◌∙◌, ◌∷◌, ◌≡◌, ◌≢◌, ◌≤◌, encode, false≢true, append-nil, take-append-drop, All-append, All-head, All-nil, All-tail, All, slice_index, breaks_at, resumed_stream, reported_before, Event, Print, replacement, after, added, cut_at_escape, escape, with_bodies, events, ChunkCall, run_event, character_event, is_control_character, malformed_event, text_outcome, Text, Machine, Nothing, BytesLead, StandsAtPlace, InText, encodes, nat_tests, outcome_from, Advances, ProgressAt, MayGoOn, StandsAt, StandsInside, chars, IsUtf8, NoCharacterStops, IsUtf8Run, IsPrintedAscii, PrintsRun, StaysInRun, ends_run}
 use Rattle.std.proofs.lemmas.List.{take-take}
 use Rattle.std.proofs.lemmas.List.Elements.{All-from_get_or}
 use Rattle.std.proofs.lemmas.Str.{inside_one, encodes-chars, scalars-chars}
@@ -9,13 +9,13 @@ use Rattle.vte_core.proofs.bytes.Printable.{chars-one, layout-is_plain_control, 
 use Rattle.vte_core.proofs.dividing.Utf8Agrees.{cut-text, text_outcome-encodes}
 use Rattle.vte_core.proofs.calls.Progress.{come-further, stretch-added}
 use Rattle.vte_core.proofs.streams.After.{added-reads}
-use Rattle.vte_core.proofs.shapes.Told.{told-settled, told-broken}
+use Rattle.vte_core.proofs.shapes.Reported.{reported-settled, reported-broken}
 use Rattle.vte_core.proofs.stops.Units.{added-append}
 use Rattle.vte_core.proofs.calls.States.{place-settled_text}
 use Rattle.vte_core.proofs.calls.CallEnds.{settled-by, settles}
 use Rattle.vte_core.proofs.streams.Performing.{after_events-append}
-use Rattle.vte_core.proofs.shapes.OutcomeLemmas.{with_bodies-tell}
-use Rattle.vte_core.proofs.streams.StreamSteps.{told_by_stream}
+use Rattle.vte_core.proofs.shapes.OutcomeLemmas.{with_bodies-report}
+use Rattle.vte_core.proofs.streams.StreamSteps.{reported_by_stream}
 
 -- ---- what a text gives, and a run
 
@@ -29,13 +29,13 @@ reads-characters {limit} {text} is none = record {
       ∙ ap (λ x. with_bodies limit (text_outcome (x ++ cut.text)) cut.bodies) (sym (encodes-chars text is))
       ∙ ap (λ part. with_bodies limit part cut.bodies)
       (text_outcome-encodes (chars text) cut.text (scalars-chars text is))
-      ∙ with_bodies-tell limit (map character_event (chars text)) (text_outcome cut.text) cut.bodies;
+      ∙ with_bodies-report limit (map character_event (chars text)) (text_outcome cut.text) cut.bodies;
 }
 
-pub told_as_characters : (limit : Option ℕ) (text : List ℕ) → IsUtf8 text → All (λ b. b ≢ escape) text
+pub reported_as_characters : (limit : Option ℕ) (text : List ℕ) → IsUtf8 text → All (λ b. b ≢ escape) text
     → events limit text ≡ map character_event (chars text)
-told_as_characters limit text is none =
-    told_by_stream refl (reads-characters is none)
+reported_as_characters limit text is none =
+    reported_by_stream refl (reads-characters is none)
 
 plain-event : (layout : Bool) (c : ℕ) → StaysInRun layout c → character_event c ≡ run_event layout c
 unfolding character_event
@@ -107,18 +107,18 @@ module _ {V : Type 0} (layout : Bool) (call : ChunkCall V)
       (ap (λ event. call.is_terminated (call.step value event)) first ∙ never value c goes)
 
   -- the U+FFFD of a broken character stops it neither
-  not_stopped-told : (value : V) (stream : List ℕ) (k : ℕ)
+  not_stopped-reported : (value : V) (stream : List ℕ) (k : ℕ)
       → call.is_terminated (after call.step value (added call.limit stream (take k call.bytes))) ≡ false
-      → call.is_terminated (after call.step value (told_before call.limit stream call.bytes k)) ≡ false
-  not_stopped-told value stream k goes = elim (cases_Bool (breaks_at stream call.bytes k)) [
+      → call.is_terminated (after call.step value (reported_before call.limit stream call.bytes k)) ≡ false
+  not_stopped-reported value stream k goes = elim (cases_Bool (breaks_at stream call.bytes k)) [
     | inl broken ↦
         rw (
-          told-broken call.limit stream call.bytes k broken,
+          reported-broken call.limit stream call.bytes k broken,
           after_events-append call.step value (added call.limit stream (take k call.bytes)) (Print replacement ∷ []),
         )
         (rw (replacement-event layout) at
         (never (after call.step value (added call.limit stream (take k call.bytes))) replacement goes))
-    | inr whole ↦ rw (told-settled call.limit stream call.bytes k whole) goes
+    | inr whole ↦ rw (reported-settled call.limit stream call.bytes k whole) goes
   ]
 
 pub may_go_on-text : {V : Type 0} {layout : Bool} (call : ChunkCall V) {old new : V} {i j : ℕ}
@@ -130,7 +130,7 @@ may_go_on-text {layout} call {old} {i} {j} never may_go_on prints does =
     ∙ not_stopped layout call (never does) old (map (run_event layout) cs) [] cs
     (append-nil (map (run_event layout) cs)) (may_go_on does)
 
--- What is malformed in runs is told by U+FFFD, which is a character too.
+-- What is malformed in runs is reported by U+FFFD, which is a character too.
 pub may_go_on-malformed : {V : Type 0} (layout : Bool) (call : ChunkCall V) {old new : V} {b : ℕ}
     → (call.may_stop ≡ true → NoCharacterStops layout call.step call.is_terminated) → MayGoOn call old → 0xa0 ≤ b
     → new ≡ call.step old (malformed_event (b ∷ [])) → MayGoOn call new
@@ -159,7 +159,7 @@ advances-text {V} {call} {layout} {old} {new} {i} {j} {parser}
     -- after a front of the run that isn't empty
     inside : (value : V) (stream : List ℕ) → ProgressAt call value old stream i (InText []) → call.may_stop ≡ true
         → (k : ℕ) → i < k → k < j
-        → call.is_terminated (after call.step value (told_before call.limit stream call.bytes k)) ≡ false
+        → call.is_terminated (after call.step value (reported_before call.limit stream call.bytes k)) ≡ false
     inside value stream c does k past below =
         let from : List ℕ = resumed_stream stream call.bytes i in
         let front : List ℕ = take (k - i) (drop i call.bytes) in
@@ -172,10 +172,11 @@ advances-text {V} {call} {layout} {old} {new} {i} {j} {parser}
         sym (added-append call.limit from front rest) ∙ ap (added call.limit from) (sym parts)
         ∙ added-reads c.is_after
         (reads-text prints.run) refl in
-        not_stopped-told layout call (never does) value stream k
+        not_stopped-reported layout call (never does) value stream k
         (ap (λ es. call.is_terminated (after call.step value es)) (stretch-added call.limit stream call.bytes i k past)
         ∙ ap call.is_terminated
-        (after_events-append call.step value (told_before call.limit stream call.bytes i) (added call.limit from front)
+        (after_events-append call.step value (reported_before call.limit stream call.bytes i)
+        (added call.limit from front)
         ∙ ap (λ v. after call.step v (added call.limit from front)) (sym c.performed))
         ∙ not_stopped layout call (never does) old (added call.limit from front)
         (added call.limit (from ++ front) rest) (chars run) all (may_go_on does))

@@ -1,6 +1,6 @@
 -- The well-formed sequences are the encodings of characters, as the standard library has them: by the number of bytes,
 -- with division and remainder by 64 on both sides.
-use Rattle.vte_core.proofs.Common.{map, ◌≡◌, ℕ, ◌+◌, ◌-◌, ◌*◌, ◌/◌, ◌%◌, ◌<◌, ◌≤◌, true, List, [], ◌∷◌, ◌++◌, refl, sym, ap, ◌∙◌, arith, ◌≢◌, inl, inr, append_assoc, scalar, scalars, encode, encodes, scalar_cases, concat, IsScalar, InScalarRange, false≢true, and_parts, cases_lt, ne_eqb, nat_tests, All-head, All-tail, tell, cut_at_escape, escape, character_event, text_outcome, is_in, is_well_formed, scalar_of, segments, second_range, IsUtf8, chars}
+use Rattle.vte_core.proofs.Common.{map, ◌≡◌, ℕ, ◌+◌, ◌-◌, ◌*◌, ◌/◌, ◌%◌, ◌<◌, ◌≤◌, true, List, [], ◌∷◌, ◌++◌, refl, sym, ap, ◌∙◌, arith, ◌≢◌, inl, inr, append_assoc, scalar, scalars, encode, encodes, scalar_cases, concat, IsScalar, InScalarRange, false≢true, and_parts, cases_lt, ne_eqb, nat_tests, All-head, All-tail, report, cut_at_escape, escape, character_event, text_outcome, is_in, is_well_formed, scalar_of, segments, second_range, IsUtf8, chars}
 use Rattle.std.proofs.Common.{All}
 use Rattle.std.proofs.lemmas.Str.{encode_ascii, encode_same, encodes-chars, scalars-chars, IsUtf8-encode, IsUtf8-append, IsUtf8-nil}
 use Rattle.vte_core.proofs.dividing.DivisionLemmas.{all_divided}
@@ -8,7 +8,7 @@ use Rattle.vte_core.proofs.bytes.FirstBytes.{continuation, ascii-alone, tests-tw
 use Rattle.vte_core.proofs.bytes.Scalars.{IsContinuation, SecondByte, sequence, whole_one, whole_two, whole_three, whole_four, well_formed_is_scalar}
 use Rattle.vte_core.proofs.shapes.TextLemmas.{trailing_count-whole, segments-first, text_outcome-well_formed, not_well_formed-nothing}
 use Rattle.vte_core.proofs.bytes.Utf8Lemmas.{in_range}
-use Rattle.vte_core.proofs.shapes.OutcomeLemmas.{tell-append}
+use Rattle.vte_core.proofs.shapes.OutcomeLemmas.{report-append}
 
 -- ---- the encodings by their lengths
 
@@ -203,15 +203,15 @@ text_of_segments text are = rw (all_divided text) at (concat-well_formed (segmen
 -- ---- the events of a text of the library
 
 pub text_outcome-encodes : (cs rest : List ℕ) → scalars cs ≡ true
-    → text_outcome (encodes cs ++ rest) ≡ tell (map character_event cs) (text_outcome rest)
+    → text_outcome (encodes cs ++ rest) ≡ report (map character_event cs) (text_outcome rest)
 text_outcome-encodes [] rest are = refl
 text_outcome-encodes (c ∷ cs) rest are =
     let parts : (scalar c ≡ true) × (scalars cs ≡ true) = and_parts (scalar c) (scalars cs) are in
     ap text_outcome (append_assoc (encode c) (encodes cs) rest)
     ∙ text_outcome-well_formed (encode c) (encodes cs ++ rest) (encoded_is_well_formed c parts.0)
-    ∙ ap (λ n. tell (character_event n ∷ []) (text_outcome (encodes cs ++ rest))) (scalar_of-encoded c parts.0)
-    ∙ ap (tell (character_event c ∷ [])) (text_outcome-encodes cs rest parts.1)
-    ∙ sym (tell-append (character_event c ∷ []) (map character_event cs) (text_outcome rest))
+    ∙ ap (λ n. report (character_event n ∷ []) (text_outcome (encodes cs ++ rest))) (scalar_of-encoded c parts.0)
+    ∙ ap (report (character_event c ∷ [])) (text_outcome-encodes cs rest parts.1)
+    ∙ sym (report-append (character_event c ∷ []) (map character_event cs) (text_outcome rest))
 
 pub cut-text : (text more : List ℕ) → All (λ b. b ≢ escape) text
     → cut_at_escape (text ++ more)

@@ -68,7 +68,7 @@ text_outcome-open : (limit : Option ℕ) (u : List ℕ) → may_continue u ≡ t
 text_outcome-open limit [] o = text_outcome-nothing
 text_outcome-open limit (a ∷ u) o = rw append-nil (text_outcome-end (a ∷ u) o)
 
--- nothing more tells nothing, and leaves open what is open at the place
+-- nothing more reports nothing, and leaves open what is open at the place
 pub rest_outcome-nothing : (limit : Option ℕ) (place : Place) → IsPlace place
     → rest_outcome limit place [] ≡ leaves (left_at limit place)
 unfolding body_outcome executed_events escape_from control_sequence_from device_control_from device_data_outcome
@@ -83,7 +83,7 @@ unfolding outcome_from
 outcome_from-nothing limit place is = rest_outcome-nothing limit place is
 
 pub events_from-nothing : (limit : Option ℕ) (place : Place) → IsPlace place → events_from limit place [] ≡ []
-events_from-nothing limit place is = ap (λ outcome. outcome.told) (outcome_from-nothing limit place is)
+events_from-nothing limit place is = ap (λ outcome. outcome.reported) (outcome_from-nothing limit place is)
 
 pub open_bytes-at : (limit : Option ℕ) (place : Place) → open_bytes (left_at limit place) ≡ open_at place
 open_bytes-at limit (InText []) = refl

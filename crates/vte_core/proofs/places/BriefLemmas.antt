@@ -41,10 +41,10 @@ short_bounded limit (Print c) short = short
 short_bounded limit (Execute b) short = short
 short_bounded limit _ short = absurd short
 
-pub tiny_brief : (limit : Option ℕ) (told : List Event) → IsAtMostOneShort told → AreFromOneByte limit told
+pub tiny_brief : (limit : Option ℕ) (reported : List Event) → IsAtMostOneShort reported → AreFromOneByte limit reported
 tiny_brief limit [] tiny = tt
 tiny_brief limit (event ∷ []) tiny = short_bounded limit event tiny
-tiny_brief limit (event ∷ next ∷ told) tiny = absurd tiny
+tiny_brief limit (event ∷ next ∷ reported) tiny = absurd tiny
 
 pub tiny-both : (limit : Option ℕ) (front rest : List Event) → IsAtMostOneShort front → IsAtMostOneShort rest
     → AreFromOneByte limit (front ++ rest)

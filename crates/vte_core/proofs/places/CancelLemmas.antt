@@ -1,5 +1,5 @@
 -- CAN and SUB, which end what is open and are executed: what is closed comes first. By cases of the place.
-use Rattle.vte_core.proofs.Common.{◌≡◌, ℕ, ◌<◌, true, false, eqb, Option, List, [], ◌∷◌, ◌++◌, refl, ap, ◌∙◌, arith, nat_tests, Cancel, class_of, AreFromOneByte, Print, Execute, replacement, Leads, tell, Place, InText, InDeviceData, InSystemCommand, closing_events_at, left_at, bell, text_outcome, character_event, is_control_character, append-nil, body_outcome, control_sequence_end, device_data_outcome, device_control_after_head, executed_events}
+use Rattle.vte_core.proofs.Common.{◌≡◌, ℕ, ◌<◌, true, false, eqb, Option, List, [], ◌∷◌, ◌++◌, refl, ap, ◌∙◌, arith, nat_tests, Cancel, class_of, AreFromOneByte, Print, Execute, replacement, Leads, report, Place, InText, InDeviceData, InSystemCommand, closing_events_at, left_at, bell, text_outcome, character_event, is_control_character, append-nil, body_outcome, control_sequence_end, device_data_outcome, device_control_after_head, executed_events}
 use Rattle.vte_core.specs.IgnoredString.{ignored_string_outcome}
 use Rattle.vte_core.specs.machine.Place.{control_sequence_from, device_control_from, escape_from, system_command_from}
 use Rattle.vte_core.proofs.bytes.ClassLemmas.{spans}
@@ -17,7 +17,7 @@ unfolding class_of
 no_bell b e = grind (arith, nat_tests)
 
 text_outcome-cancel : (rest : List ℕ) (b : ℕ) → b < 0x20
-    → text_outcome (b ∷ rest) ≡ tell (Execute b ∷ []) (text_outcome rest)
+    → text_outcome (b ∷ rest) ≡ report (Execute b ∷ []) (text_outcome rest)
 unfolding character_event
 text_outcome-cancel rest b low =
     let control : is_control_character b ≡ true = grind (arith, nat_tests) in
@@ -34,7 +34,7 @@ byte-cancels {place = InText (a ∷ u)} {b} is e =
     let tests : Tests (a ∷ u ++ b ∷ []) false false = ascii-breaks (a ∷ u) b is (omega arith) in
     record {
       leads = λ rest. text_outcome-broken (a ∷ u) b is tests.is_whole tests.is_open rest
-          ∙ ap (tell (Print replacement ∷ [])) (text_outcome-cancel rest b low);
+          ∙ ap (report (Print replacement ∷ [])) (text_outcome-cancel rest b low);
     }
 byte-cancels {place = InSystemCommand items} {b} is e = record { leads = λ rest. simp (e, no_bell b e, append-nil) }
 byte-cancels is e = record { leads = λ rest. simp e }

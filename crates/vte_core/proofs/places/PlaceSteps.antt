@@ -2,7 +2,7 @@
 -- (`steps`): by cases of the place and of the byte's class, each by a lemma of `PlaceLeads`.
 use Rattle.vte_core.proofs.Common.{◌≡◌, ℕ, inl, inr, false, eqb, Option, List, refl, arith, cases_Bool, nat_tests, Class, Control, Cancel, Intermediate, Final, Delete, High, class_of, ends_body, SequenceKind, EscapeSequence, sequence_kind, AreFromOneByte, Event, head_of, is_well_shaped, sequence_event, Leads, Place, InText, AtEscape, InEscape, InControlSequence, InDeviceControl, InDeviceData, InSystemCommand, InIgnoredString, closing_events_at, escape, bell, pieces_of, kept_items, None, ◌≤◌, ◌+◌, open_data_count, left_at, breaks, open_at, sym, false≢true, ◌∙◌, [], ◌∷◌, ◌++◌, Execute}
 use Rattle.vte_core.proofs.bytes.FirstBytes.{Tests, ascii-breaks}
-use Rattle.vte_core.proofs.shapes.Told.{breaks-broken}
+use Rattle.vte_core.proofs.shapes.Reported.{breaks-broken}
 use Rattle.vte_core.specs.Class.{Escape}
 use Rattle.vte_core.proofs.places.BriefLemmas.{bounded-head, executed_low, two_at_most}
 use Rattle.vte_core.proofs.places.CancelLemmas.{byte-cancels, closing_brief, closing_alone_brief}
@@ -47,13 +47,14 @@ pub no_escape-class : (b : ℕ) {k : Class} → class_of b ≡ k → ends_body k
 no_escape-class b is no_end = no_escape b (rw is no_end)
 
 module _ {limit : Option ℕ} {place next : Place} {b : ℕ} where
-  step-sequenced_by : {told : List Event} → eqb b escape ≡ false → Sequenced place next → Leads limit place b told next
-      → ((size : Option ℕ) → FitsLeft size (left_at limit place) → AreFromOneByte size told)
-      → (IsOutsideRunsAt place b → AreOutsideRuns told) → Steps limit place b
-  step-sequenced_by {told} other known leads brief outside_runs =
+  step-sequenced_by : {reported : List Event} → eqb b escape ≡ false → Sequenced place next
+      → Leads limit place b reported next
+      → ((size : Option ℕ) → FitsLeft size (left_at limit place) → AreFromOneByte size reported)
+      → (IsOutsideRunsAt place b → AreOutsideRuns reported) → Steps limit place b
+  step-sequenced_by {reported} other known leads brief outside_runs =
       let none = nothing_open limit next known.1 in
       record {
-        told = told;
+        reported = reported;
         next = next;
         is_place = none.2;
         reads = reads-byte other leads;
@@ -65,13 +66,13 @@ module _ {limit : Option ℕ} {place next : Place} {b : ℕ} where
       }
 
   -- by the byte's class
-  step-sequenced : {told : List Event} {k : Class} → class_of b ≡ k → ends_body k ≡ false → Sequenced place next
-      → Leads limit place b told next
-      → ((size : Option ℕ) → FitsLeft size (left_at limit place) → AreFromOneByte size told)
-      → (IsOutsideRunsAt place b → AreOutsideRuns told) → Steps limit place b
+  step-sequenced : {reported : List Event} {k : Class} → class_of b ≡ k → ends_body k ≡ false → Sequenced place next
+      → Leads limit place b reported next
+      → ((size : Option ℕ) → FitsLeft size (left_at limit place) → AreFromOneByte size reported)
+      → (IsOutsideRunsAt place b → AreOutsideRuns reported) → Steps limit place b
   step-sequenced is no_end = step-sequenced_by (no_escape-class _ is no_end)
 
-  -- a byte that tells nothing
+  -- a byte that reports nothing
   step-silent : {k : Class} → class_of b ≡ k → ends_body k ≡ false → Sequenced place next → Leads limit place b [] next
       → Steps limit place b
   step-silent is no_end known leads = step-sequenced is no_end known leads (λ _ _. tt) (λ _. tt)
@@ -192,7 +193,7 @@ step-in_command : {limit : Option ℕ} {items later : List ℕ} {b : ℕ} → eq
     → (limit ≡ None → open_data_count (left_at limit (InSystemCommand later))
     ≤ open_data_count (left_at limit (InSystemCommand items)) + 1) → Steps limit (InSystemCommand items) b
 step-in_command {limit} {items} {later} {b} other leads grows = record {
-  told = [];
+  reported = [];
   next = InSystemCommand later;
   is_place = tt;
   reads = reads-byte other leads;
@@ -262,7 +263,7 @@ step-by_class : (limit : Option ℕ) (place : Place) (b : ℕ) (k : Class) → I
 step-by_class limit place b Escape placed is =
     let same : Spans Escape b = spans b is in
     rw same (record {
-      told = closing_events_at limit place;
+      reported = closing_events_at limit place;
       next = AtEscape;
       is_place = tt;
       reads = reads-escape placed;

@@ -1,6 +1,6 @@
 -- From a text or a body to the whole stream: what a byte does in its part, it does in the stream, since only ESC cuts.
-use Rattle.vte_core.proofs.Common.{◌≡◌, ℕ, false, eqb, Option, List, [], ◌∷◌, ◌++◌, refl, ap, sym, ◌∙◌, append_assoc, arith, nat_tests, Cancel, class_of, ends_body, Event, Leads, BytesLead, tell, events_before_escape, Place, InText, AtEscape, closing_events_at, rest_outcome, outcome_from, events_from, cut_at_escape, with_bodies, outcome, events, escape}
-use Rattle.vte_core.proofs.shapes.OutcomeLemmas.{tell-append, with_bodies-tell}
+use Rattle.vte_core.proofs.Common.{◌≡◌, ℕ, false, eqb, Option, List, [], ◌∷◌, ◌++◌, refl, ap, sym, ◌∙◌, append_assoc, arith, nat_tests, Cancel, class_of, ends_body, Event, Leads, BytesLead, report, events_before_escape, Place, InText, AtEscape, closing_events_at, rest_outcome, outcome_from, events_from, cut_at_escape, with_bodies, outcome, events, escape}
+use Rattle.vte_core.proofs.shapes.OutcomeLemmas.{report-append, with_bodies-report}
 use Rattle.vte_core.proofs.fields.PlaceOfState.{IsPlace, rest_outcome-nothing}
 
 -- a stream is what more bytes give after nothing
@@ -12,7 +12,7 @@ outcome-after_nothing limit stream = refl
 pub events-after_nothing : (limit : Option ℕ) (stream : List ℕ)
     → events limit stream ≡ events_from limit (InText []) stream
 unfolding events
-events-after_nothing limit stream = ap (λ outcome. outcome.told) (outcome-after_nothing limit stream)
+events-after_nothing limit stream = ap (λ outcome. outcome.reported) (outcome-after_nothing limit stream)
 
 outcome_from-byte : (limit : Option ℕ) (place : Place) (b : ℕ) (more : List ℕ) → eqb b escape ≡ false
     → outcome_from limit place (b ∷ more)
@@ -21,35 +21,36 @@ unfolding outcome_from
 outcome_from-byte limit place b more e = simp e
 
 -- what a byte does in a text or a body, it does in the stream
-pub reads-byte : {limit : Option ℕ} {place next : Place} {b : ℕ} {told : List Event} → eqb b escape ≡ false
-    → Leads limit place b told next → BytesLead limit place (b ∷ []) told next
+pub reads-byte : {limit : Option ℕ} {place next : Place} {b : ℕ} {reported : List Event} → eqb b escape ≡ false
+    → Leads limit place b reported next → BytesLead limit place (b ∷ []) reported next
 unfolding outcome_from
-reads-byte {limit} {place} {next} {b} {told} e l = record {
+reads-byte {limit} {place} {next} {b} {reported} e l = record {
   reads = λ more.
       let cut = cut_at_escape more in
       outcome_from-byte limit place b more e
       ∙ ap (λ part. with_bodies limit part cut.bodies) (l.leads cut.text)
-      ∙ with_bodies-tell limit told (rest_outcome limit next cut.text) cut.bodies;
+      ∙ with_bodies-report limit reported (rest_outcome limit next cut.text) cut.bodies;
 }
 
 -- the same where the byte is still to be read
-pub waits-byte : (limit : Option ℕ) (place next : Place) (b : ℕ) (told : List Event) (more : List ℕ)
+pub waits-byte : (limit : Option ℕ) (place next : Place) (b : ℕ) (reported : List Event) (more : List ℕ)
     → eqb b escape ≡ false
-    → ((rest : List ℕ) → rest_outcome limit place (b ∷ rest) ≡ tell told (rest_outcome limit next (b ∷ rest)))
-    → outcome_from limit place (b ∷ more) ≡ tell told (outcome_from limit next (b ∷ more))
-waits-byte limit place next b told more e l =
+    → ((rest : List ℕ) → rest_outcome limit place (b ∷ rest) ≡ report reported (rest_outcome limit next (b ∷ rest)))
+    → outcome_from limit place (b ∷ more) ≡ report reported (outcome_from limit next (b ∷ more))
+waits-byte limit place next b reported more e l =
     let cut = cut_at_escape more in
     outcome_from-byte limit place b more e
     ∙ ap (λ part. with_bodies limit part cut.bodies) (l cut.text)
-    ∙ with_bodies-tell limit told (rest_outcome limit next (b ∷ cut.text)) cut.bodies
-    ∙ ap (tell told) (sym (outcome_from-byte limit next b more e))
+    ∙ with_bodies-report limit reported (rest_outcome limit next (b ∷ cut.text)) cut.bodies
+    ∙ ap (report reported) (sym (outcome_from-byte limit next b more e))
 
 -- ESC closes what stands before it
 pub outcome_from-escape : (limit : Option ℕ) (place : Place) (more : List ℕ) → IsPlace place
-    → outcome_from limit place (escape ∷ more) ≡ tell (closing_events_at limit place) (outcome_from limit AtEscape more)
+    → outcome_from limit place (escape ∷ more)
+    ≡ report (closing_events_at limit place) (outcome_from limit AtEscape more)
 unfolding outcome_from
 outcome_from-escape limit place more is =
-    ap (λ part. tell (events_before_escape part) (outcome_from limit AtEscape more))
+    ap (λ part. report (events_before_escape part) (outcome_from limit AtEscape more))
     (rest_outcome-nothing limit place is)
 
 pub reads-escape : {limit : Option ℕ} {place : Place} → IsPlace place
@@ -59,15 +60,16 @@ reads-escape {limit} {place} is = record { reads = λ more. outcome_from-escape 
 pub reads-nothing : {limit : Option ℕ} {place : Place} → BytesLead limit place [] [] place
 reads-nothing = record { reads = λ more. refl }
 
-pub reads-append : {limit : Option ℕ} {place next last : Place} {bytes these : List ℕ} {told more_told : List Event}
-    → BytesLead limit place bytes told next → BytesLead limit next these more_told last
-    → BytesLead limit place (bytes ++ these) (told ++ more_told) last
-reads-append {limit} {place} {last} {bytes} {these} {told} {more_told} r s = record {
+pub reads-append : {limit : Option ℕ} {place next last : Place} {bytes these : List ℕ}
+    {reported more_reported : List Event} → BytesLead limit place bytes reported next
+    → BytesLead limit next these more_reported last
+    → BytesLead limit place (bytes ++ these) (reported ++ more_reported) last
+reads-append {limit} {place} {last} {bytes} {these} {reported} {more_reported} r s = record {
   reads = λ more.
       ap (outcome_from limit place) (append_assoc bytes these more)
       ∙ r.reads (these ++ more)
-      ∙ ap (tell told) (s.reads more)
-      ∙ sym (tell-append told more_told (outcome_from limit last more));
+      ∙ ap (report reported) (s.reads more)
+      ∙ sym (report-append reported more_reported (outcome_from limit last more));
 }
 
 pub no_escape : (b : ℕ) → ends_body (class_of b) ≡ false → eqb b escape ≡ false

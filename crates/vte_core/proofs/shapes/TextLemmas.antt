@@ -1,6 +1,6 @@
 -- The division of a text, and what it gives, from the front: a well-formed sequence, a maximal subpart or a byte comes
 -- off, and the rest is divided as a text of its own.
-use Rattle.vte_core.proofs.Common.{◌≡◌, ℕ, ◌≤◌, true, false, List, [], ◌∷◌, ◌++◌, length, refl, sym, ap, subst, ◌∙◌, arith, take-append_seam, false≢true, nat_tests, Event, Print, replacement, NothingToClose, CharacterToClose, leaves, tell, utf8_rows, rows_after_byte, rows_after_bytes, is_well_formed, is_truncated, trailing_count, segments_after, segments, scalar_of, is_control_character, character_event, malformed_event, segment_event, segments_outcome, text_outcome}
+use Rattle.vte_core.proofs.Common.{◌≡◌, ℕ, ◌≤◌, true, false, List, [], ◌∷◌, ◌++◌, length, refl, sym, ap, subst, ◌∙◌, arith, take-append_seam, false≢true, nat_tests, Event, Print, replacement, NothingToClose, CharacterToClose, leaves, report, utf8_rows, rows_after_byte, rows_after_bytes, is_well_formed, is_truncated, trailing_count, segments_after, segments, scalar_of, is_control_character, character_event, malformed_event, segment_event, segments_outcome, text_outcome}
 use Rattle.std.proofs.Common.{append-nil}
 use Rattle.vte_core.proofs.bytes.Utf8Lemmas.{AtMostOne-first, AtMostOne-rows_after_bytes, rows_after_bytes-append, whole_not_open, open_not_whole, neither_whole_nor_open, allowed_length-none, allowed_length-whole, allowed_length-broken, allowed_length-end}
 use Rattle.vte_core.proofs.bytes.FirstBytes.{truncated-first}
@@ -59,7 +59,7 @@ segments-first a u x far = rw (far, take-append_seam u x, segments_after-length 
 
 -- a whole segment comes first
 segments_outcome-first : (segment : List ℕ) (more : List (List ℕ)) → is_truncated segment ≡ false
-    → segments_outcome (segment ∷ more) ≡ tell (segment_event segment ∷ []) (segments_outcome more)
+    → segments_outcome (segment ∷ more) ≡ report (segment_event segment ∷ []) (segments_outcome more)
 segments_outcome-first segment [] whole = rw whole refl
 segments_outcome-first segment (next ∷ more) whole = refl
 
@@ -79,7 +79,7 @@ segment_event-truncated u more = rw (truncated_not_well_formed u more) (malforme
 -- ---- what a text gives, from the front
 
 text_outcome-first : (a : ℕ) (u x : List ℕ) → trailing_count a (u ++ x) ≡ length u → is_truncated (a ∷ u) ≡ false
-    → text_outcome (a ∷ u ++ x) ≡ tell (segment_event (a ∷ u) ∷ []) (text_outcome x)
+    → text_outcome (a ∷ u ++ x) ≡ report (segment_event (a ∷ u) ∷ []) (text_outcome x)
 unfolding text_outcome
 text_outcome-first a u x far whole =
     ap segments_outcome (segments-first a u x far) ∙ segments_outcome-first (a ∷ u) (segments x) whole
@@ -89,7 +89,7 @@ unfolding is_well_formed utf8_rows
 not_well_formed-nothing = refl
 
 pub text_outcome-well_formed : (p x : List ℕ) → is_well_formed p ≡ true
-    → text_outcome (p ++ x) ≡ tell (character_event (scalar_of p) ∷ []) (text_outcome x)
+    → text_outcome (p ++ x) ≡ report (character_event (scalar_of p) ∷ []) (text_outcome x)
 unfolding segment_event
 text_outcome-well_formed [] x whole = absurd (false≢true (sym not_well_formed-nothing ∙ whole))
 text_outcome-well_formed (a ∷ u) x whole =
@@ -99,16 +99,16 @@ text_outcome-well_formed (a ∷ u) x whole =
 -- the byte that breaks a character begins anew
 pub text_outcome-broken : (u : List ℕ) (b : ℕ) → is_truncated u ≡ true → is_well_formed (u ++ b ∷ []) ≡ false
     → is_truncated (u ++ b ∷ []) ≡ false
-    → (x : List ℕ) → text_outcome (u ++ b ∷ x) ≡ tell (Print replacement ∷ []) (text_outcome (b ∷ x))
+    → (x : List ℕ) → text_outcome (u ++ b ∷ x) ≡ report (Print replacement ∷ []) (text_outcome (b ∷ x))
 unfolding text_outcome is_truncated
 text_outcome-broken [] b more _ _ x = cc
 text_outcome-broken (a ∷ u) b more whole more_after x =
     ap segments_outcome
     (segments-first a u (b ∷ x) (trailing_count-broken a u b x more whole more_after))
-    ∙ ap (λ (event : Event). tell (event ∷ []) (text_outcome (b ∷ x))) (segment_event-truncated (a ∷ u) more)
+    ∙ ap (λ (event : Event). report (event ∷ []) (text_outcome (b ∷ x))) (segment_event-truncated (a ∷ u) more)
 
 pub text_outcome-lone : (x : List ℕ) (b : ℕ) → is_well_formed (b ∷ []) ≡ false → is_truncated (b ∷ []) ≡ false
-    → text_outcome (b ∷ x) ≡ tell (malformed_event (b ∷ []) ∷ []) (text_outcome x)
+    → text_outcome (b ∷ x) ≡ report (malformed_event (b ∷ []) ∷ []) (text_outcome x)
 unfolding segment_event
 text_outcome-lone x b whole more = text_outcome-first b [] x (trailing_count-lone b x whole more) more ∙ rw whole refl
 

@@ -6,7 +6,7 @@ use Rattle.vte_core.proofs.places.PlaceLeads.{control-dispatched, control-head, 
 use Rattle.vte_core.proofs.shapes.HeadLemmas.{held-parts, held-well_shaped}
 use Rattle.vte_core.proofs.showing.ShownGroups.{groups_of-shown, has_too_many_numbers-shown, parameters-shown}
 use Rattle.vte_core.proofs.places.StreamLemmas.{no_escape, reads-append, reads-byte, reads-escape, reads-nothing}
-use Rattle.vte_core.proofs.streams.StreamSteps.{told_by_stream}
+use Rattle.vte_core.proofs.streams.StreamSteps.{reported_by_stream}
 
 reads-head : (limit : Option ℕ) (head bytes : List ℕ) → AreInClass is_parameter_text bytes
     → BytesLead limit (InControlSequence head) bytes [] (InControlSequence (head ++ bytes))
@@ -43,5 +43,5 @@ unfolding sequence_event
 shown_dispatched limit groups ok =
     let are = parameters-shown groups ok in
     let parts = rw append-nil at (held-parts [] (shown groups) [] tt are tt) in
-    told_by_stream refl (reads-shown limit (shown groups) are)
+    reported_by_stream refl (reads-shown limit (shown groups) are)
     ∙ rw (parts, groups_of-shown groups ok, has_too_many_numbers-shown groups ok) refl

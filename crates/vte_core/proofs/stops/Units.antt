@@ -1,34 +1,34 @@
--- What is told before a position, and what goes on from there, is what the whole gives (`goes_on_from`); from one
--- position to the next at most one unit is told. By what a byte does to an open character.
-use Rattle.vte_core.proofs.Common.{◌≡◌, ℕ, zero, suc, add-one, ◌+◌, ◌<◌, ◌≤◌, ◌⊎◌, inl, inr, Bool, true, false, if◌then◌else◌, Option, None, List, [], ◌∷◌, ◌++◌, length, take, drop, get_or, refl, ap, sym, subst, ◌∙◌, append_assoc, arith, drop-append_seam, cases_Bool, false≢true, append-nil, take_more, take-append-drop, AreFromOneByte, IsAtMostOneShort, breaks, breaks_at, told_before, resumed_stream, Event, Print, replacement, added, events, open_character, open_at, Place, IsAfter, IsStart}
-use Rattle.vte_core.specs.EarlyStopLaws.{GoesOnFromPositions, AreToldAtStart, TellsUnits}
+-- What is reported before a position, and what goes on from there, is what the whole gives (`goes_on_from`); from one
+-- position to the next at most one unit is reported. By what a byte does to an open character.
+use Rattle.vte_core.proofs.Common.{◌≡◌, ℕ, zero, suc, add-one, ◌+◌, ◌<◌, ◌≤◌, ◌⊎◌, inl, inr, Bool, true, false, if◌then◌else◌, Option, None, List, [], ◌∷◌, ◌++◌, length, take, drop, get_or, refl, ap, sym, subst, ◌∙◌, append_assoc, arith, drop-append_seam, cases_Bool, false≢true, append-nil, take_more, take-append-drop, AreFromOneByte, IsAtMostOneShort, breaks, breaks_at, reported_before, resumed_stream, Event, Print, replacement, added, events, open_character, open_at, Place, IsAfter, IsStart}
+use Rattle.vte_core.specs.EarlyStopLaws.{GoesOnFromPositions, AreReportedAtStart, ReportsUnits}
 use Rattle.vte_core.proofs.streams.After.{added-nothing, after-open_character}
 use Rattle.vte_core.proofs.places.BriefLemmas.{tiny-both}
 use Rattle.vte_core.proofs.places.TextSteps.{text_at}
 use Rattle.vte_core.proofs.streams.Resuming.{added-broken, resumes-after}
-use Rattle.vte_core.proofs.shapes.Told.{breaks_at-byte, breaks_at-settled, starts-settled, starts-broken}
+use Rattle.vte_core.proofs.shapes.Reported.{breaks_at-byte, breaks_at-settled, starts-settled, starts-broken}
 use Rattle.vte_core.proofs.streams.StreamSteps.{added-byte, LeadsTo, leads_to, events_grow, bytes_are_brief, opens_silently}
 
 -- ---- a byte that belongs to an open character
 
--- it tells at most a short event, and nothing if it leaves the character open
-abbrev TellsLittle : Option ℕ → List ℕ → ℕ → Type 0
-TellsLittle limit stream b =
+-- it reports at most a short event, and nothing if it leaves the character open
+abbrev ReportsLittle : Option ℕ → List ℕ → ℕ → Type 0
+ReportsLittle limit stream b =
     IsAtMostOneShort (added limit stream (b ∷ []))
     × ((open_character (stream ++ b ∷ []) ≡ []) ⊎ (added limit stream (b ∷ []) ≡ []))
 
-tells_little : (limit : Option ℕ) (stream : List ℕ) (b : ℕ) → (open_character stream ≡ [] → ⊥)
-    → breaks (open_character stream) (b ∷ []) ≡ false → TellsLittle limit stream b
-tells_little limit stream b some unbroken =
+reports_little : (limit : Option ℕ) (stream : List ℕ) (b : ℕ) → (open_character stream ≡ [] → ⊥)
+    → breaks (open_character stream) (b ∷ []) ≡ false → ReportsLittle limit stream b
+reports_little limit stream b some unbroken =
     let a = added-byte limit stream b in
     let breaks_none : breaks (open_at a.place) (b ∷ []) ≡ false =
     ap (λ u. breaks u (b ∷ [])) (sym a.begun) ∙ unbroken in
     elim (a.step.little (text_at a.place (λ none. some (a.begun ∙ none))) breaks_none) [
-      | inl nothing ↦ (rw (a.told ∙ nothing) tt, inr (a.told ∙ nothing))
-      | inr last ↦ (rw a.told last.1, inl (a.ends ∙ last.0))
+      | inl nothing ↦ (rw (a.reported ∙ nothing) tt, inr (a.reported ∙ nothing))
+      | inr last ↦ (rw a.reported last.1, inl (a.ends ∙ last.0))
     ]
 
--- ---- what is told from one position to the next
+-- ---- what is reported from one position to the next
 
 pub added-append : (limit : Option ℕ) (stream front rest : List ℕ)
     → added limit stream (front ++ rest) ≡ added limit stream front ++ added limit (stream ++ front) rest
@@ -39,7 +39,7 @@ added-append limit stream front rest =
     sym (events_grow limit stream (front ++ rest))
     ∙ ap (events limit) (sym (append_assoc stream front rest))
     ∙ events_grow limit (stream ++ front) rest
-    ∙ ap (λ (told : List Event). told ++ added limit (stream ++ front) rest) (events_grow limit stream front)
+    ∙ ap (λ (reported : List Event). reported ++ added limit (stream ++ front) rest) (events_grow limit stream front)
     ∙ append_assoc es (added limit stream front) (added limit (stream ++ front) rest) in
     sym (drop-append_seam es (added limit stream (front ++ rest))) ∙ ap (drop (length es)) all
     ∙ drop-append_seam es (added limit stream front ++ added limit (stream ++ front) rest)
@@ -82,13 +82,13 @@ record Added (limit : Option ℕ) (stream bytes : List ℕ) (i : ℕ) : Type 0 w
   parts : added limit stream (take i bytes) ≡ before ++ unit
   brief : AreFromOneByte limit unit
   tiny : (open_character (stream ++ take i bytes) ≡ [] → ⊥) → IsAtMostOneShort unit
-  begun : (before ≡ []) ⊎ AreToldAtStart limit stream bytes i before
+  begun : (before ≡ []) ⊎ AreReportedAtStart limit stream bytes i before
 
 tiny-opens : (limit : Option ℕ) (s : List ℕ) (b : ℕ) → (open_character (s ++ b ∷ []) ≡ [] → ⊥)
     → IsAtMostOneShort (added limit s (b ∷ []))
 tiny-opens limit s b some = elim (opens_silently limit s b) [
   | inl none ↦ absurd (some none)
-  | inr told ↦ elim told [
+  | inr reported ↦ elim reported [
     | inl nothing ↦ subst IsAtMostOneShort (sym nothing) tt
     | inr once ↦ subst IsAtMostOneShort (sym once) tiny-replacement
   ]
@@ -119,13 +119,13 @@ module _ (limit : Option ℕ) (stream bytes : List ℕ) (i : ℕ) (within : i < 
 
   -- the position is a start
   from_start : IsStart stream bytes i → Added limit stream bytes (i + 1)
-  unfolding told_before resumed_stream
+  unfolding reported_before resumed_stream
   from_start starts =
       let from : List ℕ = resumed_stream stream bytes i in
       let is : breaks_at stream bytes i ≡ true
       → breaks (open_character here) (b ∷ []) ≡ true = λ e. sym breaks_here ∙ e in
       record {
-        before = told_before limit stream bytes i;
+        before = reported_before limit stream bytes i;
         unit = added limit from (b ∷ []);
         parts =
             ap (added limit stream) one ∙ added_from limit stream (take i bytes) (b ∷ []) (breaks_at stream bytes i) is;
@@ -141,7 +141,7 @@ module _ (limit : Option ℕ) (stream bytes : List ℕ) (i : ℕ) (within : i < 
       → breaks (open_character here) (b ∷ []) ≡ false
       → Added limit stream bytes (i + 1)
   from_carried a some unbroken =
-      let little = tells_little limit here b some unbroken in
+      let little = reports_little limit here b some unbroken in
       let last : List Event = added limit here (b ∷ []) in
       record {
         before = a.before;
@@ -190,9 +190,9 @@ added_to limit stream bytes (suc i) within =
     added_further limit stream bytes i (omega arith) (added_to limit stream bytes i (omega arith)) in
     rw add-one at b
 
-pub tells_units : (limit : Option ℕ) → TellsUnits limit
-unfolding told_before
-tells_units limit stream bytes i within = record {
+pub reports_units : (limit : Option ℕ) → ReportsUnits limit
+unfolding reported_before
+reports_units limit stream bytes i within = record {
   before = a.before;
   unit = a.unit ++ (if breaks_at stream bytes i then Print replacement ∷ [] else []);
   parts =
@@ -226,7 +226,7 @@ breaks-more (a ∷ u) [] more is = cc
 breaks-more (a ∷ u) (b ∷ unread) more is = is
 
 pub goes_on_from : (limit : Option ℕ) → GoesOnFromPositions limit
-unfolding told_before resumed_stream
+unfolding reported_before resumed_stream
 goes_on_from limit stream bytes more n =
     ap (λ (v : List ℕ). added limit stream (v ++ more)) (sym (take-append-drop n bytes))
     ∙ ap (added limit stream) (append_assoc (take n bytes) (drop n bytes) more)

@@ -2,10 +2,10 @@
 -- do after the bytes that lead from the place to another, whose events are added.
 --
 -- `added-X` says what `added` is in the case X, and `after-X` what `IsAfter` says of X.
-use Rattle.vte_core.proofs.Common.{◌≡◌, ℕ, Option, List, [], ◌++◌, length, drop, refl, ap, sym, ◌∙◌, append_assoc, append-nil, arith, drop_all, drop-append_seam, Machine, StandsAtPlace, HasReadWithLimit, Event, tell, open_bytes, added, events, outcome, open_character, Place, InText, IsAfter, open_at, left_at, outcome_from, events_from, BytesLead}
+use Rattle.vte_core.proofs.Common.{◌≡◌, ℕ, Option, List, [], ◌++◌, length, drop, refl, ap, sym, ◌∙◌, append_assoc, append-nil, arith, drop_all, drop-append_seam, Machine, StandsAtPlace, HasReadWithLimit, Event, report, open_bytes, added, events, outcome, open_character, Place, InText, IsAfter, open_at, left_at, outcome_from, events_from, BytesLead}
 use Rattle.vte_core.proofs.fields.PlaceOfState.{IsPlace, outcome_from-nothing, events_from-nothing, open_bytes-at}
 use Rattle.vte_core.proofs.streams.Performing.{events-empty}
-use Rattle.vte_core.proofs.shapes.OutcomeLemmas.{tell-append}
+use Rattle.vte_core.proofs.shapes.OutcomeLemmas.{report-append}
 use Rattle.vte_core.proofs.streams.OpenEnds.{open_bytes-any}
 use Rattle.vte_core.proofs.places.StreamLemmas.{outcome-after_nothing}
 
@@ -14,20 +14,20 @@ added-nothing limit stream =
     ap (λ s. drop (length (events limit stream)) (events limit s)) (append-nil stream)
     ∙ drop_all (length (events limit stream)) (events limit stream) (omega arith)
 
-pub events-told : (limit : Option ℕ) (stream : List ℕ) → events limit stream ≡ (outcome limit stream).told
+pub events-reported : (limit : Option ℕ) (stream : List ℕ) → events limit stream ≡ (outcome limit stream).reported
 unfolding events
-events-told limit stream = refl
+events-reported limit stream = refl
 
 pub after-nothing : {limit : Option ℕ} → IsAfter limit [] (InText [])
 after-nothing {limit} = record {
   goes_on =
       λ more. outcome-after_nothing limit more
-      ∙ ap (λ es. tell es (outcome_from limit (InText []) more)) (sym (events-empty limit));
+      ∙ ap (λ es. report es (outcome_from limit (InText []) more)) (sym (events-empty limit));
 }
 
 pub after-events : {limit : Option ℕ} {stream : List ℕ} (more : List ℕ) {place : Place} → IsAfter limit stream place
     → events limit (stream ++ more) ≡ events limit stream ++ events_from limit place more
-after-events {limit} {stream} more a = events-told limit (stream ++ more) ∙ ap (λ o. o.told) (a.goes_on more)
+after-events {limit} {stream} more a = events-reported limit (stream ++ more) ∙ ap (λ o. o.reported) (a.goes_on more)
 
 -- what the stream leaves open is open at the place
 pub after-left : {limit : Option ℕ} {stream : List ℕ} {place : Place} → IsAfter limit stream place → IsPlace place
@@ -47,23 +47,23 @@ pub after-reads : {limit : Option ℕ} {stream bytes : List ℕ} {place next : P
     → IsAfter limit stream place → BytesLead limit place bytes these next → IsPlace next
     → IsAfter limit (stream ++ bytes) next
 after-reads {limit} {stream} {bytes} {next} {these} a r is = record {
-  goes_on = λ more. go more ∙ ap (λ es. tell es (outcome_from limit next more)) (sym all);
+  goes_on = λ more. go more ∙ ap (λ es. report es (outcome_from limit next more)) (sym all);
 }
   where
     go : (more : List ℕ)
         → outcome limit ((stream ++ bytes) ++ more)
-        ≡ tell (events limit stream ++ these) (outcome_from limit next more)
+        ≡ report (events limit stream ++ these) (outcome_from limit next more)
     go more =
         ap (outcome limit) (append_assoc stream bytes more)
         ∙ a.goes_on (bytes ++ more)
-        ∙ ap (tell (events limit stream)) (r.reads more)
-        ∙ sym (tell-append (events limit stream) these (outcome_from limit next more))
+        ∙ ap (report (events limit stream)) (r.reads more)
+        ∙ sym (report-append (events limit stream) these (outcome_from limit next more))
 
     all : events limit (stream ++ bytes) ≡ events limit stream ++ these
     all =
         ap (events limit) (sym (append-nil (stream ++ bytes)))
-        ∙ events-told limit ((stream ++ bytes) ++ [])
-        ∙ ap (λ o. o.told) (go [])
+        ∙ events-reported limit ((stream ++ bytes) ++ [])
+        ∙ ap (λ o. o.reported) (go [])
         ∙ ap (λ es. (events limit stream ++ these) ++ es) (events_from-nothing limit next is)
         ∙ append-nil (events limit stream ++ these)
 
@@ -74,13 +74,13 @@ added-after {limit} {stream} bytes {place} a =
     ap (drop (length (events limit stream))) (after-events bytes a)
     ∙ drop-append_seam (events limit stream) (events_from limit place bytes)
 
--- what bytes that lead to a place add is what they tell
+-- what bytes that lead to a place add is what they report
 pub added-reads : {limit : Option ℕ} {stream bytes : List ℕ} {place next : Place} {these : List Event}
     → IsAfter limit stream place → BytesLead limit place bytes these next → IsPlace next
     → added limit stream bytes ≡ these
 added-reads {limit} {bytes} {place} {next} {these} a r is =
     added-after bytes a
-    ∙ ap (events_from limit place) (sym (append-nil bytes)) ∙ ap (λ o. o.told) (r.reads [])
+    ∙ ap (events_from limit place) (sym (append-nil bytes)) ∙ ap (λ o. o.reported) (r.reads [])
     ∙ ap (λ es. these ++ es) (events_from-nothing limit next is) ∙ append-nil these
 
 -- a parser between characters of a text has read nothing

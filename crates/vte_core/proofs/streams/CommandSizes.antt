@@ -16,6 +16,6 @@ counts_data stream bytes =
     let before = ap open_data_count (after-left a.is_after a.is_place) in
     let later = ap open_data_count (after-left (after-reads a.is_after c.reads c.is_place) c.is_place) in
     record {
-      told = rw (before, added-reads a.is_after c.reads c.is_place) c.bounded;
+      reported = rw (before, added-reads a.is_after c.reads c.is_place) c.bounded;
       left = omega (arith, before, later, c.grows refl);
     }

@@ -1,4 +1,4 @@
--- Events that no run tells: a control, and a character of two bytes or more only where its event is no printed one.
+-- Events that no run reports: a control, and a character of two bytes or more only where its event is no printed one.
 -- Such a character is never ASCII.
 use Rattle.vte_core.proofs.Common.{◌≡◌, ◌≢◌, ℕ, ◌<◌, ◌≤◌, true, inl, inr, List, [], ◌∷◌, ◌++◌, length, length-append, refl, ap, sym, ◌∙◌, arith, cases_Bool, cases_lt, nat_tests, Event, Print, Execute, Put, character_event, is_control_character, is_well_formed, scalar_of, IsOutsideRuns, PrintsNoAscii, All, All-cons, All-nil, All-weaker}
 use Rattle.std.proofs.lemmas.Str.{length-encode}

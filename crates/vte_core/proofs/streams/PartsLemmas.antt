@@ -5,7 +5,7 @@ use Rattle.std.specs.List.{position_or_len}
 use Rattle.vte_core.specs.Parts.{AreCuts, EndsWithEscape, GiveEvents, next_escape, parts_after, parts_at, parts_from, parts_of}
 use Rattle.vte_core.proofs.Common.{◌≡◌, ℕ, ◌+◌, ◌-◌, ◌<◌, zero, suc, min, inl, inr, true, Option, List, [], ◌∷◌, ◌++◌, arith, length, length-drop, Bool, false, take, drop, refl, ap, sym, ◌∙◌, append-nil, cases_Bool, cases_lt, drop_all, drop-drop, drop_more, eqb-true, flat_map, get_or-drop, slice_index, slice_range, take_all, take_more, take_rest, take-append-drop, outcome, events, escape}
 use Rattle.vte_core.specs.Outcome.{closing_events}
-use Rattle.vte_core.proofs.streams.After.{added-reads, after-left, events-told}
+use Rattle.vte_core.proofs.streams.After.{added-reads, after-left, events-reported}
 use Rattle.vte_core.proofs.streams.Performing.{events-empty}
 use Rattle.vte_core.proofs.places.StreamLemmas.{reads-escape}
 use Rattle.vte_core.proofs.streams.StreamSteps.{LeadsTo, events_grow, leads_to, resynchronises}
@@ -154,4 +154,4 @@ ends_with_escape limit part =
     events_grow limit part (escape ∷ [])
     ∙ ap (λ es. events limit part ++ es)
     (added-reads a.is_after (reads-escape a.is_place) tt ∙ ap closing_events (sym (after-left a.is_after a.is_place)))
-    ∙ ap (λ es. es ++ closing_events (outcome limit part).left) (events-told limit part)
+    ∙ ap (λ es. es ++ closing_events (outcome limit part).left) (events-reported limit part)

@@ -1,5 +1,5 @@
 -- From a byte to bytes, and from a place to what a parser has read: `TakesByte` of a byte is `TakesBytes` of one.
-use Rattle.vte_core.proofs.Common.{◌≡◌, ℕ, ◌⊎◌, inl, inr, cases_Bool, true, false, eqb, Option, List, [], ◌∷◌, ◌++◌, refl, ap, sym, ◌∙◌, arith, Machine, Event, Print, replacement, tell, after, Place, InText, AtEscape, closing_events_at, outcome_from, events, escape, TakesByte, TakesBytes, may_continue, is_truncated, is_well_formed}
+use Rattle.vte_core.proofs.Common.{◌≡◌, ℕ, ◌⊎◌, inl, inr, cases_Bool, true, false, eqb, Option, List, [], ◌∷◌, ◌++◌, refl, ap, sym, ◌∙◌, arith, Machine, Event, Print, replacement, report, after, Place, InText, AtEscape, closing_events_at, outcome_from, events, escape, TakesByte, TakesBytes, may_continue, is_truncated, is_well_formed}
 use Rattle.std.proofs.Common.{eqb-true}
 use Rattle.vte_core.proofs.bytes.FirstBytes.{Tests, ascii-breaks}
 use Rattle.vte_core.proofs.shapes.TextLemmas.{text_outcome-broken}
@@ -16,7 +16,7 @@ pub takes-performs : {V B : Type 0} {step : V → Event → V} {old new : V} {li
     {parser : Machine B} → eqb byte escape ≡ false
     → TakesByte step old new limit place byte parser → TakesBytes step old new limit place (byte ∷ []) parser
 takes-performs e t = record {
-  told = t.told;
+  reported = t.reported;
   next = t.next;
   performed = t.performed;
   stands = t.stands;
@@ -50,7 +50,7 @@ closing-unfinished limit (a ∷ u) more = refl
 pub waits-broken : (limit : Option ℕ) (u : List ℕ) (b : ℕ) (more : List ℕ) → is_truncated u ≡ true
     → is_well_formed (u ++ b ∷ []) ≡ false → is_truncated (u ++ b ∷ []) ≡ false
     → outcome_from limit (InText u) (b ∷ more)
-    ≡ tell (Print replacement ∷ []) (outcome_from limit (InText []) (b ∷ more))
+    ≡ report (Print replacement ∷ []) (outcome_from limit (InText []) (b ∷ more))
 waits-broken limit u b more begun whole next = elim (cases_Bool (eqb b escape)) [
   | inr other ↦
       waits-byte limit (InText u) (InText []) b (Print replacement ∷ []) more other
@@ -61,8 +61,8 @@ waits-broken limit u b more begun whole next = elim (cases_Bool (eqb b escape)) 
       outcome_from-escape limit (InText []) more refl in
       rw is (
       outcome_from-escape limit (InText u) more (may_continue-truncated u begun)
-      ∙ ap (λ es. tell es (outcome_from limit AtEscape more)) (closing-unfinished limit u begun)
-      ∙ ap (tell (Print replacement ∷ [])) (sym there)
+      ∙ ap (λ es. report es (outcome_from limit AtEscape more)) (closing-unfinished limit u begun)
+      ∙ ap (report (Print replacement ∷ [])) (sym there)
       )
 ]
 

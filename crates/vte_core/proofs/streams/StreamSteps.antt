@@ -21,16 +21,17 @@ left-fits limit _ = tt
 abbrev pub size_at : Option ℕ → Place → ℕ
 size_at limit place = open_data_count (left_at limit place)
 
--- the bytes tell events of a bounded size after the place, and lead to a next place
+-- the bytes report events of a bounded size after the place, and lead to a next place
 pub record Arrives (limit size : Option ℕ) (place : Place) (bytes : List ℕ) : Type 0 where
-  pub told : List Event
+  pub reported : List Event
   pub next : Place
   pub is_place : IsPlace next
-  pub reads : BytesLead limit place bytes told next
-  pub bounded : All (IsBounded size) told
+  pub reads : BytesLead limit place bytes reported next
+  pub bounded : All (IsBounded size) reported
   pub grows : limit ≡ None → size_at limit next ≤ size_at limit place + length bytes
 
-brief_bounded : (limit : Option ℕ) (told : List Event) → AreFromOneByte limit told → All (IsBounded limit) told
+brief_bounded : (limit : Option ℕ) (reported : List Event) → AreFromOneByte limit reported
+    → All (IsBounded limit) reported
 brief_bounded limit [] brief = All-nil (IsBounded limit)
 brief_bounded limit (event ∷ []) brief = All-cons (IsBounded limit) event [] brief (All-nil (IsBounded limit))
 brief_bounded limit (event ∷ last ∷ []) brief =
@@ -44,7 +45,7 @@ pub arrives : (limit size : Option ℕ) (place : Place) (bytes : List ℕ) → I
     → FitsLeft size (left_at limit on_way)) → Arrives limit size place bytes
 arrives limit size place [] is fits =
     record {
-      told = [];
+      reported = [];
       next = place;
       is_place = is;
       reads = reads-nothing;
@@ -56,21 +57,21 @@ arrives limit size place (b ∷ bytes) is fits =
     let rest = arrives limit size first.next bytes first.is_place
     (λ on_way few. fits on_way (λ none. omega (arith, few none, first.grows none))) in
     record {
-      told = first.told ++ rest.told;
+      reported = first.reported ++ rest.reported;
       next = rest.next;
       is_place = rest.is_place;
       reads = reads-append first.reads rest.reads;
       bounded =
-          All-append (IsBounded size) first.told rest.told
-          (brief_bounded size first.told (first.brief size (fits place (λ _. omega arith)))) rest.bounded;
+          All-append (IsBounded size) first.reported rest.reported
+          (brief_bounded size first.reported (first.brief size (fits place (λ _. omega arith)))) rest.bounded;
       grows = λ none. omega (arith, first.grows none, rest.grows none);
     }
 
--- ---- the events of a stream from the events that it tells
+-- ---- the events of a stream from the events that it reports
 
-pub told_by_stream : {limit : Option ℕ} {next : Place} {stream : List ℕ} {told : List Event} → IsPlace next
-    → BytesLead limit (InText []) stream told next → events limit stream ≡ told
-told_by_stream {limit} {stream} is r =
+pub reported_by_stream : {limit : Option ℕ} {next : Place} {stream : List ℕ} {reported : List Event} → IsPlace next
+    → BytesLead limit (InText []) stream reported next → events limit stream ≡ reported
+reported_by_stream {limit} {stream} is r =
     ap (λ es. drop (length es) (events limit stream)) (sym (events-empty limit))
     ∙ added-reads after-nothing r is
 
@@ -89,7 +90,7 @@ leads_to {limit} {stream} =
       place = a.next;
       is_place = a.is_place;
       is_after = after-reads after-nothing a.reads a.is_place;
-      bounded = rw (told_by_stream a.is_place a.reads) a.bounded;
+      bounded = rw (reported_by_stream a.is_place a.reads) a.bounded;
     }
 
 -- ---- the laws
@@ -102,8 +103,8 @@ events_grow limit stream more =
 
 grows_after : {limit : Option ℕ} (stream : List ℕ) {bytes : List ℕ} (more : List ℕ)
     (a : LeadsTo limit stream) {next : Place}
-    {told : List Event} → IsPlace next
-    → BytesLead limit a.place bytes told next
+    {reported : List Event} → IsPlace next
+    → BytesLead limit a.place bytes reported next
     → events limit (stream ++ (bytes ++ more)) ≡ events limit (stream ++ bytes) ++ events_from limit next more
 grows_after {limit} stream {bytes} more a is reads =
     ap (events limit) (sym (append_assoc stream bytes more))
@@ -123,7 +124,7 @@ resyncs_after limit end e stream more =
 escape_at_first : (limit : Option ℕ) (more : List ℕ) → events limit (escape ∷ more) ≡ events_from limit AtEscape more
 escape_at_first limit more =
     events-after_nothing limit (escape ∷ more)
-    ∙ ap (λ outcome. outcome.told) (outcome_from-escape limit (InText []) more refl)
+    ∙ ap (λ outcome. outcome.reported) (outcome_from-escape limit (InText []) more refl)
 
 pub resynchronises : (limit : Option ℕ) → Resyncs limit
 unfolding class_of
@@ -143,7 +144,7 @@ pub record AddedByByte (limit : Option ℕ) (stream : List ℕ) (b : ℕ) : Type
   pub begun : open_character stream ≡ open_at place
   pub step : Steps limit place b
   pub ends : open_character (stream ++ b ∷ []) ≡ open_at step.next
-  pub told : added limit stream (b ∷ []) ≡ step.told
+  pub reported : added limit stream (b ∷ []) ≡ step.reported
 
 pub added-byte : (limit : Option ℕ) (stream : List ℕ) (b : ℕ) → AddedByByte limit stream b
 added-byte limit stream b =
@@ -155,22 +156,23 @@ added-byte limit stream b =
       begun = after-open_character a.is_after a.is_place;
       step = s;
       ends = after-open_character later s.is_place;
-      told = added-reads a.is_after s.reads s.is_place;
+      reported = added-reads a.is_after s.reads s.is_place;
     }
 
 pub bytes_are_brief : (limit : Option ℕ) (stream : List ℕ) (b : ℕ) → AreFromOneByte limit (added limit stream (b ∷ []))
 bytes_are_brief limit stream b =
-    let a = added-byte limit stream b in rw a.told (a.step.brief limit (left-fits limit a.place))
+    let a = added-byte limit stream b in rw a.reported (a.step.brief limit (left-fits limit a.place))
 
 pub opens_silently : (limit : Option ℕ) → OpensSilently limit
 opens_silently limit stream b =
     let a = added-byte limit stream b in
     elim a.step.leaves [
       | inl none ↦ inl (a.ends ∙ none)
-      | inr little ↦ elim little [ inl nothing ↦ inr (inl (a.told ∙ nothing)) | inr one ↦ inr (inr (a.told ∙ one)) ]
+      | inr little ↦
+          elim little [ inl nothing ↦ inr (inl (a.reported ∙ nothing)) | inr one ↦ inr (inr (a.reported ∙ one)) ]
     ]
 
--- ---- what all bytes tell
+-- ---- what all bytes report
 
 pub events_are_bounded : (limit : Option ℕ) (stream : List ℕ) → All (IsBounded limit) (events limit stream)
 events_are_bounded limit stream = leads_to.bounded

@@ -5,7 +5,7 @@ use Rattle.vte_core.specs.declared.parser.State.TheVariants.{Text}
 use Rattle.vte_core.specs.declared.utf8.Unfinished.{Unfinished}
 use Rattle.vte_core.specs.declared.utf8.Unfinished.TheVariants.{Nothing}
 use Rattle.std.specs.List.{All}
-use Rattle.vte_core.specs.EarlyStop.{told_before}
+use Rattle.vte_core.specs.EarlyStop.{reported_before}
 use Rattle.vte_core.specs.Stream.{added}
 use Rattle.vte_core.specs.Event.{Event}
 use Rattle.vte_core.specs.machine.Progress.{ChunkCall, StandsAt, StandsInside}
@@ -22,14 +22,14 @@ pub record IsOneCharacter (begun bytes : List ℕ) (i : ℕ) (events : List Even
   pub long : 1 < length (begun ++ take n (drop i bytes))
   pub same : events ≡ character_event (scalar_of (begun ++ take n (drop i bytes))) ∷ []
 
--- What is told from position i, inside the character that `begun` begins, to position j: the
+-- What is reported from position i, inside the character that `begun` begins, to position j: the
 -- character, or events that belong into no run.
 pub record AddsCharacter (limit : Option ℕ) (stream begun bytes : List ℕ) (i j : ℕ) : Type 0 where
   pub events : List Event
-  pub parts : told_before limit stream bytes j ≡ added limit stream (take i bytes) ++ events
+  pub parts : reported_before limit stream bytes j ≡ added limit stream (take i bytes) ++ events
   pub events_are : All IsOutsideRuns events ⊎ IsOneCharacter begun bytes i events
 
--- The call goes on to position j, in a text if bytes are left, and tells a character or none. At
+-- The call goes on to position j, in a text if bytes are left, and reports a character or none. At
 -- position i a parser would stand inside the character that `begun` begins.
 pub record Completes {V B : Type 0} (call : ChunkCall V) (old new : V) (i j : ℕ)
     (begun : Unfinished) (next : Machine B) : Type 0 where

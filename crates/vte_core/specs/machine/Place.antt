@@ -9,7 +9,7 @@ use Rattle.vte_core.specs.Escape.{escape_rest}
 use Rattle.vte_core.specs.Event.{Event}
 use Rattle.vte_core.specs.Head.{head_bytes}
 use Rattle.vte_core.specs.IgnoredString.{ignored_string_outcome}
-use Rattle.vte_core.specs.Outcome.{ToClose, NothingToClose, CharacterToClose, EscapeToClose, ControlSequenceToClose, DeviceHeadToClose, DeviceDataToClose, CommandToClose, IgnoredStringToClose, Outcome, closing_events, tell}
+use Rattle.vte_core.specs.Outcome.{ToClose, NothingToClose, CharacterToClose, EscapeToClose, ControlSequenceToClose, DeviceHeadToClose, DeviceDataToClose, CommandToClose, IgnoredStringToClose, Outcome, closing_events, report}
 use Rattle.vte_core.specs.CutBefore.{cut_before}
 use Rattle.vte_core.specs.Stream.{cut_at_escape, events, outcome, with_bodies}
 use Rattle.vte_core.specs.SystemCommand.{loses_data, ends_command, items_of, pieces_of, system_command_rest}
@@ -43,13 +43,13 @@ unfoldable pub escape_from : List ℕ → List ℕ → Outcome
 escape_from intermediates bytes =
     let cut = cut_before (λ b. ends_escape (class_of b)) bytes in
     let all = intermediates ++ filter (λ b. is_intermediate (class_of b)) cut.inside in
-    tell (executed_events cut.inside) (escape_rest all cut.rest)
+    report (executed_events cut.inside) (escape_rest all cut.rest)
 
 -- The outcome of bytes after the head of a control sequence.
 unfoldable pub control_sequence_from : List ℕ → List ℕ → Outcome
 control_sequence_from head bytes =
     let cut = cut_before (λ b. ends_head (class_of b)) bytes in
-    tell (executed_events cut.inside)
+    report (executed_events cut.inside)
     (control_sequence_rest (head ++ head_bytes cut.inside) cut.rest)
 
 -- The outcome of bytes after the head of a device control string.
@@ -103,4 +103,4 @@ outcome_from limit place more =
 pub record IsAfter (limit : Option ℕ) (stream : List ℕ) (place : Place) : Type 0 where
   pub goes_on : (more : List ℕ)
       → outcome limit (stream ++ more)
-      ≡ tell (events limit stream) (outcome_from limit place more)
+      ≡ report (events limit stream) (outcome_from limit place more)

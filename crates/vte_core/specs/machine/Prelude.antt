@@ -5,7 +5,7 @@ pub use Rattle.vte_core.specs.Event.{CsiDispatch, EscDispatch, Event, Execute, H
 pub use Rattle.vte_core.specs.SequenceKind.{begins_ignored_string}
 pub use Rattle.vte_core.specs.LongParser.{read_count}
 pub use Rattle.vte_core.specs.Looks.{counted, looked}
-pub use Rattle.vte_core.specs.OutsideRuns.{TellsOutsideRuns}
+pub use Rattle.vte_core.specs.OutsideRuns.{ReportsOutsideRuns}
 pub use Rattle.vte_core.specs.Parameters.{is_separator}
 pub use Rattle.vte_core.specs.Perform.{after}
 pub use Rattle.vte_core.specs.Outcome.{SaysLoss}
@@ -32,6 +32,6 @@ pub use Rattle.vte_core.specs.machine.TextRun.{ArePrintedAscii, IsPrintedAscii, 
 pub use Rattle.vte_core.specs.machine.Scans.{FindsEnd, IsRange, IsWindow, Scans, LooksAtMost}
 pub use Rattle.vte_core.specs.machine.Store.{ArePieceEnds, HasCapacity, Stored, HoldsItems, ReservesCapacity, SameItems, cut_pieces, fitting}
 pub use Rattle.vte_core.specs.machine.Takes.{Dispatches, TakesBytes, TakesByte}
-pub use Rattle.vte_core.specs.machine.Tells.{Tells, TellsAll}
+pub use Rattle.vte_core.specs.machine.Reports.{Reports, ReportsAll}
 pub use Rattle.vte_core.specs.machine.ToRun.{AreOfKind, ComesToRun, IsOutsideTextAndData, IsReadOutsideRuns, IsTaken, read_through_range, read_before_range}
 pub use Rattle.vte_core.specs.machine.Unfinished.{BeginsFour, BeginsThree, BeginsTwo, Carries, bytes_of, second_range}

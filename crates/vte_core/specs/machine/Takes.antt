@@ -9,32 +9,32 @@ use Rattle.vte_core.specs.Event.{Event}
 use Rattle.vte_core.specs.machine.Leads.{Leads, BytesLead}
 use Rattle.vte_core.specs.machine.ParserFields.{StandsAtPlace}
 use Rattle.vte_core.specs.machine.Place.{Place}
-use Rattle.vte_core.specs.machine.Tells.{Tells}
+use Rattle.vte_core.specs.machine.Reports.{Reports}
 use Rattle.vte_core.specs.Perform.{after}
 
 -- The performer received the events of the byte, and the parser stands at the place to which it
 -- leads.
 pub record TakesByte {V B : Type 0} (step : V → Event → V) (old new : V) (limit : Option ℕ)
     (place : Place) (byte : ℕ) (parser : Machine B) : Type 0 where
-  pub told : List Event
+  pub reported : List Event
   pub next : Place
-  pub performed : new ≡ after step old told
+  pub performed : new ≡ after step old reported
   pub stands : StandsAtPlace limit parser next
-  pub leads : Leads limit place byte told next
+  pub leads : Leads limit place byte reported next
 
 -- The performer received a sequence, as one event. The parser stands in a text then, and gave back
 -- no memory.
 pub record Dispatches {V B : Type 0} (step : V → Event → V) (old new : V) (event : Event)
     (parser next : Machine B) (before after : Reader) : Type 0 where
-  pub tells : Tells step old new event before after
+  pub reports : Reports step old new event before after
   pub text : next.state ≡ Text Nothing
   pub memory : parser.command.capacity ≤ next.command.capacity
 
 -- The performer received the events of the bytes, which may include ESC.
 pub record TakesBytes {V B : Type 0} (step : V → Event → V) (old new : V) (limit : Option ℕ)
     (place : Place) (bytes : List ℕ) (parser : Machine B) : Type 0 where
-  pub told : List Event
+  pub reported : List Event
   pub next : Place
-  pub performed : new ≡ after step old told
+  pub performed : new ≡ after step old reported
   pub stands : StandsAtPlace limit parser next
-  pub reads : BytesLead limit place bytes told next
+  pub reads : BytesLead limit place bytes reported next

@@ -55,7 +55,7 @@ impl<B: Buffer> Machine<B> {
             return next;
         }
         if first < 0xe0 {
-            reader.tell_character(performer, character_of_two(first, second));
+            reader.report_character(performer, character_of_two(first, second));
             return next + 1;
         }
         if first < 0xf0 {
@@ -99,7 +99,7 @@ impl<B: Buffer> Machine<B> {
             performer.print_char(reader, char::REPLACEMENT_CHARACTER);
             return from + 1;
         }
-        reader.tell_character(performer, character_of_three(first, second, third));
+        reader.report_character(performer, character_of_three(first, second, third));
         from + 2
     }
 
@@ -163,10 +163,10 @@ impl<B: Buffer> Machine<B> {
         if G::IN_RUNS {
             let end = reader.find_run_end_for(performer, input, next + 3);
             // SAFETY: the character at `from` is whole, and the search passes whole characters.
-            reader.tell_text(performer, input, from, end);
+            reader.report_text(performer, input, from, end);
             return end;
         }
-        reader.tell_character(performer, character_of_four(first, second, third, fourth));
+        reader.report_character(performer, character_of_four(first, second, third, fourth));
         next + 3
     }
 
@@ -194,7 +194,7 @@ impl<B: Buffer> Machine<B> {
             match unfinished.with_continuation(reader.byte_at(input, position)) {
                 Carried::Unfinished(more) => unfinished = more,
                 Carried::Whole(c) => {
-                    reader.tell_character(performer, c);
+                    reader.report_character(performer, c);
                     self.state = State::Text(Unfinished::Nothing);
                     return position + 1;
                 }

@@ -96,7 +96,7 @@ impl<B: Buffer> Machine<B> {
             }
             if G::IN_RUNS && !MAY_STOP {
                 let end = reader.find_device_data_end(input, position + 1);
-                reader.tell_data(performer, input, position, end);
+                reader.report_data(performer, input, position, end);
                 return end;
             }
             performer.put_byte(reader, byte);

@@ -1,6 +1,6 @@
 //! The loop over the bytes of a call.
 ghost use Rattle.std.specs.Prelude.{◌≡◌, ◌<◌, true, List, ℕ, length, IfErr, IfOk};
-ghost use Rattle.vte_core.specs.machine.Prelude.{Advances, Costs, HasReadWithLimit, IsOutsideTextAndData, IsSettled, MayReadAt, MovesWithin, NoCharacterStops, ReadsUpTo, Refuses, ReadsUntilRefused, SpendsWithin, StandsAt, TellsOutsideRuns, chunk_call, looked, read_count};
+ghost use Rattle.vte_core.specs.machine.Prelude.{Advances, Costs, HasReadWithLimit, IsOutsideTextAndData, IsSettled, MayReadAt, MovesWithin, NoCharacterStops, ReadsUpTo, Refuses, ReadsUntilRefused, SpendsWithin, StandsAt, ReportsOutsideRuns, chunk_call, looked, read_count};
 
 use crate::buffer::Buffer;
 use crate::parser::{Machine, Refused, State};
@@ -55,7 +55,7 @@ impl<B: Buffer> Machine<B> {
         ensures spends { SpendsWithin 2 0 2 input.entry.bytes.now 0 result self.old self.new
             reader.old reader.new }
         ensures outside_runs { (stream : List ℕ) → HasReadWithLimit B.limit self.old stream
-            → TellsOutsideRuns B.limit stream input.entry.bytes.now result }
+            → ReportsOutsideRuns B.limit stream input.entry.bytes.now result }
     {
         match self.state {
             State::Text(begun) => {

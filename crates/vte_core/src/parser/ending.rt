@@ -63,8 +63,8 @@ impl<B: Buffer> Machine<B> {
 
     /// Reports the end of a string: `unhook`, or the operating system command.
     fn report_end<P: CountedPerform<G>, G: Grain>(&self, reader: &mut Reader, performer: &mut P)
-        ensures told { (place : Place) → StandsAtPlace B.limit self.now place → IsSettledPlace place
-            → P.value_of performer.new
+        ensures reported { (place : Place) → StandsAtPlace B.limit self.now place
+            → IsSettledPlace place → P.value_of performer.new
             ≡ after P.step (P.value_of performer.old) (closing_events_at B.limit place) }
         ensures few { LooksAtMost 1 reader.old reader.new }
     {

@@ -6,7 +6,7 @@ ghost use Rattle.vte_core.specs.Parser.{IsCopyOf};
 ghost use Rattle.vte_core.specs.Open.{SaysOpen, SaysWhetherOpen};
 ghost use Rattle.vte_core.specs.Outcome.{SaysLoss};
 ghost use Rattle.vte_core.specs.Stream.{outcome};
-ghost use Rattle.vte_core.specs.machine.Prelude.{ComesToRun, Costs, NoCharacterStops, ReadsUntilRefused, ReadsUpTo, TellsOutsideRuns, chunk_call, counted, read_before_range, read_count, read_through_range};
+ghost use Rattle.vte_core.specs.machine.Prelude.{ComesToRun, Costs, NoCharacterStops, ReadsUntilRefused, ReadsUpTo, ReportsOutsideRuns, chunk_call, counted, read_before_range, read_count, read_through_range};
 
 use crate::parser::{Machine, Open, Refused, State};
 use crate::scan::{Chunk, CountedPerform, Grain, Looks, RunRange, Singly};
@@ -223,7 +223,7 @@ impl<A: Allocator> LongParser<A> {
         ensures costs { Costs 7 chunk.entry.bytes.now result (read_through_range result)
             self.old.machine self.new.machine (counted self.old.looks) (counted self.new.looks) }
         ensures outside_runs { (stream : List ℕ) → HasReadLong self.old stream
-            → TellsOutsideRuns None stream chunk.entry.bytes.now (read_before_range result) }
+            → ReportsOutsideRuns None stream chunk.entry.bytes.now (read_before_range result) }
     {
         let (mut reader, input) = chunk.open();
         let result = self.machine.drive_to_run(&mut reader, performer, input);

@@ -48,7 +48,7 @@ fn print_ascii<P: CountedPerform<G>, G: Grain>(
     if reader.begins_ascii_run(input, from, next) {
         let end = reader.find_ascii_run_end(performer, input, from);
         // SAFETY: ASCII stands at `from`, and the search passes whole characters.
-        reader.tell_text(performer, input, from, end);
+        reader.report_text(performer, input, from, end);
         return AsciiRun { end, next: None };
     }
     performer.print_char(reader, char::from(first));
@@ -114,7 +114,7 @@ impl<B: Buffer> Machine<B> {
                             return position;
                         }
                     } else {
-                        reader.tell_lone_byte(performer, byte);
+                        reader.report_lone_byte(performer, byte);
                         position += 1;
                     }
                     continue;
@@ -135,7 +135,7 @@ impl<B: Buffer> Machine<B> {
                 } else if byte == ESCAPE {
                     return self.read_sequence::<P, G, MAY_STOP>(reader, performer, input, position);
                 } else {
-                    reader.tell_lone_byte(performer, byte);
+                    reader.report_lone_byte(performer, byte);
                 }
                 position += 1;
                 if MAY_STOP && performer.terminated() {
@@ -178,7 +178,7 @@ impl<B: Buffer> Machine<B> {
         let end = reader.find_run_end_at_lead(performer, input, from, first);
         if end > from {
             // SAFETY: the search has passed the character at `from`, and passes whole characters.
-            reader.tell_text(performer, input, from, end);
+            reader.report_text(performer, input, from, end);
             return end;
         }
         self.read_character::<P, G, MAY_STOP>(reader, performer, input, from, first)

@@ -1,7 +1,7 @@
 //! Runs of text and data in the input, for callers that take them from there.
 ghost use Rattle.std.specs.Prelude.{◌≡◌, ◌+◌, ◌*◌, ◌≤◌, true, false, ℕ, List, Some, IfErr, IfOk, ⊤};
 ghost use Rattle.vte_core.specs.Parser.{HasRead};
-ghost use Rattle.vte_core.specs.machine.Prelude.{Advances, ComesToRun, Costs, HasNoRunAt, HasReadWithLimit, MayReadAt, MovesWithin, Nothing, ReadsUntilRefused, TellsOutsideRuns, Text, chunk_call, counted, looked, read_through_range, read_before_range};
+ghost use Rattle.vte_core.specs.machine.Prelude.{Advances, ComesToRun, Costs, HasNoRunAt, HasReadWithLimit, MayReadAt, MovesWithin, Nothing, ReadsUntilRefused, ReportsOutsideRuns, Text, chunk_call, counted, looked, read_through_range, read_before_range};
 
 use crate::buffer::Buffer;
 use crate::class::ESCAPE;
@@ -21,7 +21,7 @@ impl<const OSC_RAW_BUF_SIZE: usize> Parser<OSC_RAW_BUF_SIZE> {
             (P.value_of performer.old) (P.value_of performer.new) result self.old.machine
             self.new.machine }
         ensures outside_runs { (stream : List ℕ) → HasRead self.old stream
-            → TellsOutsideRuns (Some OSC_RAW_BUF_SIZE) stream chunk.entry.bytes.now result.start }
+            → ReportsOutsideRuns (Some OSC_RAW_BUF_SIZE) stream chunk.entry.bytes.now result.start }
         ensures count { counted self.new.looks ≤ counted self.old.looks + 7 * result.end + 8 }
         ensures least { counted self.old.looks + result.end ≤ counted self.new.looks }
     {
@@ -57,7 +57,7 @@ impl<B: Buffer> Machine<B> {
             (read_through_range result) self.old self.new
             (looked reader.old) (looked reader.new) }
         ensures outside_runs { (stream : List ℕ) → HasReadWithLimit B.limit self.old stream
-            → TellsOutsideRuns B.limit stream input.entry.bytes.now (read_before_range result) }
+            → ReportsOutsideRuns B.limit stream input.entry.bytes.now (read_before_range result) }
     {
         let mut position = self.finish_character::<P, Singly, true>(reader, performer, input);
         while position < input.len() && !performer.terminated() {
@@ -120,7 +120,7 @@ impl<B: Buffer> Machine<B> {
             return self.read_character::<P, Singly, true>(reader, performer, input, from, byte);
         }
         while byte != ESCAPE {
-            reader.tell_lone_byte(performer, byte);
+            reader.report_lone_byte(performer, byte);
             position += 1;
             if position == input.len() || performer.terminated() {
                 return position;

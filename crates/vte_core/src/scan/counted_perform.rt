@@ -1,7 +1,7 @@
 //! Performers, as the functions of a parser see them.
 // proof: they count each event as it is reported.
 ghost use Rattle.std.specs.Prelude.{◌≡◌, ◌<◌, Bool, false, true, length, map, chars};
-ghost use Rattle.vte_core.specs.machine.Prelude.{CsiDispatch, EscDispatch, Event, Execute, Hook, IsNonEmptyRun, OscDispatch, Print, Put, Tells, TellsAll, Unhook, is_control_character, run_event};
+ghost use Rattle.vte_core.specs.machine.Prelude.{CsiDispatch, EscDispatch, Event, Execute, Hook, IsNonEmptyRun, OscDispatch, Print, Put, Reports, ReportsAll, Unhook, is_control_character, run_event};
 
 use crate::head::Collected;
 use crate::perform::Perform;
@@ -26,50 +26,51 @@ pub(crate) trait CountedPerform<G: Grain> {
 
     fn print_char(&mut self, reader: &mut Reader, c: char)
         requires { is_control_character c ≡ false }
-        ensures { Tells step (value_of self.old) (value_of self.new)
+        ensures { Reports step (value_of self.old) (value_of self.new)
             (Print c) reader.old reader.new };
 
     /// Counts a text's bytes, which are no fewer than its characters.
     fn print_text(&mut self, reader: &mut Reader, text: &str)
         requires in_runs { G.IN_RUNS ≡ true }
         requires run { IsNonEmptyRun layout text.now }
-        ensures { TellsAll step (value_of self.old) (value_of self.new)
+        ensures { ReportsAll step (value_of self.old) (value_of self.new)
             (map (run_event layout) (chars text.now)) (length text.now) reader.old reader.new };
 
     fn execute_control(&mut self, reader: &mut Reader, byte: u8)
-        ensures { Tells step (value_of self.old) (value_of self.new)
+        ensures { Reports step (value_of self.old) (value_of self.new)
             (Execute byte) reader.old reader.new };
 
     fn hook(&mut self, reader: &mut Reader, collected: &Collected, ignore: bool, byte: u8)
-        ensures { Tells step (value_of self.old) (value_of self.new)
+        ensures { Reports step (value_of self.old) (value_of self.new)
             (Hook collected.now.params collected.now.intermediates.items ignore byte) reader.old
             reader.new };
 
     fn put_byte(&mut self, reader: &mut Reader, byte: u8)
-        ensures { Tells step (value_of self.old) (value_of self.new)
+        ensures { Reports step (value_of self.old) (value_of self.new)
             (Put byte) reader.old reader.new };
 
     /// Counts each byte.
     fn put_slice(&mut self, reader: &mut Reader, bytes: &[u8])
         requires in_runs { G.IN_RUNS ≡ true }
         requires some { 0 < length bytes.now }
-        ensures { TellsAll step (value_of self.old) (value_of self.new) (map Put bytes.now)
+        ensures { ReportsAll step (value_of self.old) (value_of self.new) (map Put bytes.now)
             (length bytes.now) reader.old reader.new };
 
     fn unhook(&mut self, reader: &mut Reader)
-        ensures { Tells step (value_of self.old) (value_of self.new) Unhook reader.old reader.new };
+        ensures { Reports step (value_of self.old) (value_of self.new) Unhook
+            reader.old reader.new };
 
     fn osc_dispatch(&mut self, reader: &mut Reader, pieces: &[&[u8]], bell: bool)
-        ensures { Tells step (value_of self.old) (value_of self.new)
+        ensures { Reports step (value_of self.old) (value_of self.new)
             (OscDispatch (map (λ piece. piece.now) pieces.now) bell) reader.old reader.new };
 
     fn csi_dispatch(&mut self, reader: &mut Reader, collected: &Collected, ignore: bool, byte: u8)
-        ensures { Tells step (value_of self.old) (value_of self.new)
+        ensures { Reports step (value_of self.old) (value_of self.new)
             (CsiDispatch collected.now.params collected.now.intermediates.items ignore byte)
             reader.old reader.new };
 
     fn esc_dispatch(&mut self, reader: &mut Reader, collected: &Collected, byte: u8)
-        ensures { Tells step (value_of self.old) (value_of self.new)
+        ensures { Reports step (value_of self.old) (value_of self.new)
             (EscDispatch collected.now.intermediates.items collected.now.too_many_intermediates
             byte)
             reader.old reader.new };

@@ -6,7 +6,7 @@ ghost use Rattle.vte_core.specs.AdvanceToRun.{ReadsToRun};
 ghost use Rattle.vte_core.specs.AdvanceUntilTerminated.{ReadsUntilTerminated};
 ghost use Rattle.vte_core.specs.LongParser.{HasReadLong};
 ghost use Rattle.vte_core.specs.LongParserCalls.{ReadsLong};
-ghost use Rattle.vte_core.specs.OutsideRuns.{TellsOutsideRuns};
+ghost use Rattle.vte_core.specs.OutsideRuns.{ReportsOutsideRuns};
 
 use crate::parser::{LongParser, Refused};
 use crate::perform::{Perform, PerformText, PerformThroughText};
@@ -91,7 +91,7 @@ impl<A: Allocator> LongParser<A> {
         // Characters and data are left to a run if memory is refused too.
         ensures outside_runs { IfErr result (λ refused. (stream : List ℕ)
             → HasReadLong self.old stream
-            → TellsOutsideRuns None stream bytes.now refused.read) }
+            → ReportsOutsideRuns None stream bytes.now refused.read) }
     {
         let range = self.drive_to_run(performer, Chunk::new(bytes))?;
         // SAFETY: `drive_to_run` found the range in these bytes.

@@ -1,5 +1,5 @@
--- The headline: by induction over the pieces. A call performs what its bytes add, and what is told of a longer stream
--- is what was told before and what is added (`events_grow`).
+-- The headline: by induction over the pieces. A call performs what its bytes add, and what is reported of a longer
+-- stream is what was reported before and what is added (`events_grow`).
 use Rattle.vte_core.proofs.Common.{ℕ, List, Bor, Some, [], ◌∷◌, append-nil, events, flat_map-append, get_or, take_more, take, ap, sym, arith, take_all, flat_map, after}
 use Rattle.vte_core.proofs.streams.Performing.{after_events-append, events-empty}
 use Rattle.vte_core.proofs.streams.StreamSteps.{events_grow}

@@ -1,5 +1,5 @@
 -- The definitions compute.
-use Rattle.vte_core.proofs.Common.{◌≡◌, ℕ, Option, [], ◌∷◌, arith, drop, subst, rules, All, All-head, IsOutsideRuns, Print, body_outcome, class_of, control_sequence_outcome, control_sequence_end, device_control_outcome, device_control_after_head, device_data_outcome, loses_data, escape_outcome, head_of, is_well_shaped, sequence_event, sequence_kind, numbers, groups_of, has_too_many_numbers, outcome, events, system_command_outcome, pieces_of, kept_items, text_outcome, segment_event, character_event, malformed_event, executed_events, utf8_rows, is_well_formed, is_truncated, trailing_count, told_before, resumed_stream, breaks_at, open_character}
+use Rattle.vte_core.proofs.Common.{◌≡◌, ℕ, Option, [], ◌∷◌, arith, drop, subst, rules, All, All-head, IsOutsideRuns, Print, body_outcome, class_of, control_sequence_outcome, control_sequence_end, device_control_outcome, device_control_after_head, device_data_outcome, loses_data, escape_outcome, head_of, is_well_shaped, sequence_event, sequence_kind, numbers, groups_of, has_too_many_numbers, outcome, events, system_command_outcome, pieces_of, kept_items, text_outcome, segment_event, character_event, malformed_event, executed_events, utf8_rows, is_well_formed, is_truncated, trailing_count, reported_before, resumed_stream, breaks_at, open_character}
 use Rattle.vte_core.specs.Examples.{LeavesTextToRun}
 use Rattle.vte_core.specs.IgnoredString.{ignored_string_outcome}
 use Rattle.vte_core.specs.Open.{open_at_end}
@@ -7,12 +7,12 @@ use Rattle.vte_core.proofs.laws.worked_examples.Goals as goal
 
 text_is_left : (limit : Option ℕ) → LeavesTextToRun limit
 unfolding events outcome text_outcome segment_event character_event malformed_event utf8_rows is_well_formed
-    is_truncated trailing_count told_before breaks_at open_character
-text_is_left limit told =
-    let same : told_before limit (0xe4 ∷ []) (0xbf ∷ 0x99 ∷ 0xe6 ∷ 0x97 ∷ 0xa5 ∷ []) 5
+    is_truncated trailing_count reported_before breaks_at open_character
+text_is_left limit reported =
+    let same : reported_before limit (0xe4 ∷ []) (0xbf ∷ 0x99 ∷ 0xe6 ∷ 0x97 ∷ 0xa5 ∷ []) 5
     ≡ Print 0x4fd9 ∷ Print 0x65e5 ∷ [] = search rules in
     let left : All IsOutsideRuns (Print 0x65e5 ∷ []) =
-    subst (λ es. All IsOutsideRuns (drop 1 es)) same told.after_first in
+    subst (λ es. All IsOutsideRuns (drop 1 es)) same reported.after_first in
     absurd (omega (arith, All-head IsOutsideRuns (Print 0x65e5) [] left))
 
 pub returns : goal.returns
@@ -20,6 +20,6 @@ unfolding events outcome text_outcome segment_event character_event malformed_ev
     is_truncated trailing_count body_outcome sequence_kind class_of executed_events escape_outcome
     control_sequence_outcome control_sequence_end head_of is_well_shaped sequence_event numbers groups_of
     has_too_many_numbers device_control_outcome device_control_after_head device_data_outcome
-    ignored_string_outcome system_command_outcome loses_data pieces_of kept_items told_before resumed_stream
+    ignored_string_outcome system_command_outcome loses_data pieces_of kept_items reported_before resumed_stream
     breaks_at open_character open_at_end
 returns c = search (rules, text_is_left)

@@ -47,7 +47,7 @@ pub(crate) fn up_to(input: &[u8], to: usize) -> &[u8] {
 /// begun at `from` or after whole characters that stand there, ended at `to`: it passes one
 /// whole character at a time, a byte of ASCII, or a lead byte with all its continuation bytes,
 /// the first of which `may_begin_three` and `may_begin_four` test. Blocks whose bytes all fit, as
-/// `follows` tells, may end inside a character: the search then goes back to where it began.
+/// `may_follow` tests, may end inside a character: the search then goes back to where it began.
 #[inline(always)]
 #[allow(unsafe_code)]
 pub(crate) unsafe fn text(bytes: &[u8], from: usize, to: usize) -> &str {
@@ -126,9 +126,9 @@ impl Reader {
         Some(window)
     }
 
-    /// Tells a whole character.
+    /// Reports a whole character.
     #[inline(always)]
-    pub(crate) fn tell_character<P: CountedPerform<G> + ?Sized, G: Grain>(
+    pub(crate) fn report_character<P: CountedPerform<G> + ?Sized, G: Grain>(
         self,
         performer: &mut P,
         c: char,
@@ -139,10 +139,10 @@ impl Reader {
         }
     }
 
-    /// Tells a byte that is neither printed nor a lead byte: a control, or a malformed sequence
+    /// Reports a byte that is neither printed nor a lead byte: a control, or a malformed sequence
     /// alone.
     #[inline(always)]
-    pub(crate) fn tell_lone_byte<P: CountedPerform<G> + ?Sized, G: Grain>(
+    pub(crate) fn report_lone_byte<P: CountedPerform<G> + ?Sized, G: Grain>(
         self,
         performer: &mut P,
         byte: u8,
@@ -153,9 +153,9 @@ impl Reader {
         }
     }
 
-    /// Tells the data that stand from one position to another.
+    /// Reports the data that stand from one position to another.
     #[inline(always)]
-    pub(crate) fn tell_data<P: CountedPerform<G> + ?Sized, G: Grain>(
+    pub(crate) fn report_data<P: CountedPerform<G> + ?Sized, G: Grain>(
         self,
         performer: &mut P,
         input: &[u8],

@@ -1,5 +1,5 @@
 -- Where no further ASCII follows, the run is the first byte, which prints as a character. The longer run is
--- `tell_text`'s.
+-- `report_text`'s.
 use Rattle.vte_core.proofs.calls.TextRuns.{prints-one}
 use Rattle.vte_core.proofs.parser.text.print_ascii.Goals as goal
 

@@ -33,7 +33,7 @@ impl<B: Buffer> Machine<B> {
             return next;
         }
         if first < 0xe0 {
-            reader.tell_character(performer, character_of_two(first, second));
+            reader.report_character(performer, character_of_two(first, second));
             return next + 1;
         }
         if first < 0xf0 {
@@ -67,7 +67,7 @@ impl<B: Buffer> Machine<B> {
             performer.print_char(reader, char::REPLACEMENT_CHARACTER);
             return from + 1;
         }
-        reader.tell_character(performer, character_of_three(first, second, third));
+        reader.report_character(performer, character_of_three(first, second, third));
         from + 2
     }
 
@@ -114,7 +114,7 @@ impl<B: Buffer> Machine<B> {
             performer.print_text(reader, unsafe { text(input, from, end) });
             return end;
         }
-        reader.tell_character(performer, character_of_four(first, second, third, fourth));
+        reader.report_character(performer, character_of_four(first, second, third, fourth));
         next + 3
     }
 
@@ -138,7 +138,7 @@ impl<B: Buffer> Machine<B> {
             match unfinished.with_continuation(reader.byte_at(input, position)) {
                 Carried::Unfinished(more) => unfinished = more,
                 Carried::Whole(c) => {
-                    reader.tell_character(performer, c);
+                    reader.report_character(performer, c);
                     self.state = State::Text(Unfinished::Nothing);
                     return position + 1;
                 }

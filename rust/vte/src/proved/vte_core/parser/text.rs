@@ -88,7 +88,7 @@ impl<B: Buffer> Machine<B> {
                             return position;
                         }
                     } else {
-                        reader.tell_lone_byte(performer, byte);
+                        reader.report_lone_byte(performer, byte);
                         position += 1;
                     }
                     continue;
@@ -109,7 +109,7 @@ impl<B: Buffer> Machine<B> {
                     return self
                         .read_sequence::<P, G, MAY_STOP>(reader, performer, input, position);
                 } else {
-                    reader.tell_lone_byte(performer, byte);
+                    reader.report_lone_byte(performer, byte);
                 }
                 position += 1;
                 if MAY_STOP && performer.terminated() {

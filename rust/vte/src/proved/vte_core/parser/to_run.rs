@@ -82,7 +82,7 @@ impl<B: Buffer> Machine<B> {
             return self.read_character::<P, Singly, true>(reader, performer, input, from, byte);
         }
         while byte != ESCAPE {
-            reader.tell_lone_byte(performer, byte);
+            reader.report_lone_byte(performer, byte);
             position += 1;
             if position == input.len() || performer.terminated() {
                 return position;

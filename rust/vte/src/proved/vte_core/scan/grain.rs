@@ -66,7 +66,7 @@ impl<P: Perform + ?Sized> PerformAs<Singly> for P {
         Perform::put(self, byte);
     }
 
-    // Never called: a `CountedPerform` is told texts only if it takes runs (`in_runs`).
+    // Never called: texts are reported only to performers that take runs (`in_runs`).
     fn print_text(&mut self, text: &str) {
         for c in text.chars() {
             Perform::print(self, c);

@@ -42,7 +42,7 @@ returns-else-begins_ignored_string-clause-takes g c = λ s.
     let d = c.dispatch_escape.ensures in
     let holds = stands-escape _ s in
     takes-byte
-    (rw (holds.kept, holds.too_many_intermediates) at d.tells.value)
+    (rw (holds.kept, holds.too_many_intermediates) at d.reports.value)
     (stands-text_begun d.text)
     (escape-end (class-final _ c.requires.ends) refl key)
 

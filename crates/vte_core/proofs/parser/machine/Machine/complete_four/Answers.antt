@@ -1,6 +1,6 @@
 -- The second, third and fourth byte of a character of four: each fits or breaks it, or the bytes of the call end. The
 -- lemmas `goes-*` say how far it has gone, `completes-*` how it ends there, from the second byte on; `advances-first`
--- leads from the first. A run that it begins is told as a text.
+-- leads from the first. A run that it begins is reported as a text.
 use Rattle.vte_core.proofs.Common.{◌≡◌, ℕ, ◌+◌, ◌<◌, ◌≤◌, length, ap, subst, sym, ◌∙◌, arith, false≢true, slice_index, IsRun}
 use Rattle.vte_core.proofs.bytes.CarriedLemmas.{second-broken, third-broken, fourth-broken, spells-four}
 use Rattle.vte_core.proofs.bytes.Printable.{run-append}
@@ -73,8 +73,8 @@ returns-then-not-is_continuation-2-clause-advances g c =
     r.may_read.begun c.print_char-then-not-is_continuation-2.ensures.value within c.byte_at-fourth.ensures.value)
 
 -- The run that the character begins: the four bytes, and what follows them.
-pub tell_text-requires-clause-run : goal.tell_text-requires-clause-run
-tell_text-requires-clause-run g c =
+pub report_text-requires-clause-run : goal.report_text-requires-clause-run
+report_text-requires-clause-run g c =
     let r = c.requires in
     let bytes = c.args.input.bytes.now in
     let from = c.args.from in
@@ -94,7 +94,7 @@ tell_text-requires-clause-run g c =
     (subst (λ position. IsRun g.P.CountedPerform.layout bytes position c.find_run_end_for-end.result) past
     rest.scans.are)
 
--- In runs, it is told with the run that it begins.
+-- In runs, it is reported with the run that it begins.
 pub returns-then-IN_RUNS-clause-advances : goal.returns-then-IN_RUNS-clause-advances
 returns-then-IN_RUNS-clause-advances g c =
     let r = c.requires in
@@ -102,7 +102,7 @@ returns-then-IN_RUNS-clause-advances g c =
     advances-if (λ given. absurd (false≢true (sym given.0 ∙ in_runs)))
     (advances-text (r.no_stop in_runs) r.may_read.may_go_on r.may_read.begun
     (omega (arith, c.find_run_end_for-end.ensures.scans.low)) c.find_run_end_for-end.ensures.scans.high
-    c.tell_text.ensures.printed)
+    c.report_text.ensures.printed)
 
 -- Four bytes spell a character.
 pub returns-clause-advances : goal.returns-clause-advances
@@ -119,4 +119,4 @@ returns-clause-advances g c =
     (completes-whole (goes-third c.args.self.now r.lead.low second third within r.looked_at
     c.byte_at-third.ensures.value)
     (λ more. (spells.is_whole, c.character_of_four.ensures)) r.may_read.begun
-    c.tell_character.ensures.value within c.byte_at-fourth.ensures.value (next_counted _))
+    c.report_character.ensures.value within c.byte_at-fourth.ensures.value (next_counted _))

@@ -45,5 +45,5 @@ returns-clause-completes g c =
     let spells =
     spells-three c.requires.lead.low c.requires.lead.high second third in
     completes-whole (goes-second c.args.self.now c.requires.lead.low second r.within r.looked_at)
-    (λ more. (spells.is_whole, c.character_of_three.ensures)) r.begun c.tell_character.ensures.value
+    (λ more. (spells.is_whole, c.character_of_three.ensures)) r.begun c.report_character.ensures.value
     (omega (arith, r.within, c.if-from-len.false)) c.byte_at-third.ensures.value (counted _)

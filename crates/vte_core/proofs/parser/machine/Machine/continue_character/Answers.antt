@@ -23,7 +23,7 @@ loop-position-preserved g c =
 pub returns-in-Whole-clause-completes : goal.returns-in-Whole-clause-completes
 returns-in-Whole-clause-completes g c =
     let v = c.loop-position.invariant in
-    completes-whole v.goes c.in-Whole.ensures refl (rw v.same at c.tell_character.ensures.value)
+    completes-whole v.goes c.in-Whole.ensures refl (rw v.same at c.report_character.ensures.value)
     (omega (arith, c.loop-position-test.true, c.len-position-end.ensures)) c.byte_at.ensures.value refl
 
 -- It breaks the character.

@@ -1,4 +1,4 @@
--- The call is inside the character that was begun, and has told nothing.
+-- The call is inside the character that was begun, and has reported nothing.
 use Rattle.vte_core.proofs.Common.{◌≡◌, not, eqb, SpendsWithin, chunk_call}
 use Rattle.vte_core.proofs.calls.Characters.{GoesOn}
 use Rattle.vte_core.proofs.parser.machine.Machine.continue_character.Given as goal

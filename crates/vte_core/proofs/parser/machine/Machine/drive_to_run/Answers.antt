@@ -1,8 +1,8 @@
 -- As for `drive`, a stretch at a time. A run is found in a text or in data, and is returned unread: the bytes before it
--- have told nothing of a run (`tells-more`).
+-- have reported nothing of a run (`reports-more`).
 use Rattle.vte_core.proofs.Common.{Err, ap, sym, ◌∙◌, arith, rules, err_from_is_err_and}
 use Rattle.vte_core.proofs.calls.ToRun.{comes-nowhere, comes-to_run, has-data, has-text, outside-text_and_data, settled-text}
-use Rattle.vte_core.proofs.calls.BeforeRun.{tells-more}
+use Rattle.vte_core.proofs.calls.BeforeRun.{reports-more}
 use Rattle.vte_core.proofs.parser.machine.Machine.drive_to_run.Goals.{then-loop-position-test+else-not-terminated, else-loop-position-test}
 use Rattle.vte_core.proofs.parser.machine.Machine.drive_to_run.Goals as goal
 
@@ -29,7 +29,7 @@ returns-then-end-position-2-clause-comes g c =
     comes-to_run (has-data c.in-DeviceData.is (omega arith) found.high found.are found.ended) (omega arith)
     (sym c.terminated.ensures ∙ c.if-not-terminated.true) v.stands_at
 
--- In a text that begins with no run: what is read there is told by none.
+-- In a text that begins with no run: what is read there is reported by none.
 pub loop-position-preserved-else-end-position : goal.loop-position-preserved-else-end-position
 loop-position-preserved-else-end-position g c =
     let v = c.loop-position.invariant in
@@ -37,7 +37,7 @@ loop-position-preserved-else-end-position g c =
     record {
       stands_at = λ stream h. read.goes_on _ stream (v.stands_at stream h);
       settled = read.settled;
-      outside_runs = λ stream h. tells-more (v.outside_runs stream h)
+      outside_runs = λ stream h. reports-more (v.outside_runs stream h)
           (read.outside_runs tt _ stream (v.stands_at stream h));
       spends = search rules;
     }
@@ -50,7 +50,7 @@ loop-position-preserved-else-end-position-2 g c =
     record {
       stands_at = λ stream h. read.goes_on _ stream (v.stands_at stream h);
       settled = read.settled;
-      outside_runs = λ stream h. tells-more (v.outside_runs stream h)
+      outside_runs = λ stream h. reports-more (v.outside_runs stream h)
           (read.outside_runs tt _ stream (v.stands_at stream h));
       spends = search rules;
     }
@@ -65,7 +65,7 @@ loop-position-preserved g c =
       settled = read.settled;
       outside_runs =
           λ stream h.
-          tells-more (v.outside_runs stream h)
+          reports-more (v.outside_runs stream h)
           (read.outside_runs (outside-text_and_data _ c.in_default.not-Text c.in_default.not-DeviceData) _ stream
           (v.stands_at stream h));
       spends = search rules;
@@ -89,7 +89,7 @@ returns-in_err-position-in_default g c =
       outside_runs =
           λ stream h.
           rw (e.1 ∙ ap Err e.2)
-          (tells-more (v.outside_runs stream h)
+          (reports-more (v.outside_runs stream h)
           (r.advances.outside_runs (outside-text_and_data _ c.in_default.not-Text c.in_default.not-DeviceData) _ stream
           (v.stands_at stream h)));
     }

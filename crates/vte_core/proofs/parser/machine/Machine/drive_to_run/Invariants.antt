@@ -1,5 +1,5 @@
--- As for `drive`; and what is told so far is told by no run.
-use Rattle.vte_core.proofs.Common.{ℕ, ◌-◌, ◌<◌, true, List, length, SpendsWithin, HasReadWithLimit, IsSettled, StandsAt, TellsOutsideRuns, chunk_call}
+-- As for `drive`; and what is reported so far is reported by no run.
+use Rattle.vte_core.proofs.Common.{ℕ, ◌-◌, ◌<◌, true, List, length, SpendsWithin, HasReadWithLimit, IsSettled, StandsAt, ReportsOutsideRuns, chunk_call}
 use Rattle.vte_core.proofs.parser.machine.Machine.drive_to_run.Given as goal
 
 abbrev pub invariant-loop-position : goal.invariant-loop-position
@@ -10,7 +10,7 @@ invariant-loop-position g l = record {
       (g.P.CountedPerform.value_of l.fn.performer) (g.P.CountedPerform.value_of l.performer) stream l.position l.self;
   settled : l.position < length l.input.bytes.now → IsSettled l.self.state;
   outside_runs : (stream : List ℕ) → HasReadWithLimit g.B.Buffer.limit l.fn.self stream
-      → TellsOutsideRuns g.B.Buffer.limit stream l.input.bytes.now l.position;
+      → ReportsOutsideRuns g.B.Buffer.limit stream l.input.bytes.now l.position;
   spends : SpendsWithin 7 0 2 l.input.bytes.now 0 l.position l.fn.self l.self l.fn.reader l.reader;
 }
 

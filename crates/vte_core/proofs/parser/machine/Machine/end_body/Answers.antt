@@ -1,4 +1,4 @@
--- What is open is told first. Then ESC leads to after ESC, and CAN or SUB is executed and leads to a text.
+-- What is open is reported first. Then ESC leads to after ESC, and CAN or SUB is executed and leads to a text.
 use Rattle.vte_core.proofs.Common.{[], ◌∷◌, refl, sym, ap, ◌∙◌, rules, Execute, closing_events_at}
 use Rattle.vte_core.proofs.bytes.ClassCases.{ends_by_cancel}
 use Rattle.vte_core.proofs.calls.Arms.{performs-escape, takes-byte}
@@ -10,7 +10,8 @@ use Rattle.vte_core.proofs.parser.machine.Machine.end_body.Goals as goal
 
 pub returns-then-byte-eq-ESCAPE-clause-performs : goal.returns-then-byte-eq-ESCAPE-clause-performs
 returns-then-byte-eq-ESCAPE-clause-performs g c = λ place s b.
-    performs-escape c.if-byte-eq-ESCAPE.true refl c.begin_escape.ensures place s (c.report_end.ensures.told place s b)
+    performs-escape c.if-byte-eq-ESCAPE.true refl c.begin_escape.ensures place s
+    (c.report_end.ensures.reported place s b)
 
 pub returns-clause-performs : goal.returns-clause-performs
 returns-clause-performs g c = λ place s b.
@@ -19,7 +20,7 @@ returns-clause-performs g c = λ place s b.
     let e = ends_by_cancel c.args.byte c.requires c.if-byte-eq-ESCAPE.false in
     takes-performs (cancel_is_no_escape c.args.byte e)
     (takes-byte
-    (c.execute_control.ensures.value ∙ ap (λ v. step v (Execute c.args.byte)) (c.report_end.ensures.told place s b)
+    (c.execute_control.ensures.value ∙ ap (λ v. step v (Execute c.args.byte)) (c.report_end.ensures.reported place s b)
     ∙ sym
     (after_events-append step (g.P.CountedPerform.value_of c.args.performer.now) (closing_events_at limit place)
     (Execute c.args.byte ∷ [])))

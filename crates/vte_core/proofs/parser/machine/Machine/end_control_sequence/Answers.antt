@@ -1,4 +1,4 @@
--- An ill-shaped head tells nothing. Any other is whole once the last number is settled, and is dispatched.
+-- An ill-shaped head reports nothing. Any other is whole once the last number is settled, and is dispatched.
 use Rattle.vte_core.proofs.Common.{[], ◌∷◌, refl, ap, ◌∙◌, arith, CsiDispatch, head_of, sequence_event, InText}
 use Rattle.vte_core.proofs.bytes.ClassCases.{class-final}
 use Rattle.vte_core.proofs.calls.CallEnds.{settled-by}
@@ -12,7 +12,7 @@ pub returns-in-IllShaped-clause-takes : goal.returns-in-IllShaped-clause-takes
 returns-in-IllShaped-clause-takes g c = λ head s.
     let ill = ill_shaped-now (rw c.in-IllShaped.is at s) in
     record {
-      told = [];
+      reported = [];
       next = InText [];
       performed = refl;
       stands = record { by = (refl, refl) };
@@ -25,9 +25,9 @@ returns-clause-takes g c = λ head s.
     let ready = c.end_head-ignore.ensures c.args.progress head (head-holds c.in_default.not-IllShaped s) in
     let d = c.dispatch_control_sequence.ensures.dispatches in
     record {
-      told = sequence_event CsiDispatch (head_of head) c.args.byte ∷ [];
+      reported = sequence_event CsiDispatch (head_of head) c.args.byte ∷ [];
       next = InText [];
-      performed = d.tells.value
+      performed = d.reports.value
           ∙ ap (g.P.CountedPerform.step (g.P.CountedPerform.value_of c.args.performer.now))
           (dispatched-ready CsiDispatch c.args.byte ready);
       stands = stands-text_begun d.text;

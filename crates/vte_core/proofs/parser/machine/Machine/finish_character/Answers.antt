@@ -1,7 +1,7 @@
 -- Without an open character the call stands at its start. With one it stands where that is completed.
 use Rattle.vte_core.proofs.Common.{sym, ◌∙◌, false≢true}
 use Rattle.vte_core.proofs.calls.InsideCharacters.{opens-text}
-use Rattle.vte_core.proofs.calls.BeforeRun.{tells-nothing, tells-open}
+use Rattle.vte_core.proofs.calls.BeforeRun.{reports-nothing, reports-open}
 use Rattle.vte_core.proofs.calls.CallEnds.{settled-by, settled-nothing, settled-outside, starts-at, starts-inside}
 use Rattle.vte_core.proofs.parser.machine.Machine.finish_character.Goals as goal
 
@@ -20,19 +20,20 @@ returns-else-is_nothing-clause-stands_at g c =
 pub returns-in_default-clause-stands_at : goal.returns-in_default-clause-stands_at
 returns-in_default-clause-stands_at g c = λ stream h. starts-at (settled-outside _ c.in_default.not-Text) h
 
--- The same three, of what is told by no run.
+-- The same three, of what is reported by no run.
 pub returns-then-is_nothing-clause-outside_runs : goal.returns-then-is_nothing-clause-outside_runs
 returns-then-is_nothing-clause-outside_runs g c stream h =
-    tells-nothing
+    reports-nothing
     (settled-by c.in-Text.is (settled-nothing c.in-Text.begun (c.is_nothing.ensures.0 c.if-is_nothing.true))) h
 
 pub returns-in_default-clause-outside_runs : goal.returns-in_default-clause-outside_runs
-returns-in_default-clause-outside_runs g c stream h = tells-nothing (settled-outside _ c.in_default.not-Text) h
+returns-in_default-clause-outside_runs g c stream h = reports-nothing (settled-outside _ c.in_default.not-Text) h
 
 pub returns-else-is_nothing-clause-outside_runs : goal.returns-else-is_nothing-clause-outside_runs
 returns-else-is_nothing-clause-outside_runs g c stream h =
-    let told = c.continue_character.ensures.completes.adds _ stream c.args.self.now c.in-Text.is (starts-inside h) in
-    tells-open told
+    let reported =
+    c.continue_character.ensures.completes.adds _ stream c.args.self.now c.in-Text.is (starts-inside h) in
+    reports-open reported
     (λ none.
     opens-text c.args.self.now c.in-Text.is
     (λ e. false≢true (sym c.if-is_nothing.false ∙ c.is_nothing.ensures.1 e)) h none)

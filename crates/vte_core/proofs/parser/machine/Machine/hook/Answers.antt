@@ -10,7 +10,7 @@ pub returns-in-IllShaped-clause-takes : goal.returns-in-IllShaped-clause-takes
 returns-in-IllShaped-clause-takes g c = λ head s.
     let ill = ill_shaped-now (rw c.in-IllShaped.is at s) in
     record {
-      told = [];
+      reported = [];
       next = InIgnoredString;
       performed = refl;
       stands = record { by = tt };
@@ -22,7 +22,7 @@ pub returns-clause-takes : goal.returns-clause-takes
 returns-clause-takes g c = λ head s.
     let f = c.end_head-ignore.ensures c.args.progress head (head-holds c.in_default.not-IllShaped s) in
     record {
-      told = sequence_event Hook (head_of head) c.args.byte ∷ [];
+      reported = sequence_event Hook (head_of head) c.args.byte ∷ [];
       next = InDeviceData;
       performed =
           c.hook.ensures.value

@@ -36,7 +36,7 @@ returns-then-is_head_byte-clause-performs g c =
     performs-in c.requires.begun (head_ends_nothing (class_of b) head)
     (takes-at_escape c.args.self.now
     (λ holds. takes-byte
-    (rw (holds.kept, holds.too_many_intermediates) at d.tells.value)
+    (rw (holds.kept, holds.too_many_intermediates) at d.reports.value)
     (stands-text_begun d.text)
     (escape-end refl ends (below_finals b (below_final b head)))))
 

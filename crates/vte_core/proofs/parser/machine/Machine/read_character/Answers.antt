@@ -34,7 +34,7 @@ returns-then-first-lt224-clause-advances g c =
     advances-first r.may_read r.lead r.fits
     (completes-whole (goes-nowhere c.args.self.now (unfinished-some _ _))
     (λ more. (spells.is_whole, c.character_of_two.ensures))
-    r.may_read.begun c.tell_character.ensures.value (omega arith) c.byte_at-second.ensures.value refl)
+    r.may_read.begun c.report_character.ensures.value (omega arith) c.byte_at-second.ensures.value refl)
 
 -- Three bytes.
 pub returns-then-first-lt240-clause-advances : goal.returns-then-first-lt240-clause-advances

@@ -61,7 +61,7 @@ returns-then-not-this-clause-advances g c =
     (sym c.is_device_data.ensures ∙ c.if-not-is_device_data.false) found.are in
     advances-then v.advances
     (advances-data v.begun (omega (arith, found.low)) found.high are
-    (rw c.if-not-this.true refl) c.tell_data.ensures.put)
+    (rw c.if-not-this.true refl) c.report_data.ensures.put)
 
 -- A byte that is no data ends them or is dropped.
 pub returns-then-not-is_device_data-clause-advances : goal.returns-then-not-is_device_data-clause-advances

@@ -58,7 +58,7 @@ loop-position-preserved g c =
       spends = search rules;
     }
 
--- A byte that dispatches: the sequence is told, with the first two intermediates, and a text goes on.
+-- A byte that dispatches: the sequence is reported, with the first two intermediates, and a text goes on.
 pub returns-then-dispatches_escape-clause-advances : goal.returns-then-dispatches_escape-clause-advances
 returns-then-dispatches_escape-clause-advances g c =
     let v = c.loop-position.invariant in
@@ -71,10 +71,10 @@ returns-then-dispatches_escape-clause-advances g c =
     (dispatch_ends_nothing (class_of b) ends)
     (takes-in_escape c.loop-position.self
     (λ ints holds. takes-byte
-    (rw (holds.kept, holds.too_many_intermediates) at d.tells.value) (stands-text_begun d.text)
+    (rw (holds.kept, holds.too_many_intermediates) at d.reports.value) (stands-text_begun d.text)
     (intermediate-end refl ends))) (settled-by d.text tt)))
 
--- CAN, SUB or ESC: the sequence is left without being told.
+-- CAN, SUB or ESC: the sequence is left without being reported.
 pub returns-then-ends_body-clause-advances : goal.returns-then-ends_body-clause-advances
 returns-then-ends_body-clause-advances g c =
     let v = c.loop-position.invariant in

@@ -60,7 +60,7 @@ returns-clause-advances g c =
           (subst (λ b. HoldsItems limit w.end_piece.new.self (items ++ b ∷ [])) (sym is)
           (w.end_piece.ensures.holds items keeps)))
           (command-item (omega (arith, is))))) (settled-by begun tt)))
-      -- BEL: the command is told.
+      -- BEL: the command is reported.
       | else-byte-eq59+then-byte-eq-BELL w ↦
           rw (w.self-is, w.performer-is)
           (advances-when tt (advances-in begun within here.1 r.may_go_on ordinary

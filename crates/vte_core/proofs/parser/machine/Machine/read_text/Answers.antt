@@ -118,11 +118,11 @@ read g c here = elim c.if-is_printed_ascii-2.branch [
       rw (w.self-is, w.performer-is, w.position-is)
       (advances-moved (omega (arith, read.moves.progress here.within)) (advances-part read.advances))
   | else-is_printed_ascii-2+else-IN_RUNS-3+else-is_lead-2+else-byte-eq-ESCAPE w ↦
-      let told = w.tell_lone_byte-else-byte-eq-ESCAPE.ensures in
+      let reported = w.report_lone_byte-else-byte-eq-ESCAPE.ensures in
       rw (w.self-is, w.performer-is, w.position-is)
       (advances-part (advances-byte here.within here.looked_at here.may_go_on
       (performs-single here.begun w.if-byte-eq-ESCAPE.false
-      (sym w.is_lead-else-IN_RUNS-3.ensures ∙ w.if-is_lead-2.false) told.control told.malformed)
+      (sym w.is_lead-else-IN_RUNS-3.ensures ∙ w.if-is_lead-2.false) reported.control reported.malformed)
       (settled-by here.begun tt)))
 ]
 
@@ -178,11 +178,11 @@ loop-position-2-preserved-then-byte-ge160 g c =
           | then-is_lead+else-this-ne0 w ↦
               rw (w.self-is, w.performer-is, w.position-is) (advances-part w.read_at_lead-position.ensures.advances)
           | else-is_lead w ↦
-              let told = w.tell_lone_byte.ensures in
+              let reported = w.report_lone_byte.ensures in
               rw (w.self-is, w.performer-is, w.position-is) (advances-part
               (advances-byte here.within here.looked_at here.may_go_on
               (performs-single here.begun (grind (arith, c.if-byte-ge160.true))
-              (sym c.is_lead.ensures ∙ w.if-is_lead.false) told.control told.malformed)
+              (sym c.is_lead.ensures ∙ w.if-is_lead.false) reported.control reported.malformed)
               (settled-by here.begun tt)))
         ]);
         may_go_on = elim c.if-is_lead.branch [
@@ -190,7 +190,7 @@ loop-position-2-preserved-then-byte-ge160 g c =
           | else-is_lead w ↦
               rw w.performer-is (may_go_on-malformed g.P.CountedPerform.layout (call_at g c.args.input.bytes.now)
               (c.requires.no_stop runs) here.may_go_on c.if-byte-ge160.true
-              (w.tell_lone_byte.ensures.malformed (omega (arith, c.if-byte-ge160.true))))
+              (w.report_lone_byte.ensures.malformed (omega (arith, c.if-byte-ge160.true))))
         ];
         settled = elim c.if-is_lead.branch [
           | then-is_lead+else-this-ne0 w ↦ rw (w.self-is, w.position-is) w.read_at_lead-position.ensures.text

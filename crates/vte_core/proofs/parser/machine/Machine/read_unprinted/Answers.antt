@@ -34,11 +34,11 @@ loop-byte-init g c =
 pub loop-byte-preserved : goal.loop-byte-preserved
 loop-byte-preserved g c =
     let v = c.loop-byte.invariant in
-    let told = c.tell_lone_byte.ensures in
+    let reported = c.report_lone_byte.ensures in
     record {
       advances =
           advances-then v.advances
-          (advances-single v.may_read c.loop-byte-test.true v.other v.lone told.control told.malformed);
+          (advances-single v.may_read c.loop-byte-test.true v.other v.lone reported.control reported.malformed);
       may_read = record {
         begun = v.may_read.begun;
         may_go_on = λ _. sym c.terminated.ensures ∙ c.if-terminated.false;
@@ -55,17 +55,17 @@ loop-byte-preserved g c =
 pub returns-then-position-len-clause-advances : goal.returns-then-position-len-clause-advances
 returns-then-position-len-clause-advances g c =
     let v = c.loop-byte.invariant in
-    let told = c.tell_lone_byte.ensures in
+    let reported = c.report_lone_byte.ensures in
     advances-then v.advances
-    (advances-single v.may_read c.loop-byte-test.true v.other v.lone told.control told.malformed)
+    (advances-single v.may_read c.loop-byte-test.true v.other v.lone reported.control reported.malformed)
 
 -- The next byte may begin a run or a character.
 pub returns-then-is_printed_ascii-clause-advances : goal.returns-then-is_printed_ascii-clause-advances
 returns-then-is_printed_ascii-clause-advances g c =
     let v = c.loop-byte.invariant in
-    let told = c.tell_lone_byte.ensures in
+    let reported = c.report_lone_byte.ensures in
     advances-then v.advances
-    (advances-single v.may_read c.loop-byte-test.true v.other v.lone told.control told.malformed)
+    (advances-single v.may_read c.loop-byte-test.true v.other v.lone reported.control reported.malformed)
 
 -- ESC: the looks at the bytes before it and at the sequence add up.
 pub returns-clause-moves : goal.returns-clause-moves

@@ -1,8 +1,9 @@
--- Starts, what is told before them, and where a call stops: by whether the next byte breaks an open character.
+-- Starts, what is reported before them, and where a call stops: by whether the next byte breaks an open character.
 --
--- `told-X`, `resumed_stream-X` and `starts-X` say of `told_before`, `resumed_stream` and `IsStart` what holds if X: the
--- open character is `broken`, none is open (`settled`), or `all` bytes are read. `breaks-X` and `breaks_at-X` say when.
-use Rattle.vte_core.proofs.Common.{◌≡◌, ℕ, ◌+◌, ◌<◌, ◌≤◌, inl, inr, true, false, Option, List, [], ◌∷◌, ◌++◌, length, take, drop, get_or, refl, ap, sym, ◌∙◌, arith, slice_index, false≢true, append-nil, drop_more, drop_all, take_all, breaks, breaks_at, IsStart, told_before, resumed_stream, Print, replacement, added, open_character, is_truncated, is_well_formed}
+-- `reported-X`, `resumed_stream-X` and `starts-X` say of `reported_before`, `resumed_stream` and `IsStart` what holds
+-- if X: the open character is `broken`, none is open (`settled`), or `all` bytes are read. `breaks-X` and `breaks_at-X`
+-- say when.
+use Rattle.vte_core.proofs.Common.{◌≡◌, ℕ, ◌+◌, ◌<◌, ◌≤◌, inl, inr, true, false, Option, List, [], ◌∷◌, ◌++◌, length, take, drop, get_or, refl, ap, sym, ◌∙◌, arith, slice_index, false≢true, append-nil, drop_more, drop_all, take_all, breaks, breaks_at, IsStart, reported_before, resumed_stream, Print, replacement, added, open_character, is_truncated, is_well_formed}
 use Rattle.vte_core.proofs.shapes.TextLemmas.{well_formed_not_truncated}
 
 -- ---- whether a byte breaks the open character
@@ -68,22 +69,22 @@ no_start {stream} {bytes} {i} within is ends some whole start = elim start.start
   | inr broken ↦ false≢true (sym whole ∙ sym (breaks_at-byte stream bytes i within is ends) ∙ broken)
 ]
 
--- ---- what is told
+-- ---- what is reported
 
-pub told-settled : (limit : Option ℕ) (stream bytes : List ℕ) (i : ℕ) → breaks_at stream bytes i ≡ false
-    → told_before limit stream bytes i ≡ added limit stream (take i bytes)
-unfolding told_before
-told-settled limit stream bytes i whole = rw whole (append-nil (added limit stream (take i bytes)))
+pub reported-settled : (limit : Option ℕ) (stream bytes : List ℕ) (i : ℕ) → breaks_at stream bytes i ≡ false
+    → reported_before limit stream bytes i ≡ added limit stream (take i bytes)
+unfolding reported_before
+reported-settled limit stream bytes i whole = rw whole (append-nil (added limit stream (take i bytes)))
 
-pub told-broken : (limit : Option ℕ) (stream bytes : List ℕ) (i : ℕ) → breaks_at stream bytes i ≡ true
-    → told_before limit stream bytes i ≡ added limit stream (take i bytes) ++ Print replacement ∷ []
-unfolding told_before
-told-broken limit stream bytes i broken = rw broken refl
+pub reported-broken : (limit : Option ℕ) (stream bytes : List ℕ) (i : ℕ) → breaks_at stream bytes i ≡ true
+    → reported_before limit stream bytes i ≡ added limit stream (take i bytes) ++ Print replacement ∷ []
+unfolding reported_before
+reported-broken limit stream bytes i broken = rw broken refl
 
-pub told-all : (limit : Option ℕ) (stream bytes : List ℕ) (n : ℕ) → n ≡ length bytes
-    → told_before limit stream bytes n ≡ added limit stream bytes
-told-all limit stream bytes n all =
-    told-settled limit stream bytes n (breaks_at-all stream bytes n (omega arith))
+pub reported-all : (limit : Option ℕ) (stream bytes : List ℕ) (n : ℕ) → n ≡ length bytes
+    → reported_before limit stream bytes n ≡ added limit stream bytes
+reported-all limit stream bytes n all =
+    reported-settled limit stream bytes n (breaks_at-all stream bytes n (omega arith))
     ∙ ap (added limit stream) (take_all n bytes (omega arith))
 
 pub resumed_stream-settled : (stream bytes : List ℕ) (n : ℕ) → breaks_at stream bytes n ≡ false

@@ -4,7 +4,7 @@ use Rattle.event_log.proofs.Common.{◌≡◌, ℕ, ◌+◌, ◌<◌, ◌≤◌,
 use Rattle.event_log.proofs.Common.{append_assoc, append-nil, length-append, arith, flat_map, Event, HasRead, events, Parser, AddsUpTo, HasWritten}
 use Rattle.std.specs.Io.KnownBytes.{Appends, Consumes, IsAtEnd, Keeps}
 use Rattle.event_log.specs.Device.{KeepsWhereTold}
-use Rattle.event_log.specs.Run.{WritesAll, WritesFront, most_reads}
+use Rattle.event_log.specs.Run.{WritesAll, WritesPrefix, most_reads}
 use Rattle.vte_core.proofs.streams.After.{added-nothing}
 use Rattle.event_log.proofs.Collected.{adds_up_at_first}
 
@@ -146,7 +146,7 @@ module _ {text_of : Event → List ℕ} {input held : List ℕ} {parser : Parser
   pub come_to_front : {reads : ℕ} {to_come_then : Option (List ℕ)} {failed : Bool}
       → HasReadPart text_of input held reads parser to_come taken
       → KeepsWhereTold to_come to_come_then → (failed ≡ true) ⊎ (most_reads ≤ reads)
-      → WritesFront (means text_of) input held to_come_then taken failed
+      → WritesPrefix (means text_of) input held to_come_then taken failed
   come_to_front {to_come_then} h keeps cause = record {
     stream = h.stream;
     rest = h.rest;

@@ -26,7 +26,7 @@ pub record WritesAll (meaning : List ℕ → List ℕ) (input held : List ℕ)
 
 -- A prefix of the input was read, and its meaning was written. Either the reader has failed, or it
 -- has given bytes in as many reads as a run makes.
-pub record WritesFront (meaning : List ℕ → List ℕ) (input held : List ℕ)
+pub record WritesPrefix (meaning : List ℕ → List ℕ) (input held : List ℕ)
     (to_come taken : Option (List ℕ)) (failed : Bool)
     : Type 0 where
   pub stream : List ℕ
@@ -43,7 +43,7 @@ abbrev pub WritesExactly : (List ℕ → List ℕ) → Result (Unit {0}) Fault �
 WritesExactly meaning (Ok _) input held to_come taken failed =
     WritesAll meaning input held to_come taken
 WritesExactly meaning (Err Read) input held to_come taken failed =
-    WritesFront meaning input held to_come taken failed
+    WritesPrefix meaning input held to_come taken failed
 WritesExactly meaning (Err Write) input held to_come taken failed = ⊤
 
 abbrev pub LogsExactly : Result (Unit {0}) Fault → (input held : List ℕ) → Option (List ℕ)

@@ -1,5 +1,5 @@
 -- Loops that make calls one by one: what is left gives what all gave. The invariant is an equation between the value
--- now and the value after all calls, and each round takes one call off its front.
+-- now and the value after all calls, and each round takes one call off its prefix.
 use Rattle.vte.proofs.Common.{◌≡◌, ◌≤◌, ◌<◌, ◌+◌, ◌-◌, ℕ, zero, suc, List, [], ◌∷◌, length, map, Option, None, Some, refl, arith, take, drop, Bor, take_all, ok_or, slice_index_or, id_of, link_to, palette_entry_calls, palette_entries_calls, attributes_from, decimal_number, Call, after}
 use Rattle.std.specs.Result.{result_ok}
 use Rattle.vte.proofs.performing.CallLists.{after_calls-append}

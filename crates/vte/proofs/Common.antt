@@ -33,7 +33,7 @@ pub use Rattle.vte_core.specs.declared.parser.refused.Refused.{Refused}
 pub use Rattle.vte_handler.specs.Call.{Call, Input, ResetColor}
 pub use Rattle.vte_handler.specs.Handler.{after}
 pub use Rattle.vte_handler.specs.Timeout.{AllowsOnly, IsSteady, TimeoutMeaning, timeout_meaning}
-pub use Rattle.vte.specs.Processor.{EndsInBegin, HoldsWellAt, IsInsideUpdate, IsOutsideUpdate, Meaning, TakesSteps, State, TakesAllTurns, TakesTurns, all_bytes, front_to_begin, given_bytes, AreInOrder, added_calls, calls_between, calls_with_stops, done, extend, hold_turn, kind_of, ParsingTurn, ExpiredTurn, release, meaning_of, most_held, parsing_turn, parse, set_times, stop, turn, turns, update_nanos, with_held}
+pub use Rattle.vte.specs.Processor.{EndsInBegin, HoldsWellAt, IsInsideUpdate, IsOutsideUpdate, Meaning, TakesSteps, State, TakesAllTurns, TakesTurns, all_bytes, prefix_to_begin, given_bytes, AreInOrder, added_calls, calls_between, calls_with_stops, done, extend, hold_turn, kind_of, ParsingTurn, ExpiredTurn, release, meaning_of, most_held, parsing_turn, parse, set_times, stop, turn, turns, update_nanos, with_held}
 pub use Rattle.vte.specs.Refusal.{ParsingTurnIsRefused, HasTaken, TakesTurnsUntilRefused, TurnIsRefused, between_turns, inside_turn}
 pub use Rattle.vte.specs.BeginUpdate.{begin_count, begins_in_event, is_update_group, update_group_count}
 pub use Rattle.vte.specs.Calls.{calls_after, calls, calls_from, calls_of, last_printed_after, last_printed, last_printed_from}
@@ -41,7 +41,7 @@ pub use Rattle.vte.specs.ModeChange.{change_calls}
 pub use Rattle.vte.specs.ColorReading.{kind_reading}
 pub use Rattle.vte.specs.CommandCalls.{dynamic_calls, id_of, link_to, palette_entry_calls, palette_entries_calls}
 unfoldable pub use Rattle.vte.specs.CommandCalls.{all_reset}
-pub use Rattle.vte.specs.machine.ColorReader.{component_at_front}
+pub use Rattle.vte.specs.machine.ColorReader.{first_component}
 pub use Rattle.vte.specs.machine.Hold.{Adds, IsAdded, IsHeldTail, released_of, still_held}
 pub use Rattle.vte.specs.ProcessorCalls.{StopsSync, HasAdvanced, HasParsedAll, HasParsedAndHolds, IsAt, ReadsInTurns, HasReplayed, HasTold, Replays, StandingPredicate, held_of}
 pub use Rattle.vte.specs.machine.Performing.{PerformsAll, PerformsUntilStop, performer_value, with_private_mode, with_private_modes}
@@ -51,7 +51,7 @@ pub use Rattle.vte.specs.Memory.{HasMemory, HasTextRoom, ParserHasMemory, KeepsM
 pub use Rattle.vte.specs.Numbers.{decimal_number, first_number, first_numbers}
 pub use Rattle.vte.specs.Split.{first_after, split_by}
 pub use Rattle.vte.specs.machine.Performer.{FitsText, PerformerValue, with_event}
-pub use Rattle.vte.specs.machine.Engine.{EngineIsAt, EngineIsAtKeeping, EndsParsingTurn, EndsTurn, HasHalted, HasParsedFront, HasParsedWithoutBegin, ArePartsAt, ArePartsAtKeeping, ArePartsAtWithMemory, HasTakenParsingTurn, HasTurned}
+pub use Rattle.vte.specs.machine.Engine.{EngineIsAt, EngineIsAtKeeping, EndsParsingTurn, EndsTurn, HasHalted, HasParsedPrefix, HasParsedWithoutBegin, ArePartsAt, ArePartsAtKeeping, ArePartsAtWithMemory, HasTakenParsingTurn, HasTurned}
 pub use Rattle.vte.specs.Views.{EngineHasMemory, EngineStandsAt, ParserView, EngineView, bounded_engine_view, long_parser_view, engine_view, limited_parser_view, long_engine_view}
 pub use Rattle.vte.specs.Rendition.{attribute_calls, attributes_from}
 pub use Rattle.vte.specs.Synchronized.{begin_update, begins_ending_in_last, begins_with, after_last_end, end_update, from_begin_update, part_after_last_end}

@@ -1,5 +1,5 @@
--- The sequences of updates in held bytes: the search for them, and what stays held; where bytes are parsed, the front
+-- The sequences of updates in held bytes: the search for them, and what stays held; where bytes are parsed, the prefix
 -- up to the one that begins an update.
-pub mod Fronts
+pub mod Prefixes
 pub mod Sequences
 pub mod Seen

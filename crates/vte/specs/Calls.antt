@@ -45,6 +45,6 @@ abbrev pub calls : List Event → List Call
 calls events = calls_from None events
 
 -- The calls that events add to those before them: `all` begins with `before`, as the events of a
--- stream do with those of its front (`laws::events_grow`).
+-- stream do with those of its prefix (`laws::events_grow`).
 abbrev pub calls_after : List Event → List Event → List Call
 calls_after before all = drop (length (calls before)) (calls all)

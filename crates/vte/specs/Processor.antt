@@ -109,18 +109,18 @@ kind_of false (suc held) given = ExpiredTurn
 kind_of true held given = if nat_le (held + given) most_held then HoldTurn else FullTurn
 
 -- The shortest prefix whose last byte begins an update, or all bytes if there is none.
-abbrev pub front_to_begin : Option ℕ → List ℕ → List ℕ → List ℕ
-front_to_begin limit parsed [] = []
-front_to_begin limit parsed (byte ∷ rest) =
+abbrev pub prefix_to_begin : Option ℕ → List ℕ → List ℕ → List ℕ
+prefix_to_begin limit parsed [] = []
+prefix_to_begin limit parsed (byte ∷ rest) =
     if nat_lt 0 (begin_count (added limit parsed (byte ∷ []))) then byte ∷ []
-    else byte ∷ front_to_begin limit (parsed ++ byte ∷ []) rest
+    else byte ∷ prefix_to_begin limit (parsed ++ byte ∷ []) rest
 
 module _ {V W : Type 0} (meaning : Meaning V W) where
   -- A parsing turn: bytes are parsed up to the one that begins an update.
   abbrev pub parsing_turn : State V W → List ℕ → Turn V W
   parsing_turn state bytes =
-      let front = front_to_begin meaning.limit state.parsed bytes in
-      record { state = parse meaning state front; rest = drop (length front) bytes }
+      let prefix = prefix_to_begin meaning.limit state.parsed bytes in
+      record { state = parse meaning state prefix; rest = drop (length prefix) bytes }
 
   -- The bytes join the hold. Each begin-update that ends among them and follows the last end-update
   -- sets the timeout.

@@ -15,11 +15,11 @@ module _ {V W : Type 0} (meaning : Meaning V W) where
   pub record ParsingTurnIsRefused (state : State V W) (bytes : List ℕ) (next : State V W)
       (left : List ℕ) : Type 0 where
     -- the bytes parsed
-    pub front : List ℕ
-    pub bytes_are : front ++ left ≡ bytes
+    pub prefix : List ℕ
+    pub bytes_are : prefix ++ left ≡ bytes
     pub some_left : 0 < length left
-    pub none_begin : begin_count (added meaning.limit state.parsed front) ≡ 0
-    pub state_is : next ≡ parse meaning state front
+    pub none_begin : begin_count (added meaning.limit state.parsed prefix) ≡ 0
+    pub state_is : next ≡ parse meaning state prefix
 
   -- A turn of this kind was refused memory: never a hold turn, which reads nothing until it has
   -- all the memory that it needs.

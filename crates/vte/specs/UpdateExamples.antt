@@ -8,7 +8,7 @@ use Rattle.vte_types.specs.declared.color.Color.TheVariants as color
 use Rattle.vte_types.specs.declared.color.NamedColor.TheVariants.{Red}
 use Rattle.vte_types.specs.declared.mode.NamedPrivateMode.TheVariants.{ShowCursor, SyncUpdate}
 use Rattle.vte_types.specs.declared.mode.PrivateMode.TheVariants.{Named}
-use Rattle.vte.specs.Processor.{Meaning, State, HoldTurn, FullTurn, calls_with_stops, front_to_begin, kind_of, most_held, stop, turn}
+use Rattle.vte.specs.Processor.{Meaning, State, HoldTurn, FullTurn, calls_with_stops, prefix_to_begin, kind_of, most_held, stop, turn}
 use Rattle.vte.specs.StdSyncHandler.{pending_meaning}
 use Rattle.vte.specs.Synchronized.{after_last_end, begin_update, begins_ending_in_last, end_update, from_begin_update, update_ended_call}
 use Rattle.vte.specs.declared.ansi.laws.replays.Step.{Step}
@@ -156,8 +156,8 @@ pub record ShortExamples : Type 0 where
   pub ends_in_last_two : begins_ending_in_last 2 (codes "\u{1b}[?2026hb") ≡ 1
   pub ends_before_last : begins_ending_in_last 1 (codes "\u{1b}[?2026hb") ≡ 0
   -- after bytes that were parsed, up to the one that begins an update
-  pub front : front_to_begin usual_limit (codes "\u{1b}[?25;20") (codes "26hb") ≡ codes "26h"
-  pub front_without_begin : front_to_begin usual_limit [] (codes "ab") ≡ codes "ab"
+  pub prefix : prefix_to_begin usual_limit (codes "\u{1b}[?25;20") (codes "26hb") ≡ codes "26h"
+  pub prefix_without_begin : prefix_to_begin usual_limit [] (codes "ab") ≡ codes "ab"
   -- the hold takes its last byte, and none after it
   pub fits : kind_of true (most_held - 1) 1 ≡ HoldTurn
   pub full : kind_of true most_held 1 ≡ FullTurn

@@ -27,17 +27,17 @@ first-after {events} before f = record {
 -- ---- one part after another
 
 pub continues-nothing : (since bytes : List ℕ) → Continues since since bytes 0 []
-continues-nothing since bytes = record { goes_on = λ more. refl; fronts = λ k within. first_same (rw zero-add refl) }
+continues-nothing since bytes = record { goes_on = λ more. refl; prefixes = λ k within. first_same (rw zero-add refl) }
 
 pub continues-then : {since next last bytes : List ℕ} {n m : ℕ} {told more : List Event}
     → Continues since next bytes n told → Continues next last (drop n bytes) m more
     → n ≤ length bytes → Continues since last bytes (n + m) (told ++ more)
 continues-then {bytes} {n} {m} {told} {more} a b within = record {
   goes_on = λ unread. rw (append_assoc told, ← drop-drop m n bytes, a.goes_on unread, b.goes_on unread) refl;
-  fronts = λ k below.
+  prefixes = λ k below.
       rw (append_assoc told, ← drop-drop m n bytes, add_assoc n m k)
-      (first-then (a.fronts (m + k) (omega arith))
-      (first-after told (b.fronts k (omega (arith, length-drop n bytes)))));
+      (first-then (a.prefixes (m + k) (omega arith))
+      (first-after told (b.prefixes k (omega (arith, length-drop n bytes)))));
 }
 
 -- ---- a text
@@ -48,7 +48,7 @@ continues-added since bytes n = record {
   goes_on = λ more.
       let parts = added-append usual_limit since (take n bytes) (drop n bytes ++ more) in
       rw (← parts, ← append_assoc (take n bytes), take-append-drop) refl;
-  fronts = λ k within. first_same (rw (take-add n k bytes, added-append) refl);
+  prefixes = λ k within. first_same (rw (take-add n k bytes, added-append) refl);
 }
 
 -- ---- a call of the parser
@@ -82,7 +82,7 @@ unfolding reported_before resumed_stream breaks_at
 continues-call goes_on since bytes n = elim (cases_Bool (breaks_at since bytes n)) [
   | inl broken ↦ rw broken (record {
     goes_on = λ more. rw broken at (goes_on since bytes more n);
-    fronts = λ k within.
+    prefixes = λ k within.
         rw (take-add n k bytes, added-append, append_assoc (added usual_limit since (take n bytes)))
         (first-after (added usual_limit since (take n bytes))
         (broken_first goes_on (since ++ take n bytes) (drop n bytes) k broken));

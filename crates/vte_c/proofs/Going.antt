@@ -171,7 +171,7 @@ goes-then {old} {mid} {since} {bytes} {from} {n} {m} a free within b =
         | inr after_it ↦
             let k : ℕ = i - n in
             let place : n + k ≡ i = omega arith in
-            let front = a.continues.fronts k (omega (arith, within)) in
+            let front = a.continues.prefixes k (omega (arith, within)) in
             let stop : ℕ → Bool = is_stop old.kinds old.stops in
             let told_others =
             others_reported old.kinds old.stops a.told

@@ -54,7 +54,7 @@ pub record Feeds (kinds stops : ℕ) (parser next : Saved) (bytes : List ℕ)
       HasTold kinds parser told stream (bytes ++ rest) →
       StopsAtKind stops (kinds_in counts.events events)
   -- Unless text or data stop, a record among the stops came with the last byte that was read: no
-  -- shorter front of the bytes adds one.
+  -- shorter prefix of the bytes adds one.
   pub until : (stream : List ℕ) → HasReadSaved parser stream →
       is_stop kinds stops text_kind ≡ false → is_stop kinds stops data_kind ≡ false →
       (i : ℕ) → i < fed_count result →

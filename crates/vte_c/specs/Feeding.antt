@@ -21,8 +21,8 @@ pub record Continues (since next bytes : List ℕ) (n : ℕ) (told : List Event)
   pub goes_on : (more : List ℕ) →
       added usual_limit since (bytes ++ more)
       ≡ told ++ added usual_limit next (drop n bytes ++ more)
-  -- what a front of the bytes adds, beyond the first n
-  pub fronts : (k : ℕ) → n + k ≤ length bytes →
+  -- what a prefix of the bytes adds, beyond the first n
+  pub prefixes : (k : ℕ) → n + k ≤ length bytes →
       AreFirst (added usual_limit since (take (n + k) bytes))
       (told ++ added usual_limit next (take k (drop n bytes)))
 

@@ -16,11 +16,11 @@ IsAllDivided text = concat (segments text) ≡ text
 pub record IsRightSegment (segment later : List ℕ) : Type 0 where
   pub is_segment : IsSegment segment
   -- If a well-formed sequence starts there, it is the segment.
-  pub whole : (front rest : List ℕ) → front ++ rest ≡ segment ++ later → is_well_formed front ≡ true
-      → front ≡ segment
+  pub whole : (prefix rest : List ℕ) → prefix ++ rest ≡ segment ++ later
+      → is_well_formed prefix ≡ true → prefix ≡ segment
   -- No longer truncated sequence starts there.
-  pub longest : (front rest : List ℕ) → front ++ rest ≡ segment ++ later → is_truncated front ≡ true
-      → length front ≤ length segment
+  pub longest : (prefix rest : List ℕ) → prefix ++ rest ≡ segment ++ later
+      → is_truncated prefix ≡ true → length prefix ≤ length segment
 
 -- Each segment is the right one if the others follow it.
 abbrev pub AreRightSegments : List (List ℕ) → Type 0

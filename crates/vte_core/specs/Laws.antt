@@ -77,8 +77,8 @@ pub record CountsData (stream bytes : List ℕ) : Type 0 where
 
 -- The stream ends with the bytes of its open character, which are at most three.
 pub record EndsInCharacter (stream : List ℕ) : Type 0 where
-  pub front : List ℕ
-  pub joins : front ++ open_character stream ≡ stream
+  pub prefix : List ℕ
+  pub joins : prefix ++ open_character stream ≡ stream
   pub few : length (open_character stream) ≤ 3
 
 -- What is open at the end of a stream began at the last ESC, or is at most three bytes of a

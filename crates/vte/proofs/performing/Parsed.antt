@@ -1,10 +1,10 @@
 -- What parsed bytes make of a handler and a timeout. A performer's value steps by events; all events together make the
--- calls of their rows and set the timeout once per begin of an update. An early stop is the front up to the begin.
-use Rattle.vte.proofs.Common.{◌≡◌, ℕ, ◌+◌, ◌<◌, inl, inr, Bool, false, ◌||◌, nat_lt, All, List, [], ◌∷◌, ◌++◌, length, take, refl, ap, sym, ◌∙◌, arith, or-false, cases_lt, false≢true, nat_tests, All-head, All-tail, reported_before, resumed_stream, StopsExactly, Event, added, events, starts-settled, resumed_stream-settled, reported-settled, events_grow, after, ProcessorState, begin_count, begins_in_event, calls_of, calls_from, last_printed_after, last_printed, last_printed_from, performer_value, Meaning, set_times, FitsText, PerformerValue, with_event, engine_view, ArePartsAt, ArePartsAtKeeping, KeepsMemory, State, parse, front_to_begin, ParserView}
+-- calls of their rows and set the timeout once per begin of an update. An early stop is the prefix up to the begin.
+use Rattle.vte.proofs.Common.{◌≡◌, ℕ, ◌+◌, ◌<◌, inl, inr, Bool, false, ◌||◌, nat_lt, All, List, [], ◌∷◌, ◌++◌, length, take, refl, ap, sym, ◌∙◌, arith, or-false, cases_lt, false≢true, nat_tests, All-head, All-tail, reported_before, resumed_stream, StopsExactly, Event, added, events, starts-settled, resumed_stream-settled, reported-settled, events_grow, after, ProcessorState, begin_count, begins_in_event, calls_of, calls_from, last_printed_after, last_printed, last_printed_from, performer_value, Meaning, set_times, FitsText, PerformerValue, with_event, engine_view, ArePartsAt, ArePartsAtKeeping, KeepsMemory, State, parse, prefix_to_begin, ParserView}
 use Rattle.vte_core.specs.Perform.{after as performed}
 use Rattle.vte.specs.declared.ansi.performer.Performer.{Performer}
 use Rattle.vte.proofs.performing.CallLists.{after_calls-append, added_calls-events, last_printed-append, set_times-add}
-use Rattle.vte.proofs.updates.Fronts.{IsFront, open_character-front, front-is, begin_count-told, breaks_at-front}
+use Rattle.vte.proofs.updates.Prefixes.{IsPrefix, open_character-prefix, prefix-is, begin_count-told, breaks_at-prefix}
 
 -- ---- the value after events
 
@@ -84,7 +84,7 @@ module _ {H T B G V W : Type 0} (handler_of : H → V) (timeout_of : T → W) (r
         memory = rw (room_back, at_room) (keeps (room_of lent.text));
       }
 
--- ---- an early stop reads the front
+-- ---- an early stop reads the prefix
 
 terminated_by : {V W : Type 0} (m : Meaning V W) (lent : PerformerValue V W) (events : List Event)
     → (performed (with_event m.step m.timeout) lent events).terminated
@@ -97,53 +97,53 @@ terminated_by m lent (event ∷ events) =
 module _ {V W : Type 0} (m : Meaning V W) {old new : PerformerValue V W} (goes_on : old.terminated ≡ false)
     {p r : List ℕ} {n : ℕ}
     (stop : StopsExactly (with_event m.step m.timeout) (λ lent. lent.terminated) old m.limit p r new n) where
-  front : IsFront m.limit p r (length (front_to_begin m.limit p r))
-  front = front-is m.limit p r
+  prefix : IsPrefix m.limit p r (length (prefix_to_begin m.limit p r))
+  prefix = prefix-is m.limit p r
 
   terminated_at : (i : ℕ) → (performed (with_event m.step m.timeout) old (reported_before m.limit p r i)).terminated
       ≡ nat_lt 0 (begin_count (added m.limit p (take i r)))
   terminated_at i = terminated_by m old (reported_before m.limit p r i) ∙ rw (goes_on, begin_count-told m.limit p r i)
 
-  size-not_before : n < length (front_to_begin m.limit p r) → ⊥
+  size-not_before : n < length (prefix_to_begin m.limit p r) → ⊥
   size-not_before less =
-      let f = front in
+      let f = prefix in
       let ends = stop.stops (omega (arith, f.within)) in
       let none = rw (stop.comes.performed, terminated_at n, f.before n less) at ends in
       false≢true none
 
-  size-not_after : length (front_to_begin m.limit p r) < n → ⊥
+  size-not_after : length (prefix_to_begin m.limit p r) < n → ⊥
   size-not_after less =
-      let f = front in
-      let k = length (front_to_begin m.limit p r) in
+      let f = prefix in
+      let k = length (prefix_to_begin m.limit p r) in
       let within : k < length r = omega (arith, stop.comes.within) in
       let goes_on =
       rw (terminated_at k) at (stop.comes.earlier k less
-      (starts-settled within (open_character-front f within))) in
+      (starts-settled within (open_character-prefix f within))) in
       grind (arith, nat_tests, f.begins within)
 
-  pub stops_at_front : n ≡ length (front_to_begin m.limit p r)
-  stops_at_front = elim (cases_lt n (length (front_to_begin m.limit p r))) [
+  pub stops_at_prefix : n ≡ length (prefix_to_begin m.limit p r)
+  stops_at_prefix = elim (cases_lt n (length (prefix_to_begin m.limit p r))) [
     | inl less ↦ absurd (size-not_before less)
-    | inr least ↦ elim (cases_lt (length (front_to_begin m.limit p r)) n) [
+    | inr least ↦ elim (cases_lt (length (prefix_to_begin m.limit p r)) n) [
       | inl less ↦ absurd (size-not_after less)
       | inr most ↦ omega arith
     ]
   ]
 
-  pub stop_performs : new ≡ performed (with_event m.step m.timeout) old (added m.limit p (front_to_begin m.limit p r))
+  pub stop_performs : new ≡ performed (with_event m.step m.timeout) old (added m.limit p (prefix_to_begin m.limit p r))
   stop_performs =
       let f =
-      front in
-      rw (f.is, ← stops_at_front, ← reported-settled m.limit p r n (rw stops_at_front (breaks_at-front f)))
+      prefix in
+      rw (f.is, ← stops_at_prefix, ← reported-settled m.limit p r n (rw stops_at_prefix (breaks_at-prefix f)))
       stop.comes.performed
 
-  pub stop_terminated : new.terminated ≡ nat_lt 0 (begin_count (added m.limit p (front_to_begin m.limit p r)))
+  pub stop_terminated : new.terminated ≡ nat_lt 0 (begin_count (added m.limit p (prefix_to_begin m.limit p r)))
   stop_terminated =
       ap (λ lent. lent.terminated) stop_performs
-      ∙ terminated_by m old (added m.limit p (front_to_begin m.limit p r)) ∙ rw goes_on
+      ∙ terminated_by m old (added m.limit p (prefix_to_begin m.limit p r)) ∙ rw goes_on
 
-  pub stop_stream : resumed_stream p r n ≡ p ++ front_to_begin m.limit p r
+  pub stop_stream : resumed_stream p r n ≡ p ++ prefix_to_begin m.limit p r
   stop_stream =
       let f =
-      front in rw (f.is, ← stops_at_front)
-      (resumed_stream-settled p r n (rw stops_at_front (breaks_at-front f)))
+      prefix in rw (f.is, ← stops_at_prefix)
+      (resumed_stream-settled p r n (rw stops_at_prefix (breaks_at-prefix f)))

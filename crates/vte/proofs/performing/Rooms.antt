@@ -27,16 +27,16 @@ events_fit size n (event ∷ events) room are =
     (event_fits size n event room (All-head (IsBounded (Some n)) event events are))
     (events_fit size n events room (All-tail (IsBounded (Some n)) event events are))
 
--- what fits of all bytes fits of a front
-pub front_fits : (size : ℕ) (limit : Option ℕ) (p front rest : List ℕ)
-    → All (FitsText size) (added limit p (front ++ rest)) → All (FitsText size) (added limit p front)
-front_fits size limit p front rest all =
-    let parts : All (FitsText size) (added limit p front ++ added limit (p ++ front) rest) =
-    rw (added-append limit p front rest) at all in
+-- what fits of all bytes fits of a prefix
+pub prefix_fits : (size : ℕ) (limit : Option ℕ) (p prefix rest : List ℕ)
+    → All (FitsText size) (added limit p (prefix ++ rest)) → All (FitsText size) (added limit p prefix)
+prefix_fits size limit p prefix rest all =
+    let parts : All (FitsText size) (added limit p prefix ++ added limit (p ++ prefix) rest) =
+    rw (added-append limit p prefix rest) at all in
     let first =
-    All-take (FitsText size) (length (added limit p front))
-    (added limit p front ++ added limit (p ++ front) rest) parts in
-    rw (take-append_seam (added limit p front) (added limit (p ++ front) rest)) at first
+    All-take (FitsText size) (length (added limit p prefix))
+    (added limit p prefix ++ added limit (p ++ prefix) rest) parts in
+    rw (take-append_seam (added limit p prefix) (added limit (p ++ prefix) rest)) at first
 
 -- ---- the parser with a limit
 

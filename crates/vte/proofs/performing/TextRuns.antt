@@ -30,20 +30,20 @@ encode-lead : (c : ℕ) → 128 ≤ get_or (encode c) 0 0 → 192 ≤ get_or (en
 unfolding encode
 encode-lead c = grind (arith, nat_tests)
 
-boundary-seam : (front : List ℕ) (c : ℕ) → IsCharBoundary (front ++ encode c) (length front)
-boundary-seam front c =
-    let first = rw add-zero at (get_or-append-add front (encode c) 0 0) in
-    (omega (arith, length-append front (encode c)), λ _ high. rw first (encode-lead c (rw first at high)))
+boundary-seam : (prefix : List ℕ) (c : ℕ) → IsCharBoundary (prefix ++ encode c) (length prefix)
+boundary-seam prefix c =
+    let first = rw add-zero at (get_or-append-add prefix (encode c) 0 0) in
+    (omega (arith, length-append prefix (encode c)), λ _ high. rw first (encode-lead c (rw first at high)))
 
 -- The last character of a text comes off its end.
-chars_before_last : (front : List ℕ) (c : ℕ) → IsUtf8 (front ++ encode c)
-    → chars (front ++ encode c) ≡ chars front ++ c ∷ []
-chars_before_last front c is =
-    let before : IsUtf8 front =
-    rw take-append_seam at (IsUtf8-take (front ++ encode c) (length front) is (boundary-seam front c)) in
+chars_before_last : (prefix : List ℕ) (c : ℕ) → IsUtf8 (prefix ++ encode c)
+    → chars (prefix ++ encode c) ≡ chars prefix ++ c ∷ []
+chars_before_last prefix c is =
+    let before : IsUtf8 prefix =
+    rw take-append_seam at (IsUtf8-take (prefix ++ encode c) (length prefix) is (boundary-seam prefix c)) in
     let last : IsUtf8 (encode c) =
-    rw drop-append_seam at (IsUtf8-drop (front ++ encode c) (length front) is (boundary-seam front c)) in
-    chars-append front (encode c) before
+    rw drop-append_seam at (IsUtf8-drop (prefix ++ encode c) (length prefix) is (boundary-seam prefix c)) in
+    chars-append prefix (encode c) before
     ∙ rw (chars_past_char (encode c) [] c last (sym (append-nil (encode c))), chars-nil)
 
 -- What comes off the end of a text is its last character, and nothing comes off an empty one.

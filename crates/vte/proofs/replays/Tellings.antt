@@ -1,7 +1,7 @@
 -- What a handler receives in a list of calls, from a state on: first by what is done there, then by the rest of the
 -- list. By induction over the list; the calls before a stop are those of the bytes up to it, and positions of later
 -- stops only grow.
-use Rattle.vte.proofs.Common.{◌≡◌, ◌≤◌, ℕ, ◌+◌, ◌-◌, inl, inr, Bool, Option, List, [], ◌∷◌, ◌++◌, length, take, refl, ap, sym, ◌∙◌, arith, append_assoc, length-append, cases_Bool, append-nil, subst, drop_all, take-append-add, take-append_seam, take_all, after, Step, Advance, StopSync, added_calls, Meaning, TakesSteps, calls_after, after_last_end, from_begin_update, hold_turn, AreInOrder, calls, calls_between, calls_with_stops, events, State, TakesTurns, TakesTurnsUntilRefused, between_turns, inside_turn, front_to_begin, extend, release, parsing_turn, stop, turn, done, turns}
+use Rattle.vte.proofs.Common.{◌≡◌, ◌≤◌, ℕ, ◌+◌, ◌-◌, inl, inr, Bool, Option, List, [], ◌∷◌, ◌++◌, length, take, refl, ap, sym, ◌∙◌, arith, append_assoc, length-append, cases_Bool, append-nil, subst, drop_all, take-append-add, take-append_seam, take_all, after, Step, Advance, StopSync, added_calls, Meaning, TakesSteps, calls_after, after_last_end, from_begin_update, hold_turn, AreInOrder, calls, calls_between, calls_with_stops, events, State, TakesTurns, TakesTurnsUntilRefused, between_turns, inside_turn, prefix_to_begin, extend, release, parsing_turn, stop, turn, done, turns}
 use Rattle.vte.proofs.performing.CallLists.{after_calls-append, added_calls-append}
 use Rattle.vte.proofs.turns.Kinds.{hold_turn-all, hold_turn-rest, is_held, is_stopped, refused-opens, stop_if_due, turn-holds, turn-parses}
 use Rattle.vte.proofs.updates.Sequences.{cases_Option}
@@ -13,41 +13,41 @@ calls_between-none : (limit : Option ℕ) (stream : List ℕ) (position : ℕ)
 calls_between-none limit stream position =
     let seen = calls (events limit (take position stream)) in drop_all (length seen) seen (omega arith)
 
-in_order-sooner : (parsed front positions : List ℕ) (to : ℕ) → AreInOrder (length (parsed ++ front)) positions to
+in_order-sooner : (parsed prefix positions : List ℕ) (to : ℕ) → AreInOrder (length (parsed ++ prefix)) positions to
     → AreInOrder (length parsed) positions to
-in_order-sooner parsed front [] to order = omega (arith, order, length-append parsed front)
-in_order-sooner parsed front (position ∷ positions) to (from, order) =
-    (omega (arith, from, length-append parsed front), order)
+in_order-sooner parsed prefix [] to order = omega (arith, order, length-append parsed prefix)
+in_order-sooner parsed prefix (position ∷ positions) to (from, order) =
+    (omega (arith, from, length-append parsed prefix), order)
 
--- a front is parsed, and then the rest
-module _ (limit : Option ℕ) (parsed front : List ℕ) where
+-- a prefix is parsed, and then the rest
+module _ (limit : Option ℕ) (parsed prefix : List ℕ) where
   abbrev both : List ℕ
-  both = parsed ++ front
+  both = parsed ++ prefix
 
   calls_between-append : (rest : List ℕ) (position : ℕ) → length both ≤ position
       → calls_between limit (both ++ rest) (length parsed) position
-      ≡ added_calls limit parsed front ++ calls_between limit (both ++ rest) (length both) position
+      ≡ added_calls limit parsed prefix ++ calls_between limit (both ++ rest) (length both) position
   calls_between-append rest position from =
       let past = position - length both in
       let is : position ≡ length both + past = omega (arith, from) in
       let first : take (length parsed) (both ++ rest) ≡ parsed =
-      ap (take (length parsed)) (append_assoc parsed front rest) ∙ take-append_seam parsed (front ++ rest) in
+      ap (take (length parsed)) (append_assoc parsed prefix rest) ∙ take-append_seam parsed (prefix ++ rest) in
       let more = take past rest in
       rw (is, first, take-append-add both rest past, take-append_seam both rest)
-      (ap (λ all. calls_after (events limit parsed) (events limit all)) (append_assoc parsed front more)
-      ∙ added_calls-append limit parsed front more)
+      (ap (λ all. calls_after (events limit parsed) (events limit all)) (append_assoc parsed prefix more)
+      ∙ added_calls-append limit parsed prefix more)
 
-  pub calls_between-whole : calls_between limit both (length parsed) (length both) ≡ added_calls limit parsed front
-  calls_between-whole = rw (take-append_seam parsed front, take_all (length both) both (omega arith)) refl
+  pub calls_between-whole : calls_between limit both (length parsed) (length both) ≡ added_calls limit parsed prefix
+  calls_between-whole = rw (take-append_seam parsed prefix, take_all (length both) both (omega arith)) refl
 
   -- bytes before the first stop
   calls_with_stops-later : (rest positions : List ℕ) {all : List ℕ} → all ≡ both ++ rest
       → AreInOrder (length both) positions (length all)
       → calls_with_stops limit all (length parsed) positions
-      ≡ added_calls limit parsed front ++ calls_with_stops limit all (length both) positions
+      ≡ added_calls limit parsed prefix ++ calls_with_stops limit all (length both) positions
   calls_with_stops-later rest [] is from = rw is (calls_between-append rest _ (rw is at from))
   calls_with_stops-later rest (position ∷ positions) is (from, order) =
-      rw (is, calls_between-append rest position from) (append_assoc (added_calls limit parsed front) _ _)
+      rw (is, calls_between-append rest position from) (append_assoc (added_calls limit parsed prefix) _ _)
 
 -- ---- from a state to the end of a list of calls
 
@@ -74,18 +74,18 @@ module _ {V W : Type 0} (m : Meaning V W) (end : State V W) where
     told = rw calls_between-none refl;
   }
 
-  tells-parse : {parsed : List ℕ} (front : List ℕ) {stops : List ℕ} {value : V}
-      → HasStillToTell (parsed ++ front) stops (after m.step value (added_calls m.limit parsed front))
+  tells-parse : {parsed : List ℕ} (prefix : List ℕ) {stops : List ℕ} {value : V}
+      → HasStillToTell (parsed ++ prefix) stops (after m.step value (added_calls m.limit parsed prefix))
       → HasStillToTell parsed stops value
-  tells-parse {parsed} front rest = record {
-    more = front ++ rest.more;
-    parsed_is = rest.parsed_is ∙ append_assoc parsed front rest.more;
+  tells-parse {parsed} prefix rest = record {
+    more = prefix ++ rest.more;
+    parsed_is = rest.parsed_is ∙ append_assoc parsed prefix rest.more;
     positions = rest.positions;
     stops_are = rest.stops_are;
-    in_order = in_order-sooner parsed front rest.positions _ rest.in_order;
+    in_order = in_order-sooner parsed prefix rest.positions _ rest.in_order;
     told =
         rw (
-          calls_with_stops-later m.limit parsed front rest.more rest.positions rest.parsed_is rest.in_order,
+          calls_with_stops-later m.limit parsed prefix rest.more rest.positions rest.parsed_is rest.in_order,
           after_calls-append,
         ) rest.told;
   }
@@ -104,7 +104,7 @@ module _ {V W : Type 0} (m : Meaning V W) (end : State V W) where
 
   tells-open : (state : State V W) (bytes : List ℕ) → TellsAt (parsing_turn m state bytes).state → TellsAt state
   tells-open state bytes =
-      tells-parse (front_to_begin m.limit state.parsed bytes)
+      tells-parse (prefix_to_begin m.limit state.parsed bytes)
 
   tells-release : (state : State V W) (kept : List ℕ) → TellsAt (release m state kept) → TellsAt state
   tells-release state [] = tells-stop state
@@ -160,4 +160,4 @@ module _ {V W : Type 0} (m : Meaning V W) (end : State V W) where
       tells-steps state reached steps taken
       (tells-turns reached mid bytes rest more
       (tells-due pending mid
-      (tells-parse opened.front (subst (λ state. TellsAt state) opened.state_is tells-nothing))))
+      (tells-parse opened.prefix (subst (λ state. TellsAt state) opened.state_is tells-nothing))))

@@ -1,15 +1,16 @@
 -- Each given byte is parsed or held, once and in order. Each turn and stop keeps `Progresses`: parsed, held and left
 -- bytes together are those of before, and `Progresses` composes over the turns of a call and over calls.
-use Rattle.vte.proofs.Common.{◌≡◌, ℕ, ◌-◌, suc, inl, inr, Bool, Option, List, [], ◌∷◌, ◌++◌, length, take, drop, refl, ap, sym, ◌∙◌, append_assoc, arith, take-append-drop, Step, Advance, StopSync, Meaning, TakesSteps, given_bytes, after_last_end, State, TakesTurns, all_bytes, front_to_begin, extend, hold_turn, release, cases_Bool, nat_tests, append-nil, parse, stop, turn, done, turns}
+use Rattle.vte.proofs.Common.{◌≡◌, ℕ, ◌-◌, suc, inl, inr, Bool, Option, List, [], ◌∷◌, ◌++◌, length, take, drop, refl, ap, sym, ◌∙◌, append_assoc, arith, take-append-drop, Step, Advance, StopSync, Meaning, TakesSteps, given_bytes, after_last_end, State, TakesTurns, all_bytes, prefix_to_begin, extend, hold_turn, release, cases_Bool, nat_tests, append-nil, parse, stop, turn, done, turns}
 use Rattle.std.proofs.lemmas.List.{nil_from_length}
-use Rattle.vte.proofs.updates.Fronts.{front-is}
+use Rattle.vte.proofs.updates.Prefixes.{prefix-is}
 use Rattle.vte.proofs.turns.Kinds.{hold_turn-all, hold_turn-rest, is_held, is_stopped, stop_if_due, turn-holds, turn-parses}
 use Rattle.vte.proofs.updates.Sequences.{cases_Option, stays-is}
 
-pub front-rest : (limit : Option ℕ) (p r : List ℕ)
-    → front_to_begin limit p r ++ drop (length (front_to_begin limit p r)) r ≡ r
-front-rest limit p r =
-    let k = length (front_to_begin limit p r) in ap (λ x. x ++ drop k r) (front-is limit p r).is ∙ take-append-drop k r
+pub prefix-rest : (limit : Option ℕ) (p r : List ℕ)
+    → prefix_to_begin limit p r ++ drop (length (prefix_to_begin limit p r)) r ≡ r
+prefix-rest limit p r =
+    let k = length (prefix_to_begin limit p r) in
+    ap (λ x. x ++ drop k r) (prefix-is limit p r).is ∙ take-append-drop k r
 
 -- A state has parsed what another had, and more of the bytes that were held there or given since.
 -- The others are held, or left.
@@ -70,9 +71,9 @@ module _ {V W : Type 0} (m : Meaning V W) where
         | inr none ↦ rw none progresses-nothing
       ]
 
-  pub parse_grows : {s : State V W} (front : List ℕ) {left bytes : List ℕ} → s.held ≡ [] → front ++ left ≡ bytes
-      → Progresses s (parse m s front) bytes left
-  parse_grows front none is = record { more = front; parsed_is = refl; each_once = rw none (sym is) }
+  pub parse_grows : {s : State V W} (prefix : List ℕ) {left bytes : List ℕ} → s.held ≡ [] → prefix ++ left ≡ bytes
+      → Progresses s (parse m s prefix) bytes left
+  parse_grows prefix none is = record { more = prefix; parsed_is = refl; each_once = rw none (sym is) }
 
   release_grows : {s : State V W} {kept : List ℕ} → drop (length s.held - length kept) s.held ≡ kept
       → Progresses s (release m s kept) [] []
@@ -105,7 +106,7 @@ module _ {V W : Type 0} (m : Meaning V W) where
         rw (turn-parses m pending s r parses)
         (grows_on (stop_if_due_grows pending)
         (parse_grows _ (stop_if_due_none pending s)
-        (front-rest m.limit (stop_if_due m pending s).parsed r)))
+        (prefix-rest m.limit (stop_if_due m pending s).parsed r)))
   ]
 
   pub turns_grow : {s t : State V W} {bytes left : List ℕ} → TakesTurns m s bytes t left → Progresses s t bytes left

@@ -1,8 +1,8 @@
 -- The facts of a hold, `HoldsWell`, are kept by turns and stops: by cases of the timeout's answer and of what a hold
 -- turn keeps, which is all, or starts with a begin-update, or is nothing.
-use Rattle.vte.proofs.Common.{◌≡◌, ℕ, zero, suc, ◌-◌, ◌<◌, ◌≤◌, inl, inr, Bool, true, false, List, [], ◌∷◌, ◌++◌, length, take, refl, sym, length-append, arith, cases_Bool, cases_lt, false≢true, nat_tests, added, TimeoutMeaning, AllowsOnly, IsSteady, begin_count, IsOutsideUpdate, IsInsideUpdate, Meaning, set_times, update_nanos, HoldsWellAt, begin_update, begins_ending_in_last, after_last_end, from_begin_update, part_after_last_end, State, TakesTurns, stop, front_to_begin, parsing_turn, release, extend, hold_turn, turn, done, turns, most_held, ap, append-nil}
+use Rattle.vte.proofs.Common.{◌≡◌, ℕ, zero, suc, ◌-◌, ◌<◌, ◌≤◌, inl, inr, Bool, true, false, List, [], ◌∷◌, ◌++◌, length, take, refl, sym, length-append, arith, cases_Bool, cases_lt, false≢true, nat_tests, added, TimeoutMeaning, AllowsOnly, IsSteady, begin_count, IsOutsideUpdate, IsInsideUpdate, Meaning, set_times, update_nanos, HoldsWellAt, begin_update, begins_ending_in_last, after_last_end, from_begin_update, part_after_last_end, State, TakesTurns, stop, prefix_to_begin, parsing_turn, release, extend, hold_turn, turn, done, turns, most_held, ap, append-nil}
 use Rattle.vte.proofs.turns.EachOnce.{stop_if_due_none}
-use Rattle.vte.proofs.updates.Fronts.{front-is}
+use Rattle.vte.proofs.updates.Prefixes.{prefix-is}
 use Rattle.vte.proofs.turns.Kinds.{hold_turn-all, hold_turn-rest, is_held, is_stopped, stop_if_due, turn-holds, turn-parses}
 use Rattle.vte.proofs.updates.Sequences.{StaysHeld, cases_Option, begins_with-append, stays_held, suffix-length}
 
@@ -31,18 +31,18 @@ module _ {V W : Type 0} (m : Meaning V W) where
   open_well : (s : State V W) (r : List ℕ) → s.held ≡ []
       → (IsSteady m.timeout → IsOutsideUpdate m.timeout s.held s.timeout) → HoldsWellAt m (parsing_turn m s r).state
   open_well s r nothing outside =
-      let f = front-is m.limit s.parsed r in
+      let f = prefix-is m.limit s.parsed r in
       record {
         no_end = rw nothing refl;
         fits = rw nothing (omega arith);
-        steady = λ k. elim (cases_lt 0 (begin_count (added m.limit s.parsed (front_to_begin m.limit s.parsed r)))) [
+        steady = λ k. elim (cases_lt 0 (begin_count (added m.limit s.parsed (prefix_to_begin m.limit s.parsed r)))) [
           | inl some ↦
               inr (record {
                 pending = allows-pending m.timeout k _ s.timeout some;
                 begun = inl (rw f.is (f.ends (rw f.is at some)));
               })
           | inr none ↦
-              let zero : begin_count (added m.limit s.parsed (front_to_begin m.limit s.parsed r)) ≡ 0 = omega arith in
+              let zero : begin_count (added m.limit s.parsed (prefix_to_begin m.limit s.parsed r)) ≡ 0 = omega arith in
               inl (record { not_pending = rw zero (outside k).not_pending; none_held = nothing })
         ];
       }

@@ -22,9 +22,9 @@ module _ {V W : Type 0} (m : Meaning V W) where
     | inl none ↦
         let all = s.held ++ r in
         let is : still_held all ≡ all = rw none refl in
-        let no_front : length all - length all ≡ 0 = omega arith in
+        let no_prefix : length all - length all ≡ 0 = omega arith in
         hold_turn-all m s r none
-        ∙ rw (is, no_front) (sym (ap (λ t. with_held t all) (parse-nothing m (extend m s r))))
+        ∙ rw (is, no_prefix) (sym (ap (λ t. with_held t all) (parse-nothing m (extend m s r))))
     | inr last ↦
         let is : still_held (s.held ++ r) ≡ from_begin_update last.0 = rw last.1 refl in
         hold_turn-rest m s r last.1

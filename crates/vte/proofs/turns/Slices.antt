@@ -1,10 +1,10 @@
 -- A parsing turn by its slices, and turns that are refused memory. Slices in which no update begins add up to a longer
--- front, so the turn ends where the front of the whole does; where one is refused, `ParsingTurnIsRefused` says how
+-- prefix, so the turn ends where the prefix of the whole does; where one is refused, `ParsingTurnIsRefused` says how
 -- far it came.
-use Rattle.vte.proofs.Common.{◌≡◌, ℕ, ◌+◌, ◌-◌, ◌<◌, ◌≤◌, inl, Bool, true, false, nat_lt, List, [], ◌∷◌, ◌++◌, length, take, drop, refl, ap, sym, subst, ◌∙◌, arith, length-append, length-drop, append_assoc, drop-append-add, take-add, nat_tests, append-nil, drop_all, length-take-le, take-append-drop, take_all, take_at, added, IsSteady, begin_count, IsOutsideUpdate, Meaning, HoldsWellAt, HasHalted, HasParsedFront, HasParsedWithoutBegin, HasTakenParsingTurn, TakesAllTurns, ParsingTurn, ParsingTurnIsRefused, State, TakesTurnsUntilRefused, TakesTurns, front_to_begin, between_turns, done, kind_of, parsing_turn, parse, turn, turns, inside_turn}
+use Rattle.vte.proofs.Common.{◌≡◌, ℕ, ◌+◌, ◌-◌, ◌<◌, ◌≤◌, inl, Bool, true, false, nat_lt, List, [], ◌∷◌, ◌++◌, length, take, drop, refl, ap, sym, subst, ◌∙◌, arith, length-append, length-drop, append_assoc, drop-append-add, take-add, nat_tests, append-nil, drop_all, length-take-le, take-append-drop, take_all, take_at, added, IsSteady, begin_count, IsOutsideUpdate, Meaning, HoldsWellAt, HasHalted, HasParsedPrefix, HasParsedWithoutBegin, HasTakenParsingTurn, TakesAllTurns, ParsingTurn, ParsingTurnIsRefused, State, TakesTurnsUntilRefused, TakesTurns, prefix_to_begin, between_turns, done, kind_of, parsing_turn, parse, turn, turns, inside_turn}
 use Rattle.vte.proofs.performing.CallLists.{after_calls-append, added_calls-append, added_calls-nothing, set_times-add}
 use Rattle.vte.proofs.turns.EachOnce.{Progresses, grows_on, stop_if_due_grows, stop_if_due_none, parse_grows, turns_grow}
-use Rattle.vte.proofs.updates.Fronts.{begin_count-added, front-after, front-all, front-more, front-some, begin_count-nothing, begin_count-none}
+use Rattle.vte.proofs.updates.Prefixes.{begin_count-added, prefix-after, prefix-all, prefix-more, prefix-some, begin_count-nothing, begin_count-none}
 use Rattle.vte.proofs.turns.Kinds.{OpensAndHalts, refused-opens, stop_if_due, turn-parses}
 use Rattle.vte.proofs.turns.HoldFacts.{stop_if_due_outside, taken_well}
 
@@ -33,29 +33,29 @@ module _ {V W : Type 0} (m : Meaning V W) where
   parsing_turn-goes_on : (s t : State V W) (bytes left : List ℕ) → ParsingTurnIsRefused m s bytes t left
       → parsing_turn m t left ≡ parsing_turn m s bytes
   parsing_turn-goes_on s t bytes left h =
-      let front = front_to_begin m.limit (s.parsed ++ h.front) left in
+      let prefix = prefix_to_begin m.limit (s.parsed ++ h.prefix) left in
       rw (
         h.state_is,
         ← h.bytes_are,
-        front-after m.limit s.parsed h.front left h.none_begin,
+        prefix-after m.limit s.parsed h.prefix left h.none_begin,
         length-append,
-        drop-append-add h.front left (length front),
+        drop-append-add h.prefix left (length prefix),
       )
-      (ap (λ t. record { state = t; rest = drop (length front) left }) (parse-append s h.front front))
+      (ap (λ t. record { state = t; rest = drop (length prefix) left }) (parse-append s h.prefix prefix))
 
--- where no update begins in bytes, they are their own front
+-- where no update begins in bytes, they are their own prefix
 module _ {V W : Type 0} {m : Meaning V W} {s : State V W} {bytes : List ℕ} {n : ℕ} {b : Bool} {IsNowAt : State V W
-    → Type 0} (at : HasParsedFront m s bytes n b IsNowAt) (whole : b ≡ false) where
-  begins-none : begin_count (added m.limit s.parsed (front_to_begin m.limit s.parsed bytes)) ≡ 0
+    → Type 0} (at : HasParsedPrefix m s bytes n b IsNowAt) (whole : b ≡ false) where
+  begins-none : begin_count (added m.limit s.parsed (prefix_to_begin m.limit s.parsed bytes)) ≡ 0
   begins-none =
-      let test : nat_lt 0 (begin_count (added m.limit s.parsed (front_to_begin m.limit s.parsed bytes))) ≡ false =
+      let test : nat_lt 0 (begin_count (added m.limit s.parsed (prefix_to_begin m.limit s.parsed bytes))) ≡ false =
       sym at.begins_is ∙ whole in grind (arith, nat_tests)
 
-  front-whole : front_to_begin m.limit s.parsed bytes ≡ bytes
-  front-whole = front-all m.limit s.parsed bytes begins-none
+  prefix-whole : prefix_to_begin m.limit s.parsed bytes ≡ bytes
+  prefix-whole = prefix-all m.limit s.parsed bytes begins-none
 
   pub begin-whole : n ≡ length bytes
-  begin-whole = at.count ∙ ap length front-whole
+  begin-whole = at.count ∙ ap length prefix-whole
 
 module _ {V W : Type 0} (m : Meaning V W) (s : State V W) (bytes : List ℕ) where
   pub open-nothing : {IsNowAt : State V W → Type 0} → IsNowAt s → HasParsedWithoutBegin m s bytes 0 IsNowAt
@@ -67,8 +67,8 @@ module _ {V W : Type 0} (m : Meaning V W) (s : State V W) (bytes : List ℕ) whe
   open-all {read} o all =
       let whole = take_all read bytes all in
       let none : begin_count (added m.limit s.parsed bytes) ≡ 0 = rw whole at o.none_begin in
-      let is : front_to_begin m.limit s.parsed bytes ≡ bytes =
-      ap (front_to_begin m.limit s.parsed) (sym (append-nil bytes)) ∙ front-after m.limit s.parsed bytes [] none
+      let is : prefix_to_begin m.limit s.parsed bytes ≡ bytes =
+      ap (prefix_to_begin m.limit s.parsed) (sym (append-nil bytes)) ∙ prefix-after m.limit s.parsed bytes [] none
       ∙ append-nil bytes in
       record {
         progress = λ some. omega (arith, all);
@@ -79,10 +79,10 @@ module _ {V W : Type 0} (m : Meaning V W) (s : State V W) (bytes : List ℕ) whe
   -- a slice in which no update begins is parsed whole
   pub open-more : {slice : List ℕ} {read n : ℕ} {b : Bool} {old new : State V W → Type 0} (k : ℕ)
       → HasParsedWithoutBegin m s bytes read old → slice ≡ take k (drop read bytes)
-      → HasParsedFront m (parse m s (take read bytes)) slice n b new → b ≡ false
+      → HasParsedPrefix m (parse m s (take read bytes)) slice n b new → b ≡ false
       → HasParsedWithoutBegin m s bytes (read + n) new
   open-more {slice} {read} {n} k o is at uncut =
-      let all = front-whole at uncut in
+      let all = prefix-whole at uncut in
       let zero : begin_count (added m.limit (s.parsed ++ take read bytes) slice) ≡ 0 =
       rw all at (begins-none at uncut) in
       let view : drop read bytes ≡ slice ++ drop k (drop read bytes) =
@@ -99,35 +99,35 @@ module _ {V W : Type 0} (m : Meaning V W) (s : State V W) (bytes : List ℕ) whe
   -- an update begins in the slice
   pub open-ends : {slice : List ℕ} {read n : ℕ} {b : Bool} {old new : State V W → Type 0} (k : ℕ)
       → HasParsedWithoutBegin m s bytes read old → read ≤ length bytes
-      → slice ≡ take k (drop read bytes) → HasParsedFront m (parse m s (take read bytes)) slice n b new → b ≡ true
+      → slice ≡ take k (drop read bytes) → HasParsedPrefix m (parse m s (take read bytes)) slice n b new → b ≡ true
       → HasTakenParsingTurn m s bytes (read + n) new
   open-ends {slice} {read} {n} k o inside is at begun =
-      let front = front_to_begin m.limit (s.parsed ++ take read bytes) slice in
-      let test : nat_lt 0 (begin_count (added m.limit (s.parsed ++ take read bytes) front)) ≡ true =
+      let prefix = prefix_to_begin m.limit (s.parsed ++ take read bytes) slice in
+      let test : nat_lt 0 (begin_count (added m.limit (s.parsed ++ take read bytes) prefix)) ≡ true =
       sym at.begins_is ∙ begun in
-      let some : 0 < begin_count (added m.limit (s.parsed ++ take read bytes) front) = grind (arith, nat_tests) in
+      let some : 0 < begin_count (added m.limit (s.parsed ++ take read bytes) prefix) = grind (arith, nat_tests) in
       let view : drop read bytes ≡ slice ++ drop k (drop read bytes) =
       rw is (sym (take-append-drop k (drop read bytes))) in
       let whole : bytes ≡ take read bytes ++ (slice ++ drop k (drop read bytes)) =
       sym (take-append-drop read bytes) ∙ ap (λ rest. take read bytes ++ rest) view in
-      let all : front_to_begin m.limit s.parsed bytes ≡ take read bytes ++ front =
-      ap (front_to_begin m.limit s.parsed) whole ∙ front-after m.limit s.parsed (take read bytes) _ o.none_begin
+      let all : prefix_to_begin m.limit s.parsed bytes ≡ take read bytes ++ prefix =
+      ap (prefix_to_begin m.limit s.parsed) whole ∙ prefix-after m.limit s.parsed (take read bytes) _ o.none_begin
       ∙ ap (λ x. take read bytes ++ x)
-      (front-more m.limit (s.parsed ++ take read bytes) slice (drop k (drop read bytes)) some) in
-      let size : length (front_to_begin m.limit s.parsed bytes) ≡ read + n =
-      ap length all ∙ length-append (take read bytes) front
+      (prefix-more m.limit (s.parsed ++ take read bytes) slice (drop k (drop read bytes)) some) in
+      let size : length (prefix_to_begin m.limit s.parsed bytes) ≡ read + n =
+      ap length all ∙ length-append (take read bytes) prefix
       ∙ omega (arith, length-take-le read bytes inside, at.count) in
       record {
-        progress = λ some. omega (arith, front-some m.limit s.parsed bytes some, size);
+        progress = λ some. omega (arith, prefix-some m.limit s.parsed bytes some, size);
         rest = rw size;
-        is_at = rw (all, ← parse-append m s (take read bytes) front) at.is_at;
+        is_at = rw (all, ← parse-append m s (take read bytes) prefix) at.is_at;
       }
 
   pub open-halts : {read : ℕ} {IsNowAt : State V W → Type 0} → HasParsedWithoutBegin m s bytes read IsNowAt
       → read < length bytes
       → ParsingTurnIsRefused m s bytes (parse m s (take read bytes)) (drop read bytes)
   open-halts {read} o less = record {
-    front = take read bytes;
+    prefix = take read bytes;
     bytes_are = take-append-drop read bytes;
     some_left = rw length-drop (omega arith);
     none_begin = o.none_begin;
@@ -178,7 +178,7 @@ module _ {V W : Type 0} (m : Meaning V W) where
   halts-grows pending {s} (parses, h) =
       rw h.state_is
       (grows_on (stop_if_due_grows m pending)
-      (parse_grows m h.front (stop_if_due_none m pending s) h.bytes_are))
+      (parse_grows m h.prefix (stop_if_due_none m pending s) h.bytes_are))
 
   pub until_refused-grows : {s t : State V W} {bytes left : List ℕ} → TakesTurnsUntilRefused m s bytes t left
       → Progresses s t bytes left
@@ -232,7 +232,7 @@ module _ {V W : Type 0} (m : Meaning V W) where
       let same : turn m other t (b ∷ left) ≡ turn m pending s bytes =
       rw (out.not_pending.1 other allows) (halts-goes_on pending s t bytes (b ∷ left) h) in
       let some : 0 < length bytes =
-      omega (arith, h.1.some_left, ap length h.1.bytes_are, length-append h.1.front (b ∷ left)) in
+      omega (arith, h.1.some_left, ap length h.1.bytes_are, length-append h.1.prefix (b ∷ left)) in
       taken_on s _ end bytes _ [] (takes-one pending some allowed)
       (subst (λ x. TakesTurns m x.state x.rest end []) same more)
 

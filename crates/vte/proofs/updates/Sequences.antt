@@ -57,22 +57,22 @@ from_begin-end_skipped n b text e = let is = ap (drop 1) (begins_with-is end_upd
 -- ---- a part at the end of a text
 
 pub record IsSuffix (part text : List ℕ) : Type 0 where
-  pub front : ℕ
-  pub within : front ≤ length text
-  pub is : part ≡ drop front text
+  pub prefix : ℕ
+  pub within : prefix ≤ length text
+  pub is : part ≡ drop prefix text
 
-pub suffix-length : {part text : List ℕ} → (s : IsSuffix part text) → s.front + length part ≡ length text
-suffix-length {part} {text} s = omega (arith, s.within, ap length s.is, length-drop s.front text)
+pub suffix-length : {part text : List ℕ} → (s : IsSuffix part text) → s.prefix + length part ≡ length text
+suffix-length {part} {text} s = omega (arith, s.within, ap length s.is, length-drop s.prefix text)
 
 pub suffix-trans : {part middle text : List ℕ} → IsSuffix part middle → IsSuffix middle text → IsSuffix part text
 suffix-trans {text} s t = record {
-  front = t.front + s.front;
+  prefix = t.prefix + s.prefix;
   within = omega (arith, s.within, suffix-length t);
-  is = cc (s.is, t.is, drop-drop s.front t.front text);
+  is = cc (s.is, t.is, drop-drop s.prefix t.prefix text);
 }
 
 suffix-more : {part text : List ℕ} (b : ℕ) → IsSuffix part text → IsSuffix part (b ∷ text)
-suffix-more b s = record { front = suc s.front; within = omega (arith, s.within); is = s.is }
+suffix-more b s = record { prefix = suc s.prefix; within = omega (arith, s.within); is = s.is }
 
 -- without an end-update in a text there is none in its parts
 pub after_last_end-drop : (n : ℕ) (text : List ℕ) → after_last_end text ≡ None → after_last_end (drop n text) ≡ None
@@ -93,7 +93,7 @@ follows_last_end (b ∷ text) rest e = elim (cases_Option (after_last_end text))
       let first : begins_with end_update (b ∷ text) ≡ true = rw here refl in
       let is : rest ≡ drop 7 text = cc (here, after_word-whole end_update (b ∷ text) first) in
       record {
-        suffix = record { front = 8; within = begins_with-length end_update (b ∷ text) first; is = is };
+        suffix = record { prefix = 8; within = begins_with-length end_update (b ∷ text) first; is = is };
         no_end = rw is (after_last_end-drop 7 text none);
       }
   | inr later ↦
@@ -108,10 +108,10 @@ pub record StartsAtBegin (kept text : List ℕ) : Type 0 where
 
 starts_at_begin : (text : List ℕ) → StartsAtBegin (from_begin_update text) text
 starts_at_begin [] =
-    record { suffix = record { front = 0; within = omega arith; is = refl }; begins = λ some. absurd (omega arith) }
+    record { suffix = record { prefix = 0; within = omega arith; is = refl }; begins = λ some. absurd (omega arith) }
 starts_at_begin (b ∷ text) = elim (cases_Bool (begins_with begin_update (b ∷ text))) [
   | inl here ↦
-      rw here (record { suffix = record { front = 0; within = omega arith; is = refl }; begins = λ some. here })
+      rw here (record { suffix = record { prefix = 0; within = omega arith; is = refl }; begins = λ some. here })
   | inr later ↦ rw later (let l = starts_at_begin text in record { suffix = suffix-more b l.suffix; begins = l.begins })
 ]
 
@@ -125,13 +125,13 @@ pub stays_held : (held : List ℕ) → StaysHeld held (still_held held)
 stays_held held = elim (cases_Option (after_last_end held)) [
   | inl none ↦
       rw none
-      (record { suffix = record { front = 0; within = omega arith; is = refl }; no_end = none; begins = inl refl })
+      (record { suffix = record { prefix = 0; within = omega arith; is = refl }; no_end = none; begins = inl refl })
   | inr some ↦
       let last = follows_last_end held some.0 some.1 in
       let first = starts_at_begin some.0 in
       rw some.1 (record {
         suffix = suffix-trans first.suffix last.suffix;
-        no_end = rw first.suffix.is (after_last_end-drop first.suffix.front _ last.no_end);
+        no_end = rw first.suffix.is (after_last_end-drop first.suffix.prefix _ last.no_end);
         begins = inr first.begins;
       })
 ]
@@ -139,8 +139,8 @@ stays_held held = elim (cases_Option (after_last_end held)) [
 pub stays-is : (held : List ℕ) → drop (length held - length (still_held held)) held ≡ still_held held
 stays-is held =
     let suffix = (stays_held held).suffix in
-    let front : length held - length (still_held held) ≡ suffix.front = omega (arith, suffix-length suffix) in
-    rw front (sym suffix.is)
+    let prefix : length held - length (still_held held) ≡ suffix.prefix = omega (arith, suffix-length suffix) in
+    rw prefix (sym suffix.is)
 
 -- ---- the last seven of the older bytes suffice, if no end-update is in them
 

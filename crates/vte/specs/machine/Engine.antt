@@ -5,7 +5,7 @@ use Rattle.vte_core.specs.Stream.{added, events}
 use Rattle.vte.specs.BeginUpdate.{begin_count}
 use Rattle.vte.specs.Calls.{last_printed}
 use Rattle.vte.specs.Memory.{KeepsMemory}
-use Rattle.vte.specs.Processor.{Meaning, State, front_to_begin, parsing_turn, parse, turn}
+use Rattle.vte.specs.Processor.{Meaning, State, prefix_to_begin, parsing_turn, parse, turn}
 use Rattle.vte.specs.ProcessorCalls.{IsAt}
 use Rattle.vte.specs.Refusal.{TakesTurnsUntilRefused}
 use Rattle.vte.specs.Views.{EngineHasMemory, EngineStandsAt, EngineView}
@@ -61,11 +61,12 @@ LeadOn view engine next old new ends =
 module _ {V W : Type 0} (meaning : Meaning V W) (state : State V W) (bytes : List ℕ) where
   -- The first `read` bytes were parsed: those up to the one that begins an update, or all if none
   -- begins.
-  pub record HasParsedFront (read : ℕ) (begins : Bool) (IsNowAt : State V W → Type 0) : Type 0 where
-    pub count : read ≡ length (front_to_begin meaning.limit state.parsed bytes)
-    pub begins_is : let front = front_to_begin meaning.limit state.parsed bytes in
-        begins ≡ nat_lt 0 (begin_count (added meaning.limit state.parsed front))
-    pub is_at : IsNowAt (parse meaning state (front_to_begin meaning.limit state.parsed bytes))
+  pub record HasParsedPrefix (read : ℕ) (begins : Bool) (IsNowAt : State V W → Type 0)
+      : Type 0 where
+    pub count : read ≡ length (prefix_to_begin meaning.limit state.parsed bytes)
+    pub begins_is : let prefix = prefix_to_begin meaning.limit state.parsed bytes in
+        begins ≡ nat_lt 0 (begin_count (added meaning.limit state.parsed prefix))
+    pub is_at : IsNowAt (parse meaning state (prefix_to_begin meaning.limit state.parsed bytes))
 
   -- One turn has read `read` bytes, and at least one if there were any. It is at the state to which
   -- it leads.

@@ -1,14 +1,14 @@
 //! Colours of numbers, read from any iterator of them.
 ghost use Rattle.std.specs.Prelude.{◌≡◌, drop, map};
 ghost use Rattle.vte.specs.ColorReading.{color_reading, kind_reading, without_color_space};
-ghost use Rattle.vte.specs.machine.ColorReader.{component_at_front};
+ghost use Rattle.vte.specs.machine.ColorReader.{first_component};
 
 use crate::ansi::numbers::NumberIterator;
 use vte_types::{Color, Rgb};
 
 /// Takes the next number, and returns it if it can be a component of a colour.
 fn next_component<I: NumberIterator>(numbers: &mut I) -> Option<u8>
-    ensures component { result ≡ component_at_front (map I.number (I.left numbers.old)) }
+    ensures component { result ≡ first_component (map I.number (I.left numbers.old)) }
     ensures rest { I.left numbers.new ≡ drop 1 (I.left numbers.old) }
 {
     u8::try_from(numbers.next_number()?).ok()

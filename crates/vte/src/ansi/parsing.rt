@@ -4,7 +4,7 @@ ghost use Rattle.std.specs.Prelude.{◌≡◌, ◌≤◌, ◌+◌, ◌++◌, ℕ
 ghost use Rattle.vte.specs.machine.Performing.{PerformsAll, PerformsUntilStop, performer_value};
 ghost use Rattle.vte.specs.Processor.{State, meaning_of, parse};
 ghost use Rattle.vte.specs.machine.Performer.{with_event};
-ghost use Rattle.vte.specs.machine.Engine.{HasParsedFront, ArePartsAtKeeping, ArePartsAtWithMemory};
+ghost use Rattle.vte.specs.machine.Engine.{HasParsedPrefix, ArePartsAtKeeping, ArePartsAtWithMemory};
 ghost use Rattle.vte.specs.Views.{ParserView, engine_view, limited_parser_view};
 ghost use Rattle.vte.specs.Memory.{KeepsMemory};
 ghost use Rattle.vte_handler.specs.Timeout.{timeout_meaning};
@@ -171,7 +171,7 @@ pub(crate) fn parse_until_begin<
     ensures stops { (s : State H.Value T.Value) (n : ℕ)
         → ArePartsAtWithMemory (engine_view P.limit P.reading B.room T.value_of) parser.old
         state.old (H.value_of handler.old) s (length bytes.now + n) →
-        HasParsedFront (meaning_of P.limit H.step T.set T.clear T.allows) s bytes.now result.0
+        HasParsedPrefix (meaning_of P.limit H.step T.set T.clear T.allows) s bytes.now result.0
         result.1 (ArePartsAtKeeping
         (engine_view P.limit P.reading B.room T.value_of) parser.old state.old parser.new
         state.new

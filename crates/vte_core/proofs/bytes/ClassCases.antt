@@ -5,10 +5,10 @@ use Rattle.vte_core.proofs.bytes.PlainKeys.{is_dropped, is_dropped_in_head}
 
 -- ---- texts of bytes of the same classes join
 
-pub AreInClass-append : (has : Class → Bool) (front rest : List ℕ) → AreInClass has front → AreInClass has rest
-    → AreInClass has (front ++ rest)
+pub AreInClass-append : (has : Class → Bool) (prefix rest : List ℕ) → AreInClass has prefix → AreInClass has rest
+    → AreInClass has (prefix ++ rest)
 AreInClass-append has [] rest are more = more
-AreInClass-append has (b ∷ front) rest are more = (are.0, AreInClass-append has front rest are.1 more)
+AreInClass-append has (b ∷ prefix) rest are more = (are.0, AreInClass-append has prefix rest are.1 more)
 
 -- ---- one class each
 

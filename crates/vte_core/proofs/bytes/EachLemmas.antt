@@ -18,8 +18,8 @@ each-one holds bytes from one k low high =
 
 pub each-both : (holds : ℕ → Type 0) (bytes : List ℕ) (i j k : ℕ) → Each holds bytes i j → Each holds bytes j k
     → Each holds bytes i k
-each-both holds bytes i j k front back m low high =
-    elim (cases_lt m j) [ inl before ↦ front m low before | inr past ↦ back m past high ]
+each-both holds bytes i j k prefix back m low high =
+    elim (cases_lt m j) [ inl before ↦ prefix m low before | inr past ↦ back m past high ]
 
 -- one byte more
 pub each-next : (holds : ℕ → Type 0) (bytes : List ℕ) (from end b : ℕ) → Each holds bytes from end
@@ -28,10 +28,10 @@ each-next holds bytes from end b all is one =
     each-both holds bytes from end (end + 1) all (each-one holds bytes end (subst holds is one))
 
 -- the first bytes of what stands at a position
-pub front-block : (bytes block : List ℕ) (from n : ℕ) → from ≤ length bytes
+pub prefix-block : (bytes block : List ℕ) (from n : ℕ) → from ≤ length bytes
     → IsFirstChunk (take (length bytes - from) (drop from bytes)) block n
     → (from + n ≤ length bytes) × (block ≡ take n (drop from bytes))
-front-block bytes block from n within first =
+prefix-block bytes block from n within first =
     let size : length (take (length bytes - from) (drop from bytes)) ≡ length bytes - from =
     grind (arith, length-take, length-drop) in
     (omega (arith, within, size, first.enough), first.same ∙ ap (take n) (take_rest bytes from))

@@ -42,11 +42,11 @@ pub marks-fit : (word : ℕ) → marks_of word < 2 ^ 64
 marks-fit word = omega (arith, and_le_r (bit_or (less word) word) mask)
 
 -- up to a byte that is marked, or all
-pub front-printed : (bytes : List ℕ) {word : ℕ} (n : ℕ) → ((i : ℕ) → get_or bytes i 0 < 256) → length bytes ≡ 8
+pub prefix-printed : (bytes : List ℕ) {word : ℕ} (n : ℕ) → ((i : ℕ) → get_or bytes i 0 < 256) → length bytes ≡ 8
     → word < 2 ^ 64
     → word ≡ from_le_bytes w64 bytes → n ≤ 8 → ((i : ℕ) → i < 8 * n → bit_at (marks_of word) i ≡ 0)
     → ArePrintedAscii bytes 0 n
-front-printed bytes {word} n are long fits is most zeros k _ few =
+prefix-printed bytes {word} n are long fits is most zeros k _ few =
     let low : k < 8 = omega (arith, few, most) in
     let e = zeros (8 * k + 7) (omega (arith, few)) in
     let either = bit_at_or (less word) word (8 * k + 7) in

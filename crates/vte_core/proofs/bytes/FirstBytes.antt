@@ -58,10 +58,10 @@ fits (range ∷ ranges) [] = false
 fits (range ∷ ranges) (b ∷ bytes) = is_in range b && fits ranges bytes
 
 -- the same for the first ranges, and some are left
-abbrev pub fits_front : List Range → List ℕ → Bool
-fits_front [] bytes = false
-fits_front (range ∷ ranges) [] = true
-fits_front (range ∷ ranges) (b ∷ bytes) = is_in range b && fits_front ranges bytes
+abbrev pub fits_prefix : List Range → List ℕ → Bool
+fits_prefix [] bytes = false
+fits_prefix (range ∷ ranges) [] = true
+fits_prefix (range ∷ ranges) (b ∷ bytes) = is_in range b && fits_prefix ranges bytes
 
 some_whole-row : (ranges : List Range) (u : List ℕ) → some_whole (rows_after_bytes u (ranges ∷ [])) ≡ fits ranges u
 some_whole-row [] [] = refl
@@ -73,7 +73,7 @@ some_whole-row (range ∷ ranges) (b ∷ u) =
       | inr e ↦ rw e (ap some_whole (rows_after_bytes-none u))
     ]
 
-some_open-row : (ranges : List Range) (u : List ℕ) → some_open (rows_after_bytes u (ranges ∷ [])) ≡ fits_front ranges u
+some_open-row : (ranges : List Range) (u : List ℕ) → some_open (rows_after_bytes u (ranges ∷ [])) ≡ fits_prefix ranges u
 some_open-row [] [] = refl
 some_open-row [] (b ∷ u) = ap some_open (rows_after_bytes-none u)
 some_open-row (range ∷ ranges) [] = refl
@@ -89,7 +89,7 @@ pub record Tests (bytes : List ℕ) (whole more : Bool) : Type 0 where
   pub is_open : is_truncated bytes ≡ more
 
 pub tests-row : (a : ℕ) (ranges : List Range) → rows_after_byte a utf8_rows ≡ ranges ∷ [] → (u : List ℕ)
-    → Tests (a ∷ u) (fits ranges u) (fits_front ranges u)
+    → Tests (a ∷ u) (fits ranges u) (fits_prefix ranges u)
 unfolding is_well_formed is_truncated
 tests-row a ranges same u = record {
   is_whole = ap (λ (rows : List (List Range)). some_whole (rows_after_bytes u rows)) same ∙ some_whole-row ranges u;
@@ -112,18 +112,18 @@ unfolding utf8_rows
 tests-ascii a high u = tests-row a [] (grind (arith, nat_tests)) u
 
 pub tests-two : (a : ℕ) → 0xc2 ≤ a → a < 0xe0 → (u : List ℕ)
-    → Tests (a ∷ u) (fits (second_range a ∷ []) u) (fits_front (second_range a ∷ []) u)
+    → Tests (a ∷ u) (fits (second_range a ∷ []) u) (fits_prefix (second_range a ∷ []) u)
 unfolding utf8_rows second_range
 tests-two a low high u = tests-row a (second_range a ∷ []) (grind (arith, nat_tests)) u
 
 pub tests-three : (a : ℕ) → 0xe0 ≤ a → a < 0xf0 → (u : List ℕ)
-    → Tests (a ∷ u) (fits (second_range a ∷ continuation ∷ []) u) (fits_front (second_range a ∷ continuation ∷ []) u)
+    → Tests (a ∷ u) (fits (second_range a ∷ continuation ∷ []) u) (fits_prefix (second_range a ∷ continuation ∷ []) u)
 unfolding utf8_rows second_range
 tests-three a low high u = tests-row a (second_range a ∷ continuation ∷ []) (grind (arith, nat_tests)) u
 
 pub tests-four : (a : ℕ) → 0xf0 ≤ a → a < 0xf5 → (u : List ℕ)
     → Tests (a ∷ u) (fits (second_range a ∷ continuation ∷ continuation ∷ []) u)
-    (fits_front (second_range a ∷ continuation ∷ continuation ∷ []) u)
+    (fits_prefix (second_range a ∷ continuation ∷ continuation ∷ []) u)
 unfolding utf8_rows second_range
 tests-four a low high u = tests-row a (second_range a ∷ continuation ∷ continuation ∷ []) (grind (arith, nat_tests)) u
 
@@ -169,21 +169,21 @@ truncated-three a b c more =
 pub ascii-alone : (b : ℕ) → b < 0x80 → Tests (b ∷ []) true false
 ascii-alone b high = tests-ascii b high []
 
-fits_front-long : (ranges : List Range) (u : List ℕ) → length ranges ≤ length u → fits_front ranges u ≡ false
-fits_front-long [] u long = refl
-fits_front-long (range ∷ ranges) [] long = absurd (omega (arith, long))
-fits_front-long (range ∷ ranges) (b ∷ u) long = and_right _ _ (fits_front-long ranges u (omega (arith, long)))
+fits_prefix-long : (ranges : List Range) (u : List ℕ) → length ranges ≤ length u → fits_prefix ranges u ≡ false
+fits_prefix-long [] u long = refl
+fits_prefix-long (range ∷ ranges) [] long = absurd (omega (arith, long))
+fits_prefix-long (range ∷ ranges) (b ∷ u) long = and_right _ _ (fits_prefix-long ranges u (omega (arith, long)))
 
 -- no sequence of four bytes or more is truncated
 pub truncated-long : (a : ℕ) (u : List ℕ) → 3 ≤ length u → is_truncated (a ∷ u) ≡ false
 truncated-long a u long = elim (first_byte a) [
   | ascii high ↦ (tests-ascii a high u).is_open
   | lone none ↦ (tests-none a none u).is_open
-  | of_two low high ↦ (tests-two a low high u).is_open ∙ fits_front-long (second_range a ∷ []) u (omega (arith, long))
+  | of_two low high ↦ (tests-two a low high u).is_open ∙ fits_prefix-long (second_range a ∷ []) u (omega (arith, long))
   | of_three low high ↦
-      (tests-three a low high u).is_open ∙ fits_front-long (second_range a ∷ continuation ∷ []) u (omega (arith, long))
+      (tests-three a low high u).is_open ∙ fits_prefix-long (second_range a ∷ continuation ∷ []) u (omega (arith, long))
   | of_four low high ↦
-      (tests-four a low high u).is_open ∙ fits_front-long (second_range a ∷ continuation ∷ continuation ∷ []) u long
+      (tests-four a low high u).is_open ∙ fits_prefix-long (second_range a ∷ continuation ∷ continuation ∷ []) u long
 ]
 
 ascii_after-one : (a b : ℕ) → b < 0x80 → Tests (a ∷ b ∷ []) false false

@@ -24,11 +24,11 @@ stretch-ends bytes i j further =
     let place : j ≡ i + (j - i) = omega (arith, further) in ap (λ n. take n bytes) place ∙ take-add i (j - i) bytes
 
 -- of what is unread only the next byte counts
-breaks-front : (u unread : List ℕ) (n : ℕ) → 0 < n → breaks u unread ≡ true → breaks u (take n unread) ≡ true
-breaks-front u unread zero some broken = absurd (omega arith)
-breaks-front [] unread (suc n) some broken = broken
-breaks-front (a ∷ u) [] (suc n) some broken = broken
-breaks-front (a ∷ u) (b ∷ unread) (suc n) some broken = broken
+breaks-prefix : (u unread : List ℕ) (n : ℕ) → 0 < n → breaks u unread ≡ true → breaks u (take n unread) ≡ true
+breaks-prefix u unread zero some broken = absurd (omega arith)
+breaks-prefix [] unread (suc n) some broken = broken
+breaks-prefix (a ∷ u) [] (suc n) some broken = broken
+breaks-prefix (a ∷ u) (b ∷ unread) (suc n) some broken = broken
 
 module _ (limit : Option ℕ) (stream bytes : List ℕ) (i j : ℕ) (further : i < j) where
   abbrev here : List ℕ
@@ -39,7 +39,7 @@ module _ (limit : Option ℕ) (stream bytes : List ℕ) (i j : ℕ) (further : i
 
   stretch-breaks : breaks_at stream bytes i ≡ true → breaks (open_character here) stretch ≡ true
   stretch-breaks broken =
-      breaks-front (open_character here) (drop i bytes) (j - i) (omega (arith, further))
+      breaks-prefix (open_character here) (drop i bytes) (j - i) (omega (arith, further))
       (breaks_there stream bytes i broken)
 
   stretch-after : (next : Place) → IsAfter limit (resumed_stream stream bytes i ++ stretch) next
@@ -122,7 +122,7 @@ module _ {V : Type 0} {call : ChunkCall V} {old : V} {stream : List ℕ} where
             stretch-after call.limit stream call.bytes i j in_order next
             (after-reads c.is_after r is_place);
         earlier = λ does k below start. elim (cases_lt k i) [
-          | inl front ↦ c.earlier does k front start
+          | inl prefix ↦ c.earlier does k prefix start
           | inr from ↦ elim (cases_lt i k) [
             | inl past ↦ inside does k past below
             | inr same ↦

@@ -156,30 +156,30 @@ advances-text {V} {call} {layout} {old} {new} {i} {j} {parser}
     run : List ℕ
     run = take (j - i) (drop i call.bytes)
 
-    -- after a front of the run that isn't empty
+    -- after a prefix of the run that isn't empty
     inside : (value : V) (stream : List ℕ) → ProgressAt call value old stream i (InText []) → call.may_stop ≡ true
         → (k : ℕ) → i < k → k < j
         → call.is_terminated (after call.step value (reported_before call.limit stream call.bytes k)) ≡ false
     inside value stream c does k past below =
         let from : List ℕ = resumed_stream stream call.bytes i in
-        let front : List ℕ = take (k - i) (drop i call.bytes) in
+        let prefix : List ℕ = take (k - i) (drop i call.bytes) in
         let rest : List ℕ = drop (k - i) run in
-        let parts : run ≡ front ++ rest =
+        let parts : run ≡ prefix ++ rest =
         sym (take-append-drop (k - i) run)
         ∙ ap (λ x. x ++ rest) (take-take (k - i) (j - i) (drop i call.bytes) (omega (arith, below))) in
-        let all : added call.limit from front ++ added call.limit (from ++ front) rest
+        let all : added call.limit from prefix ++ added call.limit (from ++ prefix) rest
         ≡ map (run_event layout) (chars run) =
-        sym (added-append call.limit from front rest) ∙ ap (added call.limit from) (sym parts)
+        sym (added-append call.limit from prefix rest) ∙ ap (added call.limit from) (sym parts)
         ∙ added-reads c.is_after
         (reads-text prints.run) refl in
         not_stopped-reported layout call (never does) value stream k
         (ap (λ es. call.is_terminated (after call.step value es)) (stretch-added call.limit stream call.bytes i k past)
         ∙ ap call.is_terminated
         (after_events-append call.step value (reported_before call.limit stream call.bytes i)
-        (added call.limit from front)
-        ∙ ap (λ v. after call.step v (added call.limit from front)) (sym c.performed))
-        ∙ not_stopped layout call (never does) old (added call.limit from front)
-        (added call.limit (from ++ front) rest) (chars run) all (may_go_on does))
+        (added call.limit from prefix)
+        ∙ ap (λ v. after call.step v (added call.limit from prefix)) (sym c.performed))
+        ∙ not_stopped layout call (never does) old (added call.limit from prefix)
+        (added call.limit (from ++ prefix) rest) (chars run) all (may_go_on does))
 
     inside-next : (value : V) (stream : List ℕ) → StandsAt call value old stream i parser
         → StandsInside call value new stream j parser

@@ -11,31 +11,31 @@ segments_after-drop zero bytes = refl
 segments_after-drop (suc skip) [] = refl
 segments_after-drop (suc skip) (b ∷ bytes) = segments_after-drop skip bytes
 
--- a front of the bytes is what `take` gives for its length
-front_of : (u rest bytes : List ℕ) → u ++ rest ≡ bytes → (u ≡ take (length u) bytes) × (length u ≤ length bytes)
-front_of u rest bytes same = rw (← same) (sym (take-append_seam u rest), omega (arith, length-append u rest))
+-- a prefix of the bytes is what `take` gives for its length
+prefix_of : (u rest bytes : List ℕ) → u ++ rest ≡ bytes → (u ≡ take (length u) bytes) × (length u ≤ length bytes)
+prefix_of u rest bytes same = rw (← same) (sym (take-append_seam u rest), omega (arith, length-append u rest))
 
-whole_is_segment : (b : ℕ) (bytes : List ℕ) → IsDividedRight b bytes → (front rest : List ℕ) → front ++ rest ≡ b ∷ bytes
-    → is_well_formed front ≡ true → front ≡ b ∷ take (trailing_count b bytes) bytes
+whole_is_segment : (b : ℕ) (bytes : List ℕ) → IsDividedRight b bytes → (prefix rest : List ℕ)
+    → prefix ++ rest ≡ b ∷ bytes → is_well_formed prefix ≡ true → prefix ≡ b ∷ take (trailing_count b bytes) bytes
 whole_is_segment b bytes d [] rest same well = absurd (false≢true (sym not_well_formed-nothing ∙ well))
 whole_is_segment b bytes d (a ∷ u) rest same well =
     let first : a ≡ b = cc in
     let later : u ++ rest ≡ bytes = cc in
-    let front = front_of u rest bytes later in
-    let stands : is_well_formed (b ∷ take (length u) bytes) ≡ true = rw (← front.0, ← first) well in
-    let far : trailing_count b bytes ≡ length u = d.whole (length u) front.1 stands in
-    rw (far, ← front.0, first) refl
+    let prefix = prefix_of u rest bytes later in
+    let stands : is_well_formed (b ∷ take (length u) bytes) ≡ true = rw (← prefix.0, ← first) well in
+    let far : trailing_count b bytes ≡ length u = d.whole (length u) prefix.1 stands in
+    rw (far, ← prefix.0, first) refl
 
-truncated_is_shorter : (b : ℕ) (bytes : List ℕ) → IsDividedRight b bytes → (front rest : List ℕ)
-    → front ++ rest ≡ b ∷ bytes
-    → is_truncated front ≡ true → length front ≤ length (b ∷ take (trailing_count b bytes) bytes)
+truncated_is_shorter : (b : ℕ) (bytes : List ℕ) → IsDividedRight b bytes → (prefix rest : List ℕ)
+    → prefix ++ rest ≡ b ∷ bytes
+    → is_truncated prefix ≡ true → length prefix ≤ length (b ∷ take (trailing_count b bytes) bytes)
 truncated_is_shorter b bytes d [] rest same more = omega arith
 truncated_is_shorter b bytes d (a ∷ u) rest same more =
     let first : a ≡ b = cc in
     let later : u ++ rest ≡ bytes = cc in
-    let front = front_of u rest bytes later in
-    let stands : is_truncated (b ∷ take (length u) bytes) ≡ true = rw (← front.0, ← first) more in
-    let far : length u ≤ trailing_count b bytes = d.longest (length u) front.1 stands in
+    let prefix = prefix_of u rest bytes later in
+    let stands : is_truncated (b ∷ take (length u) bytes) ≡ true = rw (← prefix.0, ← first) more in
+    let far : length u ≤ trailing_count b bytes = d.longest (length u) prefix.1 stands in
     omega (arith, length-take (trailing_count b bytes) bytes)
 
 right_segment : (b : ℕ) (bytes : List ℕ)
@@ -46,8 +46,8 @@ right_segment b bytes =
     ap (λ (u : List ℕ). b ∷ u) (take-append-drop (trailing_count b bytes) bytes) in
     record {
       is_segment = d.is_segment;
-      whole = λ front rest same. whole_is_segment b bytes d front rest (same ∙ all);
-      longest = λ front rest same. truncated_is_shorter b bytes d front rest (same ∙ all);
+      whole = λ prefix rest same. whole_is_segment b bytes d prefix rest (same ∙ all);
+      longest = λ prefix rest same. truncated_is_shorter b bytes d prefix rest (same ∙ all);
     }
 
 right_segments : (n : ℕ) (text : List ℕ) → length text ≤ n → AreRightSegments (segments text)
@@ -82,11 +82,11 @@ not_longer {p} {x} {q} same right other = by_kind right.is_segment
     by_kind (inr (inl more)) = other.longest p x same more
     by_kind (inr (inr one)) = omega (arith, nonempty q other.is_segment)
 
-same_front : {p x q y : List ℕ} → p ++ x ≡ q ++ y → length p ≡ length q → (p ≡ q) × (x ≡ y)
-same_front {p} {x} {q} {y} same long =
-    let front : take (length p) (p ++ x) ≡ p = take-append_seam p x in
+same_prefix : {p x q y : List ℕ} → p ++ x ≡ q ++ y → length p ≡ length q → (p ≡ q) × (x ≡ y)
+same_prefix {p} {x} {q} {y} same long =
+    let prefix : take (length p) (p ++ x) ≡ p = take-append_seam p x in
     let later : drop (length p) (p ++ x) ≡ x = drop-append_seam p x in
-    (sym front ∙ rw (same, long) (take-append_seam q y), sym later ∙ rw (same, long) (drop-append_seam q y))
+    (sym prefix ∙ rw (same, long) (take-append_seam q y), sym later ∙ rw (same, long) (drop-append_seam q y))
 
 one_division : (these those : List (List ℕ)) → AreRightSegments these → AreRightSegments those
     → concat these ≡ concat those
@@ -100,7 +100,7 @@ one_division (p ∷ these) (q ∷ those) are others same =
     let le = not_longer same are.0 others.0 in
     let ge : length q ≤ length p = not_longer (sym same) others.0 are.0 in
     let long : length p ≡ length q = omega arith in
-    let parts = same_front same long in
+    let parts = same_prefix same long in
     let rest = one_division these those are.1 others.1 parts.1 in
     let first : p ≡ q = parts.0 in
     cc

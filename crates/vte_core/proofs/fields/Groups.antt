@@ -98,7 +98,7 @@ with_number-joins (first ∷ []) group value = refl
 with_number-joins (first ∷ next ∷ groups) group value =
     ap (λ (gs : List (List ℕ)). first ∷ gs) (with_number-joins (next ∷ groups) group value)
 
--- the groups of a front, and one more after them
+-- the groups of a prefix, and one more after them
 cut_by_lengths-push : (lengths numbers : List ℕ) (n : ℕ) (more : List ℕ) → sum lengths ≡ length numbers
     → length more ≡ n
     → cut_by_lengths (lengths ++ n ∷ []) (numbers ++ more) ≡ cut_by_lengths lengths numbers ++ more ∷ []

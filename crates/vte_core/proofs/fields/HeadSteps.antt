@@ -10,7 +10,7 @@ use Rattle.vte_core.proofs.bytes.ClassCases.{AreInClass-append}
 pub CountsNumbers-kept : {old new : Collected} {text : List ℕ} → SameNumbers old new → CountsNumbers old text
     → CountsNumbers new text
 CountsNumbers-kept k c = record {
-  front = c.front;
+  prefix = c.prefix;
   digits = c.digits;
   goes_on = rw k.joined c.goes_on;
   params = k.params ∙ c.params;

@@ -7,39 +7,39 @@ use Rattle.std.proofs.lemmas.List.Splits.{length-slice_split, slice_split_at, sl
 
 -- ---- the pieces of a text are its data bytes, cut at each `;`
 
--- `front` is the beginning of the piece that the text continues
-cut_onto : (earlier front text : List ℕ) → All (λ b. (b == semicolon) ≡ false) front →
-    cut_data (length earlier) (earlier ++ (front ++ filter is_data_item text))
-    (ends_after (length earlier + length front) text)
-    ≡ slice_split (λ b. b == semicolon) (front ++ text)
-cut_onto earlier front [] none =
-    let all = drop_at earlier (front ++ []) (length earlier) refl in
-    rw (all, append-nil front) (sym (slice_split_none (λ b. b == semicolon) front none))
-cut_onto earlier front (item ∷ text) none =
-    by_test (item == semicolon) refl (λ earlier front none. cut_onto earlier front text none)
+-- `prefix` is the beginning of the piece that the text continues
+cut_onto : (earlier prefix text : List ℕ) → All (λ b. (b == semicolon) ≡ false) prefix →
+    cut_data (length earlier) (earlier ++ (prefix ++ filter is_data_item text))
+    (ends_after (length earlier + length prefix) text)
+    ≡ slice_split (λ b. b == semicolon) (prefix ++ text)
+cut_onto earlier prefix [] none =
+    let all = drop_at earlier (prefix ++ []) (length earlier) refl in
+    rw (all, append-nil prefix) (sym (slice_split_none (λ b. b == semicolon) prefix none))
+cut_onto earlier prefix (item ∷ text) none =
+    by_test (item == semicolon) refl (λ earlier prefix none. cut_onto earlier prefix text none)
   where
     by_test : (is_end : Bool) → (item == semicolon) ≡ is_end
-        → ((earlier front : List ℕ) → All (λ b. (b == semicolon) ≡ false) front →
-        cut_data (length earlier) (earlier ++ (front ++ filter is_data_item text))
-        (ends_after (length earlier + length front) text)
-        ≡ slice_split (λ b. b == semicolon) (front ++ text))
-        → cut_data (length earlier) (earlier ++ (front ++ filter is_data_item (item ∷ text)))
-        (ends_after (length earlier + length front) (item ∷ text))
-        ≡ slice_split (λ b. b == semicolon) (front ++ item ∷ text)
+        → ((earlier prefix : List ℕ) → All (λ b. (b == semicolon) ≡ false) prefix →
+        cut_data (length earlier) (earlier ++ (prefix ++ filter is_data_item text))
+        (ends_after (length earlier + length prefix) text)
+        ≡ slice_split (λ b. b == semicolon) (prefix ++ text))
+        → cut_data (length earlier) (earlier ++ (prefix ++ filter is_data_item (item ∷ text)))
+        (ends_after (length earlier + length prefix) (item ∷ text))
+        ≡ slice_split (λ b. b == semicolon) (prefix ++ item ∷ text)
     by_test true e rests =
-        let more = rests (earlier ++ front) [] (λ k d lt. absurd (omega arith)) in
-        let first = slice_split_at (λ b. b == semicolon) front item text none e in
+        let more = rests (earlier ++ prefix) [] (λ k d lt. absurd (omega arith)) in
+        let first = slice_split_at (λ b. b == semicolon) prefix item text none e in
         let later = filter is_data_item text in
-        let counted = length-append earlier front in
-        let joined = append_assoc earlier front later in
-        let all = drop_at earlier (front ++ later) (length earlier) refl in
-        let cut = take_at front later (length front) refl in
+        let counted = length-append earlier prefix in
+        let joined = append_assoc earlier prefix later in
+        let all = drop_at earlier (prefix ++ later) (length earlier) refl in
+        let cut = take_at prefix later (length prefix) refl in
         grind (arith, more, first, counted, joined, all, cut)
     by_test false e rests =
-        let more = rests earlier (front ++ item ∷ []) (All-push (λ b. (b == semicolon) ≡ false) front item none e) in
-        let counted = length-append front (item ∷ []) in
-        let joined = append_assoc front (item ∷ []) (filter is_data_item text) in
-        let same = append_assoc front (item ∷ []) text in
+        let more = rests earlier (prefix ++ item ∷ []) (All-push (λ b. (b == semicolon) ≡ false) prefix item none e) in
+        let counted = length-append prefix (item ∷ []) in
+        let joined = append_assoc prefix (item ∷ []) (filter is_data_item text) in
+        let same = append_assoc prefix (item ∷ []) text in
         grind (arith, more, counted, joined, same)
 
 pub cut_at_ends : (text : List ℕ)

@@ -8,15 +8,15 @@ use Rattle.vte_core.proofs.fields.Parameters.{count_of-grouped, grouped-push, is
 
 -- the numbers of the text, of which the last is being read
 counts-numbers : (collected : Collected) (text : List ℕ) (k : CountsNumbers collected text)
-    → numbers text ≡ k.front ++ numbered collected.joined collected.number ∷ []
+    → numbers text ≡ k.prefix ++ numbered collected.joined collected.number ∷ []
 counts-numbers collected text k =
     sym (ap numbers (append-nil text)) ∙ k.goes_on []
-    ∙ ap (λ n. k.front ++ numbered collected.joined n ∷ []) (sym k.number)
+    ∙ ap (λ n. k.prefix ++ numbered collected.joined n ∷ []) (sym k.number)
 
 counts-held : (collected : Collected) (text : List ℕ) (k : CountsNumbers collected text)
-    → count_of collected.params ≡ min 32 (length k.front)
+    → count_of collected.params ≡ min 32 (length k.prefix)
 counts-held collected text k =
-    ap count_of k.params ∙ count_of-grouped (take most_numbers k.front) ∙ length-take most_numbers k.front
+    ap count_of k.params ∙ count_of-grouped (take most_numbers k.prefix) ∙ length-take most_numbers k.prefix
 
 -- where there is no room for the last number
 pub settles-full : {collected : Collected} {text : List ℕ} → CountsNumbers collected text
@@ -26,12 +26,12 @@ unfolding groups_of has_too_many_numbers
 settles-full {collected} {text} k full =
     let c = counts-held collected text k in
     let last = numbered collected.joined collected.number in
-    let n : length (k.front ++ last ∷ []) ≡ length k.front + 1 = length-append k.front (last ∷ []) in
+    let n : length (k.prefix ++ last ∷ []) ≡ length k.prefix + 1 = length-append k.prefix (last ∷ []) in
     record {
       groups =
           k.params
           ∙ rw (counts-numbers collected text k)
-          (ap grouped (sym (take-append-le most_numbers k.front (last ∷ []) (omega arith))));
+          (ap grouped (sym (take-append-le most_numbers k.prefix (last ∷ []) (omega arith))));
       more = rw (counts-numbers collected text k) (grind (arith, nat_tests));
     }
 
@@ -42,13 +42,13 @@ unfolding groups_of has_too_many_numbers
 settles-push {old} {text} k room pushed =
     let c = counts-held old text k in
     let last = numbered old.joined old.number in
-    let n : length (k.front ++ last ∷ []) ≡ length k.front + 1 = length-append k.front (last ∷ []) in
-    let before : old.params ≡ grouped k.front = k.params ∙ ap grouped (take_all most_numbers k.front (omega arith)) in
-    let all : take most_numbers (numbers text) ≡ k.front ++ last ∷ [] =
-    rw (counts-numbers old text k) (take_all most_numbers (k.front ++ last ∷ []) (omega arith)) in
+    let n : length (k.prefix ++ last ∷ []) ≡ length k.prefix + 1 = length-append k.prefix (last ∷ []) in
+    let before : old.params ≡ grouped k.prefix = k.params ∙ ap grouped (take_all most_numbers k.prefix (omega arith)) in
+    let all : take most_numbers (numbers text) ≡ k.prefix ++ last ∷ [] =
+    rw (counts-numbers old text k) (take_all most_numbers (k.prefix ++ last ∷ []) (omega arith)) in
     record {
       groups =
-          pushed ∙ ap (λ groups. with_number groups last) before ∙ sym (grouped-push k.front last)
+          pushed ∙ ap (λ groups. with_number groups last) before ∙ sym (grouped-push k.prefix last)
           ∙ ap grouped (sym all);
       more = rw (counts-numbers old text k) (grind (arith, nat_tests));
     }
@@ -59,11 +59,11 @@ pub counts-separator : {old settled new : Collected} {more : Bool} {text : List 
     → new.params ≡ settled.params → new.joined ≡ is_colon b → new.number ≡ 0 → CountsNumbers new (text ++ b ∷ [])
 unfolding groups_of
 counts-separator {old} {text} b k s is params joined number = record {
-  front = k.front ++ numbered old.joined old.number ∷ [];
+  prefix = k.prefix ++ numbered old.joined old.number ∷ [];
   digits = [];
   goes_on =
       λ later. ap numbers (append_assoc text (b ∷ []) later) ∙ k.goes_on (b ∷ later)
-      ∙ rw (is, joined, k.number, append_assoc k.front) refl;
+      ∙ rw (is, joined, k.number, append_assoc k.prefix) refl;
   params = params ∙ s.groups ∙ ap (λ ns. grouped (take most_numbers ns)) (counts-numbers old text k);
   number = number;
 }
@@ -74,7 +74,7 @@ pub counts-digit : {old new : Collected} {text : List ℕ} (d : ℕ) → CountsN
     → new.joined ≡ old.joined → new.number ≡ min greatest_number (10 * old.number + (d - 48))
     → CountsNumbers new (text ++ d ∷ [])
 counts-digit {text} d k low high params joined number = record {
-  front = k.front;
+  prefix = k.prefix;
   digits = k.digits ++ d ∷ [];
   goes_on =
       λ later. ap numbers (append_assoc text (d ∷ []) later) ∙ k.goes_on (d ∷ later)
@@ -86,7 +86,7 @@ counts-digit {text} d k low high params joined number = record {
 pub counts-nothing : (new : Collected) → new.params ≡ [] → new.joined ≡ false → new.number ≡ 0 → CountsNumbers new []
 counts-nothing new params joined number =
     record {
-      front = [];
+      prefix = [];
       digits = [];
       goes_on = λ later. rw joined (numbers_are later);
       params = params;

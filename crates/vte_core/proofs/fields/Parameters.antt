@@ -1,11 +1,11 @@
 -- How one byte more changes the numbers of a parameter text: a digit the last one, a separator begins another. The
--- definition reads from the front, so it is first restated with what came before.
+-- definition reads from the prefix, so it is first restated with what came before.
 use Rattle.vte_core.proofs.Common.{◌≡◌, ℕ, ◌+◌, ◌-◌, ◌*◌, ◌<◌, ◌≤◌, min, Bool, true, false, List, [], ◌∷◌, ◌++◌, length, take, map, inl, inr, refl, ap, arith, append_assoc, length-append, length-take, All, fold, filter, slice_split, digit_value, cases_Bool, nat_tests, append-nil, All-nil, All-cons, All-head, All-tail, All-push, All-take, fold_push, sum_by-cons, Number, numbers, numbers_of, number_of, is_colon, is_separator, greatest_number, most_numbers, numbers_from, grouped, groups_of, with_number, count_of, AreGroups}
 use Rattle.std.proofs.lemmas.Int.Digits.{digits_value_push}
 use Rattle.std.proofs.lemmas.List.Splits.{slice_split_at, slice_split_none}
 use Rattle.vte_core.proofs.fields.Groups.{IsFilled, numbered}
 
--- ---- the numbers of a text, from its front
+-- ---- the numbers of a text, from its prefix
 
 abbrev pub IsNoSeparator : ℕ → Type 0
 IsNoSeparator b = is_separator b ≡ false

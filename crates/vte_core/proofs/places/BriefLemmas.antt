@@ -46,10 +46,10 @@ tiny_brief limit [] tiny = tt
 tiny_brief limit (event ∷ []) tiny = short_bounded limit event tiny
 tiny_brief limit (event ∷ next ∷ reported) tiny = absurd tiny
 
-pub tiny-both : (limit : Option ℕ) (front rest : List Event) → IsAtMostOneShort front → IsAtMostOneShort rest
-    → AreFromOneByte limit (front ++ rest)
+pub tiny-both : (limit : Option ℕ) (prefix rest : List Event) → IsAtMostOneShort prefix → IsAtMostOneShort rest
+    → AreFromOneByte limit (prefix ++ rest)
 tiny-both limit [] rest t s = tiny_brief limit rest s
 tiny-both limit (e ∷ []) [] t s = short_bounded limit e t
 tiny-both limit (e ∷ []) (f ∷ []) t s = (short_bounded limit e t, s)
 tiny-both limit (e ∷ []) (f ∷ g ∷ rest) t s = absurd s
-tiny-both limit (e ∷ f ∷ front) rest t s = absurd t
+tiny-both limit (e ∷ f ∷ prefix) rest t s = absurd t

@@ -1,4 +1,4 @@
--- The head of a control sequence and of a device control string, byte by byte: its parts are cut off its front, so a
+-- The head of a control sequence and of a device control string, byte by byte: its parts are cut off its prefix, so a
 -- byte more changes only the last part that was reached.
 use Rattle.vte_core.proofs.Common.{◌≡◌, ℕ, true, false, List, [], ◌∷◌, ◌++◌, refl, arith, nat_tests, list_all, Class, Intermediate, Marker, class_of, Bool, ap, append-nil, is_intermediate, is_marker, is_parameter_text, AreInClass, head_of, head_after, is_well_shaped, IsMarker}
 use Rattle.vte_core.proofs.bytes.ClassCases.{class-intermediate}

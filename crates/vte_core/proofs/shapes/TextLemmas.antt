@@ -1,4 +1,4 @@
--- The division of a text, and what it gives, from the front: a well-formed sequence, a maximal subpart or a byte comes
+-- The division of a text, and what it gives, from the prefix: a well-formed sequence, a maximal subpart or a byte comes
 -- off, and the rest is divided as a text of its own.
 use Rattle.vte_core.proofs.Common.{◌≡◌, ℕ, ◌≤◌, true, false, List, [], ◌∷◌, ◌++◌, length, refl, sym, ap, subst, ◌∙◌, arith, take-append_seam, false≢true, nat_tests, Event, Print, replacement, NothingToClose, CharacterToClose, leaves, report, utf8_rows, rows_after_byte, rows_after_bytes, is_well_formed, is_truncated, trailing_count, segments_after, segments, scalar_of, is_control_character, character_event, malformed_event, segment_event, segments_outcome, text_outcome}
 use Rattle.std.proofs.Common.{append-nil}
@@ -76,7 +76,7 @@ segment_event-truncated : (u : List ℕ) → is_truncated u ≡ true → segment
 unfolding segment_event
 segment_event-truncated u more = rw (truncated_not_well_formed u more) (malformed_event-truncated u more)
 
--- ---- what a text gives, from the front
+-- ---- what a text gives, from the prefix
 
 text_outcome-first : (a : ℕ) (u x : List ℕ) → trailing_count a (u ++ x) ≡ length u → is_truncated (a ∷ u) ≡ false
     → text_outcome (a ∷ u ++ x) ≡ report (segment_event (a ∷ u) ∷ []) (text_outcome x)

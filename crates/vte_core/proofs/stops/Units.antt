@@ -30,36 +30,36 @@ reports_little limit stream b some unbroken =
 
 -- ---- what is reported from one position to the next
 
-pub added-append : (limit : Option ℕ) (stream front rest : List ℕ)
-    → added limit stream (front ++ rest) ≡ added limit stream front ++ added limit (stream ++ front) rest
-added-append limit stream front rest =
+pub added-append : (limit : Option ℕ) (stream prefix rest : List ℕ)
+    → added limit stream (prefix ++ rest) ≡ added limit stream prefix ++ added limit (stream ++ prefix) rest
+added-append limit stream prefix rest =
     let es = events limit stream in
-    let all : es ++ added limit stream (front ++ rest)
-    ≡ es ++ (added limit stream front ++ added limit (stream ++ front) rest) =
-    sym (events_grow limit stream (front ++ rest))
-    ∙ ap (events limit) (sym (append_assoc stream front rest))
-    ∙ events_grow limit (stream ++ front) rest
-    ∙ ap (λ (reported : List Event). reported ++ added limit (stream ++ front) rest) (events_grow limit stream front)
-    ∙ append_assoc es (added limit stream front) (added limit (stream ++ front) rest) in
-    sym (drop-append_seam es (added limit stream (front ++ rest))) ∙ ap (drop (length es)) all
-    ∙ drop-append_seam es (added limit stream front ++ added limit (stream ++ front) rest)
+    let all : es ++ added limit stream (prefix ++ rest)
+    ≡ es ++ (added limit stream prefix ++ added limit (stream ++ prefix) rest) =
+    sym (events_grow limit stream (prefix ++ rest))
+    ∙ ap (events limit) (sym (append_assoc stream prefix rest))
+    ∙ events_grow limit (stream ++ prefix) rest
+    ∙ ap (λ (reported : List Event). reported ++ added limit (stream ++ prefix) rest) (events_grow limit stream prefix)
+    ∙ append_assoc es (added limit stream prefix) (added limit (stream ++ prefix) rest) in
+    sym (drop-append_seam es (added limit stream (prefix ++ rest))) ∙ ap (drop (length es)) all
+    ∙ drop-append_seam es (added limit stream prefix ++ added limit (stream ++ prefix) rest)
 
 tiny-replacement : IsAtMostOneShort (Print replacement ∷ [])
 tiny-replacement = (refl, refl)
 
--- the bytes after a front add what they add to its stream or, after a character that they break,
+-- the bytes after a prefix add what they add to its stream or, after a character that they break,
 -- to the empty one
-pub added_from : (limit : Option ℕ) (stream front rest : List ℕ) (broken : Bool)
-    → (broken ≡ true → breaks (open_character (stream ++ front)) rest ≡ true)
-    → added limit stream (front ++ rest)
-    ≡ (added limit stream front ++ (if broken then Print replacement ∷ [] else []))
-    ++ added limit (if broken then [] else stream ++ front) rest
-added_from limit stream front rest true is =
-    added-append limit stream front rest
-    ∙ ap (λ (es : List Event). added limit stream front ++ es)
-    (rw append-nil at (added-broken limit (stream ++ front) rest [] (is refl)))
-    ∙ sym (append_assoc (added limit stream front) (Print replacement ∷ []) (added limit [] rest))
-added_from limit stream front rest false is = rw append-nil (added-append limit stream front rest)
+pub added_from : (limit : Option ℕ) (stream prefix rest : List ℕ) (broken : Bool)
+    → (broken ≡ true → breaks (open_character (stream ++ prefix)) rest ≡ true)
+    → added limit stream (prefix ++ rest)
+    ≡ (added limit stream prefix ++ (if broken then Print replacement ∷ [] else []))
+    ++ added limit (if broken then [] else stream ++ prefix) rest
+added_from limit stream prefix rest true is =
+    added-append limit stream prefix rest
+    ∙ ap (λ (es : List Event). added limit stream prefix ++ es)
+    (rw append-nil at (added-broken limit (stream ++ prefix) rest [] (is refl)))
+    ∙ sym (append_assoc (added limit stream prefix) (Print replacement ∷ []) (added limit [] rest))
+added_from limit stream prefix rest false is = rw append-nil (added-append limit stream prefix rest)
 
 pub after_from : {limit : Option ℕ} (stream rest : List ℕ) {place : Place} (broken : Bool)
     → (broken ≡ true → breaks (open_character stream) rest ≡ true)

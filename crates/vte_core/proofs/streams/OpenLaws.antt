@@ -20,25 +20,25 @@ use Rattle.vte_core.proofs.streams.StreamSteps.{leads_to}
 -- ---- the last bytes
 
 record Ends (whole last : List ℕ) : Type 0 where
-  pub front : List ℕ
-  pub joins : front ++ last ≡ whole
+  pub prefix : List ℕ
+  pub joins : prefix ++ last ≡ whole
 
 ends-all : (u : List ℕ) → Ends u u
-ends-all u = record { front = []; joins = refl }
+ends-all u = record { prefix = []; joins = refl }
 
 ends-nothing : (u : List ℕ) → Ends u []
-ends-nothing u = record { front = u; joins = append-nil u }
+ends-nothing u = record { prefix = u; joins = append-nil u }
 
 ends-after : (before : List ℕ) {whole last : List ℕ} → Ends whole last → Ends (before ++ whole) last
 ends-after before {last} e = record {
-  front = before ++ e.front;
-  joins = append_assoc before e.front last ∙ ap (λ u. before ++ u) e.joins;
+  prefix = before ++ e.prefix;
+  joins = append_assoc before e.prefix last ∙ ap (λ u. before ++ u) e.joins;
 }
 
 ends-then : {whole middle last : List ℕ} → Ends whole middle → Ends middle last → Ends whole last
 ends-then {last} e f = record {
-  front = e.front ++ f.front;
-  joins = append_assoc e.front f.front last ∙ ap (λ u. e.front ++ u) f.joins ∙ e.joins;
+  prefix = e.prefix ++ f.prefix;
+  joins = append_assoc e.prefix f.prefix last ∙ ap (λ u. e.prefix ++ u) f.joins ∙ e.joins;
 }
 
 ends-from_first : (passes : ℕ → Bool) (bytes : List ℕ) → Ends bytes (from_first passes bytes)
@@ -245,5 +245,5 @@ opens_late = record {
   without_escape = opens-text;
   character = λ stream.
       let e = ends-stream None stream in
-      record { front = e.front; joins = e.joins; few = open-few stream };
+      record { prefix = e.prefix; joins = e.joins; few = open-few stream };
 }

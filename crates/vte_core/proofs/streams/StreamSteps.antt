@@ -1,4 +1,4 @@
--- A stream of any bytes, from its front: each byte leads from a place to a place (`arrives`), so what a stream gives
+-- A stream of any bytes, from its prefix: each byte leads from a place to a place (`arrives`), so what a stream gives
 -- stays as it is whatever follows, and it begins anew where all places lead to the same.
 use Rattle.vte_core.specs.Laws.{Resyncs, ResyncsAfter, Grows, OpensSilently}
 use Rattle.vte_core.proofs.Common.{◌≡◌, ℕ, ◌+◌, ◌≤◌, inl, inr, Option, None, List, [], ◌∷◌, ◌++◌, arith, open_data_count, drop, length, refl, ap, sym, ◌∙◌, append_assoc, All, All-append, All-cons, All-nil, Cancel, class_of, IsBounded, AreFromOneByte, Event, Place, InText, AtEscape, open_at, events_from, IsAfter, added, events, open_character, escape, BytesLead, InSystemCommand, left_at}

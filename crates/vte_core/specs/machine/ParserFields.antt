@@ -30,11 +30,11 @@ numbers_from joined digits (b ∷ text) =
 
 -- The last number of the text is being read; of those before it the first 32 are held.
 pub record CountsNumbers (collected : Collected) (text : List ℕ) : Type 0 where
-  pub front : List Number
+  pub prefix : List Number
   pub digits : List ℕ
   pub goes_on : (more : List ℕ)
-      → numbers (text ++ more) ≡ front ++ numbers_from collected.joined digits more
-  pub params : collected.params ≡ grouped (take most_numbers front)
+      → numbers (text ++ more) ≡ prefix ++ numbers_from collected.joined digits more
+  pub params : collected.params ≡ grouped (take most_numbers prefix)
   pub number : collected.number ≡ number_of digits
 
 -- The first 32 numbers of the text are held.

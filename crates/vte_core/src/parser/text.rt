@@ -81,16 +81,16 @@ impl<B: Buffer> Machine<B> {
             reader.old reader.new }
     {
         let mut position = from;
-        // The length of `front` bounds the position, so that the loop has no test of the index.
+        // The length of `prefix` bounds the position, so that the loop has no test of the index.
         // Runs are read by words, which find an ESC too.
-        let mut front = if G::IN_RUNS {
+        let mut prefix = if G::IN_RUNS {
             input
         } else {
             input.up_to((from + SHORT_TEXT).min(input.len()))
         };
         while position < input.len() {
-            while position < front.len() {
-                let mut byte = reader.byte_at(front, position);
+            while position < prefix.len() {
+                let mut byte = reader.byte_at(prefix, position);
                 if G::IN_RUNS && is_printed_ascii(byte) {
                     let run = print_ascii(reader, performer, input, position, byte);
                     position = run.end;
@@ -143,7 +143,7 @@ impl<B: Buffer> Machine<B> {
                 }
             }
             if !G::IN_RUNS && position < input.len() {
-                front = input.up_to(reader.search_text::<MAY_STOP>(input, from, position));
+                prefix = input.up_to(reader.search_text::<MAY_STOP>(input, from, position));
             }
         }
         position

@@ -1,4 +1,4 @@
--- All that was read is written (`HasReadPart`), so a run that ends has written the text of a front of the input, or of
+-- All that was read is written (`HasReadPart`), so a run that ends has written the text of a prefix of the input, or of
 -- all of it (`Progress`).
 use Rattle.event_log.proofs.Common.{◌≡◌, ◌<◌, inl, inr, refl, Ok, Err, false, is_err, OnOk, Result, length, take, sym, ◌∙◌, arith, length-take-le, usual_limit}
 use Rattle.event_log.proofs.Progress.{come_first, come_more, come_to_front, come_to_end}

@@ -1,7 +1,7 @@
--- Each block is the front of the bytes from its place on.
+-- Each block is the prefix of the bytes from its place on.
 use Rattle.vte_core.proofs.Common.{List, ap, arith, drop, drop-drop, take, ℕ, ◌+◌, ◌∙◌, ◌≡◌, ◌≤◌}
 use Rattle.std.proofs.lemmas.List.{drop-take, take-take}
-use Rattle.vte_core.proofs.bytes.EachLemmas.{front-block}
+use Rattle.vte_core.proofs.bytes.EachLemmas.{prefix-block}
 use Rattle.vte_core.proofs.scan.Reader.get_window.Goals as goal
 
 part : (bytes all block : List ℕ) (from i rest : ℕ) → all ≡ take (i + rest) (drop from bytes) → 16 ≤ rest
@@ -15,7 +15,7 @@ pub returns : goal.returns
 returns c =
     let bytes = c.args.input.bytes.now in
     let here = c.in_ok-bytes.bytes.now in
-    let all = front-block _ _ c.args.from 19 c.requires c.in_ok-bytes.ensures.cases in (
+    let all = prefix-block _ _ c.args.from 19 c.requires c.in_ok-bytes.ensures.cases in (
       record {
         within = all.0;
         third =

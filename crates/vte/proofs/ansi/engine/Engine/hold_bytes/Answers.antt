@@ -1,4 +1,4 @@
--- What the hold releases is parsed: all of it with a stop if nothing stays held, otherwise a front of it.
+-- What the hold releases is parsed: all of it with a stop if nothing stays held, otherwise a prefix of it.
 use Rattle.vte.proofs.Common.{meaning_of, sym, ◌∙◌, arith}
 use Rattle.vte.proofs.turns.HoldTurns.{turned_cut, turned_stop}
 use Rattle.vte.proofs.ansi.engine.Engine.hold_bytes.Goals as goal

@@ -1,4 +1,4 @@
--- Slices in which no update begins add up to a longer front (`open-more`). The turn ends with the slice in which one
+-- Slices in which no update begins add up to a longer prefix (`open-more`). The turn ends with the slice in which one
 -- begins, with the last byte, or where memory is refused.
 use Rattle.vte.proofs.Common.{refl, sym, arith, ◌∙◌}
 use Rattle.vte.proofs.turns.Slices.{begin-whole, open-all, open-ends, open-more, open-nothing, slice_size}

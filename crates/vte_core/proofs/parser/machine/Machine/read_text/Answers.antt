@@ -19,7 +19,7 @@ reached : (g : Over) (c : Joined-IN_RUNS-2 g)
 reached g c =
     let v = c.loop-position-2.invariant.stands in
     let within : c.loop-position-2.position < length c.args.input.bytes.now =
-    omega (arith, c.loop-position.invariant.front, c.loop-position-2-test.true) in
+    omega (arith, c.loop-position.invariant.prefix, c.loop-position-2-test.true) in
     elim c.if-IN_RUNS-2.branch [
       -- A run of ASCII came first.
       | then-IN_RUNS-2+then-is_printed_ascii+in-Some w ↦
@@ -39,7 +39,7 @@ at : (g : Over) (c : Joined-IN_RUNS-2 g) → MayReadByte (call_at g c.args.input
 at g c =
     let v = c.loop-position-2.invariant.stands in
     let within : c.loop-position-2.position < length c.args.input.bytes.now =
-    omega (arith, c.loop-position.invariant.front, c.loop-position-2-test.true) in
+    omega (arith, c.loop-position.invariant.prefix, c.loop-position-2-test.true) in
     elim c.if-IN_RUNS-2.branch [
       | then-IN_RUNS-2+then-is_printed_ascii+in-Some w ↦
           let run = w.print_ascii-run.ensures in
@@ -67,7 +67,7 @@ pub loop-position-2-preserved-in-None : goal.loop-position-2-preserved-in-None
 loop-position-2-preserved-in-None g c =
     let v = c.loop-position-2.invariant.stands in
     let within : c.loop-position-2.position < length c.args.input.bytes.now =
-    omega (arith, c.loop-position.invariant.front, c.loop-position-2-test.true) in
+    omega (arith, c.loop-position.invariant.prefix, c.loop-position-2-test.true) in
     let runs : g.G.Grain.IN_RUNS ≡ true = sym c.IN_RUNS-in-loop-position-2.ensures ∙ c.if-IN_RUNS-2.true in
     let run = c.print_ascii-run.ensures in
     record {

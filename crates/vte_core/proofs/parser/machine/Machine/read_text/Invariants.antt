@@ -16,16 +16,16 @@ pub record StandsInText {B : Type 0} (g : goal.Over) (bytes : List ℕ) (old val
   pub may_go_on : MayGoOn (call_at g bytes) value
   pub settled : position < length bytes → parser.state ≡ Text Nothing
 
--- what it has cost: `front` is what was searched of the bytes, and `start` is how often bytes were looked at before.
+-- what it has cost: `prefix` is what was searched of the bytes, and `start` is how often bytes were looked at before.
 -- Here as in all answers, `search rules` adds the looks of the callees, which the contract of each bounds.
-pub record SpendsInText {B : Type 0} (g : goal.Over) (bytes front : List ℕ) (from position : ℕ)
+pub record SpendsInText {B : Type 0} (g : goal.Over) (bytes prefix : List ℕ) (from position : ℕ)
     (before parser : Machine B) (start looks : ℕ) : Type 0 where
   pub low : from ≤ position
   pub high : position ≤ length bytes
-  -- by characters: three looks per byte that was read, and one per byte up to where the front was searched
-  pub count : g.G.Grain.IN_RUNS ≡ false → looks + 4 * from ≤ start + 3 * position + length front
+  -- by characters: three looks per byte that was read, and one per byte up to where the prefix was searched
+  pub count : g.G.Grain.IN_RUNS ≡ false → looks + 4 * from ≤ start + 3 * position + length prefix
   -- if the search found an ESC there, it has looked no further
-  pub escape : g.G.Grain.IN_RUNS ≡ false → (k : ℕ) → position ≤ k → k < length front → slice_index bytes k ≡ 0x1b
+  pub escape : g.G.Grain.IN_RUNS ≡ false → (k : ℕ) → position ≤ k → k < length prefix → slice_index bytes k ≡ 0x1b
       → looks + 4 * from ≤ start + 3 * position + k + 1
   -- in runs, or for a call that may stop, which searches no further than it has read: five looks per byte
   pub near : (g.G.Grain.IN_RUNS ≡ false → not (eqb g.row.MAY_STOP 0) ≡ true)
@@ -37,25 +37,25 @@ abbrev pub invariant-loop-position-2 : goal.invariant-loop-position-2
 invariant-loop-position-2 g l = record {
   stands : StandsInText g l.input.bytes.now (g.P.CountedPerform.value_of l.fn.performer)
       (g.P.CountedPerform.value_of l.performer) l.from l.position l.fn.self l.self;
-  spends : SpendsInText g l.input.bytes.now l.front.bytes.now l.from l.position l.fn.self l.self (looked l.fn.reader)
+  spends : SpendsInText g l.input.bytes.now l.prefix.bytes.now l.from l.position l.fn.self l.self (looked l.fn.reader)
       (looked l.reader);
   moves : l.initial.position ≤ l.position;
-  progress : l.initial.position ≡ l.position → l.position < length l.front.bytes.now;
+  progress : l.initial.position ≡ l.position → l.position < length l.prefix.bytes.now;
 }
 
 abbrev pub decreases-loop-position-2 : goal.decreases-loop-position-2
-decreases-loop-position-2 g l = length l.front.bytes.now - l.position
+decreases-loop-position-2 g l = length l.prefix.bytes.now - l.position
 
 abbrev pub invariant-loop-position : goal.invariant-loop-position
 invariant-loop-position g l = record {
   stands : StandsInText g l.input.bytes.now (g.P.CountedPerform.value_of l.fn.performer)
       (g.P.CountedPerform.value_of l.performer) l.from l.position l.fn.self l.self;
-  spends : SpendsInText g l.input.bytes.now l.front.bytes.now l.from l.position l.fn.self l.self (looked l.fn.reader)
+  spends : SpendsInText g l.input.bytes.now l.prefix.bytes.now l.from l.position l.fn.self l.self (looked l.fn.reader)
       (looked l.reader);
-  front : length l.front.bytes.now ≤ length l.input.bytes.now;
-  all : g.G.Grain.IN_RUNS ≡ true → length l.front.bytes.now ≡ length l.input.bytes.now;
-  same : (k : ℕ) → k < length l.front.bytes.now → slice_index l.front.bytes.now k ≡ slice_index l.input.bytes.now k;
-  before : l.position < length l.input.bytes.now → l.position < length l.front.bytes.now;
+  prefix : length l.prefix.bytes.now ≤ length l.input.bytes.now;
+  all : g.G.Grain.IN_RUNS ≡ true → length l.prefix.bytes.now ≡ length l.input.bytes.now;
+  same : (k : ℕ) → k < length l.prefix.bytes.now → slice_index l.prefix.bytes.now k ≡ slice_index l.input.bytes.now k;
+  before : l.position < length l.input.bytes.now → l.position < length l.prefix.bytes.now;
   progress : l.from ≡ l.position → l.position < length l.input.bytes.now;
 }
 

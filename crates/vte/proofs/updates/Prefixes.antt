@@ -1,7 +1,7 @@
--- An early stop reads exactly the front up to the byte that begins an update. Such a byte ends a control sequence, so
--- no character is open or broken there, and the front is the shortest that adds a begin.
+-- An early stop reads exactly the prefix up to the byte that begins an update. Such a byte ends a control sequence, so
+-- no character is open or broken there, and the prefix is the shortest that adds a begin.
 use Rattle.vte_core.proofs.shapes.Reported.{breaks_at-all, breaks_at-settled, reported-broken}
-use Rattle.vte.proofs.Common.{◌≡◌, ℕ, zero, suc, ◌+◌, ◌<◌, ◌≤◌, inl, inr, false, nat_lt, Option, List, [], ◌∷◌, ◌++◌, length, take, refl, ap, subst, ◌∙◌, append_assoc, arith, cases_Bool, cases_lt, nat_tests, append-nil, take_all, breaks_at, reported_before, Event, Print, replacement, added, open_character, reported-settled, added-append, added-nothing, opens_silently, begin_count, EndsInBegin, front_to_begin}
+use Rattle.vte.proofs.Common.{◌≡◌, ℕ, zero, suc, ◌+◌, ◌<◌, ◌≤◌, inl, inr, false, nat_lt, Option, List, [], ◌∷◌, ◌++◌, length, take, refl, ap, subst, ◌∙◌, append_assoc, arith, cases_Bool, cases_lt, nat_tests, append-nil, take_all, breaks_at, reported_before, Event, Print, replacement, added, open_character, reported-settled, added-append, added-nothing, opens_silently, begin_count, EndsInBegin, prefix_to_begin}
 
 -- ---- how often bytes begin an update
 
@@ -30,31 +30,31 @@ begin_count-told limit p r i = elim (cases_Bool (breaks_at p r i)) [
   | inr whole ↦ rw (reported-settled limit p r i whole)
 ]
 
--- ---- the front by its length
+-- ---- the prefix by its length
 
-pub record IsFront (limit : Option ℕ) (p r : List ℕ) (k : ℕ) : Type 0 where
+pub record IsPrefix (limit : Option ℕ) (p r : List ℕ) (k : ℕ) : Type 0 where
   pub within : k ≤ length r
-  pub is : front_to_begin limit p r ≡ take k r
+  pub is : prefix_to_begin limit p r ≡ take k r
   pub before : (i : ℕ) → i < k → begin_count (added limit p (take i r)) ≡ 0
   pub begins : k < length r → 0 < begin_count (added limit p (take k r))
   pub ends : 0 < begin_count (added limit p (take k r)) → EndsInBegin limit (p ++ take k r)
 
 begin_count-before : (limit : Option ℕ) (p rest : List ℕ) (b k i : ℕ) → begin_count (added limit p (b ∷ [])) ≡ 0
-    → IsFront limit (p ++ b ∷ []) rest k → i < suc k
+    → IsPrefix limit (p ++ b ∷ []) rest k → i < suc k
     → begin_count (added limit p (take i (b ∷ rest))) ≡ 0
 begin_count-before limit p rest b k zero none f l = begin_count-nothing limit p
 begin_count-before limit p rest b k (suc i) none f l =
     omega (arith, begin_count-added limit p (b ∷ []) (take i rest), none, f.before i (omega arith))
 
-pub front-is : (limit : Option ℕ) (p r : List ℕ) → IsFront limit p r (length (front_to_begin limit p r))
-front-is limit p [] = record {
+pub prefix-is : (limit : Option ℕ) (p r : List ℕ) → IsPrefix limit p r (length (prefix_to_begin limit p r))
+prefix-is limit p [] = record {
   within = omega arith;
   is = refl;
   before = λ i l. absurd (omega arith);
   begins = λ l. absurd (omega arith);
   ends = λ some. absurd (omega (arith, begin_count-nothing limit p));
 }
-front-is limit p (b ∷ rest) = elim (cases_Bool (nat_lt 0 (begin_count (added limit p (b ∷ []))))) [
+prefix-is limit p (b ∷ rest) = elim (cases_Bool (nat_lt 0 (begin_count (added limit p (b ∷ []))))) [
   | inl some ↦ rw some (record {
     within = omega arith;
     is = rw some refl;
@@ -64,18 +64,18 @@ front-is limit p (b ∷ rest) = elim (cases_Bool (nat_lt 0 (begin_count (added l
   })
   | inr no_begin ↦
       let none : begin_count (added limit p (b ∷ [])) ≡ 0 = grind (arith, nat_tests) in
-      let front = front_to_begin limit (p ++ b ∷ []) rest in
-      let f : IsFront limit (p ++ b ∷ []) rest (length front) = front-is limit (p ++ b ∷ []) rest in
-      let same : begin_count (added limit p (b ∷ take (length front) rest))
-      ≡ begin_count (added limit (p ++ b ∷ []) (take (length front) rest)) =
-      omega (arith, begin_count-added limit p (b ∷ []) (take (length front) rest), none) in
+      let prefix = prefix_to_begin limit (p ++ b ∷ []) rest in
+      let f : IsPrefix limit (p ++ b ∷ []) rest (length prefix) = prefix-is limit (p ++ b ∷ []) rest in
+      let same : begin_count (added limit p (b ∷ take (length prefix) rest))
+      ≡ begin_count (added limit (p ++ b ∷ []) (take (length prefix) rest)) =
+      omega (arith, begin_count-added limit p (b ∷ []) (take (length prefix) rest), none) in
       rw no_begin (record {
         within = omega (arith, f.within);
         is = rw no_begin (ap (λ x. b ∷ x) f.is);
-        before = λ i l. begin_count-before limit p rest b (length front) i none f l;
+        before = λ i l. begin_count-before limit p rest b (length prefix) i none f l;
         begins = λ l. rw same (f.begins (omega arith));
         ends =
-            λ some. subst (EndsInBegin limit) (append_assoc p (b ∷ []) (take (length front) rest))
+            λ some. subst (EndsInBegin limit) (append_assoc p (b ∷ []) (take (length prefix) rest))
             (f.ends (rw same at some));
       })
 ]
@@ -90,63 +90,63 @@ open_character-begin {limit} e = elim (opens_silently limit e.before e.byte) [
   ])
 ]
 
-pub open_character-front : {limit : Option ℕ} {p r : List ℕ} {k : ℕ} → IsFront limit p r k → k < length r
+pub open_character-prefix : {limit : Option ℕ} {p r : List ℕ} {k : ℕ} → IsPrefix limit p r k → k < length r
     → open_character (p ++ take k r) ≡ []
-open_character-front f more = open_character-begin (f.ends (f.begins more))
+open_character-prefix f more = open_character-begin (f.ends (f.begins more))
 
--- no character is broken after the front
-pub breaks_at-front : {limit : Option ℕ} {p r : List ℕ} {k : ℕ} → IsFront limit p r k → breaks_at p r k ≡ false
-breaks_at-front {p} {r} {k} f = elim (cases_lt k (length r)) [
-  | inl more ↦ breaks_at-settled p r k (open_character-front f more)
+-- no character is broken after the prefix
+pub breaks_at-prefix : {limit : Option ℕ} {p r : List ℕ} {k : ℕ} → IsPrefix limit p r k → breaks_at p r k ≡ false
+breaks_at-prefix {p} {r} {k} f = elim (cases_lt k (length r)) [
+  | inl more ↦ breaks_at-settled p r k (open_character-prefix f more)
   | inr all ↦ breaks_at-all p r k all
 ]
 
--- the front after bytes in which no update begins, and of bytes that begin one, whatever follows
+-- the prefix after bytes in which no update begins, and of bytes that begin one, whatever follows
 pub begin_count-none : (limit : Option ℕ) (p a r : List ℕ) → begin_count (added limit p a) ≡ 0
     → begin_count (added limit (p ++ a) r) ≡ 0
     → begin_count (added limit p (a ++ r)) ≡ 0
 begin_count-none limit p a r first second = omega (arith, begin_count-added limit p a r, first, second)
 
-pub front-after : (limit : Option ℕ) (p a r : List ℕ) → begin_count (added limit p a) ≡ 0
-    → front_to_begin limit p (a ++ r) ≡ a ++ front_to_begin limit (p ++ a) r
-front-after limit p [] r none = rw append-nil
-front-after limit p (b ∷ a) r none =
+pub prefix-after : (limit : Option ℕ) (p a r : List ℕ) → begin_count (added limit p a) ≡ 0
+    → prefix_to_begin limit p (a ++ r) ≡ a ++ prefix_to_begin limit (p ++ a) r
+prefix-after limit p [] r none = rw append-nil
+prefix-after limit p (b ∷ a) r none =
     let all = begin_count-added limit p (b ∷ []) a in
     let first : nat_lt 0 (begin_count (added limit p (b ∷ []))) ≡ false = grind (arith, nat_tests) in
     let later : begin_count (added limit (p ++ b ∷ []) a) ≡ 0 = omega (arith, all, none) in
-    rw first (ap (λ front. b ∷ front) (front-after limit (p ++ b ∷ []) a r later ∙ rw append_assoc))
+    rw first (ap (λ prefix. b ∷ prefix) (prefix-after limit (p ++ b ∷ []) a r later ∙ rw append_assoc))
 
-pub front-more : (limit : Option ℕ) (p r more : List ℕ) → 0 < begin_count (added limit p (front_to_begin limit p r))
-    → front_to_begin limit p (r ++ more) ≡ front_to_begin limit p r
-front-more limit p [] more some = absurd (omega (arith, begin_count-nothing limit p, some))
-front-more limit p (b ∷ r) more some = elim (cases_Bool (nat_lt 0 (begin_count (added limit p (b ∷ []))))) [
+pub prefix-more : (limit : Option ℕ) (p r more : List ℕ) → 0 < begin_count (added limit p (prefix_to_begin limit p r))
+    → prefix_to_begin limit p (r ++ more) ≡ prefix_to_begin limit p r
+prefix-more limit p [] more some = absurd (omega (arith, begin_count-nothing limit p, some))
+prefix-more limit p (b ∷ r) more some = elim (cases_Bool (nat_lt 0 (begin_count (added limit p (b ∷ []))))) [
   | inl begins ↦ rw begins refl
   | inr no_begin ↦
       let none : begin_count (added limit p (b ∷ [])) ≡ 0 = grind (arith, nat_tests) in
-      let later : 0 < begin_count (added limit (p ++ b ∷ []) (front_to_begin limit (p ++ b ∷ []) r)) =
+      let later : 0 < begin_count (added limit (p ++ b ∷ []) (prefix_to_begin limit (p ++ b ∷ []) r)) =
       omega (
         arith,
         begin_count-added limit p (b ∷ [])
-            (front_to_begin limit (p ++ b ∷ []) r),
+            (prefix_to_begin limit (p ++ b ∷ []) r),
         none,
         rw no_begin at some,
       )
       in
-      rw no_begin (ap (λ front. b ∷ front) (front-more limit (p ++ b ∷ []) r more later))
+      rw no_begin (ap (λ prefix. b ∷ prefix) (prefix-more limit (p ++ b ∷ []) r more later))
 ]
 
--- bytes in which no update begins are their own front
-pub front-all : (limit : Option ℕ) (p r : List ℕ) → begin_count (added limit p (front_to_begin limit p r)) ≡ 0
-    → front_to_begin limit p r ≡ r
-front-all limit p r none =
-    let f = front-is limit p r in
-    f.is ∙ take_all (length (front_to_begin limit p r)) r
-    (elim (cases_lt (length (front_to_begin limit p r)) (length r)) [
+-- bytes in which no update begins are their own prefix
+pub prefix-all : (limit : Option ℕ) (p r : List ℕ) → begin_count (added limit p (prefix_to_begin limit p r)) ≡ 0
+    → prefix_to_begin limit p r ≡ r
+prefix-all limit p r none =
+    let f = prefix-is limit p r in
+    f.is ∙ take_all (length (prefix_to_begin limit p r)) r
+    (elim (cases_lt (length (prefix_to_begin limit p r)) (length r)) [
       | inl more ↦ absurd (omega (arith, rw (← f.is) at (f.begins more), none))
       | inr all ↦ omega arith
     ])
 
--- a front of some bytes has some
-pub front-some : (limit : Option ℕ) (p r : List ℕ) → 0 < length r → 0 < length (front_to_begin limit p r)
-front-some limit p [] some = absurd (omega arith)
-front-some limit p (b ∷ rest) some = grind arith
+-- a prefix of some bytes has some
+pub prefix-some : (limit : Option ℕ) (p r : List ℕ) → 0 < length r → 0 < length (prefix_to_begin limit p r)
+prefix-some limit p [] some = absurd (omega arith)
+prefix-some limit p (b ∷ rest) some = grind arith

@@ -23,7 +23,7 @@ READER = [
 
 # A performer or handler may be unsized: `dyn Perform` is one. Rattle has no unsized types.
 UNSIZED = [(bound, f"{bound} + ?Sized") for bound in (
-    "P: Perform", "P: PerformText", "P: PerformAs<$g>", "P: CountedPerform<$g>",
+    "P: Perform", "P: PerformText", "P: ReceiveAs<$g>", "P: CountedPerform<$g>",
     "H: Handler", "H: HandlerText", "H: InputAs<$g>")]
 
 VTE = Plan(

@@ -44,7 +44,7 @@ unfoldable pub use Rattle.vte.specs.CommandCalls.{all_reset}
 pub use Rattle.vte.specs.machine.ColorReader.{first_component}
 pub use Rattle.vte.specs.machine.Hold.{Adds, IsAdded, IsHeldTail, released_of, still_held}
 pub use Rattle.vte.specs.ProcessorCalls.{StopsSync, HasAdvanced, HasParsedAll, HasParsedAndHolds, IsAt, ReadsInTurns, HasReplayed, HasTold, Replays, StandingPredicate, held_of}
-pub use Rattle.vte.specs.machine.Performing.{PerformsAll, PerformsUntilStop, performer_value, with_private_mode, with_private_modes}
+pub use Rattle.vte.specs.machine.Performing.{AdvancesAll, AdvancesUntilStop, performer_value, with_private_mode, with_private_modes}
 pub use Rattle.vte.specs.BoundedProcessor.{HasParsedAndHoldsWithin}
 pub use Rattle.vte.specs.LongProcessor.{EngineReads, EngineStops, HasParsedAndHoldsLong, LacksMemoryForSome, LacksMemoryLong, AdvancesLong, Reserves}
 pub use Rattle.vte.specs.Memory.{HasMemory, HasTextRoom, ParserHasMemory, KeepsMemory}

@@ -11,20 +11,18 @@
 
 mod buffer;
 mod class;
-mod cuts;
 mod head;
 pub mod laws;
 mod params;
 mod parser;
 mod perform;
-mod run;
 mod run_blocks;
+mod run_end;
 mod scan;
 mod store;
+mod stream_parts;
 mod utf8;
 
-pub use cuts::iter::Parts;
-pub use cuts::parts;
 pub use params::{Params, ParamsIter};
 pub use parser::{Open, Parser};
 // for C alone
@@ -36,6 +34,8 @@ pub use parser::{LongParser, Refused};
 // cargo instead: pub use perform::{Perform, PerformText};
 pub use perform::{Perform, PerformText, PerformThroughText};
 // cargo: #[cfg(feature = "ansi")]
-// cargo: pub use scan::{InRuns, Singly};
+// cargo: pub use scan::{ByCharacter, InRuns};
 // cargo instead: pub use scan::{Run, Taken};
-pub use scan::{InRuns, Run, Singly, Taken};
+pub use scan::{ByCharacter, InRuns, Run, Taken};
+pub use stream_parts::iter::Parts;
+pub use stream_parts::parts;

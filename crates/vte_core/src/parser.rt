@@ -27,7 +27,7 @@ mod text;
 mod to_run;
 
 use crate::head::HeadProgress;
-use crate::scan::{Chunk, CountedPerform, Grain, Looks};
+use crate::scan::{Chunk, CountedPerform, Granularity, Looks};
 use crate::utf8::Unfinished;
 use arrayvec::ArrayVec;
 // cargo: #[cfg(any(feature = "std", feature = "ansi"))]
@@ -170,7 +170,7 @@ impl<const OSC_RAW_BUF_SIZE: usize> Parser<OSC_RAW_BUF_SIZE> {
 
     /// Reads the bytes of a call, all of them or, if it `MAY_STOP`, until the performer is
     /// terminated, and returns how many were read.
-    pub(crate) fn drive<P: CountedPerform<G>, G: Grain, const MAY_STOP: bool>(
+    pub(crate) fn drive<P: CountedPerform<G>, G: Granularity, const MAY_STOP: bool>(
         &mut self,
         performer: &mut P,
         chunk: Chunk<'_>,

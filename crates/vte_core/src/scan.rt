@@ -9,23 +9,23 @@ ghost use Rattle.vte_core.specs.machine.Prelude.{AreOfKind, ArePut, IsRange, IsR
 
 mod calls;
 mod counted_perform;
-mod grain;
+mod granularity;
 // cargo: #[cfg(any(feature = "std", feature = "ansi"))]
 mod long_calls;
+mod run;
 mod search;
-mod taken;
 
 use arrayvec::{ArrayVec, CapacityError};
 pub(crate) use counted_perform::CountedPerform;
-pub(crate) use grain::Grain;
-pub use grain::{InRuns, Singly};
+pub(crate) use granularity::Granularity;
+pub use granularity::{ByCharacter, InRuns};
+pub use run::{Run, Taken};
+pub(crate) use run::{RunKind, RunRange};
 // cargo: #[cfg(any(feature = "std", feature = "ansi"))]
 // cargo instead: use crate::prelude::{AllocError, Vec};
 use std::alloc::{AllocError, Allocator};
 use std::snapshot::Snapshot;
 use std::{mem, str};
-pub use taken::{Run, Taken};
-pub(crate) use taken::{RunKind, RunRange};
 
 /// The looks so far, and how many there were each time. Only contracts read it.
 #[derive(Drop)]
@@ -281,7 +281,7 @@ impl Reader {
     /// Reports a whole character.
     #[inline(always)]
     #[tactic(auto, unfolding(crate::specs::Text::character_event))]
-    pub(crate) fn report_character<P: CountedPerform<G>, G: Grain>(
+    pub(crate) fn report_character<P: CountedPerform<G>, G: Granularity>(
         &mut self,
         performer: &mut P,
         c: char,
@@ -299,7 +299,7 @@ impl Reader {
     /// alone.
     #[inline(always)]
     #[tactic(auto, unfolding(crate::specs::Text::character_event, crate::specs::Text::malformed_event))]
-    pub(crate) fn report_lone_byte<P: CountedPerform<G>, G: Grain>(
+    pub(crate) fn report_lone_byte<P: CountedPerform<G>, G: Granularity>(
         &mut self,
         performer: &mut P,
         byte: u8,
@@ -321,7 +321,7 @@ impl Reader {
     // cargo lacks: the crate calls `print_text`
     /// Reports the run of text that stands from one position to another, which counts its bytes.
     #[inline(always)]
-    pub(crate) fn report_text<P: CountedPerform<G>, G: Grain>(
+    pub(crate) fn report_text<P: CountedPerform<G>, G: Granularity>(
         &mut self,
         performer: &mut P,
         input: Input<'_>,
@@ -341,7 +341,7 @@ impl Reader {
 
     /// Reports the data that stand from one position to another.
     #[inline(always)]
-    pub(crate) fn report_data<P: CountedPerform<G>, G: Grain>(
+    pub(crate) fn report_data<P: CountedPerform<G>, G: Granularity>(
         &mut self,
         performer: &mut P,
         input: Input<'_>,

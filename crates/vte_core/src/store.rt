@@ -4,7 +4,7 @@ ghost use Rattle.std.specs.List.Sorted.{IsNonDecreasing};
 ghost use Rattle.vte_core.specs.machine.Prelude.{ArePieceEnds, HasCapacity, Stored, IsRange, HoldsItems, OscDispatch, ReservesCapacity, SameItems, LooksAtMost, Reports, cut_pieces, most_pieces};
 
 use crate::buffer::Buffer;
-use crate::scan::{CountedPerform, Grain, Input, Reader};
+use crate::scan::{CountedPerform, Granularity, Input, Reader};
 use arrayvec::ArrayVec;
 // cargo: #[cfg(any(feature = "std", feature = "ansi"))]
 // cargo: use crate::prelude::Vec;
@@ -146,7 +146,7 @@ impl<B: Buffer> Store<B> {
 
     /// Dispatches the command with its pieces.
     #[tactic(auto, using(std::proofs::lemmas::Grind::common_steps))]
-    pub(crate) fn dispatch<P: CountedPerform<G>, G: Grain>(
+    pub(crate) fn dispatch<P: CountedPerform<G>, G: Granularity>(
         &self,
         reader: &mut Reader,
         performer: &mut P,

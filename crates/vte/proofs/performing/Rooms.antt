@@ -1,6 +1,6 @@
 -- With room for all bytes, a parser reads them all, and each command's joined text fits. No command has more data than
 -- was stored and read, nor more separators than 16; so the contracts of both parsers become those of one.
-use Rattle.vte.proofs.Common.{◌≡◌, ℕ, ◌+◌, ◌≤◌, true, All, Option, Some, None, List, [], ◌∷◌, ◌++◌, length, Result, Ok, Err, false, refl, arith, concat, take-append_seam, nat_tests, All-cons, All-drop, All-head, All-nil, All-tail, All-take, Event, OscDispatch, added, events, LongParser, Refused, added-append, counts_data, events_are_bounded, PerformsAll, PerformsUntilStop, FitsText, HasTextRoom, PerformerValue, ParserHasMemory, KeepsMemory, fits_room, limited_parser_view, long_parser_view}
+use Rattle.vte.proofs.Common.{◌≡◌, ℕ, ◌+◌, ◌≤◌, true, All, Option, Some, None, List, [], ◌∷◌, ◌++◌, length, Result, Ok, Err, false, refl, arith, concat, take-append_seam, nat_tests, All-cons, All-drop, All-head, All-nil, All-tail, All-take, Event, OscDispatch, added, events, LongParser, Refused, added-append, counts_data, events_are_bounded, AdvancesAll, AdvancesUntilStop, FitsText, HasTextRoom, PerformerValue, ParserHasMemory, KeepsMemory, fits_room, limited_parser_view, long_parser_view}
 use Rattle.vte_core.specs.EventBounds.{IsBounded}
 use Rattle.vte_core.specs.LongParserCalls.{ReadsLong}
 use Rattle.vte_core.specs.LongParser.{memory_of, open_command_size, read_count}
@@ -51,7 +51,7 @@ module _ {N : ℕ} {V W : Type 0} {step : PerformerValue V W → Event → Perfo
     {old new : PerformerValue V W} {bytes : List ℕ}
     {parser next : Parser N} where
   pub short_parses : ReadsBytes step old new bytes (reading_of parser) (reading_of next)
-      → PerformsAll limited_parser_view (Some N) step parser next old new bytes
+      → AdvancesAll limited_parser_view (Some N) step parser next old new bytes
   short_parses r = record {
     parses =
         λ stream n read room. record {
@@ -65,7 +65,7 @@ module _ {N : ℕ} {V W : Type 0} {step : PerformerValue V W → Event → Perfo
 
   pub short_stops : {read : ℕ}
       → ReadsUntilTerminated step (λ lent. lent.terminated) read old new bytes (reading_of parser) (reading_of next)
-      → PerformsUntilStop limited_parser_view (Some N) step parser next old new bytes read
+      → AdvancesUntilStop limited_parser_view (Some N) step parser next old new bytes read
   short_stops r = record {
     within = r.within;
     stops =
@@ -114,7 +114,7 @@ module _ {A V W : Type 0} {step : PerformerValue V W → Event → PerformerValu
     {parser next : LongParser A} where
   pub long_parses : (result : Result (Unit {0}) Refused)
       → ReadsLong 5 step (λ _. false) old new bytes parser next result (λ (_ : Unit {0}). ReadsBytes step)
-      → PerformsAll long_parser_view None step parser next old new bytes
+      → AdvancesAll long_parser_view None step parser next old new bytes
   long_parses (Ok _) r = record {
     parses = λ stream n read room. record {
       performs = r.reads.performs stream read;
@@ -132,7 +132,7 @@ module _ {A V W : Type 0} {step : PerformerValue V W → Event → PerformerValu
   pub long_stops : (result : Result ℕ Refused)
       → ReadsLong 5 step (λ lent. lent.terminated) old new bytes parser next result
       (ReadsUntilTerminated step (λ lent. lent.terminated))
-      → PerformsUntilStop long_parser_view None step parser next old new bytes (read_count result)
+      → AdvancesUntilStop long_parser_view None step parser next old new bytes (read_count result)
   long_stops (Ok read) r = record {
     within = r.reads.within;
     stops =

@@ -1,5 +1,5 @@
 -- The value of a performer, and what a parser that reads bytes for it has performed. Of the types,
--- `H` is the performer's handler, and `G` the grain in which it receives text.
+-- `H` is the performer's handler, and `G` the granularity of its text.
 use Rattle.std.specs.Prelude.{◌≡◌, ℕ, ◌+◌, ◌≤◌, ◌||◌, ◌==◌, if◌then◌else◌, Option, List, ◌++◌}
 use Rattle.std.specs.Prelude.{length, nat_lt}
 use Rattle.std.specs.List.{All}
@@ -73,7 +73,7 @@ pub record HasStopped {P V W : Type 0} (reading : ParserView P) (limit : Option 
 
 -- After each stream that the parser has read, it performs all bytes if it has memory for them.
 -- Memory that was there stays.
-pub record PerformsAll {P V W : Type 0} (reading : ParserView P) (limit : Option ℕ)
+pub record AdvancesAll {P V W : Type 0} (reading : ParserView P) (limit : Option ℕ)
     (step : PerformerValue V W → Event → PerformerValue V W) (parser next : P)
     (old new : PerformerValue V W)
     (bytes : List ℕ) : Type 0 where
@@ -83,7 +83,7 @@ pub record PerformsAll {P V W : Type 0} (reading : ParserView P) (limit : Option
   pub memory : (size : ℕ)
       → KeepsMemory (reading.has_memory parser size) (reading.has_memory next size)
 
-pub record PerformsUntilStop {P V W : Type 0} (reading : ParserView P) (limit : Option ℕ)
+pub record AdvancesUntilStop {P V W : Type 0} (reading : ParserView P) (limit : Option ℕ)
     (step : PerformerValue V W → Event → PerformerValue V W) (parser next : P)
     (old new : PerformerValue V W)
     (bytes : List ℕ) (read : ℕ) : Type 0 where

@@ -10,7 +10,7 @@ use crate::ansi::engine::Engine;
 use crate::ansi::growing_text::GrowingText;
 use crate::ansi::parsing::EventParser;
 use std::alloc::Allocator;
-use vte_core::{InRuns, Parser, Singly};
+use vte_core::{ByCharacter, InRuns, Parser};
 use vte_handler::{Handler, HandlerText, Timeout};
 
 /// A [`Processor`](crate::ansi::Processor) that keeps up to `N` data bytes of an operating system
@@ -74,7 +74,7 @@ impl<T: Timeout + Drop, A: Allocator, const N: usize> BoundedProcessor<T, A, N> 
             (HasParsedAndHoldsWithin T.value_of self.new)
             (H.value_of handler.old) (H.value_of handler.new) }
     {
-        self.engine.stop::<H, Singly>(handler);
+        self.engine.stop::<H, ByCharacter>(handler);
     }
 
     /// Stops an update as [`stop_sync`](Self::stop_sync) does. The handler receives text in runs.
@@ -98,7 +98,7 @@ impl<T: Timeout + Drop, A: Allocator, const N: usize> BoundedProcessor<T, A, N> 
             (H.value_of handler.old) (H.value_of handler.new) bytes.now }
     {
         // The memory is there, so all bytes are read.
-        let _ = self.engine.read::<H, Singly>(handler, bytes);
+        let _ = self.engine.read::<H, ByCharacter>(handler, bytes);
     }
 
     /// Reads bytes as [`advance`](Self::advance) does. The handler receives text in runs.

@@ -64,7 +64,7 @@ impl<P: EventParser + Drop, B: TextBuffer + Drop, T: Timeout + Drop, A: Allocato
     }
 
     /// Reads bytes, and parses them or holds them back: all of them, or as many as there is memory
-    /// for. The grain decides how the handler receives text.
+    /// for. `G` says how the handler receives text.
     // cargo: #[inline]
     pub(crate) fn read<H: Handler, G: ParseAs<H, T, P>>(
         &mut self,

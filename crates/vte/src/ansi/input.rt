@@ -2,17 +2,17 @@
 ghost use Rattle.std.specs.Prelude.{◌≡◌};
 ghost use Rattle.vte_handler.specs.Call.{Input};
 
-use vte_core::{InRuns, Singly};
+use vte_core::{ByCharacter, InRuns};
 use vte_handler::{Handler, HandlerText};
 
-/// A handler that takes characters in a grain.
+/// A handler that takes characters as `G` says: `ByCharacter` or `InRuns`.
 pub(crate) trait InputAs<G>: Handler {
     /// Receives a character to show.
     fn input_char(&mut self, c: char)
         ensures { Self.value_of self.new ≡ Self.step (Self.value_of self.old) (Input c) };
 }
 
-impl<H: Handler> InputAs<Singly> for H {
+impl<H: Handler> InputAs<ByCharacter> for H {
     #[inline(always)]
     fn input_char(&mut self, c: char) {
         self.input(c);

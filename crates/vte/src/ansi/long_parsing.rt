@@ -9,7 +9,7 @@ use crate::ansi::parsing::{EventParser, ParseAs};
 use crate::ansi::performer::Performer;
 use crate::ansi::text_buffer::TextBuffer;
 use std::alloc::Allocator;
-use vte_core::{InRuns, LongParser, Refused, Singly};
+use vte_core::{ByCharacter, InRuns, LongParser, Refused};
 use vte_handler::{Handler, HandlerText, Timeout};
 
 impl<A: Allocator> EventParser for LongParser<A> {
@@ -40,7 +40,7 @@ fn joined_size(stored: usize, more: usize) -> Option<usize>
 }
 
 #[tactic(auto, using(crate::proofs::performing::Rooms::long_stops))]
-impl<H: Handler, T: Timeout + Drop, A: Allocator> ParseAs<H, T, LongParser<A>> for Singly {
+impl<H: Handler, T: Timeout + Drop, A: Allocator> ParseAs<H, T, LongParser<A>> for ByCharacter {
     #[inline(always)]
     fn advance<B: TextBuffer + Drop>(
         parser: &mut LongParser<A>,

@@ -10,7 +10,7 @@ ghost use Rattle.vte.specs.ProcessorCalls.{CountsHeld, Creates, IsCopyOf, SaysPa
 use crate::ansi::engine::Engine;
 use crate::ansi::growing_text::GrowingText;
 use std::alloc::{AllocError, Allocator};
-use vte_core::{InRuns, LongParser, Refused, Singly};
+use vte_core::{ByCharacter, InRuns, LongParser, Refused};
 use vte_handler::{Handler, HandlerText, Timeout};
 
 /// A [`Processor`](crate::ansi::Processor) that keeps commands, titles and links whatever their
@@ -124,7 +124,7 @@ impl<T: Timeout + Drop, A: Allocator> LongProcessor<T, A> {
             (meaning_of None H.step T.set T.clear T.allows) self.old self.new
             (H.value_of handler.old) (H.value_of handler.new) }
     {
-        self.engine.stop::<H, Singly>(handler);
+        self.engine.stop::<H, ByCharacter>(handler);
     }
 
     /// Stops an update as [`stop_sync`](Self::stop_sync) does. The handler receives text in runs.
@@ -146,7 +146,7 @@ impl<T: Timeout + Drop, A: Allocator> LongProcessor<T, A> {
             (meaning_of None H.step T.set T.clear T.allows) self.old self.new
             (H.value_of handler.old) (H.value_of handler.new) bytes.now result }
     {
-        self.engine.read::<H, Singly>(handler, bytes)
+        self.engine.read::<H, ByCharacter>(handler, bytes)
     }
 
     /// Reads bytes as [`advance`](Self::advance) does. The handler receives text in runs.

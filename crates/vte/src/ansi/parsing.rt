@@ -1,7 +1,7 @@
 //! The parser, together with what a processor lends it. The references are separate parameters, not
 //! fields of one struct, so that the performer can borrow each.
 ghost use Rattle.std.specs.Prelude.{◌≡◌, ◌≤◌, ◌+◌, ◌++◌, ℕ, List, Option, Some, true, false, length};
-ghost use Rattle.vte.specs.machine.Performing.{PerformsAll, PerformsUntilStop, performer_value};
+ghost use Rattle.vte.specs.machine.Performing.{AdvancesAll, AdvancesUntilStop, performer_value};
 ghost use Rattle.vte.specs.Processor.{State, meaning_of, parse};
 ghost use Rattle.vte.specs.machine.Performer.{with_event};
 ghost use Rattle.vte.specs.machine.Engine.{HasParsedPrefix, ArePartsAtKeeping, ArePartsAtWithMemory};
@@ -14,7 +14,7 @@ use crate::ansi::performer::{Performer, ProcessorState};
 use crate::ansi::text_buffer::TextBuffer;
 use arrayvec::ArrayString;
 use std::marker::PhantomData;
-use vte_core::{InRuns, Parser, Singly};
+use vte_core::{ByCharacter, InRuns, Parser};
 use vte_handler::{Handler, HandlerText, Timeout};
 
 /// The parser of a processor.
@@ -60,7 +60,7 @@ impl<const N: usize> EventParser for Parser<N> {
     }
 }
 
-/// Parses for a handler that receives text in a grain: `Singly` or `InRuns`.
+/// Parses for a handler that receives text `ByCharacter` or `InRuns`.
 pub(crate) trait ParseAs<H: Handler, T: Timeout + Drop, P: EventParser>: Sized {
     /// Parses all bytes.
     fn advance<B: TextBuffer + Drop>(
@@ -69,7 +69,7 @@ pub(crate) trait ParseAs<H: Handler, T: Timeout + Drop, P: EventParser>: Sized {
         bytes: &[u8],
     )
         ensures { let value = performer_value H.value_of T.value_of B.room in
-            PerformsAll P.reading P.limit
+            AdvancesAll P.reading P.limit
             (with_event H.step (timeout_meaning T.set T.clear T.allows))
             parser.old parser.new (value performer.old) (value performer.new) bytes.now };
 
@@ -80,14 +80,14 @@ pub(crate) trait ParseAs<H: Handler, T: Timeout + Drop, P: EventParser>: Sized {
         bytes: &[u8],
     ) -> usize
         ensures { let value = performer_value H.value_of T.value_of B.room in
-            PerformsUntilStop P.reading P.limit
+            AdvancesUntilStop P.reading P.limit
             (with_event H.step (timeout_meaning T.set T.clear T.allows))
             parser.old parser.new (value performer.old) (value performer.new)
             bytes.now result };
 }
 
 #[tactic(auto, using(crate::proofs::performing::Rooms::short_parses))]
-impl<H: Handler, T: Timeout + Drop, const N: usize> ParseAs<H, T, Parser<N>> for Singly {
+impl<H: Handler, T: Timeout + Drop, const N: usize> ParseAs<H, T, Parser<N>> for ByCharacter {
     #[inline(always)]
     fn advance<B: TextBuffer + Drop>(
         parser: &mut Parser<N>,
@@ -153,7 +153,7 @@ pub(crate) fn parse_all<
         state,
         handler,
         terminated: false,
-        grain: PhantomData::<G>,
+        granularity: PhantomData::<G>,
     };
     G::advance(parser, &mut performer, bytes);
 }
@@ -181,7 +181,7 @@ pub(crate) fn parse_until_begin<
         state,
         handler,
         terminated: false,
-        grain: PhantomData::<G>,
+        granularity: PhantomData::<G>,
     };
     let read = G::advance_until_begin(parser, &mut performer, bytes);
     (read, performer.terminated)

@@ -9,7 +9,7 @@ ghost use Rattle.vte_core.specs.Stream.{usual_limit};
 use crate::ansi::engine::Engine;
 use crate::ansi::parsing::{ProcessorParser, ProcessorText};
 use std::alloc::{AllocError, Allocator};
-use vte_core::{InRuns, Singly};
+use vte_core::{ByCharacter, InRuns};
 use vte_handler::{Handler, HandlerText, Timeout};
 
 /// Parses the bytes that programs send to a terminal, and calls a [`Handler`] for what they ask of
@@ -101,7 +101,7 @@ impl<T: Timeout + Drop, A: Allocator> Processor<T, A> {
             (HasParsedAndHolds T.value_of self.old) (HasParsedAndHolds T.value_of self.new)
             (H.value_of handler.old) (H.value_of handler.new) }
     {
-        self.engine.stop::<H, Singly>(handler);
+        self.engine.stop::<H, ByCharacter>(handler);
     }
 
     /// Stops an update as [`stop_sync`](Self::stop_sync) does. The handler receives text in runs.
@@ -123,7 +123,7 @@ impl<T: Timeout + Drop, A: Allocator> Processor<T, A> {
             (H.value_of handler.old) (H.value_of handler.new) bytes.now }
     {
         // The memory is there, so all bytes are read.
-        let _ = self.engine.read::<H, Singly>(handler, bytes);
+        let _ = self.engine.read::<H, ByCharacter>(handler, bytes);
     }
 
     /// Reads bytes as [`advance`](Self::advance) does. The handler receives text in runs.

@@ -4,7 +4,7 @@ ghost use Rattle.vte_core.specs.machine.Prelude.{Advances, BeginsFour, BeginsThr
 
 use crate::buffer::Buffer;
 use crate::parser::{Machine, State};
-use crate::scan::{CountedPerform, Grain, Input, Reader};
+use crate::scan::{CountedPerform, Granularity, Input, Reader};
 use crate::utf8::{
     Carried, Unfinished, character_of_four, character_of_three, character_of_two, is_continuation,
     may_begin_four, may_begin_three,
@@ -15,7 +15,7 @@ impl<B: Buffer> Machine<B> {
     /// at. A byte that breaks it is left unread, and U+FFFD is printed for those before it. If text
     /// is taken in runs, a character of four bytes begins one.
     #[inline(always)]
-    pub(crate) fn read_character<P: CountedPerform<G>, G: Grain, const MAY_STOP: bool>(
+    pub(crate) fn read_character<P: CountedPerform<G>, G: Granularity, const MAY_STOP: bool>(
         &mut self,
         reader: &mut Reader,
         performer: &mut P,
@@ -67,7 +67,7 @@ impl<B: Buffer> Machine<B> {
 
     /// Reads the second and third byte of a character of three. The second was looked at.
     #[inline(always)]
-    pub(crate) fn complete_three<P: CountedPerform<G>, G: Grain, const MAY_STOP: bool>(
+    pub(crate) fn complete_three<P: CountedPerform<G>, G: Granularity, const MAY_STOP: bool>(
         &mut self,
         reader: &mut Reader,
         performer: &mut P,
@@ -107,7 +107,7 @@ impl<B: Buffer> Machine<B> {
     /// If text is taken in runs, it begins one.
     #[inline(always)]
     #[allow(unsafe_code)]
-    pub(crate) fn complete_four<P: CountedPerform<G>, G: Grain, const MAY_STOP: bool>(
+    pub(crate) fn complete_four<P: CountedPerform<G>, G: Granularity, const MAY_STOP: bool>(
         &mut self,
         reader: &mut Reader,
         performer: &mut P,
@@ -173,7 +173,7 @@ impl<B: Buffer> Machine<B> {
     /// Reads the bytes that an unfinished character continues with. A byte that breaks it is left
     /// unread, and U+FFFD is printed for those before it.
     #[inline(always)]
-    pub(crate) fn continue_character<P: CountedPerform<G>, G: Grain, const MAY_STOP: bool>(
+    pub(crate) fn continue_character<P: CountedPerform<G>, G: Granularity, const MAY_STOP: bool>(
         &mut self,
         reader: &mut Reader,
         performer: &mut P,

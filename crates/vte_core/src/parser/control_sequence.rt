@@ -6,13 +6,13 @@ use crate::buffer::Buffer;
 use crate::class::{ends_body, is_final, is_plain_control};
 use crate::head::HeadProgress;
 use crate::parser::{Machine, State, Unfinished};
-use crate::scan::{CountedPerform, Grain, Input, Reader};
+use crate::scan::{CountedPerform, Granularity, Input, Reader};
 
 impl<B: Buffer> Machine<B> {
     /// Reads the first number of a control sequence, if any, and a final byte right after it. Most
     /// sequences have no more: for them this calls nothing before the dispatch.
     #[inline(always)]
-    pub(crate) fn read_short_head<P: CountedPerform<G>, G: Grain, const MAY_STOP: bool>(
+    pub(crate) fn read_short_head<P: CountedPerform<G>, G: Granularity, const MAY_STOP: bool>(
         &mut self,
         reader: &mut Reader,
         performer: &mut P,
@@ -67,7 +67,7 @@ impl<B: Buffer> Machine<B> {
 
     /// Reads further numbers: not inlined, because most sequences have at most one.
     #[inline(never)]
-    fn read_more_numbers<P: CountedPerform<G>, G: Grain, const MAY_STOP: bool>(
+    fn read_more_numbers<P: CountedPerform<G>, G: Granularity, const MAY_STOP: bool>(
         &mut self,
         reader: &mut Reader,
         performer: &mut P,
@@ -90,7 +90,7 @@ impl<B: Buffer> Machine<B> {
     /// them, and by a final byte right after them. If calls have one byte each, most bytes of
     /// sequences come this way.
     #[inline(always)]
-    pub(crate) fn read_control_sequence<P: CountedPerform<G>, G: Grain, const MAY_STOP: bool>(
+    pub(crate) fn read_control_sequence<P: CountedPerform<G>, G: Granularity, const MAY_STOP: bool>(
         &mut self,
         reader: &mut Reader,
         performer: &mut P,
@@ -133,7 +133,7 @@ impl<B: Buffer> Machine<B> {
 
     /// Reads the head of a control sequence, which has come so far, and the byte after it.
     #[inline(never)]
-    pub(crate) fn read_any_head<P: CountedPerform<G>, G: Grain, const MAY_STOP: bool>(
+    pub(crate) fn read_any_head<P: CountedPerform<G>, G: Granularity, const MAY_STOP: bool>(
         &mut self,
         reader: &mut Reader,
         performer: &mut P,
@@ -176,7 +176,7 @@ impl<B: Buffer> Machine<B> {
     /// Ends a control sequence at its final byte: dispatches it, unless its head is ill-shaped.
     /// Returns the next position.
     #[inline(always)]
-    fn end_control_sequence<P: CountedPerform<G>, G: Grain>(
+    fn end_control_sequence<P: CountedPerform<G>, G: Granularity>(
         &mut self,
         reader: &mut Reader,
         performer: &mut P,
@@ -205,7 +205,7 @@ impl<B: Buffer> Machine<B> {
     /// Dispatches a control sequence at its final byte, and returns the next position, so that
     /// callers need not keep it.
     #[inline(never)]
-    fn dispatch_control_sequence<P: CountedPerform<G>, G: Grain>(
+    fn dispatch_control_sequence<P: CountedPerform<G>, G: Granularity>(
         &mut self,
         reader: &mut Reader,
         performer: &mut P,

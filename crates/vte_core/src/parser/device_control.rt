@@ -6,7 +6,7 @@ use crate::buffer::Buffer;
 use crate::class::{ends_body, is_device_data, is_final};
 use crate::head::HeadProgress;
 use crate::parser::{Machine, State, Unfinished};
-use crate::scan::{CountedPerform, Grain, Input, Reader};
+use crate::scan::{CountedPerform, Granularity, Input, Reader};
 
 /// The one 8-bit control that is read: ST, the end of the data.
 const STRING_TERMINATOR: u8 = 0x9c;
@@ -15,7 +15,7 @@ impl<B: Buffer> Machine<B> {
     /// Reads the head of a device control string, which has come so far, and its final byte.
     /// Controls in it are dropped.
     // cargo: #[inline(never)]
-    pub(crate) fn read_device_control<P: CountedPerform<G>, G: Grain, const MAY_STOP: bool>(
+    pub(crate) fn read_device_control<P: CountedPerform<G>, G: Granularity, const MAY_STOP: bool>(
         &mut self,
         reader: &mut Reader,
         performer: &mut P,
@@ -46,7 +46,7 @@ impl<B: Buffer> Machine<B> {
     }
 
     /// Hooks the string at the final byte of its head, or ignores it if the head is ill-shaped.
-    fn hook<P: CountedPerform<G>, G: Grain>(
+    fn hook<P: CountedPerform<G>, G: Granularity>(
         &mut self,
         reader: &mut Reader,
         performer: &mut P,
@@ -72,7 +72,7 @@ impl<B: Buffer> Machine<B> {
     /// Reads the data of a device control string, and the byte that ends them. For a performer that
     /// takes slices and is never asked, it reads either data up to a byte that isn't put, or such a
     /// byte.
-    pub(crate) fn read_device_data<P: CountedPerform<G>, G: Grain, const MAY_STOP: bool>(
+    pub(crate) fn read_device_data<P: CountedPerform<G>, G: Granularity, const MAY_STOP: bool>(
         &mut self,
         reader: &mut Reader,
         performer: &mut P,
@@ -109,7 +109,7 @@ impl<B: Buffer> Machine<B> {
 
     /// Reads a byte among the data that isn't put: it ends them, or is dropped.
     #[inline(never)]
-    pub(crate) fn read_other_in_data<P: CountedPerform<G>, G: Grain, const MAY_STOP: bool>(
+    pub(crate) fn read_other_in_data<P: CountedPerform<G>, G: Granularity, const MAY_STOP: bool>(
         &mut self,
         reader: &mut Reader,
         performer: &mut P,

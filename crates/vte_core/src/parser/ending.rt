@@ -5,12 +5,12 @@ ghost use Rattle.vte_core.specs.machine.Prelude.{Advances, Escape, HandlesByte, 
 use crate::buffer::Buffer;
 use crate::class::ESCAPE;
 use crate::parser::{Machine, State, Unfinished};
-use crate::scan::{CountedPerform, Grain, Input, Reader};
+use crate::scan::{CountedPerform, Granularity, Input, Reader};
 
 impl<B: Buffer> Machine<B> {
     /// Closes what is open, and then begins an escape sequence, or executes CAN or SUB.
     #[inline(never)]
-    pub(crate) fn end_body<P: CountedPerform<G>, G: Grain>(
+    pub(crate) fn end_body<P: CountedPerform<G>, G: Granularity>(
         &mut self,
         reader: &mut Reader,
         performer: &mut P,
@@ -35,7 +35,7 @@ impl<B: Buffer> Machine<B> {
     }
 
     /// Reads a byte that ends what is open, which was looked at. After ESC it reads on.
-    pub(crate) fn read_end<P: CountedPerform<G>, G: Grain, const MAY_STOP: bool>(
+    pub(crate) fn read_end<P: CountedPerform<G>, G: Granularity, const MAY_STOP: bool>(
         &mut self,
         reader: &mut Reader,
         performer: &mut P,
@@ -62,7 +62,11 @@ impl<B: Buffer> Machine<B> {
     }
 
     /// Reports the end of a string: `unhook`, or the operating system command.
-    fn report_end<P: CountedPerform<G>, G: Grain>(&self, reader: &mut Reader, performer: &mut P)
+    fn report_end<P: CountedPerform<G>, G: Granularity>(
+        &self,
+        reader: &mut Reader,
+        performer: &mut P,
+    )
         ensures reported { (place : Place) → StandsAtPlace B.limit self.now place
             → IsSettledPlace place → P.value_of performer.new
             ≡ after P.step (P.value_of performer.old) (closing_events_at B.limit place) }

@@ -10,13 +10,13 @@ use crate::class::{
 };
 use crate::head::HeadProgress;
 use crate::parser::{Machine, State, Unfinished};
-use crate::scan::{CountedPerform, Grain, Input, Reader};
+use crate::scan::{CountedPerform, Granularity, Input, Reader};
 
 impl<B: Buffer> Machine<B> {
     /// Begins an escape sequence at an ESC in a text, which was looked at, and reads the bytes
     /// after it.
     #[inline(never)]
-    pub(crate) fn read_sequence<P: CountedPerform<G>, G: Grain, const MAY_STOP: bool>(
+    pub(crate) fn read_sequence<P: CountedPerform<G>, G: Granularity, const MAY_STOP: bool>(
         &mut self,
         reader: &mut Reader,
         performer: &mut P,
@@ -50,7 +50,7 @@ impl<B: Buffer> Machine<B> {
     /// Reads bytes after ESC, up to the one that says what begins; after `[` the control sequence
     /// too.
     #[inline(never)]
-    pub(crate) fn read_escape<P: CountedPerform<G>, G: Grain, const MAY_STOP: bool>(
+    pub(crate) fn read_escape<P: CountedPerform<G>, G: Granularity, const MAY_STOP: bool>(
         &mut self,
         reader: &mut Reader,
         performer: &mut P,
@@ -91,7 +91,7 @@ impl<B: Buffer> Machine<B> {
     }
 
     /// Reads a byte after ESC, other than `[`.
-    fn read_after_escape<P: CountedPerform<G>, G: Grain>(
+    fn read_after_escape<P: CountedPerform<G>, G: Granularity>(
         &mut self,
         reader: &mut Reader,
         performer: &mut P,
@@ -124,7 +124,7 @@ impl<B: Buffer> Machine<B> {
     /// Begins the string that a byte 40..7E other than `[` begins after ESC, or dispatches an
     /// escape sequence that ends with it.
     #[inline(never)]
-    fn begin_or_dispatch<P: CountedPerform<G>, G: Grain>(
+    fn begin_or_dispatch<P: CountedPerform<G>, G: Granularity>(
         &mut self,
         reader: &mut Reader,
         performer: &mut P,
@@ -152,7 +152,7 @@ impl<B: Buffer> Machine<B> {
 
     /// Reads the intermediates of an escape sequence and its final byte.
     // cargo: #[inline(never)]
-    pub(crate) fn read_intermediates<P: CountedPerform<G>, G: Grain, const MAY_STOP: bool>(
+    pub(crate) fn read_intermediates<P: CountedPerform<G>, G: Granularity, const MAY_STOP: bool>(
         &mut self,
         reader: &mut Reader,
         performer: &mut P,
@@ -187,7 +187,7 @@ impl<B: Buffer> Machine<B> {
     }
 
     /// Dispatches an escape sequence at its final byte.
-    fn dispatch_escape<P: CountedPerform<G>, G: Grain>(
+    fn dispatch_escape<P: CountedPerform<G>, G: Granularity>(
         &mut self,
         reader: &mut Reader,
         performer: &mut P,

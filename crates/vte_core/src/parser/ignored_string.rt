@@ -4,11 +4,11 @@ ghost use Rattle.vte_core.specs.machine.Prelude.{Advances, IgnoredString, MayRea
 
 use crate::buffer::Buffer;
 use crate::parser::machine::Machine;
-use crate::scan::{CountedPerform, Grain, Input, Reader};
+use crate::scan::{CountedPerform, Granularity, Input, Reader};
 
 impl<B: Buffer> Machine<B> {
     /// Reads a string that means nothing, and the byte that ends it.
-    pub(crate) fn read_ignored_string<P: CountedPerform<G>, G: Grain, const MAY_STOP: bool>(
+    pub(crate) fn read_ignored_string<P: CountedPerform<G>, G: Granularity, const MAY_STOP: bool>(
         &mut self,
         reader: &mut Reader,
         performer: &mut P,

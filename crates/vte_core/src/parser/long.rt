@@ -9,7 +9,7 @@ ghost use Rattle.vte_core.specs.Stream.{outcome};
 ghost use Rattle.vte_core.specs.machine.Prelude.{ComesToRun, Costs, NoCharacterStops, ReadsUntilRefused, ReadsUpTo, ReportsOutsideRuns, chunk_call, counted, read_before_range, read_count, read_through_range};
 
 use crate::parser::{Machine, Open, Refused, State};
-use crate::scan::{Chunk, CountedPerform, Grain, Looks, RunRange, Singly};
+use crate::scan::{ByCharacter, Chunk, CountedPerform, Granularity, Looks, RunRange};
 use std::alloc::{AllocError, Allocator};
 
 /// A parser whose calls return an error if they are refused memory.
@@ -176,7 +176,7 @@ impl<A: Allocator> LongParser<A> {
 
     /// Reads the bytes of a call, as many as there is memory for, and returns how many: all of
     /// them, or up to a stop if `MAY_STOP`.
-    pub(crate) fn drive<P: CountedPerform<G>, G: Grain, const MAY_STOP: bool>(
+    pub(crate) fn drive<P: CountedPerform<G>, G: Granularity, const MAY_STOP: bool>(
         &mut self,
         performer: &mut P,
         chunk: Chunk<'_>,
@@ -205,7 +205,7 @@ impl<A: Allocator> LongParser<A> {
     }
 
     /// Reads bytes up to a run, and finds the run.
-    pub(crate) fn drive_to_run<P: CountedPerform<Singly>>(
+    pub(crate) fn drive_to_run<P: CountedPerform<ByCharacter>>(
         &mut self,
         performer: &mut P,
         chunk: Chunk<'_>,

@@ -5,7 +5,7 @@ ghost use Rattle.vte_core.specs.machine.Prelude.{Advances, MayReadAt, MovesWithi
 use crate::buffer::Buffer;
 use crate::class::ends_body;
 use crate::parser::{Machine, Refused, State, Unfinished};
-use crate::scan::{CountedPerform, Grain, Input, Reader};
+use crate::scan::{CountedPerform, Granularity, Input, Reader};
 
 const BELL: u8 = 0x07;
 
@@ -13,7 +13,7 @@ impl<B: Buffer> Machine<B> {
     /// Reads data bytes of an operating system command, and the byte after them. It takes memory
     /// for the data, or else reads nothing.
     // cargo: #[inline(never)]
-    pub(crate) fn read_system_command<P: CountedPerform<G>, G: Grain, const MAY_STOP: bool>(
+    pub(crate) fn read_system_command<P: CountedPerform<G>, G: Granularity, const MAY_STOP: bool>(
         &mut self,
         reader: &mut Reader,
         performer: &mut P,

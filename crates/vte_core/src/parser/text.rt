@@ -5,7 +5,7 @@ ghost use Rattle.vte_core.specs.machine.Prelude.{Advances, IsPrintedAscii, MayRe
 use crate::buffer::Buffer;
 use crate::class::ESCAPE;
 use crate::parser::Machine;
-use crate::scan::{CountedPerform, Grain, Input, Reader};
+use crate::scan::{CountedPerform, Granularity, Input, Reader};
 use crate::utf8::{is_lead, is_printed_ascii};
 
 /// The bytes of a text that are read before it is searched for ESC. Shorter texts, and so most,
@@ -23,7 +23,7 @@ struct AsciiRun {
 /// short, that is the first byte alone.
 #[inline(always)]
 #[allow(unsafe_code)]
-fn print_ascii<P: CountedPerform<G>, G: Grain>(
+fn print_ascii<P: CountedPerform<G>, G: Granularity>(
     reader: &mut Reader,
     performer: &mut P,
     input: Input<'_>,
@@ -62,7 +62,7 @@ fn print_ascii<P: CountedPerform<G>, G: Grain>(
 impl<B: Buffer> Machine<B> {
     /// Reads text up to an ESC, and then the bytes after that.
     // cargo: #[inline]
-    pub(crate) fn read_text<P: CountedPerform<G>, G: Grain, const MAY_STOP: bool>(
+    pub(crate) fn read_text<P: CountedPerform<G>, G: Granularity, const MAY_STOP: bool>(
         &mut self,
         reader: &mut Reader,
         performer: &mut P,
@@ -153,7 +153,7 @@ impl<B: Buffer> Machine<B> {
     /// run, a character or a malformed sequence.
     #[inline(always)]
     #[allow(unsafe_code)]
-    fn read_at_lead<P: CountedPerform<G>, G: Grain, const MAY_STOP: bool>(
+    fn read_at_lead<P: CountedPerform<G>, G: Granularity, const MAY_STOP: bool>(
         &mut self,
         reader: &mut Reader,
         performer: &mut P,

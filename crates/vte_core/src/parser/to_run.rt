@@ -6,12 +6,12 @@ ghost use Rattle.vte_core.specs.machine.Prelude.{Advances, ComesToRun, Costs, Ha
 use crate::buffer::Buffer;
 use crate::class::ESCAPE;
 use crate::parser::{Machine, Parser, Refused, State};
-use crate::scan::{Chunk, CountedPerform, Input, Reader, RunKind, RunRange, Singly};
+use crate::scan::{ByCharacter, Chunk, CountedPerform, Input, Reader, RunKind, RunRange};
 use crate::utf8::{is_lead, is_printed_ascii};
 
 impl<const OSC_RAW_BUF_SIZE: usize> Parser<OSC_RAW_BUF_SIZE> {
     /// Reads bytes up to a run, and finds the run.
-    pub(crate) fn drive_to_run<P: CountedPerform<Singly>>(
+    pub(crate) fn drive_to_run<P: CountedPerform<ByCharacter>>(
         &mut self,
         performer: &mut P,
         chunk: Chunk<'_>,
@@ -39,7 +39,7 @@ impl<const OSC_RAW_BUF_SIZE: usize> Parser<OSC_RAW_BUF_SIZE> {
 impl<B: Buffer> Machine<B> {
     /// Reads bytes up to a run, and finds the run. The state stays that of the run: its bytes
     /// lead back to it.
-    pub(crate) fn drive_to_run<P: CountedPerform<Singly>>(
+    pub(crate) fn drive_to_run<P: CountedPerform<ByCharacter>>(
         &mut self,
         reader: &mut Reader,
         performer: &mut P,
@@ -59,7 +59,7 @@ impl<B: Buffer> Machine<B> {
         ensures outside_runs { (stream : List ℕ) → HasReadWithLimit B.limit self.old stream
             → ReportsOutsideRuns B.limit stream input.entry.bytes.now (read_before_range result) }
     {
-        let mut position = self.finish_character::<P, Singly, true>(reader, performer, input);
+        let mut position = self.finish_character::<P, ByCharacter, true>(reader, performer, input);
         while position < input.len() && !performer.terminated() {
             position = match self.state {
                 State::Text(_) => {
@@ -83,11 +83,13 @@ impl<B: Buffer> Machine<B> {
                         });
                     }
                     let byte = reader.byte_at(input, position);
-                    self.read_other_in_data::<P, Singly, true>(
+                    self.read_other_in_data::<P, ByCharacter, true>(
                         reader, performer, input, position, byte,
                     )
                 }
-                _ => self.read_by_state::<P, Singly, true>(reader, performer, input, position)?,
+                _ => self.read_by_state::<P, ByCharacter, true>(
+                    reader, performer, input, position,
+                )?,
             };
         }
         Ok(RunRange::empty(position))
@@ -95,7 +97,7 @@ impl<B: Buffer> Machine<B> {
 
     /// Reads a character that isn't printed or a malformed sequence, or controls and what is
     /// malformed up to where a run may begin, or an escape sequence.
-    fn read_unprinted<P: CountedPerform<Singly>>(
+    fn read_unprinted<P: CountedPerform<ByCharacter>>(
         &mut self,
         reader: &mut Reader,
         performer: &mut P,
@@ -117,7 +119,9 @@ impl<B: Buffer> Machine<B> {
         let mut position = from;
         let mut byte = reader.byte_at(input, from);
         if is_lead(byte) {
-            return self.read_character::<P, Singly, true>(reader, performer, input, from, byte);
+            return self.read_character::<P, ByCharacter, true>(
+                reader, performer, input, from, byte,
+            );
         }
         while byte != ESCAPE {
             reader.report_lone_byte(performer, byte);
@@ -130,6 +134,6 @@ impl<B: Buffer> Machine<B> {
                 return position;
             }
         }
-        self.read_sequence::<P, Singly, true>(reader, performer, input, position)
+        self.read_sequence::<P, ByCharacter, true>(reader, performer, input, position)
     }
 }

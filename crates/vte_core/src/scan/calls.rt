@@ -8,7 +8,7 @@ ghost use Rattle.vte_core.specs.Parser.{reading_of};
 
 use crate::parser::Parser;
 use crate::perform::{Perform, PerformText, PerformThroughText};
-use crate::scan::{Chunk, InRuns, Run, Singly, take_run};
+use crate::scan::{ByCharacter, Chunk, InRuns, Run, take_run};
 
 impl<const OSC_RAW_BUF_SIZE: usize> Parser<OSC_RAW_BUF_SIZE> {
     /// Reads the next bytes of the stream, and performs the events that they add to it.
@@ -19,7 +19,7 @@ impl<const OSC_RAW_BUF_SIZE: usize> Parser<OSC_RAW_BUF_SIZE> {
         ensures { ReadsBytes P.step (P.value_of performer.old) (P.value_of performer.new) bytes.now
             (reading_of self.old) (reading_of self.new) }
     {
-        self.drive::<P, Singly, false>(performer, Chunk::new(bytes));
+        self.drive::<P, ByCharacter, false>(performer, Chunk::new(bytes));
     }
 
     /// Reads the next bytes of the stream as [`advance`](Self::advance) does, and passes characters
@@ -43,7 +43,7 @@ impl<const OSC_RAW_BUF_SIZE: usize> Parser<OSC_RAW_BUF_SIZE> {
         ensures { ReadsUntilTerminated P.step P.is_terminated result (P.value_of performer.old)
             (P.value_of performer.new) bytes.now (reading_of self.old) (reading_of self.new) }
     {
-        self.drive::<P, Singly, true>(performer, Chunk::new(bytes))
+        self.drive::<P, ByCharacter, true>(performer, Chunk::new(bytes))
     }
 
     /// Reads bytes as [`advance_until_terminated`](Self::advance_until_terminated) does, and passes

@@ -6,10 +6,10 @@ ghost use Rattle.vte_core.specs.machine.Prelude.{CsiDispatch, EscDispatch, Event
 use crate::head::Collected;
 use crate::perform::Perform;
 use crate::scan::Reader;
-use crate::scan::grain::{Grain, PerformAs};
+use crate::scan::granularity::{Granularity, ReceiveAs};
 
 /// A performer, as the functions of a parser see it.
-pub(crate) trait CountedPerform<G: Grain> {
+pub(crate) trait CountedPerform<G: Granularity> {
     ghost Value: { Type 0 };
 
     ghost value_of: { Self → Value };
@@ -79,7 +79,7 @@ pub(crate) trait CountedPerform<G: Grain> {
         ensures { result ≡ is_terminated (value_of self.now) };
 }
 
-impl<P: PerformAs<G>, G: Grain> CountedPerform<G> for P {
+impl<P: ReceiveAs<G>, G: Granularity> CountedPerform<G> for P {
     ghost Value = { P.Value };
 
     ghost value_of = { P.value_of };
@@ -92,25 +92,25 @@ impl<P: PerformAs<G>, G: Grain> CountedPerform<G> for P {
 
     #[inline(always)]
     fn keeps_layout(&self) -> bool {
-        PerformAs::<G>::keeps_layout(self)
+        ReceiveAs::<G>::keeps_layout(self)
     }
 
     #[inline(always)]
     fn print_char(&mut self, reader: &mut Reader, c: char) {
         reader.add(1);
-        PerformAs::<G>::print_char(self, c);
+        ReceiveAs::<G>::print_char(self, c);
     }
 
     #[inline(always)]
     fn print_text(&mut self, reader: &mut Reader, text: &str) {
         reader.add(text.len());
-        PerformAs::<G>::print_text(self, text);
+        ReceiveAs::<G>::print_text(self, text);
     }
 
     #[inline(always)]
     fn execute_control(&mut self, reader: &mut Reader, byte: u8) {
         reader.add(1);
-        PerformAs::<G>::execute_control(self, byte);
+        ReceiveAs::<G>::execute_control(self, byte);
     }
 
     #[inline(always)]
@@ -123,13 +123,13 @@ impl<P: PerformAs<G>, G: Grain> CountedPerform<G> for P {
     #[inline(always)]
     fn put_byte(&mut self, reader: &mut Reader, byte: u8) {
         reader.add(1);
-        PerformAs::<G>::put_byte(self, byte);
+        ReceiveAs::<G>::put_byte(self, byte);
     }
 
     #[inline(always)]
     fn put_slice(&mut self, reader: &mut Reader, bytes: &[u8]) {
         reader.add(bytes.len());
-        PerformAs::<G>::put_slice(self, bytes);
+        ReceiveAs::<G>::put_slice(self, bytes);
     }
 
     #[inline(always)]

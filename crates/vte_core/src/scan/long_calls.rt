@@ -10,7 +10,7 @@ ghost use Rattle.vte_core.specs.OutsideRuns.{ReportsOutsideRuns};
 
 use crate::parser::{LongParser, Refused};
 use crate::perform::{Perform, PerformText, PerformThroughText};
-use crate::scan::{Chunk, InRuns, Run, Singly, take_run};
+use crate::scan::{ByCharacter, Chunk, InRuns, Run, take_run};
 use std::alloc::Allocator;
 
 impl<A: Allocator> LongParser<A> {
@@ -21,7 +21,7 @@ impl<A: Allocator> LongParser<A> {
             (P.value_of performer.new) bytes.now self.old self.new result
             (λ _. ReadsBytes P.step) }
     {
-        self.drive::<P, Singly, false>(performer, Chunk::new(bytes))?;
+        self.drive::<P, ByCharacter, false>(performer, Chunk::new(bytes))?;
         Ok(())
     }
 
@@ -56,7 +56,7 @@ impl<A: Allocator> LongParser<A> {
             (P.value_of performer.new) bytes.now self.old self.new result
             (ReadsUntilTerminated P.step P.is_terminated) }
     {
-        self.drive::<P, Singly, true>(performer, Chunk::new(bytes))
+        self.drive::<P, ByCharacter, true>(performer, Chunk::new(bytes))
     }
 
     /// Reads bytes as [`advance_until_terminated`](Self::advance_until_terminated) does, and passes

@@ -8,19 +8,17 @@
 
 mod buffer;
 mod class;
-mod cuts;
 mod head;
 mod params;
 mod parser;
 mod perform;
-mod run;
 mod run_blocks;
+mod run_end;
 mod scan;
 mod store;
+mod stream_parts;
 mod utf8;
 
-pub use cuts::iter::Parts;
-pub use cuts::parts;
 pub use params::{Params, ParamsIter};
 pub use parser::{Open, Parser};
 // for C alone
@@ -31,5 +29,7 @@ pub use parser::Saved;
 pub use parser::{LongParser, Refused};
 pub use perform::{Perform, PerformText};
 #[cfg(feature = "ansi")]
-pub use scan::{InRuns, Singly};
+pub use scan::{ByCharacter, InRuns};
 pub use scan::{Run, Taken};
+pub use stream_parts::iter::Parts;
+pub use stream_parts::parts;

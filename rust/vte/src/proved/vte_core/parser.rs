@@ -21,7 +21,7 @@ mod to_run;
 
 use crate::adapter::array_vec::ArrayVec;
 use crate::proved::vte_core::head::HeadProgress;
-use crate::proved::vte_core::scan::{CountedPerform, Grain, Reader};
+use crate::proved::vte_core::scan::{CountedPerform, Granularity, Reader};
 use crate::proved::vte_core::utf8::Unfinished;
 #[cfg(any(feature = "std", feature = "ansi"))]
 pub use long::LongParser;
@@ -126,7 +126,7 @@ impl<const OSC_RAW_BUF_SIZE: usize> Parser<OSC_RAW_BUF_SIZE> {
 
     /// Reads the bytes of a call, all of them or, if it `MAY_STOP`, until the performer is
     /// terminated, and returns how many were read.
-    pub(crate) fn drive<P: CountedPerform<G> + ?Sized, G: Grain, const MAY_STOP: bool>(
+    pub(crate) fn drive<P: CountedPerform<G> + ?Sized, G: Granularity, const MAY_STOP: bool>(
         &mut self,
         performer: &mut P,
         input: &[u8],

@@ -3,11 +3,11 @@
 
 mod calls;
 mod counted_perform;
-mod grain;
+mod granularity;
 #[cfg(any(feature = "std", feature = "ansi"))]
 mod long_calls;
+mod run;
 mod search;
-mod taken;
 
 use crate::adapter::array_vec::{ArrayVec, CapacityError};
 use crate::prelude::first_chunk;
@@ -15,10 +15,10 @@ use crate::prelude::first_chunk;
 use crate::prelude::{AllocError, Vec};
 use core::str;
 pub(crate) use counted_perform::CountedPerform;
-pub(crate) use grain::Grain;
-pub use grain::{InRuns, Singly};
-pub use taken::{Run, Taken};
-pub(crate) use taken::{RunKind, RunRange};
+pub(crate) use granularity::Granularity;
+pub use granularity::{ByCharacter, InRuns};
+pub use run::{Run, Taken};
+pub(crate) use run::{RunKind, RunRange};
 
 /// Reads the bytes of a call and reports events. It has no bytes: only Rattle's contracts need
 /// its count.
@@ -128,7 +128,7 @@ impl Reader {
 
     /// Reports a whole character.
     #[inline(always)]
-    pub(crate) fn report_character<P: CountedPerform<G> + ?Sized, G: Grain>(
+    pub(crate) fn report_character<P: CountedPerform<G> + ?Sized, G: Granularity>(
         self,
         performer: &mut P,
         c: char,
@@ -142,7 +142,7 @@ impl Reader {
     /// Reports a byte that is neither printed nor a lead byte: a control, or a malformed sequence
     /// alone.
     #[inline(always)]
-    pub(crate) fn report_lone_byte<P: CountedPerform<G> + ?Sized, G: Grain>(
+    pub(crate) fn report_lone_byte<P: CountedPerform<G> + ?Sized, G: Granularity>(
         self,
         performer: &mut P,
         byte: u8,
@@ -155,7 +155,7 @@ impl Reader {
 
     /// Reports the data that stand from one position to another.
     #[inline(always)]
-    pub(crate) fn report_data<P: CountedPerform<G> + ?Sized, G: Grain>(
+    pub(crate) fn report_data<P: CountedPerform<G> + ?Sized, G: Granularity>(
         self,
         performer: &mut P,
         input: &[u8],

@@ -5,7 +5,7 @@ use crate::adapter::array_vec::ArrayVec;
 #[cfg(any(feature = "std", feature = "ansi"))]
 use crate::prelude::Vec;
 use crate::proved::vte_core::buffer::Buffer;
-use crate::proved::vte_core::scan::{CountedPerform, Grain, Reader};
+use crate::proved::vte_core::scan::{CountedPerform, Granularity, Reader};
 
 /// The most pieces of a command.
 const MOST_PIECES: usize = 16;
@@ -79,7 +79,7 @@ impl<B: Buffer> Store<B> {
     }
 
     /// Dispatches the command with its pieces.
-    pub(crate) fn dispatch<P: CountedPerform<G> + ?Sized, G: Grain>(
+    pub(crate) fn dispatch<P: CountedPerform<G> + ?Sized, G: Granularity>(
         &self,
         reader: Reader,
         performer: &mut P,

@@ -4,7 +4,7 @@
 use crate::proved::vte::ansi::engine::Engine;
 use crate::proved::vte::ansi::growing_text::GrowingText;
 use crate::proved::vte::ansi::parsing::EventParser;
-use crate::proved::vte_core::{InRuns, Parser, Singly};
+use crate::proved::vte_core::{ByCharacter, InRuns, Parser};
 use crate::proved::vte_handler::{Handler, HandlerText, Timeout};
 
 /// A [`Processor`](crate::ansi::Processor) that keeps up to `N` data bytes of an operating system
@@ -51,7 +51,7 @@ impl<T: Timeout, const N: usize> BoundedProcessor<T, N> {
     /// Stops an update: parses the bytes that are held back, tells the handler that the update has
     /// ended, and clears the timeout. Without an update too, the handler is told.
     pub fn stop_sync<H: Handler + ?Sized>(&mut self, handler: &mut H) {
-        self.engine.stop::<H, Singly>(handler);
+        self.engine.stop::<H, ByCharacter>(handler);
     }
 
     /// Stops an update as [`stop_sync`](Self::stop_sync) does. The handler receives text in runs.
@@ -65,7 +65,7 @@ impl<T: Timeout, const N: usize> BoundedProcessor<T, N> {
     /// receives the calls of the whole stream, however it is split.
     pub fn advance<H: Handler + ?Sized>(&mut self, handler: &mut H, bytes: &[u8]) {
         // The memory is there, so all bytes are read.
-        let _ = self.engine.read::<H, Singly>(handler, bytes);
+        let _ = self.engine.read::<H, ByCharacter>(handler, bytes);
     }
 
     /// Reads bytes as [`advance`](Self::advance) does. The handler receives text in runs.

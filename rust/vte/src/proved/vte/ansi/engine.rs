@@ -43,7 +43,7 @@ impl<P: EventParser, B: TextBuffer, T: Timeout> Engine<P, B, T> {
     }
 
     /// Reads bytes, and parses them or holds them back: all of them, or as many as there is memory
-    /// for. The grain decides how the handler receives text.
+    /// for. `G` says how the handler receives text.
     #[inline]
     pub(crate) fn read<H: Handler + ?Sized, G: ParseAs<H, T, P>>(
         &mut self,

@@ -1,16 +1,16 @@
 // Written by tools/erase from crates/vte/src/ansi/input.rt: edit that one.
 //! How handlers take characters.
 
-use crate::proved::vte_core::{InRuns, Singly};
+use crate::proved::vte_core::{ByCharacter, InRuns};
 use crate::proved::vte_handler::{Handler, HandlerText};
 
-/// A handler that takes characters in a grain.
+/// A handler that takes characters as `G` says: `ByCharacter` or `InRuns`.
 pub(crate) trait InputAs<G>: Handler {
     /// Receives a character to show.
     fn input_char(&mut self, c: char);
 }
 
-impl<H: Handler + ?Sized> InputAs<Singly> for H {
+impl<H: Handler + ?Sized> InputAs<ByCharacter> for H {
     #[inline(always)]
     fn input_char(&mut self, c: char) {
         self.input(c);

@@ -6,7 +6,7 @@ use crate::proved::vte::ansi::joined_text::SEPARATORS;
 use crate::proved::vte::ansi::parsing::{EventParser, ParseAs};
 use crate::proved::vte::ansi::performer::Performer;
 use crate::proved::vte::ansi::text_buffer::TextBuffer;
-use crate::proved::vte_core::{InRuns, LongParser, Refused, Singly};
+use crate::proved::vte_core::{ByCharacter, InRuns, LongParser, Refused};
 use crate::proved::vte_handler::{Handler, HandlerText, Timeout};
 
 impl EventParser for LongParser {
@@ -30,7 +30,7 @@ fn joined_size(stored: usize, more: usize) -> Option<usize> {
     stored.checked_add(more)?.checked_add(SEPARATORS)
 }
 
-impl<H: Handler + ?Sized, T: Timeout> ParseAs<H, T, LongParser> for Singly {
+impl<H: Handler + ?Sized, T: Timeout> ParseAs<H, T, LongParser> for ByCharacter {
     #[inline(always)]
     fn advance<B: TextBuffer>(
         parser: &mut LongParser,

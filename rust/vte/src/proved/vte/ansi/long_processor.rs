@@ -3,7 +3,7 @@
 
 use crate::proved::vte::ansi::engine::Engine;
 use crate::proved::vte::ansi::growing_text::GrowingText;
-use crate::proved::vte_core::{InRuns, LongParser, Refused, Singly};
+use crate::proved::vte_core::{ByCharacter, InRuns, LongParser, Refused};
 use crate::proved::vte_handler::{Handler, HandlerText, Timeout};
 
 /// A [`Processor`](crate::ansi::Processor) that keeps commands, titles and links whatever their
@@ -68,7 +68,7 @@ impl<T: Timeout> LongProcessor<T> {
     /// ended, and clears the timeout. Without an update too, the handler is told. It needs no
     /// memory: what is held back has taken it.
     pub fn stop_sync<H: Handler + ?Sized>(&mut self, handler: &mut H) {
-        self.engine.stop::<H, Singly>(handler);
+        self.engine.stop::<H, ByCharacter>(handler);
     }
 
     /// Stops an update as [`stop_sync`](Self::stop_sync) does. The handler receives text in runs.
@@ -86,7 +86,7 @@ impl<T: Timeout> LongProcessor<T> {
         handler: &mut H,
         bytes: &[u8],
     ) -> Result<(), Refused> {
-        self.engine.read::<H, Singly>(handler, bytes)
+        self.engine.read::<H, ByCharacter>(handler, bytes)
     }
 
     /// Reads bytes as [`advance`](Self::advance) does. The handler receives text in runs.

@@ -5,7 +5,7 @@
 use crate::proved::vte::ansi::joined_text::SEPARATORS;
 use crate::proved::vte::ansi::performer::{Performer, ProcessorState};
 use crate::proved::vte::ansi::text_buffer::TextBuffer;
-use crate::proved::vte_core::{InRuns, Parser, Singly};
+use crate::proved::vte_core::{ByCharacter, InRuns, Parser};
 use crate::proved::vte_handler::{Handler, HandlerText, Timeout};
 use core::marker::PhantomData;
 
@@ -25,7 +25,7 @@ impl<const N: usize> EventParser for Parser<N> {
     }
 }
 
-/// Parses for a handler that receives text in a grain: `Singly` or `InRuns`.
+/// Parses for a handler that receives text `ByCharacter` or `InRuns`.
 pub(crate) trait ParseAs<H: Handler + ?Sized, T: Timeout, P: EventParser>: Sized {
     /// Parses all bytes.
     fn advance<B: TextBuffer>(
@@ -42,7 +42,7 @@ pub(crate) trait ParseAs<H: Handler + ?Sized, T: Timeout, P: EventParser>: Sized
     ) -> usize;
 }
 
-impl<H: Handler + ?Sized, T: Timeout, const N: usize> ParseAs<H, T, Parser<N>> for Singly {
+impl<H: Handler + ?Sized, T: Timeout, const N: usize> ParseAs<H, T, Parser<N>> for ByCharacter {
     #[inline(always)]
     fn advance<B: TextBuffer>(
         parser: &mut Parser<N>,
@@ -99,7 +99,7 @@ pub(crate) fn parse_all<
         state,
         handler,
         terminated: false,
-        grain: PhantomData::<G>,
+        granularity: PhantomData::<G>,
     };
     G::advance(parser, &mut performer, bytes);
 }
@@ -122,7 +122,7 @@ pub(crate) fn parse_until_begin<
         state,
         handler,
         terminated: false,
-        grain: PhantomData::<G>,
+        granularity: PhantomData::<G>,
     };
     let read = G::advance_until_begin(parser, &mut performer, bytes);
     (read, performer.terminated)

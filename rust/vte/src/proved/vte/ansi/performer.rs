@@ -30,7 +30,7 @@ pub(crate) struct Performer<'s, 'h, H: Handler + ?Sized, T: Timeout, B: TextBuff
     pub(crate) handler: &'h mut H,
     /// Whether an update has begun, so that the next turn reads the bytes that follow.
     pub(crate) terminated: bool,
-    pub(crate) grain: PhantomData<G>,
+    pub(crate) granularity: PhantomData<G>,
 }
 
 impl<'s, 'h, H: InputAs<G> + ?Sized, T: Timeout, B: TextBuffer, G> Perform

@@ -3,7 +3,7 @@
 
 use crate::proved::vte_core::buffer::Buffer;
 use crate::proved::vte_core::parser::{Machine, State};
-use crate::proved::vte_core::scan::{text, CountedPerform, Grain, Reader};
+use crate::proved::vte_core::scan::{text, CountedPerform, Granularity, Reader};
 use crate::proved::vte_core::utf8::{
     character_of_four, character_of_three, character_of_two, is_continuation, may_begin_four,
     may_begin_three, Carried, Unfinished,
@@ -14,7 +14,11 @@ impl<B: Buffer> Machine<B> {
     /// at. A byte that breaks it is left unread, and U+FFFD is printed for those before it. If text
     /// is taken in runs, a character of four bytes begins one.
     #[inline(always)]
-    pub(crate) fn read_character<P: CountedPerform<G> + ?Sized, G: Grain, const MAY_STOP: bool>(
+    pub(crate) fn read_character<
+        P: CountedPerform<G> + ?Sized,
+        G: Granularity,
+        const MAY_STOP: bool,
+    >(
         &mut self,
         reader: Reader,
         performer: &mut P,
@@ -45,7 +49,11 @@ impl<B: Buffer> Machine<B> {
 
     /// Reads the second and third byte of a character of three. The second was looked at.
     #[inline(always)]
-    pub(crate) fn complete_three<P: CountedPerform<G> + ?Sized, G: Grain, const MAY_STOP: bool>(
+    pub(crate) fn complete_three<
+        P: CountedPerform<G> + ?Sized,
+        G: Granularity,
+        const MAY_STOP: bool,
+    >(
         &mut self,
         reader: Reader,
         performer: &mut P,
@@ -75,7 +83,11 @@ impl<B: Buffer> Machine<B> {
     /// If text is taken in runs, it begins one.
     #[inline(always)]
     #[allow(unsafe_code)]
-    pub(crate) fn complete_four<P: CountedPerform<G> + ?Sized, G: Grain, const MAY_STOP: bool>(
+    pub(crate) fn complete_four<
+        P: CountedPerform<G> + ?Sized,
+        G: Granularity,
+        const MAY_STOP: bool,
+    >(
         &mut self,
         reader: Reader,
         performer: &mut P,
@@ -123,7 +135,7 @@ impl<B: Buffer> Machine<B> {
     #[inline(always)]
     pub(crate) fn continue_character<
         P: CountedPerform<G> + ?Sized,
-        G: Grain,
+        G: Granularity,
         const MAY_STOP: bool,
     >(
         &mut self,

@@ -5,13 +5,17 @@ use crate::proved::vte_core::buffer::Buffer;
 use crate::proved::vte_core::class::{ends_body, is_final, is_plain_control};
 use crate::proved::vte_core::head::HeadProgress;
 use crate::proved::vte_core::parser::{Machine, State, Unfinished};
-use crate::proved::vte_core::scan::{CountedPerform, Grain, Reader};
+use crate::proved::vte_core::scan::{CountedPerform, Granularity, Reader};
 
 impl<B: Buffer> Machine<B> {
     /// Reads the first number of a control sequence, if any, and a final byte right after it. Most
     /// sequences have no more: for them this calls nothing before the dispatch.
     #[inline(always)]
-    pub(crate) fn read_short_head<P: CountedPerform<G> + ?Sized, G: Grain, const MAY_STOP: bool>(
+    pub(crate) fn read_short_head<
+        P: CountedPerform<G> + ?Sized,
+        G: Granularity,
+        const MAY_STOP: bool,
+    >(
         &mut self,
         reader: Reader,
         performer: &mut P,
@@ -56,7 +60,7 @@ impl<B: Buffer> Machine<B> {
 
     /// Reads further numbers: not inlined, because most sequences have at most one.
     #[inline(never)]
-    fn read_more_numbers<P: CountedPerform<G> + ?Sized, G: Grain, const MAY_STOP: bool>(
+    fn read_more_numbers<P: CountedPerform<G> + ?Sized, G: Granularity, const MAY_STOP: bool>(
         &mut self,
         reader: Reader,
         performer: &mut P,
@@ -73,7 +77,7 @@ impl<B: Buffer> Machine<B> {
     #[inline(always)]
     pub(crate) fn read_control_sequence<
         P: CountedPerform<G> + ?Sized,
-        G: Grain,
+        G: Granularity,
         const MAY_STOP: bool,
     >(
         &mut self,
@@ -110,7 +114,11 @@ impl<B: Buffer> Machine<B> {
 
     /// Reads the head of a control sequence, which has come so far, and the byte after it.
     #[inline(never)]
-    pub(crate) fn read_any_head<P: CountedPerform<G> + ?Sized, G: Grain, const MAY_STOP: bool>(
+    pub(crate) fn read_any_head<
+        P: CountedPerform<G> + ?Sized,
+        G: Granularity,
+        const MAY_STOP: bool,
+    >(
         &mut self,
         reader: Reader,
         performer: &mut P,
@@ -145,7 +153,7 @@ impl<B: Buffer> Machine<B> {
     /// Ends a control sequence at its final byte: dispatches it, unless its head is ill-shaped.
     /// Returns the next position.
     #[inline(always)]
-    fn end_control_sequence<P: CountedPerform<G> + ?Sized, G: Grain>(
+    fn end_control_sequence<P: CountedPerform<G> + ?Sized, G: Granularity>(
         &mut self,
         reader: Reader,
         performer: &mut P,
@@ -165,7 +173,7 @@ impl<B: Buffer> Machine<B> {
     /// Dispatches a control sequence at its final byte, and returns the next position, so that
     /// callers need not keep it.
     #[inline(never)]
-    fn dispatch_control_sequence<P: CountedPerform<G> + ?Sized, G: Grain>(
+    fn dispatch_control_sequence<P: CountedPerform<G> + ?Sized, G: Granularity>(
         &mut self,
         reader: Reader,
         performer: &mut P,

@@ -3,14 +3,14 @@
 
 use crate::proved::vte_core::buffer::Buffer;
 use crate::proved::vte_core::parser::{Machine, Refused, State};
-use crate::proved::vte_core::scan::{CountedPerform, Grain, Reader};
+use crate::proved::vte_core::scan::{CountedPerform, Granularity, Reader};
 
 impl<B: Buffer> Machine<B> {
     /// Reads the bytes of a call, as many as there is memory for, and returns how many: all of
     /// them, or up to a stop if `MAY_STOP`.
     // as a part of a program's own function, its loops would keep their places on the stack
     #[inline(never)]
-    pub(crate) fn drive<P: CountedPerform<G> + ?Sized, G: Grain, const MAY_STOP: bool>(
+    pub(crate) fn drive<P: CountedPerform<G> + ?Sized, G: Granularity, const MAY_STOP: bool>(
         &mut self,
         reader: Reader,
         performer: &mut P,
@@ -29,7 +29,7 @@ impl<B: Buffer> Machine<B> {
     /// Completes the character that an earlier call began, if one is open.
     pub(crate) fn finish_character<
         P: CountedPerform<G> + ?Sized,
-        G: Grain,
+        G: Granularity,
         const MAY_STOP: bool,
     >(
         &mut self,
@@ -51,7 +51,11 @@ impl<B: Buffer> Machine<B> {
     /// Reads at least one byte, before which the performer was asked, or none if memory is refused
     /// for it.
     #[inline]
-    pub(crate) fn read_by_state<P: CountedPerform<G> + ?Sized, G: Grain, const MAY_STOP: bool>(
+    pub(crate) fn read_by_state<
+        P: CountedPerform<G> + ?Sized,
+        G: Granularity,
+        const MAY_STOP: bool,
+    >(
         &mut self,
         reader: Reader,
         performer: &mut P,

@@ -8,13 +8,17 @@ use crate::proved::vte_core::class::{
 };
 use crate::proved::vte_core::head::HeadProgress;
 use crate::proved::vte_core::parser::{Machine, State, Unfinished};
-use crate::proved::vte_core::scan::{CountedPerform, Grain, Reader};
+use crate::proved::vte_core::scan::{CountedPerform, Granularity, Reader};
 
 impl<B: Buffer> Machine<B> {
     /// Begins an escape sequence at an ESC in a text, which was looked at, and reads the bytes
     /// after it.
     #[inline(never)]
-    pub(crate) fn read_sequence<P: CountedPerform<G> + ?Sized, G: Grain, const MAY_STOP: bool>(
+    pub(crate) fn read_sequence<
+        P: CountedPerform<G> + ?Sized,
+        G: Granularity,
+        const MAY_STOP: bool,
+    >(
         &mut self,
         reader: Reader,
         performer: &mut P,
@@ -35,7 +39,11 @@ impl<B: Buffer> Machine<B> {
     /// Reads bytes after ESC, up to the one that says what begins; after `[` the control sequence
     /// too.
     #[inline(never)]
-    pub(crate) fn read_escape<P: CountedPerform<G> + ?Sized, G: Grain, const MAY_STOP: bool>(
+    pub(crate) fn read_escape<
+        P: CountedPerform<G> + ?Sized,
+        G: Granularity,
+        const MAY_STOP: bool,
+    >(
         &mut self,
         reader: Reader,
         performer: &mut P,
@@ -68,7 +76,7 @@ impl<B: Buffer> Machine<B> {
     }
 
     /// Reads a byte after ESC, other than `[`.
-    fn read_after_escape<P: CountedPerform<G> + ?Sized, G: Grain>(
+    fn read_after_escape<P: CountedPerform<G> + ?Sized, G: Granularity>(
         &mut self,
         reader: Reader,
         performer: &mut P,
@@ -92,7 +100,7 @@ impl<B: Buffer> Machine<B> {
     /// Begins the string that a byte 40..7E other than `[` begins after ESC, or dispatches an
     /// escape sequence that ends with it.
     #[inline(never)]
-    fn begin_or_dispatch<P: CountedPerform<G> + ?Sized, G: Grain>(
+    fn begin_or_dispatch<P: CountedPerform<G> + ?Sized, G: Granularity>(
         &mut self,
         reader: Reader,
         performer: &mut P,
@@ -115,7 +123,7 @@ impl<B: Buffer> Machine<B> {
     #[inline(never)]
     pub(crate) fn read_intermediates<
         P: CountedPerform<G> + ?Sized,
-        G: Grain,
+        G: Granularity,
         const MAY_STOP: bool,
     >(
         &mut self,
@@ -144,7 +152,7 @@ impl<B: Buffer> Machine<B> {
     }
 
     /// Dispatches an escape sequence at its final byte.
-    fn dispatch_escape<P: CountedPerform<G> + ?Sized, G: Grain>(
+    fn dispatch_escape<P: CountedPerform<G> + ?Sized, G: Granularity>(
         &mut self,
         reader: Reader,
         performer: &mut P,

@@ -3,7 +3,7 @@
 
 use crate::prelude::Vec;
 use crate::proved::vte_core::parser::{Machine, Open, Refused, State};
-use crate::proved::vte_core::scan::{CountedPerform, Grain, Reader, RunRange, Singly};
+use crate::proved::vte_core::scan::{ByCharacter, CountedPerform, Granularity, Reader, RunRange};
 
 /// A parser whose calls return an error if they are refused memory.
 ///
@@ -101,7 +101,7 @@ impl LongParser {
 
     /// Reads the bytes of a call, as many as there is memory for, and returns how many: all of
     /// them, or up to a stop if `MAY_STOP`.
-    pub(crate) fn drive<P: CountedPerform<G> + ?Sized, G: Grain, const MAY_STOP: bool>(
+    pub(crate) fn drive<P: CountedPerform<G> + ?Sized, G: Granularity, const MAY_STOP: bool>(
         &mut self,
         performer: &mut P,
         input: &[u8],
@@ -112,7 +112,7 @@ impl LongParser {
     }
 
     /// Reads bytes up to a run, and finds the run.
-    pub(crate) fn drive_to_run<P: CountedPerform<Singly> + ?Sized>(
+    pub(crate) fn drive_to_run<P: CountedPerform<ByCharacter> + ?Sized>(
         &mut self,
         performer: &mut P,
         input: &[u8],

@@ -4,7 +4,7 @@
 use crate::proved::vte_core::buffer::Buffer;
 use crate::proved::vte_core::class::ends_body;
 use crate::proved::vte_core::parser::{Machine, Refused, State, Unfinished};
-use crate::proved::vte_core::scan::{CountedPerform, Grain, Reader};
+use crate::proved::vte_core::scan::{CountedPerform, Granularity, Reader};
 
 const BELL: u8 = 0x07;
 
@@ -14,7 +14,7 @@ impl<B: Buffer> Machine<B> {
     #[inline(never)]
     pub(crate) fn read_system_command<
         P: CountedPerform<G> + ?Sized,
-        G: Grain,
+        G: Granularity,
         const MAY_STOP: bool,
     >(
         &mut self,

@@ -4,7 +4,7 @@
 use crate::proved::vte_core::buffer::Buffer;
 use crate::proved::vte_core::class::ESCAPE;
 use crate::proved::vte_core::parser::Machine;
-use crate::proved::vte_core::scan::{text, up_to, CountedPerform, Grain, Reader};
+use crate::proved::vte_core::scan::{text, up_to, CountedPerform, Granularity, Reader};
 use crate::proved::vte_core::utf8::{is_lead, is_printed_ascii};
 
 /// The bytes of a text that are read before it is searched for ESC. Shorter texts, and so most,
@@ -22,7 +22,7 @@ struct AsciiRun {
 /// short, that is the first byte alone.
 #[inline(always)]
 #[allow(unsafe_code)]
-fn print_ascii<P: CountedPerform<G> + ?Sized, G: Grain>(
+fn print_ascii<P: CountedPerform<G> + ?Sized, G: Granularity>(
     reader: Reader,
     performer: &mut P,
     input: &[u8],
@@ -47,7 +47,7 @@ fn print_ascii<P: CountedPerform<G> + ?Sized, G: Grain>(
 impl<B: Buffer> Machine<B> {
     /// Reads text up to an ESC, and then the bytes after that.
     #[inline]
-    pub(crate) fn read_text<P: CountedPerform<G> + ?Sized, G: Grain, const MAY_STOP: bool>(
+    pub(crate) fn read_text<P: CountedPerform<G> + ?Sized, G: Granularity, const MAY_STOP: bool>(
         &mut self,
         reader: Reader,
         performer: &mut P,
@@ -127,7 +127,7 @@ impl<B: Buffer> Machine<B> {
     /// run, a character or a malformed sequence.
     #[inline(always)]
     #[allow(unsafe_code)]
-    fn read_at_lead<P: CountedPerform<G> + ?Sized, G: Grain, const MAY_STOP: bool>(
+    fn read_at_lead<P: CountedPerform<G> + ?Sized, G: Granularity, const MAY_STOP: bool>(
         &mut self,
         reader: Reader,
         performer: &mut P,

@@ -4,12 +4,12 @@
 use crate::proved::vte_core::buffer::Buffer;
 use crate::proved::vte_core::class::ESCAPE;
 use crate::proved::vte_core::parser::{Machine, Parser, Refused, State};
-use crate::proved::vte_core::scan::{CountedPerform, Reader, RunKind, RunRange, Singly};
+use crate::proved::vte_core::scan::{ByCharacter, CountedPerform, Reader, RunKind, RunRange};
 use crate::proved::vte_core::utf8::{is_lead, is_printed_ascii};
 
 impl<const OSC_RAW_BUF_SIZE: usize> Parser<OSC_RAW_BUF_SIZE> {
     /// Reads bytes up to a run, and finds the run.
-    pub(crate) fn drive_to_run<P: CountedPerform<Singly> + ?Sized>(
+    pub(crate) fn drive_to_run<P: CountedPerform<ByCharacter> + ?Sized>(
         &mut self,
         performer: &mut P,
         input: &[u8],
@@ -27,13 +27,13 @@ impl<const OSC_RAW_BUF_SIZE: usize> Parser<OSC_RAW_BUF_SIZE> {
 impl<B: Buffer> Machine<B> {
     /// Reads bytes up to a run, and finds the run. The state stays that of the run: its bytes
     /// lead back to it.
-    pub(crate) fn drive_to_run<P: CountedPerform<Singly> + ?Sized>(
+    pub(crate) fn drive_to_run<P: CountedPerform<ByCharacter> + ?Sized>(
         &mut self,
         reader: Reader,
         performer: &mut P,
         input: &[u8],
     ) -> Result<RunRange, Refused> {
-        let mut position = self.finish_character::<P, Singly, true>(reader, performer, input);
+        let mut position = self.finish_character::<P, ByCharacter, true>(reader, performer, input);
         while position < input.len() && !performer.terminated() {
             position = match self.state {
                 State::Text(_) => {
@@ -57,11 +57,13 @@ impl<B: Buffer> Machine<B> {
                         });
                     }
                     let byte = reader.byte_at(input, position);
-                    self.read_other_in_data::<P, Singly, true>(
+                    self.read_other_in_data::<P, ByCharacter, true>(
                         reader, performer, input, position, byte,
                     )
                 }
-                _ => self.read_by_state::<P, Singly, true>(reader, performer, input, position)?,
+                _ => {
+                    self.read_by_state::<P, ByCharacter, true>(reader, performer, input, position)?
+                }
             };
         }
         Ok(RunRange::empty(position))
@@ -69,7 +71,7 @@ impl<B: Buffer> Machine<B> {
 
     /// Reads a character that isn't printed or a malformed sequence, or controls and what is
     /// malformed up to where a run may begin, or an escape sequence.
-    fn read_unprinted<P: CountedPerform<Singly> + ?Sized>(
+    fn read_unprinted<P: CountedPerform<ByCharacter> + ?Sized>(
         &mut self,
         reader: Reader,
         performer: &mut P,
@@ -79,7 +81,8 @@ impl<B: Buffer> Machine<B> {
         let mut position = from;
         let mut byte = reader.byte_at(input, from);
         if is_lead(byte) {
-            return self.read_character::<P, Singly, true>(reader, performer, input, from, byte);
+            return self
+                .read_character::<P, ByCharacter, true>(reader, performer, input, from, byte);
         }
         while byte != ESCAPE {
             reader.report_lone_byte(performer, byte);
@@ -92,6 +95,6 @@ impl<B: Buffer> Machine<B> {
                 return position;
             }
         }
-        self.read_sequence::<P, Singly, true>(reader, performer, input, position)
+        self.read_sequence::<P, ByCharacter, true>(reader, performer, input, position)
     }
 }

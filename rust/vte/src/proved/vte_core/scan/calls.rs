@@ -3,7 +3,7 @@
 
 use crate::proved::vte_core::parser::Parser;
 use crate::proved::vte_core::perform::{Perform, PerformText};
-use crate::proved::vte_core::scan::{take_run, InRuns, Run, Singly};
+use crate::proved::vte_core::scan::{take_run, ByCharacter, InRuns, Run};
 
 impl<const OSC_RAW_BUF_SIZE: usize> Parser<OSC_RAW_BUF_SIZE> {
     /// Reads the next bytes of the stream, and performs the events that they add to it.
@@ -11,7 +11,7 @@ impl<const OSC_RAW_BUF_SIZE: usize> Parser<OSC_RAW_BUF_SIZE> {
     /// However calls split the stream, the events are the same. An unfinished character or sequence
     /// at the end waits for more bytes.
     pub fn advance<P: Perform + ?Sized>(&mut self, performer: &mut P, bytes: &[u8]) {
-        self.drive::<P, Singly, false>(performer, bytes);
+        self.drive::<P, ByCharacter, false>(performer, bytes);
     }
 
     /// Reads the next bytes of the stream as [`advance`](Self::advance) does, and passes characters
@@ -33,7 +33,7 @@ impl<const OSC_RAW_BUF_SIZE: usize> Parser<OSC_RAW_BUF_SIZE> {
         performer: &mut P,
         bytes: &[u8],
     ) -> usize {
-        self.drive::<P, Singly, true>(performer, bytes)
+        self.drive::<P, ByCharacter, true>(performer, bytes)
     }
 
     /// Reads bytes as [`advance_until_terminated`](Self::advance_until_terminated) does, and passes

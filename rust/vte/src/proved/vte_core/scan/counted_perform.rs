@@ -3,11 +3,11 @@
 
 use crate::proved::vte_core::head::Collected;
 use crate::proved::vte_core::perform::Perform;
-use crate::proved::vte_core::scan::grain::{Grain, PerformAs};
+use crate::proved::vte_core::scan::granularity::{Granularity, ReceiveAs};
 use crate::proved::vte_core::scan::Reader;
 
 /// A performer, as the functions of a parser see it.
-pub(crate) trait CountedPerform<G: Grain> {
+pub(crate) trait CountedPerform<G: Granularity> {
     /// Returns whether HT, LF and CR come as text.
     fn keeps_layout(&self) -> bool;
 
@@ -36,28 +36,28 @@ pub(crate) trait CountedPerform<G: Grain> {
     fn terminated(&self) -> bool;
 }
 
-impl<P: PerformAs<G> + ?Sized, G: Grain> CountedPerform<G> for P {
+impl<P: ReceiveAs<G> + ?Sized, G: Granularity> CountedPerform<G> for P {
     #[inline(always)]
     fn keeps_layout(&self) -> bool {
-        PerformAs::<G>::keeps_layout(self)
+        ReceiveAs::<G>::keeps_layout(self)
     }
 
     #[inline(always)]
     fn print_char(&mut self, reader: Reader, c: char) {
         reader.add(1);
-        PerformAs::<G>::print_char(self, c);
+        ReceiveAs::<G>::print_char(self, c);
     }
 
     #[inline(always)]
     fn print_text(&mut self, reader: Reader, text: &str) {
         reader.add(text.len());
-        PerformAs::<G>::print_text(self, text);
+        ReceiveAs::<G>::print_text(self, text);
     }
 
     #[inline(always)]
     fn execute_control(&mut self, reader: Reader, byte: u8) {
         reader.add(1);
-        PerformAs::<G>::execute_control(self, byte);
+        ReceiveAs::<G>::execute_control(self, byte);
     }
 
     #[inline(always)]
@@ -70,13 +70,13 @@ impl<P: PerformAs<G> + ?Sized, G: Grain> CountedPerform<G> for P {
     #[inline(always)]
     fn put_byte(&mut self, reader: Reader, byte: u8) {
         reader.add(1);
-        PerformAs::<G>::put_byte(self, byte);
+        ReceiveAs::<G>::put_byte(self, byte);
     }
 
     #[inline(always)]
     fn put_slice(&mut self, reader: Reader, bytes: &[u8]) {
         reader.add(bytes.len());
-        PerformAs::<G>::put_slice(self, bytes);
+        ReceiveAs::<G>::put_slice(self, bytes);
     }
 
     #[inline(always)]

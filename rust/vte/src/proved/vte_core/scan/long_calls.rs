@@ -3,7 +3,7 @@
 
 use crate::proved::vte_core::parser::{LongParser, Refused};
 use crate::proved::vte_core::perform::{Perform, PerformText};
-use crate::proved::vte_core::scan::{take_run, InRuns, Run, Singly};
+use crate::proved::vte_core::scan::{take_run, ByCharacter, InRuns, Run};
 
 impl LongParser {
     /// Reads the next bytes of the stream, and performs the events that they add to it: all of
@@ -13,7 +13,7 @@ impl LongParser {
         performer: &mut P,
         bytes: &[u8],
     ) -> Result<(), Refused> {
-        self.drive::<P, Singly, false>(performer, bytes)?;
+        self.drive::<P, ByCharacter, false>(performer, bytes)?;
         Ok(())
     }
 
@@ -40,7 +40,7 @@ impl LongParser {
         performer: &mut P,
         bytes: &[u8],
     ) -> Result<usize, Refused> {
-        self.drive::<P, Singly, true>(performer, bytes)
+        self.drive::<P, ByCharacter, true>(performer, bytes)
     }
 
     /// Reads bytes as [`advance_until_terminated`](Self::advance_until_terminated) does, and passes

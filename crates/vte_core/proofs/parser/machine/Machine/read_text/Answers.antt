@@ -68,7 +68,7 @@ loop-position-2-preserved-in-None g c =
     let v = c.loop-position-2.invariant.stands in
     let within : c.loop-position-2.position < length c.args.input.bytes.now =
     omega (arith, c.loop-position.invariant.prefix, c.loop-position-2-test.true) in
-    let runs : g.G.Grain.IN_RUNS ≡ true = sym c.IN_RUNS-in-loop-position-2.ensures ∙ c.if-IN_RUNS-2.true in
+    let runs : g.G.Granularity.IN_RUNS ≡ true = sym c.IN_RUNS-in-loop-position-2.ensures ∙ c.if-IN_RUNS-2.true in
     let run = c.print_ascii-run.ensures in
     record {
       stands = record {
@@ -171,7 +171,7 @@ pub loop-position-2-preserved-then-byte-ge160 : goal.loop-position-2-preserved-t
 loop-position-2-preserved-then-byte-ge160 g c =
     let joins = goal.at.loop-position-2-preserved-then-byte-ge160 g c in
     let here = at g joins.Joined-IN_RUNS-2 in
-    let runs : g.G.Grain.IN_RUNS ≡ true = sym c.IN_RUNS-else-is_printed_ascii-2.ensures ∙ c.if-IN_RUNS-3.true in
+    let runs : g.G.Granularity.IN_RUNS ≡ true = sym c.IN_RUNS-else-is_printed_ascii-2.ensures ∙ c.if-IN_RUNS-3.true in
     record {
       stands = record {
         advances = advances-then (reached g joins.Joined-IN_RUNS-2) (elim c.if-is_lead.branch [

@@ -23,12 +23,12 @@ pub record SpendsInText {B : Type 0} (g : goal.Over) (bytes prefix : List ℕ) (
   pub low : from ≤ position
   pub high : position ≤ length bytes
   -- by characters: three looks per byte that was read, and one per byte up to where the prefix was searched
-  pub count : g.G.Grain.IN_RUNS ≡ false → looks + 4 * from ≤ start + 3 * position + length prefix
+  pub count : g.G.Granularity.IN_RUNS ≡ false → looks + 4 * from ≤ start + 3 * position + length prefix
   -- if the search found an ESC there, it has looked no further
-  pub escape : g.G.Grain.IN_RUNS ≡ false → (k : ℕ) → position ≤ k → k < length prefix → slice_index bytes k ≡ 0x1b
+  pub escape : g.G.Granularity.IN_RUNS ≡ false → (k : ℕ) → position ≤ k → k < length prefix → slice_index bytes k ≡ 0x1b
       → looks + 4 * from ≤ start + 3 * position + k + 1
   -- in runs, or for a call that may stop, which searches no further than it has read: five looks per byte
-  pub near : (g.G.Grain.IN_RUNS ≡ false → not (eqb g.row.MAY_STOP 0) ≡ true)
+  pub near : (g.G.Granularity.IN_RUNS ≡ false → not (eqb g.row.MAY_STOP 0) ≡ true)
       → looks + 5 * from ≤ start + 5 * position
   pub least : start + position ≤ looks + from
   pub memory : before.command.capacity ≤ parser.command.capacity
@@ -53,7 +53,7 @@ invariant-loop-position g l = record {
   spends : SpendsInText g l.input.bytes.now l.prefix.bytes.now l.from l.position l.fn.self l.self (looked l.fn.reader)
       (looked l.reader);
   prefix : length l.prefix.bytes.now ≤ length l.input.bytes.now;
-  all : g.G.Grain.IN_RUNS ≡ true → length l.prefix.bytes.now ≡ length l.input.bytes.now;
+  all : g.G.Granularity.IN_RUNS ≡ true → length l.prefix.bytes.now ≡ length l.input.bytes.now;
   same : (k : ℕ) → k < length l.prefix.bytes.now → slice_index l.prefix.bytes.now k ≡ slice_index l.input.bytes.now k;
   before : l.position < length l.input.bytes.now → l.position < length l.prefix.bytes.now;
   progress : l.from ≡ l.position → l.position < length l.input.bytes.now;

@@ -14,6 +14,8 @@ const ROOM: usize = 8192;
 /// A buffer of 8,192 bytes for lines, each appended whole or not at all.
 ///
 /// A line that doesn't fit is dropped. The buffer never allocates.
+// cargo instead:
+/// Once a line was dropped, [`lost`](Self::lost) is true until [`clear`](Self::clear).
 #[derive(Drop)]
 pub struct Lines {
     bytes: ArrayVec<u8, ROOM>,

@@ -15,6 +15,8 @@ const MOST_TEXT: usize = 8;
 ///
 /// Characters are kept as UTF-8, and HT, LF and CR as they are. A character that doesn't fit is
 /// dropped. `Plain` is terminated when it holds more than 4,096 bytes.
+// cargo instead:
+/// Once a character was dropped, [`lost`](Self::lost) is true until [`clear`](Self::clear).
 #[derive(Drop)]
 pub struct Plain {
     texts: Lines,

@@ -12,6 +12,8 @@ use vte_core::{Params, Perform, laws};
 ///
 /// A line that doesn't fit is dropped. The recorder is terminated when it holds more than 4,096
 /// bytes.
+// cargo instead:
+/// Once a line was dropped, [`lost`](Self::lost) is true until [`clear`](Self::clear).
 #[derive(Drop)]
 pub struct Recorder {
     lines: Lines,

@@ -12,78 +12,148 @@ use crate::proved::vte_types::{
 
 /// A call of a [`Handler`], as a value. Each variant has the name and the arguments of its method.
 #[derive(Debug)]
-#[allow(missing_docs)]
 pub enum HandlerCall<'a> {
+    /// [`Handler::backspace`]
     Backspace,
+    /// [`Handler::carriage_return`]
     CarriageReturn,
+    /// [`Handler::linefeed`]
     Linefeed,
+    /// [`Handler::bell`]
     Bell,
+    /// [`Handler::substitute`]
     Substitute,
+    /// [`Handler::newline`]
     Newline,
+    /// [`Handler::set_horizontal_tabstop`]
     SetHorizontalTabstop,
+    /// [`Handler::save_cursor_position`]
     SaveCursorPosition,
+    /// [`Handler::restore_cursor_position`]
     RestoreCursorPosition,
+    /// [`Handler::reset_state`]
     ResetState,
+    /// [`Handler::reverse_index`]
     ReverseIndex,
+    /// [`Handler::set_keypad_application_mode`]
     SetKeypadApplicationMode,
+    /// [`Handler::unset_keypad_application_mode`]
     UnsetKeypadApplicationMode,
+    /// [`Handler::decaln`]
     Decaln,
+    /// [`Handler::push_title`]
     PushTitle,
+    /// [`Handler::pop_title`]
     PopTitle,
+    /// [`Handler::text_area_size_pixels`]
     TextAreaSizePixels,
+    /// [`Handler::text_area_size_chars`]
     TextAreaSizeChars,
+    /// [`Handler::report_keyboard_mode`]
     ReportKeyboardMode,
+    /// [`Handler::report_modify_other_keys`]
     ReportModifyOtherKeys,
+    /// [`Handler::goto_col`]
     GotoCol(usize),
+    /// [`Handler::insert_blank`]
     InsertBlank(usize),
+    /// [`Handler::move_up`]
     MoveUp(usize),
+    /// [`Handler::move_down`]
     MoveDown(usize),
+    /// [`Handler::device_status`]
     DeviceStatus(usize),
+    /// [`Handler::move_forward`]
     MoveForward(usize),
+    /// [`Handler::move_backward`]
     MoveBackward(usize),
+    /// [`Handler::move_down_and_cr`]
     MoveDownAndCr(usize),
+    /// [`Handler::move_up_and_cr`]
     MoveUpAndCr(usize),
+    /// [`Handler::scroll_up`]
     ScrollUp(usize),
+    /// [`Handler::scroll_down`]
     ScrollDown(usize),
+    /// [`Handler::insert_blank_lines`]
     InsertBlankLines(usize),
+    /// [`Handler::delete_lines`]
     DeleteLines(usize),
+    /// [`Handler::erase_chars`]
     EraseChars(usize),
+    /// [`Handler::delete_chars`]
     DeleteChars(usize),
+    /// [`Handler::reset_color`]
     ResetColor(usize),
+    /// [`Handler::put_tab`]
     PutTab(u16),
+    /// [`Handler::move_backward_tabs`]
     MoveBackwardTabs(u16),
+    /// [`Handler::move_forward_tabs`]
     MoveForwardTabs(u16),
+    /// [`Handler::set_tabs`]
     SetTabs(u16),
+    /// [`Handler::pop_keyboard_modes`]
     PopKeyboardModes(u16),
+    /// [`Handler::set_title`]
     SetTitle(Option<&'a str>),
+    /// [`Handler::set_cursor_style`]
     SetCursorStyle(Option<CursorStyle>),
+    /// [`Handler::set_cursor_shape`]
     SetCursorShape(CursorShape),
+    /// [`Handler::input`]
     Input(char),
+    /// [`Handler::goto`]
     Goto(i32, usize),
+    /// [`Handler::goto_line`]
     GotoLine(i32),
+    /// [`Handler::identify_terminal`]
     IdentifyTerminal(Option<char>),
+    /// [`Handler::clear_line`]
     ClearLine(LineClearMode),
+    /// [`Handler::clear_screen`]
     ClearScreen(ClearMode),
+    /// [`Handler::clear_tabs`]
     ClearTabs(TabulationClearMode),
+    /// [`Handler::terminal_attribute`]
     TerminalAttribute(Attr),
+    /// [`Handler::set_mode`]
     SetMode(Mode),
+    /// [`Handler::unset_mode`]
     UnsetMode(Mode),
+    /// [`Handler::report_mode`]
     ReportMode(Mode),
+    /// [`Handler::set_private_mode`]
     SetPrivateMode(PrivateMode),
+    /// [`Handler::unset_private_mode`]
     UnsetPrivateMode(PrivateMode),
+    /// [`Handler::report_private_mode`]
     ReportPrivateMode(PrivateMode),
+    /// [`Handler::set_scrolling_region`]
     SetScrollingRegion(usize, Option<usize>),
+    /// [`Handler::set_active_charset`]
     SetActiveCharset(CharsetIndex),
+    /// [`Handler::configure_charset`]
     ConfigureCharset(CharsetIndex, StandardCharset),
+    /// [`Handler::set_color`]
     SetColor(usize, Rgb),
+    /// [`Handler::dynamic_color_sequence`]
     DynamicColorSequence(&'a str, usize, &'a str),
+    /// [`Handler::clipboard_store`]
     ClipboardStore(u8, &'a [u8]),
+    /// [`Handler::clipboard_load`]
     ClipboardLoad(u8, &'a str),
+    /// [`Handler::set_hyperlink`]
     SetHyperlink(Option<Hyperlink<'a>>),
+    /// [`Handler::set_mouse_cursor_icon`]
     SetMouseCursorIcon(CursorIcon),
+    /// [`Handler::push_keyboard_mode`]
     PushKeyboardMode(KeyboardModes),
+    /// [`Handler::set_keyboard_mode`]
     SetKeyboardMode(KeyboardModes, KeyboardModesApplyBehavior),
+    /// [`Handler::set_modify_other_keys`]
     SetModifyOtherKeys(ModifyOtherKeys),
+    /// [`Handler::set_scp`]
     SetScp(ScpCharPath, ScpUpdateMode),
 }
 

@@ -155,7 +155,7 @@ impl<const OSC_RAW_BUF_SIZE: usize> Parser<OSC_RAW_BUF_SIZE> {
     pub fn is_open(&self) -> bool
         ensures { SaysWhetherOpen (Some OSC_RAW_BUF_SIZE) (HasRead self.now) result }
     {
-        !matches!(self.open(), Open::Nothing)
+        self.machine.is_open()
     }
 
     /// Returns whether the operating system command that is open lost data bytes, or if none is

@@ -171,7 +171,7 @@ impl<A: Allocator> LongParser<A> {
     pub fn is_open(&self) -> bool
         ensures { SaysWhetherOpen None (HasReadLong self.now) result }
     {
-        !matches!(self.open(), Open::Nothing)
+        self.machine.is_open()
     }
 
     /// Reads the bytes of a call, as many as there is memory for, and returns how many: all of

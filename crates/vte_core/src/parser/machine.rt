@@ -1,7 +1,7 @@
 //! The state of a parser, and what it has collected.
 ghost use Rattle.std.specs.Prelude.{◌≡◌, ◌≢◌, ℕ, List, []};
 ghost use Rattle.vte_core.specs.declared.parser.open.Open.TheVariants.{Nothing};
-ghost use Rattle.vte_core.specs.Open.{SaysOpen};
+ghost use Rattle.vte_core.specs.Open.{SaysOpen, SaysWhetherOpen};
 ghost use Rattle.vte_core.specs.machine.Prelude.{HasReadWithLimit, SaysLoss, outcome};
 
 use crate::buffer::Buffer;
@@ -48,5 +48,12 @@ impl<B: Buffer> Machine<B> {
         ensures { SaysOpen B.limit (HasReadWithLimit B.limit self.now) result }
     {
         self.state.open()
+    }
+
+    /// Returns whether anything is unfinished.
+    pub(crate) fn is_open(&self) -> bool
+        ensures { SaysWhetherOpen B.limit (HasReadWithLimit B.limit self.now) result }
+    {
+        !matches!(self.open(), Open::Nothing)
     }
 }

@@ -115,7 +115,7 @@ impl<const OSC_RAW_BUF_SIZE: usize> Parser<OSC_RAW_BUF_SIZE> {
 
     /// Returns whether a character or a sequence is unfinished.
     pub fn is_open(&self) -> bool {
-        !matches!(self.open(), Open::Nothing)
+        self.machine.is_open()
     }
 
     /// Returns whether the operating system command that is open lost data bytes, or if none is

@@ -96,7 +96,7 @@ impl LongParser {
     /// Returns whether a character or a sequence is unfinished.
     #[inline]
     pub fn is_open(&self) -> bool {
-        !matches!(self.open(), Open::Nothing)
+        self.machine.is_open()
     }
 
     /// Reads the bytes of a call, as many as there is memory for, and returns how many: all of

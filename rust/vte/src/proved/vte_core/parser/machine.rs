@@ -34,4 +34,9 @@ impl<B: Buffer> Machine<B> {
     pub(crate) fn open(&self) -> Open {
         self.state.open()
     }
+
+    /// Returns whether anything is unfinished.
+    pub(crate) fn is_open(&self) -> bool {
+        !matches!(self.open(), Open::Nothing)
+    }
 }

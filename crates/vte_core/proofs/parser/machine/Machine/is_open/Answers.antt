@@ -1,6 +1,6 @@
 use Rattle.vte_core.proofs.Common.{false≢true, ap, not, sym, ◌∙◌, rules}
-use Rattle.vte_core.proofs.parser.long.LongParser.is_open.Goals as goal
-use Rattle.vte_core.proofs.parser.long.LongParser.is_open.Goals.{in-Nothing, in_default}
+use Rattle.vte_core.proofs.parser.machine.Machine.is_open.Goals as goal
+use Rattle.vte_core.proofs.parser.machine.Machine.is_open.Goals.{in-Nothing, in_default}
 
 pub returns : goal.returns
 returns g c = record {

@@ -257,6 +257,7 @@ impl<P: EventParser + Drop, B: TextBuffer + Drop, T: Timeout + Drop, A: Allocato
     {
         let begins = self.hold.add(bytes);
         set_timeout_times(&mut self.state.timeout, begins);
+        // Nothing stays held only if an update ends, and no other begins after it.
         if self.hold.len() == 0 {
             self.end_update::<H, G>(handler);
         } else {

@@ -165,6 +165,7 @@ impl<P: EventParser, B: TextBuffer, T: Timeout> Engine<P, B, T> {
     ) {
         let begins = self.hold.add(bytes);
         set_timeout_times(&mut self.state.timeout, begins);
+        // Nothing stays held only if an update ends, and no other begins after it.
         if self.hold.len() == 0 {
             self.end_update::<H, G>(handler);
         } else {

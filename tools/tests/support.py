@@ -1,6 +1,36 @@
 """What tests of tools share."""
+import contextlib
+import io
+import os
+import subprocess
+import sys
 import time
 from pathlib import Path
+from runpy import run_path
+
+import pytest
+
+TOOLS = Path(__file__).resolve().parents[1]
+
+
+class Tool:
+    """A tool of tools/ over the files of a test's folder."""
+
+    def __init__(self, name, **given):
+        self.name, self.main = name, run_path(str(TOOLS / name))["main"]
+        self.parts = self.main.__globals__
+        self.parts.update(TOP=Path.cwd(), **given)
+
+    def run(self, *words):
+        """The status or the message of its end, and what it printed."""
+        said = io.StringIO()
+        with pytest.MonkeyPatch.context() as patch, contextlib.redirect_stdout(said):
+            patch.setattr(sys, "argv", [self.name, *words])
+            try:
+                status = self.main()
+            except SystemExit as ended:
+                status = ended.code
+        return status, said.getvalue()
 
 
 def write(place, text, mode=0o644):
@@ -17,3 +47,14 @@ def wait_until(is_so, else_told=""):
     while not is_so():
         assert time.monotonic() < end, else_told
         time.sleep(0.02)
+
+
+def run_here(tool, *words, **programs):
+    """The status and the lines of a tool of the shell, which stands in this folder and finds these
+    programs before others."""
+    write(f"tools/{tool}", (TOOLS / tool).read_text(), 0o755)
+    for name, text in programs.items():
+        write(f"bin/{name}", f"#!/bin/sh\n{text}\n", 0o755)
+    done = subprocess.run([f"tools/{tool}", *words], stdout=subprocess.PIPE, text=True,
+                          env={**os.environ, "PATH": f"{Path.cwd()}/bin:{os.environ['PATH']}"})
+    return done.returncode, done.stdout.splitlines()

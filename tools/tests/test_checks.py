@@ -1,6 +1,4 @@
 """Tests that tools/erase, tools/mutate, tools/test and the checks refuse what they say."""
-import contextlib
-import io
 import json
 import os
 import re
@@ -8,7 +6,6 @@ import shutil
 import subprocess
 import sys
 from pathlib import Path
-from runpy import run_path
 from types import SimpleNamespace
 
 import pytest
@@ -16,30 +13,7 @@ from building import builder
 from erasing.plan import Plan
 
 from tests.missing import miss
-from tests.support import write
-
-TOOLS = Path(__file__).resolve().parents[1]
-
-
-class Tool:
-    """A tool of tools/ over the files of a test's folder."""
-
-    def __init__(self, name, **given):
-        self.name, self.main = name, run_path(str(TOOLS / name))["main"]
-        self.parts = self.main.__globals__
-        self.parts.update(TOP=Path.cwd(), **given)
-
-    def run(self, *words):
-        """The status or the message of its end, and what it printed."""
-        said = io.StringIO()
-        with pytest.MonkeyPatch.context() as patch, contextlib.redirect_stdout(said):
-            patch.setattr(sys, "argv", [self.name, *words])
-            try:
-                status = self.main()
-            except SystemExit as ended:
-                status = ended.code
-        return status, said.getvalue()
-
+from tests.support import TOOLS, Tool, run_here, write
 
 # ---- check_trust
 
@@ -556,17 +530,6 @@ def test_which_public_items_differ(folder):
 
 
 # ---- check_builds, release
-
-def run_here(tool, *words, **programs):
-    """The status and the lines of a tool of the shell, which stands in this folder and finds these
-    programs before others."""
-    write(f"tools/{tool}", (TOOLS / tool).read_text(), 0o755)
-    for name, text in programs.items():
-        write(f"bin/{name}", f"#!/bin/sh\n{text}\n", 0o755)
-    done = subprocess.run([f"tools/{tool}", *words], stdout=subprocess.PIPE, text=True,
-                          env={**os.environ, "PATH": f"{Path.cwd()}/bin:{os.environ['PATH']}"})
-    return done.returncode, done.stdout.splitlines()
-
 
 # a function that calls a panic, and whether it is known
 @pytest.mark.parametrize("function, is_known", [

@@ -1,6 +1,10 @@
 //! Runs of text and data that a caller takes from its own input, by `Parser::advance_to_run`.
+#[path = "support/tell.rs"]
+mod tell;
+
 use std::str;
-use vte::{Params, Parser, Perform, Run, Taken};
+use tell::{perform_by_tell, Tell};
+use vte::{Parser, Run, Taken};
 
 /// Each kind of event, with characters of each length, controls of two bytes and malformed bytes
 /// among them.
@@ -30,7 +34,23 @@ struct Events {
 }
 
 impl Events {
-    fn push(&mut self, event: String) {
+    /// Takes a run as its characters or its bytes.
+    fn take(&mut self, run: &Run) {
+        match run.taken {
+            Taken::Text(text) => self.text.push_str(text),
+            Taken::Data(data) => self.data.extend_from_slice(data),
+            Taken::Nothing => {}
+        }
+    }
+
+    fn end(mut self) -> Vec<String> {
+        self.tell("end".to_owned());
+        self.all
+    }
+}
+
+impl Tell for Events {
+    fn tell(&mut self, event: String) {
         if !self.text.is_empty() {
             self.all.push(format!("text {}", self.text));
             self.text.clear();
@@ -43,67 +63,25 @@ impl Events {
         self.has_stopped = self.stops;
     }
 
-    /// Takes a run as its characters or its bytes.
-    fn take(&mut self, run: &Run) {
-        match run.taken {
-            Taken::Text(text) => self.text.push_str(text),
-            Taken::Data(data) => self.data.extend_from_slice(data),
-            Taken::Nothing => {}
-        }
-    }
-
-    fn end(mut self) -> Vec<String> {
-        self.push("end".to_owned());
-        self.all
-    }
-}
-
-impl Perform for Events {
-    fn print(&mut self, c: char) {
+    fn tell_character(&mut self, c: char) {
         self.text.push(c);
         self.performed.push(c);
         self.has_stopped = self.stops;
     }
 
-    fn execute(&mut self, byte: u8) {
-        self.push(format!("execute {byte:02x}"));
-    }
-
-    fn hook(&mut self, params: &Params, intermediates: &[u8], ignore: bool, action: char) {
-        self.push(format!(
-            "hook {params:?} {intermediates:?} {ignore} {action}"
-        ));
-    }
-
-    fn put(&mut self, byte: u8) {
+    fn tell_byte(&mut self, byte: u8) {
         self.data.push(byte);
         self.puts += 1;
         self.performed.push(char::from(byte));
         self.has_stopped = self.stops;
     }
 
-    fn unhook(&mut self) {
-        self.push("unhook".to_owned());
-    }
-
-    fn osc_dispatch(&mut self, params: &[&[u8]], bell_terminated: bool) {
-        self.push(format!("osc {params:?} {bell_terminated}"));
-    }
-
-    fn csi_dispatch(&mut self, params: &Params, intermediates: &[u8], ignore: bool, action: char) {
-        self.push(format!(
-            "csi {params:?} {intermediates:?} {ignore} {action}"
-        ));
-    }
-
-    fn esc_dispatch(&mut self, intermediates: &[u8], ignore: bool, byte: u8) {
-        self.push(format!("esc {intermediates:?} {ignore} {byte:02x}"));
-    }
-
-    fn terminated(&self) -> bool {
+    fn is_over(&self) -> bool {
         self.has_stopped
     }
 }
+
+perform_by_tell!(Events);
 
 /// Reads a piece run by run.
 fn read_by_runs(parser: &mut Parser, events: &mut Events, piece: &[u8]) {

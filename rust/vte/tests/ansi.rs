@@ -10,12 +10,11 @@ use support::Pending;
 use vte::ansi::cursor_icon::CursorIcon;
 use vte::ansi::lent::{self, LongProcessor};
 use vte::ansi::{
-    Attr, BoundedProcessor, Color, Handler, HandlerText, Hyperlink, KeyboardModes,
-    KeyboardModesApplyBehavior, Mode, NamedColor, NamedMode, NamedPrivateMode, PrivateMode,
-    Processor,
+    Attr, BoundedProcessor, Color, Handler, HandlerText, KeyboardModes, Mode, NamedColor,
+    NamedMode, NamedPrivateMode, PrivateMode, Processor,
 };
 
-/// Writes down the calls that have owned texts, and some others.
+/// Writes down some calls.
 #[derive(Default)]
 struct Calls(Vec<String>);
 
@@ -24,21 +23,8 @@ impl Handler for Calls {
         self.0.push(format!("title {title:?}"));
     }
 
-    fn dynamic_color_sequence(&mut self, prefix: String, index: usize, terminator: &str) {
-        self.0
-            .push(format!("color {prefix} {index} {terminator:?}"));
-    }
-
-    fn set_hyperlink(&mut self, link: Option<Hyperlink>) {
-        self.0.push(format!("link {link:?}"));
-    }
-
     fn input(&mut self, c: char) {
         self.0.push(format!("input {c}"));
-    }
-
-    fn substitute(&mut self) {
-        self.0.push("substitute".to_owned());
     }
 
     fn goto(&mut self, line: i32, column: usize) {
@@ -48,87 +34,6 @@ impl Handler for Calls {
     fn unset_private_mode(&mut self, mode: PrivateMode) {
         self.0.push(format!("unset {}", mode.raw()));
     }
-
-    fn set_mouse_cursor_icon(&mut self, icon: CursorIcon) {
-        self.0.push(format!("icon {icon:?}"));
-    }
-
-    fn push_keyboard_mode(&mut self, modes: KeyboardModes) {
-        self.0.push(format!("keyboard {}", modes.bits()));
-    }
-
-    fn set_keyboard_mode(&mut self, modes: KeyboardModes, behavior: KeyboardModesApplyBehavior) {
-        let _ = behavior;
-        self.0.push(format!("keyboard set {}", modes.bits()));
-    }
-}
-
-fn calls(stream: &[u8]) -> Vec<String> {
-    let mut calls = Calls::default();
-    Processor::<Pending>::new().advance(&mut calls, stream);
-    calls.0
-}
-
-#[test]
-fn texts_are_owned() {
-    assert_eq!(calls(b"\x1b]2; a;b \x07"), ["title Some(\"a;b\")"]);
-    assert_eq!(calls(b"\x1b]4;7;?\x1b\\"), ["color 4;7 7 \"\\u{1b}\\\\\""]);
-    assert_eq!(calls(b"\x1b]11;?\x07"), ["color 11 257 \"\\u{7}\""]);
-    assert_eq!(
-        calls(b"\x1b]8;id=x;http://a;b\x07\x1b]8;;\x07"),
-        [
-            "link Some(Hyperlink { id: Some(\"x\"), uri: \"http://a;b\" })",
-            "link None"
-        ]
-    );
-    assert_eq!(
-        calls(b"\x1b]8;;u\x07"),
-        ["link Some(Hyperlink { id: None, uri: \"u\" })"]
-    );
-}
-
-#[test]
-fn other_calls_are_passed_on() {
-    assert_eq!(calls(b"a\x1b[3;4H"), ["input a", "goto 2 3"]);
-    assert_eq!(calls(b"\x1b]22;ew-resize\x07"), ["icon EwResize"]);
-    assert_eq!(
-        calls(b"\x1b[>33u\x1b[=3;1u"),
-        ["keyboard 1", "keyboard set 3"]
-    );
-}
-
-#[test]
-fn a_processor_says_how_many_bytes_it_holds() {
-    let processor = Processor::<Pending>::new();
-    assert_eq!(
-        format!("{processor:?}"),
-        "Processor { sync_bytes_count: 0, .. }"
-    );
-}
-
-#[test]
-fn updates_are_held_until_they_end() {
-    let mut calls = Calls::default();
-    let mut processor = Processor::<Pending>::default();
-    processor.advance(&mut calls, b"a\x1b[?2026hb");
-    assert_eq!(
-        (
-            calls.0.len(),
-            processor.sync_bytes_count(),
-            processor.sync_timeout().0
-        ),
-        (1, 1, true)
-    );
-    processor.advance(&mut calls, b"c\x1b[?2026l");
-    assert_eq!(
-        calls.0,
-        ["input a", "input b", "input c", "unset 2026", "unset 2026"]
-    );
-    assert!(!processor.sync_timeout().0);
-    processor.advance(&mut calls, b"\x1b[?2026hd");
-    processor.stop_sync(&mut calls);
-    assert_eq!(calls.0[5..], ["input d", "unset 2026"]);
-    assert_eq!(processor.sync_bytes_count(), 0);
 }
 
 /// A copy goes on from where the processor was, whatever that one reads meanwhile.
@@ -156,46 +61,6 @@ fn copies_read_on() {
             "copied at {at}"
         );
     }
-}
-
-#[cfg(feature = "std")]
-#[test]
-fn titles_and_links_have_no_limit() {
-    for count in [1, 1023, 1024, 1040, 100_000] {
-        let text = "a".repeat(count);
-        assert_eq!(
-            calls(format!("\x1b]2;{text}\x07").as_bytes()),
-            [format!("title Some({text:?})")]
-        );
-        assert_eq!(
-            calls(format!("\x1b]8;;{text}\x07").as_bytes()),
-            [format!(
-                "link Some(Hyperlink {{ id: None, uri: {text:?} }})"
-            )]
-        );
-    }
-}
-
-#[cfg(not(feature = "std"))]
-#[test]
-fn titles_have_what_is_left_of_1024_bytes() {
-    let kept = "a".repeat(1023);
-    assert_eq!(
-        calls(format!("\x1b]2;{}\x07", "a".repeat(2000)).as_bytes()),
-        [format!("title Some({kept:?})")]
-    );
-}
-
-/// The most that is kept of a command: 16 pieces, of 1,024 bytes in all. The semicolons between
-/// them don't count.
-#[cfg(not(feature = "std"))]
-#[test]
-fn semicolons_take_no_room_in_titles() {
-    let title = ";".repeat(14) + &"a".repeat(1023);
-    assert_eq!(
-        calls(format!("\x1b]2;{title}\x07").as_bytes()),
-        [format!("title Some({title:?})")]
-    );
 }
 
 #[cfg(feature = "std")]
@@ -247,43 +112,24 @@ fn the_default_timeout_is_pending_until_it_is_told() {
 #[test]
 fn colours_have_arithmetic_of_floats() {
     use vte::ansi::Rgb;
-    let (black, white) = (
-        Rgb { r: 0, g: 0, b: 0 },
-        Rgb {
-            r: 255,
-            g: 255,
-            b: 255,
-        },
-    );
-    assert_eq!(
-        Rgb {
-            r: 30,
-            g: 150,
-            b: 255
-        } * 0.5,
-        Rgb {
-            r: 15,
-            g: 75,
-            b: 127
-        }
-    );
-    assert_eq!(Rgb { r: 200, g: 1, b: 0 } * 2.0, Rgb { r: 255, g: 2, b: 0 });
+    let rgb = |r, g, b| Rgb { r, g, b };
+    let (black, white) = (rgb(0, 0, 0), rgb(255, 255, 255));
+    assert_eq!(rgb(30, 150, 255) * 0.5, rgb(15, 75, 127));
+    assert_eq!(rgb(200, 1, 0) * 2.0, rgb(255, 2, 0));
     assert_eq!(white * -1.0, black);
     assert_eq!(white * f32::NAN, black);
-    let inf = Rgb { r: 0, g: 1, b: 2 } * f32::INFINITY;
-    assert_eq!([inf.r, inf.g, inf.b], [0, 255, 255]);
+    assert_eq!(rgb(0, 1, 2) * f32::INFINITY, rgb(0, 255, 255));
     assert!((white.luminance() - 1.0).abs() < 1e-12);
     // the formula of WCAG 2.0: 10 is the last of its linear part, 11 the first of the other
-    for (rgb, luminance) in [
-        ([255, 0, 0], 0.2126),
-        ([0, 255, 0], 0.7152),
-        ([0, 0, 255], 0.0722),
-        ([128, 128, 128], 0.215_860_500_113_899_26),
-        ([11, 11, 11], 0.003_346_535_763_899_161),
-        ([10, 10, 10], 0.003_035_269_835_488_375),
+    for (color, luminance) in [
+        (rgb(255, 0, 0), 0.2126),
+        (rgb(0, 255, 0), 0.7152),
+        (rgb(0, 0, 255), 0.0722),
+        (rgb(128, 128, 128), 0.215_860_500_113_899_26),
+        (rgb(11, 11, 11), 0.003_346_535_763_899_161),
+        (rgb(10, 10, 10), 0.003_035_269_835_488_375),
     ] {
-        let [r, g, b] = rgb;
-        assert!((Rgb { r, g, b }.luminance() - luminance).abs() < 1e-12);
+        assert!((color.luminance() - luminance).abs() < 1e-12);
     }
     assert!((black.contrast(white) - 21.0).abs() < 1e-12);
     assert!((white.contrast(black) - 21.0).abs() < 1e-12);
@@ -435,36 +281,6 @@ fn processors_keep_what_their_limit_says() {
     );
     let new = || LongProcessor::new(Pending::default()).unwrap();
     assert_keeps!(1024, new(), false);
-}
-
-/// Of a command 16 pieces count, the code among them.
-#[test]
-fn titles_and_links_are_cut_at_a_semicolon() {
-    for (command, most) in [("2;", 14), ("8;;", 13)] {
-        for count in [most, most + 1, most + 5] {
-            let mut calls = Calls::default();
-            let mut processor = Processor::<Pending>::new();
-            let text = "a;".repeat(count) + "b";
-            processor.advance(&mut calls, format!("\x1b]{command}{text}\x07").as_bytes());
-            let kept = "a;".repeat(most) + if count == most { "b" } else { "a" };
-            assert!(
-                calls.0[0].contains(&format!("\"{kept}\"")),
-                "{calls:?}",
-                calls = calls.0
-            );
-            assert_eq!(processor.command_lost_data(), count > most);
-        }
-    }
-}
-
-#[test]
-fn cancelled_commands_make_their_calls() {
-    for end in ["\x07", "\x1b\\", "\x18", "\x1a", "\x1b[m"] {
-        let mut expected = vec!["title Some(\"ti\")".to_owned()];
-        // a handler can tell only SUB
-        expected.extend((end == "\x1a").then(|| "substitute".to_owned()));
-        assert_eq!(calls(format!("\x1b]2;ti{end}").as_bytes()), expected);
-    }
 }
 
 /// With `std` the timeout has a default, and so has the limit.

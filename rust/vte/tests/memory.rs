@@ -152,9 +152,7 @@ fn copies_have_as_much_memory() {
     assert_eq!(titles.0, format!("a;{}|", "a".repeat(3000)));
     assert_eq!(processor.sync_bytes_count(), 6 + 3001);
     let new = LongProcessor::new(Pending::default()).ok().unwrap();
-    ends_without(0x20_0000, "copies_have_as_much_memory", || {
-        drop(new.clone())
-    });
+    ends_without(0x20_0000, || drop(new.clone()));
 }
 
 #[test]
@@ -183,8 +181,7 @@ fn a_processor_without_memory_is_an_error() {
 
 #[test]
 fn a_new_processor_ends_the_program_without_memory() {
-    let test = "a_new_processor_ends_the_program_without_memory";
-    ends_without(0x20_0000, test, || drop(Processor::<Pending>::new()));
+    ends_without(0x20_0000, || drop(Processor::<Pending>::new()));
 }
 
 /// All titles, with `|` for the end of an update, and how many there were.
@@ -209,10 +206,6 @@ impl HandlerText for Titles {
 #[test]
 fn a_long_processor_goes_on_after_a_refusal() {
     goes_on_after_a_refusal(LongProcessor::advance);
-}
-
-#[test]
-fn a_long_processor_goes_on_after_a_refusal_in_runs() {
     goes_on_after_a_refusal(LongProcessor::advance_text);
 }
 
@@ -251,10 +244,6 @@ fn a_long_processor_goes_on_after_a_refusal_between_slices() {
 #[test]
 fn a_long_processor_stops_with_the_memory_that_it_has() {
     stops_with_the_memory_that_it_has(LongProcessor::stop_sync);
-}
-
-#[test]
-fn a_long_processor_stops_with_the_memory_that_it_has_in_runs() {
     stops_with_the_memory_that_it_has(LongProcessor::stop_sync_text);
 }
 
@@ -346,37 +335,31 @@ mod without_a_limit {
 
         const MEBIBYTE: usize = 0x10_0000;
 
-        /// How much address space a call with these bytes adds, whose memory the processor keeps.
-        fn added_by(bytes: &[u8]) -> usize {
+        /// Asserts that a call with these bytes, whose memory the processor keeps, adds little
+        /// address space.
+        fn assert_adds_less_than_a_mebibyte(bytes: &[u8]) {
             let mut processor = Processor::with_timeout(Pending::default()).ok().unwrap();
             let before = status("VmSize:");
             processor.advance_text(&mut Counter::default(), bytes);
-            status("VmSize:") - before
+            let added = status("VmSize:") - before;
+            assert!(added < MEBIBYTE, "{added}");
         }
 
         #[test]
         fn plain_text_adds_less_than_a_mebibyte() {
-            let test = "without_a_limit::measured::plain_text_adds_less_than_a_mebibyte";
-            holds_alone(test, || {
-                let added = added_by(&vec![b'a'; 64 * MEBIBYTE]);
-                assert!(added < MEBIBYTE, "{added}");
-            });
+            holds_alone(|| assert_adds_less_than_a_mebibyte(&vec![b'a'; 64 * MEBIBYTE]));
         }
 
         #[test]
         fn coloured_text_adds_less_than_a_mebibyte() {
-            let test = "without_a_limit::measured::coloured_text_adds_less_than_a_mebibyte";
-            holds_alone(test, || {
-                let line = b"\x1b[1;38:5:9mcoloured\x1b[m text\r\n";
-                let added = added_by(&line.repeat(16 * MEBIBYTE / line.len()));
-                assert!(added < MEBIBYTE, "{added}");
-            });
+            let line = b"\x1b[1;38:5:9mcoloured\x1b[m text\r\n";
+            let lines = line.repeat(16 * MEBIBYTE / line.len());
+            holds_alone(|| assert_adds_less_than_a_mebibyte(&lines));
         }
 
         #[test]
         fn a_long_title_takes_at_most_twice_its_size() {
-            let test = "without_a_limit::measured::a_long_title_takes_at_most_twice_its_size";
-            holds_alone(test, || {
+            holds_alone(|| {
                 let mut title = vec![b'b'; 100 * MEBIBYTE];
                 title[..6].copy_from_slice(b"\x1b]2;a;");
                 title[100 * MEBIBYTE - 1] = 7;
@@ -392,8 +375,7 @@ mod without_a_limit {
 
         #[test]
         fn the_memory_of_a_giant_command_is_given_back() {
-            let test = "without_a_limit::measured::the_memory_of_a_giant_command_is_given_back";
-            holds_alone(test, || {
+            holds_alone(|| {
                 let mut title = vec![b'b'; 32 * MEBIBYTE];
                 title[..4].copy_from_slice(b"\x1b]2;");
                 title[32 * MEBIBYTE - 1] = 7;
@@ -439,54 +421,44 @@ mod without_a_limit {
 
     #[test]
     fn advance_ends_the_program_without_memory() {
-        let test = "without_a_limit::advance_ends_the_program_without_memory";
-        ends_without(6, test, || {
-            Parser::new().advance(&mut Pieces::default(), COMMAND)
-        });
+        ends_without(6, || Parser::new().advance(&mut Pieces::default(), COMMAND));
     }
 
     #[test]
     fn advance_text_ends_the_program_without_memory() {
-        let test = "without_a_limit::advance_text_ends_the_program_without_memory";
-        ends_without(6, test, || {
+        ends_without(6, || {
             Parser::new().advance_text(&mut Pieces::default(), COMMAND);
         });
     }
 
     #[test]
     fn advance_until_terminated_ends_the_program_without_memory() {
-        let test = "without_a_limit::advance_until_terminated_ends_the_program_without_memory";
-        ends_without(6, test, || {
+        ends_without(6, || {
             let _ = Parser::new().advance_until_terminated(&mut Pieces::default(), COMMAND);
         });
     }
 
     #[test]
     fn a_processor_ends_the_program_without_memory() {
-        let test = "without_a_limit::a_processor_ends_the_program_without_memory";
         let mut processor = Processor::<Pending>::new();
-        ends_without(8, test, || {
-            processor.advance(&mut Titles::default(), COMMAND)
-        });
+        ends_without(8, || processor.advance(&mut Titles::default(), COMMAND));
     }
 
     #[test]
     fn a_processor_ends_the_program_without_memory_in_runs() {
-        let test = "without_a_limit::a_processor_ends_the_program_without_memory_in_runs";
         let mut processor = Processor::<Pending>::new();
-        ends_without(8, test, || {
+        ends_without(8, || {
             processor.advance_text(&mut Titles::default(), COMMAND);
         });
     }
 
     #[test]
     fn a_processor_ends_the_program_without_memory_for_a_slice() {
-        let test = "without_a_limit::a_processor_ends_the_program_without_memory_for_a_slice";
         let mut processor = Processor::<Pending>::new();
         let mut titles = Titles::default();
         processor.advance(&mut titles, &[b' '; SLICE]);
         let command = [&b"\x1b]2;"[..], &[b'b'; SLICE]].concat();
-        ends_without(4, test, || processor.advance(&mut titles, &command));
+        ends_without(4, || processor.advance(&mut titles, &command));
     }
 }
 

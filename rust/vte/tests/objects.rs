@@ -1,22 +1,32 @@
 //! What parsers tell performers and ask of them: each method, of a performer and of an object of a
 //! trait.
 
+#[path = "support/tell.rs"]
+mod tell;
+
 use std::cell::RefCell;
 use std::collections::BTreeSet;
 
-use vte::{BoundedParser, Params, Parser, Perform, PerformText};
+use tell::{perform_by_tell, Tell};
+use vte::{BoundedParser, Parser, Perform, PerformText};
 
 const STREAM: &[u8] = b"some text\r\n\x1bP1$q~~\x07\x1b\\\x1b]0;t\x07\x1b[1m";
 
 /// What a performer is told of the stream: text and data alone, in runs, and in runs with layout.
 const SINGLY: &str = "print 's' / print 'o' / print 'm' / print 'e' / print ' ' / print 't' / \
-    print 'e' / print 'x' / print 't' / execute 13 / execute 10 / hook [[1]] [36] false q / \
+    print 'e' / print 'x' / print 't' / execute 13 / execute 10 / hook [1] [36] false q / \
     put 126 / put 126 / put 7 / unhook / esc [] false 92 / osc [[48], [116]] true / \
-    csi [[1]] [] false m";
-const IN_RUNS: &str = "text \"some text\" / execute 13 / execute 10 / hook [[1]] [36] false q / \
-    slice [126, 126, 7] / unhook / esc [] false 92 / osc [[48], [116]] true / csi [[1]] [] false m";
-const WITH_LAYOUT: &str = "text \"some text\\r\\n\" / hook [[1]] [36] false q / \
-    slice [126, 126, 7] / unhook / esc [] false 92 / osc [[48], [116]] true / csi [[1]] [] false m";
+    csi [1] [] false m";
+const IN_RUNS: &str = "text \"some text\" / execute 13 / execute 10 / hook [1] [36] false q / \
+    slice [126, 126, 7] / unhook / esc [] false 92 / osc [[48], [116]] true / csi [1] [] false m";
+const WITH_LAYOUT: &str = "text \"some text\\r\\n\" / hook [1] [36] false q / \
+    slice [126, 126, 7] / unhook / esc [] false 92 / osc [[48], [116]] true / csi [1] [] false m";
+
+/// What comes before a run.
+const NO_RUN: &[u8] = b"\r\xff\x1b[1m\x1bP1q\x1b\\a";
+const UP_TO_RUN: &str =
+    "execute 13 / print '\u{fffd}' / csi [1] [] false m / hook [1] [] false q / \
+    unhook / esc [] false 92";
 
 /// Records what it is told and asked.
 #[derive(Default)]
@@ -27,48 +37,18 @@ struct Records {
     keeps: bool,
 }
 
-impl Perform for Records {
-    fn print(&mut self, c: char) {
-        self.told.push(format!("print {c:?}"));
+impl Tell for Records {
+    fn tell(&mut self, event: String) {
+        self.told.push(event);
     }
 
-    fn execute(&mut self, byte: u8) {
-        self.told.push(format!("execute {byte}"));
-    }
-
-    fn hook(&mut self, params: &Params, bytes: &[u8], ignore: bool, action: char) {
-        let params: Vec<_> = params.iter().collect();
-        self.told
-            .push(format!("hook {params:?} {bytes:?} {ignore} {action}"));
-    }
-
-    fn put(&mut self, byte: u8) {
-        self.told.push(format!("put {byte}"));
-    }
-
-    fn unhook(&mut self) {
-        self.told.push("unhook".to_owned());
-    }
-
-    fn osc_dispatch(&mut self, params: &[&[u8]], bell: bool) {
-        self.told.push(format!("osc {params:?} {bell}"));
-    }
-
-    fn csi_dispatch(&mut self, params: &Params, bytes: &[u8], ignore: bool, action: char) {
-        let params: Vec<_> = params.iter().collect();
-        self.told
-            .push(format!("csi {params:?} {bytes:?} {ignore} {action}"));
-    }
-
-    fn esc_dispatch(&mut self, bytes: &[u8], ignore: bool, byte: u8) {
-        self.told.push(format!("esc {bytes:?} {ignore} {byte}"));
-    }
-
-    fn terminated(&self) -> bool {
+    fn is_over(&self) -> bool {
         self.asked.borrow_mut().insert("terminated");
         self.stop <= self.told.len()
     }
 }
+
+perform_by_tell!(Records);
 
 impl PerformText for Records {
     fn keeps_layout(&self) -> bool {
@@ -123,6 +103,9 @@ fn performers_and_objects_are_told_and_asked_the_same() {
             => SINGLY, "terminated";
         PerformText, true: |it| BoundedParser::<9>::default().advance_until_terminated(it, STREAM)
             => SINGLY, "terminated";
+        Perform, false: |it| Parser::new().advance_to_run(it, NO_RUN) => UP_TO_RUN, "terminated";
+        PerformText, true: |it| BoundedParser::<9>::default().advance_to_run(it, NO_RUN)
+            => UP_TO_RUN, "terminated";
     }
     #[cfg(any(feature = "std", feature = "ansi"))]
     assert_records! {
@@ -131,5 +114,7 @@ fn performers_and_objects_are_told_and_asked_the_same() {
             => WITH_LAYOUT, "keeps_layout";
         Perform, false: |it| vte::LongParser::new().advance_until_terminated(it, STREAM)
             => SINGLY, "terminated";
+        Perform, false: |it| vte::LongParser::new().advance_to_run(it, NO_RUN)
+            => UP_TO_RUN, "terminated";
     }
 }

@@ -7,6 +7,8 @@ use std::fmt::Write;
 use std::mem;
 use std::rc::Rc;
 
+#[cfg(feature = "ansi")]
+use vte::ansi::{Attr, Handler};
 use vte::{Params, Parser, Perform};
 
 /// A text, a control sequence, and a character that is cut.
@@ -28,8 +30,19 @@ impl Perform for Log {
     }
 }
 
-/// Its objects are performers behind a reference or in a box.
-trait Screen: Perform {
+/// A performer and, with `ansi`, a handler.
+#[cfg(not(feature = "ansi"))]
+trait Both: Perform {}
+#[cfg(feature = "ansi")]
+trait Both: Perform + Handler {}
+
+#[cfg(not(feature = "ansi"))]
+impl<P: Perform + ?Sized> Both for P {}
+#[cfg(feature = "ansi")]
+impl<P: Perform + Handler + ?Sized> Both for P {}
+
+/// Its objects are both behind a reference or in a box.
+trait Screen: Both {
     fn written(&self) -> &str;
 }
 
@@ -39,7 +52,7 @@ impl Screen for Log {
     }
 }
 
-/// Its objects are performers themselves.
+/// Its objects are both themselves.
 trait Page {
     fn log(&mut self) -> &mut Log;
 }
@@ -69,7 +82,7 @@ impl<F: FnMut(char)> Perform for Closure<F> {
     }
 }
 
-/// Implements `Perform` for types that pass events on to another performer.
+/// Implements both for types that pass events and calls on to another one.
 macro_rules! pass_on {
     ($([$($generics:tt)*] $type:ty, $this:ident => $performer:expr;)*) => {$(
         impl<$($generics)*> Perform for $type {
@@ -83,6 +96,19 @@ macro_rules! pass_on {
                 $performer.csi_dispatch(params, bytes, ignore, action);
             }
         }
+
+        #[cfg(feature = "ansi")]
+        impl<$($generics)*> Handler for $type {
+            fn input(&mut self, c: char) {
+                let $this = self;
+                $performer.input(c);
+            }
+
+            fn terminal_attribute(&mut self, attribute: Attr) {
+                let $this = self;
+                $performer.terminal_attribute(attribute);
+            }
+        }
     )*};
 }
 
@@ -91,9 +117,9 @@ pass_on! {
     ['a] &mut (dyn Screen + 'a), this => (**this);
     [] Box<dyn Screen>, this => (**this);
     ['a] dyn Page + 'a, this => this.log();
-    ['a, P: Perform + ?Sized] Around<'a, P>, this => this.0;
-    [A, B: Perform] Second<A, B>, this => this.1;
-    [A, B: Perform] &mut Second<A, B>, this => this.1;
+    ['a, P: Both + ?Sized] Around<'a, P>, this => this.0;
+    [A, B: Both] Second<A, B>, this => this.1;
+    [A, B: Both] &mut Second<A, B>, this => this.1;
     [] Shared, this => this.0.borrow_mut();
     [] &Shared, this => this.0.borrow_mut();
 }
@@ -125,40 +151,42 @@ impl Terminal {
 
 pass_on!([] Terminal, this => this.log;);
 
+/// Asserts that each type is passed what is read.
+macro_rules! assert_all_read {
+    ($read:ident) => {
+        let (mut log, shared) = (Log::default(), Shared::default());
+        assert_eq!($read(&mut log).0, WRITTEN);
+        assert_eq!(
+            $read(&mut log as &mut dyn Screen).written(),
+            WRITTEN.repeat(2)
+        );
+        let boxed: Box<dyn Screen> = Box::<Log>::default();
+        assert_eq!($read(boxed).written(), WRITTEN);
+        assert_eq!(
+            $read(Around(&mut log as &mut dyn Page)).0.log().0,
+            WRITTEN.repeat(3)
+        );
+        assert_eq!(
+            $read(Around(&mut Around(&mut log))).0 .0 .0,
+            WRITTEN.repeat(4)
+        );
+        assert_eq!($read(Second((), Log::default())).1 .0, WRITTEN);
+        let mut second = Second(0, Second(1, Log::default()));
+        assert_eq!($read(&mut second).1 .1 .0, WRITTEN);
+        $read(&shared);
+        assert_eq!($read(shared).0.borrow().0, WRITTEN.repeat(2));
+        let mut characters = String::new();
+        $read(Closure(|c| characters.push(c)));
+        assert_eq!(characters, "ab\u{e9}");
+        let mut all: [Box<dyn Both>; 2] = [Box::new(log), Box::new(Closure(drop))];
+        for object in &mut all {
+            $read(Around(&mut **object));
+        }
+    };
+}
+
 fn read_by_performers() {
-    let (mut log, shared) = (Log::default(), Shared::default());
-    assert_eq!(read(&mut log).0, WRITTEN);
-    assert_eq!(
-        read(&mut Log::default() as &mut dyn Screen).written(),
-        WRITTEN
-    );
-    assert_eq!(
-        read(Box::new(Log::default()) as Box<dyn Screen>).written(),
-        WRITTEN
-    );
-    assert_eq!(
-        read(Around(&mut Log::default() as &mut dyn Page)).0.log().0,
-        WRITTEN
-    );
-    assert_eq!(
-        read(Around(&mut Around(&mut Log::default()))).0 .0 .0,
-        WRITTEN
-    );
-    assert_eq!(read(Second((), Log::default())).1 .0, WRITTEN);
-    assert_eq!(
-        read(&mut Second(0, Second(1, Log::default()))).1 .1 .0,
-        WRITTEN
-    );
-    read(&shared);
-    assert_eq!(mem::take(&mut *shared.0.borrow_mut()).0, WRITTEN);
-    assert_eq!(read(shared).0.borrow().0, WRITTEN);
-    let mut characters = String::new();
-    read(Closure(|c| characters.push(c)));
-    assert_eq!(characters, "ab\u{e9}");
-    let mut all: Vec<Box<dyn Perform>> = vec![Box::new(Log::default()), Box::new(Closure(drop))];
-    for performer in &mut all {
-        read(Around(&mut **performer));
-    }
+    assert_all_read!(read);
     let mut terminal = Terminal::default();
     for piece in PIECES {
         terminal.advance(piece);
@@ -172,7 +200,7 @@ mod handlers {
 
     use vte::ansi::{Attr, Color, Handler, Processor, Timeout};
 
-    use super::{Around, Closure, Log, Second, Shared, PIECES, WRITTEN};
+    use super::{Around, Both, Closure, Log, Page, Screen, Second, Shared, PIECES, WRITTEN};
 
     impl Handler for Log {
         fn input(&mut self, c: char) {
@@ -188,49 +216,10 @@ mod handlers {
         }
     }
 
-    /// Its objects are handlers behind a reference or in a box.
-    trait Screen: Handler {
-        fn written(&self) -> &str;
-    }
-
-    impl Screen for Log {
-        fn written(&self) -> &str {
-            &self.0
-        }
-    }
-
     impl<F: FnMut(char)> Handler for Closure<F> {
         fn input(&mut self, c: char) {
             (self.0)(c);
         }
-    }
-
-    macro_rules! pass_on {
-        ($([$($generics:tt)*] $type:ty, $this:ident => $handler:expr;)*) => {$(
-            impl<$($generics)*> Handler for $type {
-                fn input(&mut self, c: char) {
-                    let $this = self;
-                    $handler.input(c);
-                }
-
-                fn terminal_attribute(&mut self, attribute: Attr) {
-                    let $this = self;
-                    $handler.terminal_attribute(attribute);
-                }
-            }
-        )*};
-    }
-
-    pass_on! {
-        [] &mut Log, this => (**this);
-        ['a] &mut (dyn Screen + 'a), this => (**this);
-        [] Box<dyn Screen>, this => (**this);
-        ['a] dyn super::Page + 'a, this => this.log();
-        ['a, H: Handler + ?Sized] Around<'a, H>, this => this.0;
-        [A, B: Handler] Second<A, B>, this => this.1;
-        [A, B: Handler] &mut Second<A, B>, this => this.1;
-        [] Shared, this => this.0.borrow_mut();
-        [] &Shared, this => this.0.borrow_mut();
     }
 
     #[derive(Default)]
@@ -267,33 +256,7 @@ mod handlers {
     }
 
     pub fn read_by_handlers() {
-        let (mut log, shared) = (Log::default(), Shared::default());
-        assert_eq!(read(&mut log).0, WRITTEN);
-        assert_eq!(
-            read(&mut Log::default() as &mut dyn Screen).written(),
-            WRITTEN
-        );
-        assert_eq!(
-            read(Box::new(Log::default()) as Box<dyn Screen>).written(),
-            WRITTEN
-        );
-        assert_eq!(
-            read(Around(&mut Log::default() as &mut dyn super::Page))
-                .0
-                .log()
-                .0,
-            WRITTEN
-        );
-        assert_eq!(read(Second((), Log::default())).1 .0, WRITTEN);
-        assert_eq!(
-            read(&mut Second(0, Second(1, Log::default()))).1 .1 .0,
-            WRITTEN
-        );
-        read(&shared);
-        assert_eq!(read(shared).0.borrow().0, WRITTEN.repeat(2));
-        let mut characters = String::new();
-        read(Closure(|c| characters.push(c)));
-        assert_eq!(characters, "ab\u{e9}");
+        assert_all_read!(read);
     }
 }
 

@@ -90,46 +90,23 @@ impl Received {
     }
 }
 
+/// Asserts that a processor passes text in runs to a handler.
+macro_rules! assert_passes_runs {
+    ($new:expr, $received:ident => $handler:expr) => {
+        let (mut $received, mut processor) = (Received::default(), $new);
+        let _ = processor.advance_text($handler, STREAM);
+        $received.assert_runs(&["before it"]);
+        processor.stop_sync_text($handler);
+        $received.assert_runs(&["before it", "inside it"]);
+    };
+}
+
 #[test]
 fn processors_pass_text_in_runs() {
-    let (mut received, mut processor) = (Received::default(), Processor::<Pending>::new());
-    processor.advance_text(&mut received, STREAM);
-    received.assert_runs(&["before it"]);
-    processor.stop_sync_text(&mut received);
-    received.assert_runs(&["before it", "inside it"]);
-}
-
-#[test]
-fn processors_of_lent_texts_do_too() {
-    let (mut received, mut processor) = (Received::default(), Processor::<Pending>::new());
-    processor.advance_text(&mut Lent(&mut received), STREAM);
-    received.assert_runs(&["before it"]);
-    processor.stop_sync_text(&mut Lent(&mut received));
-    received.assert_runs(&["before it", "inside it"]);
-}
-
-#[test]
-fn long_processors_do_too() {
-    let processor = lent::LongProcessor::new(Pending::default());
-    let (mut received, mut processor) = (Received::default(), processor.expect("memory"));
-    assert_eq!(processor.advance_text(&mut received, STREAM), Ok(()));
-    received.assert_runs(&["before it"]);
-    processor.stop_sync_text(&mut received);
-    received.assert_runs(&["before it", "inside it"]);
-}
-
-#[test]
-fn parsers_do_too() {
-    let (mut received, mut parser) = (Received::default(), Parser::new());
-    parser.advance_text(&mut received, b"all of it");
-    received.assert_runs(&["all of it"]);
-}
-
-#[test]
-fn long_parsers_do_too() {
-    let (mut received, mut parser) = (Received::default(), LongParser::new());
-    assert_eq!(parser.advance_text(&mut received, b"all of it"), Ok(()));
-    received.assert_runs(&["all of it"]);
+    assert_passes_runs!(Processor::<Pending>::new(), it => &mut it);
+    assert_passes_runs!(Processor::<Pending>::new(), it => &mut Lent(&mut it));
+    let new = || lent::LongProcessor::new(Pending::default());
+    assert_passes_runs!(new().expect("memory"), it => &mut it);
 }
 
 /// Text with HT, LF and CR, and the other controls.
@@ -165,8 +142,11 @@ fn line_ends_are_in_the_runs_of_those_who_keep_them() {
     ] {
         let (mut lines, text) = (Lines::default(), line.repeat(100));
         Parser::new().advance_text(&mut lines, text.as_bytes());
-        assert_eq!(lines.runs, [text]);
-        assert_eq!(lines.alone, []);
+        assert_eq!((lines.runs, lines.alone), (vec![text.clone()], vec![]));
+        // without line ends one run will do for others, too
+        let (mut received, plain) = (Received::default(), text.replace(['\t', '\n', '\r'], ""));
+        Parser::new().advance_text(&mut received, plain.as_bytes());
+        received.assert_runs(&[&plain]);
     }
 }
 

@@ -1,7 +1,11 @@
 //! Early stops between runs of text.
 #![cfg(all(feature = "std", feature = "__own"))]
 
-use vte::{BoundedParser, LongParser, Own, Params, Parser, Perform, PerformText};
+#[path = "support/tell.rs"]
+mod tell;
+
+use tell::{perform_by_tell, Tell};
+use vte::{BoundedParser, LongParser, Own, Parser, Perform, PerformText};
 
 /// Each kind of event, with runs of one byte, two and three bytes per character, and malformed
 /// bytes among them.
@@ -32,7 +36,14 @@ impl Events {
         }
     }
 
-    fn push(&mut self, event: String) {
+    /// The events, and the text after the last.
+    fn told(&self) -> (&[String], &str) {
+        (&self.all, &self.text)
+    }
+}
+
+impl Tell for Events {
+    fn tell(&mut self, event: String) {
         if !self.text.is_empty() {
             self.all.push(format!("text {}", self.text));
             self.text.clear();
@@ -41,59 +52,16 @@ impl Events {
         self.others += 1;
     }
 
-    /// The events, and the text after the last.
-    fn told(&self) -> (&[String], &str) {
-        (&self.all, &self.text)
-    }
-}
-
-fn groups(params: &Params) -> Vec<&[u16]> {
-    params.iter().collect()
-}
-
-impl Perform for Events {
-    fn print(&mut self, c: char) {
+    fn tell_character(&mut self, c: char) {
         self.text.push(c);
     }
 
-    fn execute(&mut self, byte: u8) {
-        self.push(format!("execute {byte:02x}"));
-    }
-
-    fn hook(&mut self, params: &Params, intermediates: &[u8], ignore: bool, action: char) {
-        let params = groups(params);
-        self.push(format!(
-            "hook {params:?} {intermediates:?} {ignore} {action}"
-        ));
-    }
-
-    fn put(&mut self, byte: u8) {
-        self.push(format!("put {byte:02x}"));
-    }
-
-    fn unhook(&mut self) {
-        self.push("unhook".to_owned());
-    }
-
-    fn osc_dispatch(&mut self, params: &[&[u8]], bell_terminated: bool) {
-        self.push(format!("osc {params:?} {bell_terminated}"));
-    }
-
-    fn csi_dispatch(&mut self, params: &Params, intermediates: &[u8], ignore: bool, action: char) {
-        let params = groups(params);
-        self.push(format!(
-            "csi {params:?} {intermediates:?} {ignore} {action}"
-        ));
-    }
-
-    fn esc_dispatch(&mut self, intermediates: &[u8], ignore: bool, byte: u8) {
-        self.push(format!("esc {intermediates:?} {ignore} {byte:02x}"));
-    }
-
-    fn terminated(&self) -> bool {
+    fn is_over(&self) -> bool {
         matches!(self.stop, Some(stop) if stop <= self.others)
     }
 }
+
+perform_by_tell!(Events);
 
 impl PerformText for Events {
     fn print_text(&mut self, text: &str) {

@@ -2,9 +2,12 @@
 //! one of `std`, and panics.
 #[cfg(feature = "ansi")]
 mod support;
+#[path = "support/tell.rs"]
+mod tell;
 
 use std::panic::{AssertUnwindSafe, RefUnwindSafe, UnwindSafe};
 
+use tell::{perform_by_tell, Tell};
 use vte::{BoundedParser, Params, ParamsIter, Parser};
 
 /// Compiles if the type has all of these.
@@ -102,57 +105,21 @@ fn debug_of_processors_says_how_much_they_hold() {
     );
 }
 
-/// Panics at the last of so many events. It has all nine methods of a performer.
+/// Panics at the last of so many events.
 struct Panics(usize);
 
-impl Panics {
-    fn event(&mut self) {
+impl Tell for Panics {
+    fn tell(&mut self, _: String) {
         self.0 = self.0.checked_sub(1).expect("no panic before");
         assert!(self.0 > 0, "a panic");
     }
 }
 
-impl vte::Perform for Panics {
-    fn print(&mut self, _: char) {
-        self.event();
-    }
-
-    fn execute(&mut self, _: u8) {
-        self.event();
-    }
-
-    fn hook(&mut self, _: &Params, _: &[u8], _: bool, _: char) {
-        self.event();
-    }
-
-    fn put(&mut self, _: u8) {
-        self.event();
-    }
-
-    fn unhook(&mut self) {
-        self.event();
-    }
-
-    fn osc_dispatch(&mut self, _: &[&[u8]], _: bool) {
-        self.event();
-    }
-
-    fn csi_dispatch(&mut self, _: &Params, _: &[u8], _: bool, _: char) {
-        self.event();
-    }
-
-    fn esc_dispatch(&mut self, _: &[u8], _: bool, _: u8) {
-        self.event();
-    }
-
-    fn terminated(&self) -> bool {
-        false
-    }
-}
+perform_by_tell!(Panics);
 
 impl vte::PerformText for Panics {
     fn print_text(&mut self, text: &str) {
-        text.chars().for_each(|_| self.event());
+        text.chars().for_each(|c| self.tell_character(c));
     }
 }
 

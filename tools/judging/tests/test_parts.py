@@ -8,7 +8,7 @@ from types import SimpleNamespace
 
 import pytest
 from judging import candidate, definition, formats, house, reference, report, shrinking, views
-from judging.cases import Case
+from judging.cases import Case, all_cases
 from judging.classes import Difference
 from judging.judgement import Finding, Judgement
 from judging.rules import ALONE, CUT, RULES
@@ -114,6 +114,14 @@ def test_cases_are_read_as_shown():
         assert report.bytes_shown(report.shown_bytes(pieces)) == pieces
         shown = report.shown_case(Difference(pieces, [], [], ([b"b", b"c"], [b"d"])))
         assert report.case_shown(shown) == [[b"b", b"c"], [b"d"], pieces]
+
+
+@pytest.mark.parametrize("kind, name", [
+    ("vectors", "vector "), ("random", "stream "), ("recorded", "recorded stream ")])
+def test_kinds_of_streams_and_their_seeds(kind, name):
+    some, others = ([*all_cases([kind], seed, 6)] for seed in "12")
+    assert some and all(case.name.startswith(name) for case in some)
+    assert (some == others) == (kind == "vectors")
 
 
 @pytest.mark.parametrize("pieces, shown", [

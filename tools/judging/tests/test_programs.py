@@ -64,6 +64,7 @@ def test_what_decides_is_in_the_command(judge, vtlog):
     (1, "--case '0e / 61'", {"fault": "stateful"}, "NEW   kept-state"),
     (0, "--format json --case 61", {}, '"different": 0'),
     (0, "--format junit", {}, '<testsuite name="judge, seed 1"'), (0, "--seed 7", {}, "; seed 7"),
+    (1, "--seed 7", {"fault": "largest=9"}, "of seed 7"),
     (0, "--streams recorded", {}, f"{len([*from_recordings('1')])} streams, 0 differ"),
     (0, "--timeout 99.5", {}, "0 differ"),
     (0, "--case 61", {"fault": "stateful"}, "no difference")])
@@ -87,12 +88,13 @@ def test_a_program_that_passes_a_limit_is_a_difference(judge_toy, fault, ends):
 
 
 @pytest.mark.parametrize("pieces", ["", "--pieces"])
-@pytest.mark.parametrize("command, seconds, told", [
-    (["sh", "-c", "exit 3"], 120, "(crash: status 3)"),
-    (["sh", "-c", "kill -9 $$"], 120, "(crash: signal 9)"),
-    (["sleep", "9"], 0.5, "(hang: no answer in time)")])
-def test_a_program_that_fails_is_a_difference(judge, pieces, command, seconds, told):
-    assert told in judge(1, *pieces.split(), "--timeout", seconds, "--case", "61", *command)
+@pytest.mark.parametrize("command, words, told", [
+    (["sh", "-c", "exit 3"], "--timeout 120", "(crash: status 3)"),
+    (["sh", "-c", "kill -9 $$"], "--timeout 120", "(crash: signal 9)"),
+    (["sleep", "9"], "--timeout 0.5", "(hang: no answer in time)"),
+    (["sleep", "600"], "--timeout 600 --memory 0", "(memory: more than 0 MiB)")])
+def test_a_program_that_fails_is_a_difference(judge, pieces, command, words, told):
+    assert told in judge(1, *pieces.split(), *words.split(), "--case", "61", *command)
 
 
 # of one case, and of the first stream, which ends the judge if it has no answer

@@ -47,8 +47,14 @@ fn titles_of(count: usize, _: bool) -> Vec<Row> {
     let whole = format!("ab;{}\u{e9}", text(count - 5));
     let front_of = format!("ab;{}", text(kept - 3));
     let ending = up_to_limit(count, whole.clone(), "ab".to_owned(), front_of);
+    let semicolons = ";".repeat(14);
     vec![
         row(format!("2;{}", text(count - 1)), title(text(kept - 1))),
+        // they don't count
+        row(
+            format!("2;{semicolons}{}", text(count - 1)),
+            title(semicolons + &text(kept - 1)),
+        ),
         row(format!("0;{}", joined(count)), title(joined(kept))),
         row(
             format!("2;{};;", text(count - 1)),

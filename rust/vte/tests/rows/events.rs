@@ -1,6 +1,6 @@
 //! Vectors of events, and of stops, which are calls that stop early.
 
-use vte::{parts, BoundedParser, Parser, PerformText};
+use vte::{parts, BoundedParser, Parser, Perform, PerformText};
 
 use crate::event_lines::{EventLines, Stop};
 use crate::vectors::{cuttings, vectors, Value};
@@ -29,120 +29,58 @@ fn events_of_next(row: &str) -> String {
     format!("{of_z}\nesc - false 63\n")
 }
 
-/// The events of a stream in pieces, by a parser that is passed one piece after the other, and then
-/// those of `NEXT`.
-fn events_by<const KEEPS: bool>(
-    mut advance: impl FnMut(&mut EventLines<KEEPS>, &[u8]),
-    pieces: &[&[u8]],
-) -> [String; 2] {
-    let mut lines = EventLines::new(Stop::Never);
-    for piece in pieces {
-        advance(&mut lines, piece);
+/// Returns what reads a stream in pieces by copies of a parser, and then `NEXT`: the events of both.
+fn by<P: Clone, const KEEPS: bool>(
+    parser: P,
+    advance: impl Fn(&mut P, &mut EventLines<KEEPS>, &[u8]),
+) -> impl Fn(&[&[u8]]) -> [String; 2] {
+    move |pieces| {
+        let (mut parser, mut lines) = (parser.clone(), EventLines::new(Stop::Never));
+        for piece in pieces {
+            advance(&mut parser, &mut lines, piece);
+        }
+        let events = lines.text.split_off(0);
+        advance(&mut parser, &mut lines, NEXT);
+        [events, lines.text]
     }
-    let events = lines.text.split_off(0);
-    advance(&mut lines, NEXT);
-    [events, lines.text]
 }
 
-fn events_of(pieces: &[&[u8]]) -> [String; 2] {
-    let mut parser = Parser::new();
-    let read = |lines: &mut EventLines, piece: &[u8]| parser.advance(lines, piece);
-    events_by(read, pieces)
+/// Advances, and is asked to stop.
+fn advance_all<P: Perform + ?Sized>(parser: &mut Parser, performer: &mut P, bytes: &[u8]) {
+    let read = parser.advance_until_terminated(performer, bytes);
+    assert_eq!(read, bytes.len());
 }
 
-fn events_in_runs_of(pieces: &[&[u8]]) -> [String; 2] {
-    let mut parser = Parser::new();
-    let read = |lines: &mut EventLines, piece: &[u8]| parser.advance_text(lines, piece);
-    events_by(read, pieces)
+fn events_of(stream: &[u8]) -> String {
+    let [events, _] = by::<_, false>(Parser::new(), Parser::advance)(&[stream]);
+    events
 }
 
-/// The same by a performer of which the parser knows only the trait, in each of two ways.
-fn events_by_object_of<const IN_RUNS: bool>(pieces: &[&[u8]]) -> [String; 2] {
-    let mut parser = Parser::new();
-    let read = |lines: &mut EventLines, piece: &[u8]| {
-        let lines: &mut dyn PerformText = lines;
-        if IN_RUNS {
-            parser.advance_text(lines, piece);
-        } else {
-            let read = parser.advance_until_terminated(lines, piece);
-            assert_eq!(read, piece.len());
-        }
-    };
-    events_by(read, pieces)
-}
-
-fn bounded_events_of<const N: usize>(pieces: &[&[u8]]) -> [String; 2] {
-    let mut parser = BoundedParser::<N>::default();
-    let read = |lines: &mut EventLines, piece: &[u8]| parser.advance(lines, piece);
-    events_by(read, pieces)
-}
-
-fn bounded_events_in_runs_of<const N: usize>(pieces: &[&[u8]]) -> [String; 2] {
-    let mut parser = BoundedParser::<N>::default();
-    let read = |lines: &mut EventLines, piece: &[u8]| parser.advance_text(lines, piece);
-    events_by(read, pieces)
-}
-
-/// The same by a performer that keeps HT, LF and CR in its runs.
-fn events_in_lines_of(pieces: &[&[u8]]) -> [String; 2] {
-    let mut parser = Parser::new();
-    let read = |lines: &mut EventLines<true>, piece: &[u8]| parser.advance_text(lines, piece);
-    events_by(read, pieces)
-}
-
-/// The same by both methods in turn, which leave the parser in the same state.
-fn events_in_turn_of(pieces: &[&[u8]]) -> [String; 2] {
-    let (mut parser, mut is_in_runs) = (Parser::new(), false);
-    let read = |lines: &mut EventLines, piece: &[u8]| {
-        is_in_runs = !is_in_runs;
-        if is_in_runs {
-            parser.advance_text(lines, piece);
-        } else {
-            parser.advance(lines, piece);
-        }
-    };
-    events_by(read, pieces)
-}
-
-fn unterminated_events_of(pieces: &[&[u8]]) -> [String; 2] {
-    let mut parser = Parser::new();
-    let read = |lines: &mut EventLines, piece: &[u8]| {
-        assert_eq!(parser.advance_until_terminated(lines, piece), piece.len());
-    };
-    events_by(read, pieces)
-}
-
-#[cfg(any(feature = "std", feature = "ansi"))]
-fn long_events_of(pieces: &[&[u8]]) -> [String; 2] {
-    let mut parser = vte::LongParser::new();
-    let read = |lines: &mut EventLines, piece: &[u8]| parser.advance(lines, piece).unwrap();
-    events_by(read, pieces)
-}
-
-#[cfg(any(feature = "std", feature = "ansi"))]
-fn long_events_in_runs_of(pieces: &[&[u8]]) -> [String; 2] {
-    let mut parser = vte::LongParser::new();
-    let read = |lines: &mut EventLines, piece: &[u8]| parser.advance_text(lines, piece).unwrap();
-    events_by(read, pieces)
-}
-
-fn check_stream(row: &Value, events_of: fn(&[&[u8]]) -> [String; 2]) {
+fn check_stream(row: &Value, events_of: impl Fn(&[&[u8]]) -> [String; 2]) {
     let (pieces, name) = (row.pieces(), row.text("name"));
     let pieces: Vec<&[u8]> = pieces.iter().map(Vec::as_slice).collect();
     let stream = pieces.concat();
     let events = [row.events(), events_of_next(name)];
-    assert!(events_of(&pieces) == events, "{name}");
-    assert!(events_of(&[&stream]) == events, "{name}, whole");
-    for cutting in cuttings(&stream) {
-        let (count, first) = (
-            cutting.len(),
-            cutting.first().map_or(0, |piece| piece.len()),
-        );
-        assert!(
-            events_of(&cutting) == events,
-            "{name} in {count} pieces, the first of {first} bytes"
-        );
+    for cutting in [pieces, vec![&stream]].into_iter().chain(cuttings(&stream)) {
+        let lengths: Vec<_> = cutting.iter().map(|piece| piece.len()).take(9).collect();
+        assert!(events_of(&cutting) == events, "{name} in {lengths:?}");
     }
+}
+
+#[cfg(any(feature = "std", feature = "ansi"))]
+fn check_long(row: &Value) {
+    use vte::LongParser;
+    let long = LongParser::new;
+    check_stream(
+        row,
+        by::<_, false>(long(), |it, lines, piece| it.advance(lines, piece).unwrap()),
+    );
+    check_stream(
+        row,
+        by::<_, false>(long(), |it, lines, piece| {
+            it.advance_text(lines, piece).unwrap()
+        }),
+    );
 }
 
 /// Whether a stream may have a command with more data bytes than are kept.
@@ -176,23 +114,45 @@ fn streams_for_all() -> Vec<Value> {
 #[test]
 fn streams_give_their_events() {
     for row in streams_for_all() {
-        check_stream(&row, events_of);
-        check_stream(&row, unterminated_events_of);
-        check_stream(&row, events_by_object_of::<false>);
+        check_stream(&row, by::<_, false>(Parser::new(), Parser::advance));
+        check_stream(&row, by::<_, false>(Parser::new(), advance_all));
+        // a performer of which the parser knows only the trait
+        check_stream(
+            &row,
+            by::<_, false>(Parser::new(), |it, lines, piece| {
+                advance_all(it, lines as &mut dyn PerformText, piece);
+            }),
+        );
         #[cfg(any(feature = "std", feature = "ansi"))]
-        check_stream(&row, long_events_of);
+        check_long(&row);
     }
 }
 
 #[test]
 fn streams_give_their_events_in_runs() {
     for row in streams_for_all() {
-        check_stream(&row, events_in_runs_of);
-        check_stream(&row, events_by_object_of::<true>);
-        check_stream(&row, events_in_lines_of);
-        check_stream(&row, events_in_turn_of);
-        #[cfg(any(feature = "std", feature = "ansi"))]
-        check_stream(&row, long_events_in_runs_of);
+        check_stream(&row, by::<_, false>(Parser::new(), Parser::advance_text));
+        // a performer that keeps HT, LF and CR in its runs
+        check_stream(&row, by::<_, true>(Parser::new(), Parser::advance_text));
+        check_stream(
+            &row,
+            by::<_, false>(Parser::new(), |it, lines, piece| {
+                it.advance_text(lines as &mut dyn PerformText, piece);
+            }),
+        );
+        // both methods in turn, which leave the parser in the same state
+        let turns = (Parser::new(), false);
+        check_stream(
+            &row,
+            by::<_, false>(turns, |(it, is_in_runs), lines, piece| {
+                *is_in_runs = !*is_in_runs;
+                if *is_in_runs {
+                    it.advance_text(lines, piece);
+                } else {
+                    it.advance(lines, piece);
+                }
+            }),
+        );
     }
 }
 
@@ -202,14 +162,14 @@ fn commands_without_a_limit_are_kept() {
     let rows: Vec<_> = streams().filter(|(_, size)| size.is_none()).collect();
     assert!(!rows.is_empty());
     for (row, _) in rows {
-        check_stream(&row, long_events_of);
-        check_stream(&row, long_events_in_runs_of);
+        check_long(&row);
     }
 }
 
 fn check_both<const N: usize>(row: &Value) {
-    check_stream(row, bounded_events_of::<N>);
-    check_stream(row, bounded_events_in_runs_of::<N>);
+    let new = BoundedParser::<N>::default;
+    check_stream(row, by::<_, false>(new(), BoundedParser::advance));
+    check_stream(row, by::<_, false>(new(), BoundedParser::advance_text));
 }
 
 #[test]
@@ -236,12 +196,7 @@ fn parts_give_the_events_of_their_stream() {
     for row in &rows {
         let stream = row.pieces().concat();
         for size in 0..stream.len().min(40) {
-            let lines: String = parts(&stream, size)
-                .map(|part| {
-                    let [events, _] = events_of(&[part]);
-                    events
-                })
-                .collect();
+            let lines: String = parts(&stream, size).map(events_of).collect();
             assert_eq!(lines, row.events(), "{}, {size}", row.text("name"));
         }
     }
@@ -255,11 +210,11 @@ fn parts_give_the_events_of_their_stream() {
 fn a_part_without_the_next_escape_lacks_events() {
     let stream = b"caf\xc3\x1b[1m!";
     assert_eq!(
-        events_of(&[&stream[..5]])[0],
+        events_of(&stream[..5]),
         "print 0063\nprint 0061\nprint 0066\nprint fffd\n"
     );
     assert_eq!(
-        events_of(&[&stream[..4]])[0],
+        events_of(&stream[..4]),
         "print 0063\nprint 0061\nprint 0066\n"
     );
 }

@@ -53,12 +53,15 @@ pub fn refused<T>(answer: impl FnOnce() -> T) -> T {
     answer
 }
 
-/// Runs the test with this name alone, in a program of its own, which does this. Returns what it
-/// said, or `None` in that program.
-fn alone(test: &str, call: impl FnOnce()) -> Option<Output> {
+/// Runs the test that has this closure alone, in a program of its own, which calls it by this
+/// function. Returns what it said, or `None` in that program.
+fn alone<F: FnOnce()>(call: F, by: fn(F)) -> Option<Output> {
     const WHICH: &str = "VTE_TEST_ALONE";
+    // without the crate's name
+    let (_, place) = std::any::type_name::<F>().split_once("::").unwrap();
+    let test = place.split("::{{").next().unwrap();
     if std::env::var_os(WHICH).is_some() {
-        call();
+        by(call);
         return None;
     }
     let output = Command::new(std::env::current_exe().unwrap())
@@ -71,8 +74,8 @@ fn alone(test: &str, call: impl FnOnce()) -> Option<Output> {
 /// Checks something that the memory of other tests would change, in a program of its own.
 #[cfg(target_os = "linux")]
 #[allow(dead_code)]
-pub fn holds_alone(test: &str, check: impl FnOnce()) {
-    if let Some(output) = alone(test, check) {
+pub fn holds_alone(check: impl FnOnce()) {
+    if let Some(output) = alone(check, |check| check()) {
         let counts = String::from_utf8_lossy(&output.stdout);
         let said = String::from_utf8_lossy(&output.stderr);
         assert!(counts.contains("1 passed"), "{said}");
@@ -89,11 +92,10 @@ pub fn status(name: &str) -> usize {
     kilobytes.parse::<usize>().unwrap() * 1024
 }
 
-/// Checks that a call ends the program if it is refused memory, with this number of bytes in the
-/// message. The program that ends is another one: that of the test with this name, run for it
-/// alone.
-pub fn ends_without(count: usize, test: &str, call: impl FnOnce()) {
-    let output = match alone(test, || refused(call)) {
+/// Checks that a call ends the program, another one, if it is refused memory, with this number of
+/// bytes in the message.
+pub fn ends_without(count: usize, call: impl FnOnce()) {
+    let output = match alone(call, refused) {
         Some(output) => output,
         None => return,
     };

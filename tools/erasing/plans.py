@@ -40,7 +40,7 @@ VTE = Plan(
              "arrayvec::ArrayString": "crate::adapter::array_string::ArrayString",
              "memchr::memchr": "crate::prelude::memchr"},
     homes={"crate::prelude": "String Vec first_chunk", "crate::adapter::array_vec": "Element",
-           "crate::proved::vte_core::scan": "Reader text up_to"},
+           "crate::proved::vte_core::reader": "Reader text up_to"},
     rules=READER + ALLOCATORS + UNSIZED,
 )
 

@@ -19,16 +19,17 @@ from tests.support import TOOLS, Tool, run_here, write
 
 @pytest.mark.parametrize("place, text, told, allowed", [
     ("crates/x/src/lib.rt", "fn f() { unsafe { g() } } // unsafe, as unsafe_code is", "1 f", "0"),
-    ("old/crates/vte_core/src/scan.rt", "fn text() { unsafe { g() } }", "1 text", "0"),
-    ("crates/vte_core/src/scan.rt", "fn text() { unsafe { g() } }", "1 text", "1 text"),
-    ("crates/vte_core/src/scan.rt", "fn text() {} fn g() { unsafe { h() } }", "1 g", "1 text"),
-    ("crates/vte_core/src/scan.rt", "fn text() { unsafe { unsafe } }", "2 text", "1 text"),
-    ("crates/vte_core/src/scan.rt", "", "0", "1 text"),
+    ("old/crates/vte_core/src/reader.rt", "fn text() { unsafe { g() } }", "1 text", "0"),
+    ("crates/vte_core/src/reader.rt", "fn text() { unsafe { g() } }", "1 text", "1 text"),
+    ("crates/vte_core/src/reader.rt", "fn text() {} fn g() { unsafe { h() } }", "1 g",
+     "1 text"),
+    ("crates/vte_core/src/reader.rt", "fn text() { unsafe { unsafe } }", "2 text", "1 text"),
+    ("crates/vte_core/src/reader.rt", "", "0", "1 text"),
     # a call of `text` says why it is right, so `text` isn't safe to call
-    ("rust/vte/src/proved/vte_core/scan.rs", "fn text() { unsafe {} } unsafe fn take_run() { "
+    ("rust/vte/src/proved/vte_core/reader.rs", "fn text() { unsafe {} } unsafe fn take_run() { "
      "unsafe { text() } }", "3 text take_run", "4 text take_run"),
-    ("rust/vte/src/proved/vte_core/scan/calls.rs", "fn advance_to_run() { take_run(bytes, range) }",
-     "0", "1 advance_to_run"),
+    ("rust/vte/src/proved/vte_core/reader/calls.rs",
+     "fn advance_to_run() { take_run(bytes, range) }", "0", "1 advance_to_run"),
     ("a.rs", "unsafe #[unsafe(no_mangle)]\npub extern \"C\" fn f() {} unsafe impl T for U {} "
      "pub unsafe extern \"C\" fn g(h: unsafe fn()) { unsafe {} } macro_rules! m { unsafe }",
      "7 - f T g m", "0"),
@@ -54,18 +55,22 @@ def test_files_that_are_not_trusted(place, text, told):
 
 
 @pytest.mark.parametrize("place, line, told", [
-    ("scan.rt", "    fn new(bytes: &'a [u8]) -> Self", ""),
-    ("scan.rt", "    pub(crate) fn new(bytes: &'a [u8])", "other modules can make a reader"),
-    ("scan.rt", "    pub trail: Snapshot<Trail>,", "other modules can make a reader"),
+    ("reader.rt", "    fn new(bytes: &'a [u8]) -> Self", ""),
+    ("reader.rt", "    pub(crate) fn new(bytes: &'a [u8])", "other modules can make a reader"),
+    ("reader.rt", "    pub trail: Snapshot<Trail>,", "other modules can make a reader"),
     ("parser.rt", "    pub(crate) fn new(bytes: B) -> Self", ""),
-    ("scan/calls.rt", "self.drive::<P, InRuns, true>(performer, Chunk::new(bytes)) // bytes", ""),
-    ("scan/long_calls.rt", "Ok(take_run(bytes, range))", ""),
-    ("scan/calls.rt", "for byte in bytes {}", "the bytes of a call are used"),
-    ("scan/long_calls.rt", "f(bytes); Chunk::new(bytes)", "the bytes of a call are used"),
-    ("scan/calls.rt", "let (reader, input) = Chunk::new(bytes).open();",
+    ("reader/calls.rt", "self.drive::<P, InRuns, true>(performer, Chunk::new(bytes)) // bytes", ""),
+    ("reader/long_calls.rt", "Ok(take_run(bytes, range))", ""),
+    ("reader/calls.rt", "for byte in bytes {}", "the bytes of a call are used"),
+    ("reader/long_calls.rt", "f(bytes); Chunk::new(bytes)", "the bytes of a call are used"),
+    ("reader/calls.rt", "let (reader, input) = Chunk::new(bytes).open();",
      "the bytes of a call are used"),
-    ("scan/calls.rt", "let run = take_run(bytes, range);", "the bytes of a call are used"),
-    ("scan/calls.rt", "    pub fn advance(&mut self, data: &[u8])", "the bytes of a call are used"),
+    ("reader/calls.rt", "let run = take_run(bytes, range);", "the bytes of a call are used"),
+    ("reader/calls.rt", "    pub fn advance(&mut self, data: &[u8])",
+     "the bytes of a call are used"),
+    ("reader/run_end.rt", "if input.bytes[at] == 0 {", "bytes are read uncounted"),
+    ("reader/run_blocks.rt", "self.add(0);", "bytes are read uncounted"),
+    ("reader/run_end.rt", "requires in { to ≤ length input.bytes.now }", ""),
 ])
 def test_reading_uncounted(place, line, told):
     place = f"crates/vte_core/src/{place}"

@@ -60,5 +60,5 @@ pub use Rattle.vte_types.specs.Words.{after_word}
 pub use Rattle.vte.specs.Titles.{joined_texts, text_in}
 pub use Rattle.vte.specs.declared.ansi.laws.replays.Step.{Step}
 pub use Rattle.vte.specs.declared.ansi.laws.replays.Step.TheVariants.{Advance, StopSync}
-pub use Rattle.vte.specs.declared.ansi.performer.ProcessorState.{ProcessorState}
-pub use Rattle.vte.specs.declared.ansi.engine.Engine.{Engine}
+pub use Rattle.vte.specs.declared.ansi.calls.performer.ProcessorState.{ProcessorState}
+pub use Rattle.vte.specs.declared.ansi.updates.engine.Engine.{Engine}

@@ -1,6 +1,6 @@
 -- The calls of a control sequence, by its final byte and intermediates (ECMA-48, the VT500, xterm).
 use Rattle.std.specs.Prelude.{ℕ, pos, List, [], ◌∷◌, if◌then◌else◌, ◌==◌, ◌&&◌, ◌-◌, Option, Some, None, drop, replicate, unwrap_or}
-use Rattle.vte.specs.declared.ansi.control_calls.ModeChange.TheVariants as change
+use Rattle.vte.specs.declared.ansi.calls.control.ModeChange.TheVariants as change
 use Rattle.vte.specs.ModeChange.{change_calls}
 use Rattle.vte.specs.Numbers.{first_of, first_nonzero_or, first_numbers, asks_for_modify_other_keys}
 use Rattle.vte.specs.Rendition.{attribute_calls}

@@ -7,8 +7,8 @@ use Rattle.vte.specs.Processor.{Meaning, State, most_held}
 use Rattle.vte.specs.ProcessorCalls.{IsAt, ReadsInTurns, StandingPredicate, StopsSync, held_of}
 use Rattle.vte.specs.Refusal.{HasTaken}
 use Rattle.vte.specs.Views.{EngineHasMemory, EngineStandsAt, EngineView, long_engine_view}
-use Rattle.vte.specs.declared.ansi.engine.Engine.{Engine}
-use Rattle.vte.specs.declared.ansi.engine.TheConstants.{SLICE}
+use Rattle.vte.specs.declared.ansi.updates.engine.Engine.{Engine}
+use Rattle.vte.specs.declared.ansi.updates.engine.TheConstants.{SLICE}
 use Rattle.vte.specs.declared.ansi.long_processor.LongProcessor.{LongProcessor}
 
 -- `HasParsedAndHolds`, with memory to parse the held bytes.

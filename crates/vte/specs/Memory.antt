@@ -4,7 +4,7 @@ use Rattle.vte_core.specs.LongParser.{memory_of, open_command_size}
 use Rattle.vte_core.specs.declared.parser.long.LongParser.{LongParser}
 use Rattle.vte.specs.ProcessorCalls.{held_of}
 use Rattle.vte.specs.declared.ansi.long_processor.LongProcessor.{LongProcessor}
-use Rattle.vte.specs.declared.ansi.joined_text.TheConstants.{SEPARATORS}
+use Rattle.vte.specs.declared.ansi.calls.joined_text.TheConstants.{SEPARATORS}
 
 -- A text that is joined from this many bytes, with separators, fits a buffer of `size` bytes.
 pub record HasTextRoom (limit size : ℕ) : Type 0 where

@@ -1,7 +1,7 @@
 -- Changes of modes: SM, RM, DECSET and DECRST.
 use Rattle.std.specs.Prelude.{ℕ, List, map}
-use Rattle.vte.specs.declared.ansi.control_calls.ModeChange.{ModeChange}
-use Rattle.vte.specs.declared.ansi.control_calls.ModeChange.TheVariants as change
+use Rattle.vte.specs.declared.ansi.calls.control.ModeChange.{ModeChange}
+use Rattle.vte.specs.declared.ansi.calls.control.ModeChange.TheVariants as change
 use Rattle.vte_handler.specs.Call.{Call}
 use Rattle.vte_handler.specs.Call as call
 use Rattle.vte_types.specs.Mode.{mode_of, private_mode_of}

@@ -11,7 +11,7 @@ use Rattle.vte_handler.specs.Timeout.{AllowsOnly, IsSteady, TimeoutMeaning}
 use Rattle.vte.specs.Calls.{last_printed, calls}
 use Rattle.vte.specs.Processor.{HoldsWell, HoldsWellAt, Meaning, TakesSteps, State, TakesAllTurns, all_bytes, given_bytes, calls_with_stops, AreInOrder, most_held, stop}
 use Rattle.vte.specs.Synchronized.{after_last_end}
-use Rattle.vte.specs.declared.ansi.hold.SyncState.{SyncState}
+use Rattle.vte.specs.declared.ansi.updates.hold.SyncState.{SyncState}
 use Rattle.vte.specs.declared.ansi.laws.replays.Step.{Step}
 use Rattle.vte.specs.declared.ansi.laws.replays.Step.TheVariants.{Advance, StopSync}
 use Rattle.vte.specs.declared.ansi.processor.Processor.{Processor}

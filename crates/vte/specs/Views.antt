@@ -10,8 +10,8 @@ use Rattle.vte_core.specs.Stream.{events}
 use Rattle.vte.specs.Calls.{last_printed}
 use Rattle.vte.specs.Memory.{HasTextRoom, ParserHasMemory}
 use Rattle.vte.specs.ProcessorCalls.{held_of}
-use Rattle.vte.specs.declared.ansi.engine.Engine.{Engine}
-use Rattle.vte.specs.declared.ansi.growing_text.GrowingText.{GrowingText}
+use Rattle.vte.specs.declared.ansi.updates.engine.Engine.{Engine}
+use Rattle.vte.specs.declared.ansi.calls.growing_text.GrowingText.{GrowingText}
 
 -- A parser: the streams that it has read, for how many more bytes it has memory after each, with a
 -- text of `size` bytes, and whether it lost data of the command that is open or ended last.

@@ -8,9 +8,9 @@ use Rattle.vte_c.proofs.Common.{nat_tests, refl, replacement, reported, resumed,
 use Rattle.vte_c.proofs.Common.{with_items, with_run, with_taken, with_wanted, zero-add, ℕ, ◌++◌, ◌+◌, ◌-◌, ◌<◌, ◌∙◌, ◌∷◌, ◌≡◌, ◌≤◌}
 use Rattle.vte_core.proofs.streams.After.{added-nothing}
 use Rattle.vte_core.specs.AdvanceToRun.{IsLongestRun, ReturnsRun, run_bytes, run_events as returned_events, taken_bytes}
-use Rattle.vte_core.specs.declared.scan.run.Run.{Run as Returned}
-use Rattle.vte_core.specs.declared.scan.run.Taken.{Taken}
-use Rattle.vte_core.specs.declared.scan.run.Taken.TheVariants.{Text, Data, Nothing}
+use Rattle.vte_core.specs.declared.reader.run.Run.{Run as Returned}
+use Rattle.vte_core.specs.declared.reader.run.Taken.{Taken}
+use Rattle.vte_core.specs.declared.reader.run.Taken.TheVariants.{Text, Data, Nothing}
 use Rattle.vte_core.proofs.stops.Kept.{kept_at}
 use Rattle.vte_c.proofs.OtherKinds.{items_others, others_append, others_before, others_earlier, others_front, others_reported, runs_other}
 use Rattle.vte_c.proofs.Continuing.{continues-added, continues-call, continues-nothing, continues-then}

@@ -2,9 +2,9 @@
 use Rattle.std.specs.Prelude.{◌≡◌, ◌≤◌, ℕ, ◌+◌, ◌-◌, ◌^◌, Bool, false, ◌&&◌, ◌||◌, List, [], ◌∷◌, ◌++◌, length, map, min, take, if◌then◌else◌, nat_le, nat_lt, ⊤}
 use Rattle.std.specs.Str.{IsUtf8}
 use Rattle.vte_core.specs.Event.{Event}
-use Rattle.vte_core.specs.declared.scan.run.Run.{Run}
-use Rattle.vte_core.specs.declared.scan.run.Taken.{Taken}
-use Rattle.vte_core.specs.declared.scan.run.Taken.TheVariants.{Text, Data, Nothing}
+use Rattle.vte_core.specs.declared.reader.run.Run.{Run}
+use Rattle.vte_core.specs.declared.reader.run.Taken.{Taken}
+use Rattle.vte_core.specs.declared.reader.run.Taken.TheVariants.{Text, Data, Nothing}
 use Rattle.vte_c.specs.declared.event.VteEvent.{VteEvent}
 use Rattle.vte_c.specs.declared.events.Events.{Events}
 use Rattle.vte_c.specs.Record.{data_kind, data_of, has, kind_of, least_data, least_events, may_have_lost, most_added, record_of, run_record, text_kind, without_loss}

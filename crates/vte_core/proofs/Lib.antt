@@ -18,8 +18,7 @@ pub mod streams
 pub mod stops
 -- From one position of a call to the next (`advances-then`). The answers of `parser/` use it.
 pub mod calls
--- From the states of the automaton to what they say of a block of text. The answers of `scan/` and
--- `run_blocks/` use it.
+-- From the states of the automaton to what they say of a block of text. The answers of `reader/` use it.
 pub mod automaton_states
 -- From groups of parameters to their text, and back. The answers of `params/` use it.
 pub mod showing

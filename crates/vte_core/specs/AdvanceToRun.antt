@@ -1,9 +1,9 @@
 -- What `advance_to_run` ensures.
 use Rattle.std.specs.Prelude.{◌≡◌, ℕ, ◌+◌, ◌*◌, ◌<◌, ◌≤◌, Bool, true, false, Option, List, [], ◌++◌, length, take, drop, map, slice_index, ⊤}
 use Rattle.std.specs.Str.{chars}
-use Rattle.vte_core.specs.declared.scan.run.Run.{Run}
-use Rattle.vte_core.specs.declared.scan.run.Taken.{Taken}
-use Rattle.vte_core.specs.declared.scan.run.Taken.TheVariants.{Text, Data, Nothing}
+use Rattle.vte_core.specs.declared.reader.run.Run.{Run}
+use Rattle.vte_core.specs.declared.reader.run.Taken.{Taken}
+use Rattle.vte_core.specs.declared.reader.run.Taken.TheVariants.{Text, Data, Nothing}
 use Rattle.vte_core.specs.Class.{IsDeviceData}
 use Rattle.vte_core.specs.EarlyStop.{ComesTo, resumed_stream}
 use Rattle.vte_core.specs.Event.{Event, Print, Put}

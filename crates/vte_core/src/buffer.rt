@@ -2,7 +2,7 @@
 ghost use Rattle.std.specs.Prelude.{◌≡◌, ◌+◌, ◌-◌, ◌<◌, ◌≤◌, ◌++◌, ℕ, true, false, List, [], Option, Some, None, not, length, drop, take, vec_capacity};
 ghost use Rattle.vte_core.specs.machine.Prelude.{HasCapacity, IsRange, ReservesCapacity, LooksAtMost, fitting, has_room};
 
-use crate::scan::{Input, Reader};
+use crate::reader::{Input, Reader};
 use arrayvec::ArrayVec;
 // cargo: #[cfg(any(feature = "std", feature = "ansi"))]
 // cargo: use crate::prelude::Vec;

@@ -6,7 +6,7 @@ ghost use Rattle.vte_core.specs.machine.Prelude.{looked, with_open_number};
 
 use crate::class::{digit_of, is_head_byte, is_intermediate, is_parameter_text};
 use crate::params::Params;
-use crate::scan::{Input, Reader};
+use crate::reader::{Input, Reader};
 use arrayvec::ArrayVec;
 
 /// How many intermediates of a sequence are kept, a marker among them.

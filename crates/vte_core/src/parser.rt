@@ -27,7 +27,7 @@ mod text;
 mod to_run;
 
 use crate::head::HeadProgress;
-use crate::scan::{Chunk, CountedPerform, Granularity, Looks};
+use crate::reader::{Chunk, CountedPerform, Granularity, Looks};
 use crate::utf8::Unfinished;
 use arrayvec::ArrayVec;
 // cargo: #[cfg(any(feature = "std", feature = "ansi"))]

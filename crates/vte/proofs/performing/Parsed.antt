@@ -2,7 +2,7 @@
 -- calls of their rows and set the timeout once per begin of an update. An early stop is the prefix up to the begin.
 use Rattle.vte.proofs.Common.{◌≡◌, ℕ, ◌+◌, ◌<◌, inl, inr, Bool, false, ◌||◌, nat_lt, All, List, [], ◌∷◌, ◌++◌, length, take, refl, ap, sym, ◌∙◌, arith, or-false, cases_lt, false≢true, nat_tests, All-head, All-tail, reported_before, resumed_stream, StopsExactly, Event, added, events, starts-settled, resumed_stream-settled, reported-settled, events_grow, after, ProcessorState, begin_count, begins_in_event, calls_of, calls_from, last_printed_after, last_printed, last_printed_from, performer_value, Meaning, set_times, FitsText, PerformerValue, with_event, engine_view, ArePartsAt, ArePartsAtKeeping, KeepsMemory, State, parse, prefix_to_begin, ParserView}
 use Rattle.vte_core.specs.Perform.{after as performed}
-use Rattle.vte.specs.declared.ansi.performer.Performer.{Performer}
+use Rattle.vte.specs.declared.ansi.calls.performer.Performer.{Performer}
 use Rattle.vte.proofs.performing.CallLists.{after_calls-append, added_calls-events, last_printed-append, set_times-add}
 use Rattle.vte.proofs.updates.Prefixes.{IsPrefix, open_character-prefix, prefix-is, begin_count-told, breaks_at-prefix}
 

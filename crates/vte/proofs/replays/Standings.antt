@@ -4,7 +4,7 @@ use Rattle.vte_core.specs.declared.parser.Parser.{Parser}
 use Rattle.vte.proofs.replays.PlainReplays.{plain_call}
 use Rattle.vte.proofs.turns.EngineTurns.{has_advanced, taken-to}
 use Rattle.vte.specs.declared.ansi.processor.Processor.{Processor}
-use Rattle.vte.specs.declared.ansi.joined_text.TheConstants.{TEXT_ROOM}
+use Rattle.vte.specs.declared.ansi.calls.joined_text.TheConstants.{TEXT_ROOM}
 
 abbrev pub limited : {B T W : Type 0} → (T → W) → EngineView (Parser 1024) B T W
 limited timeout_of = engine_view usual_limit limited_parser_view (λ text. TEXT_ROOM) timeout_of

@@ -5,7 +5,7 @@ use Rattle.std.proofs.lemmas.List.{nil_from_length}
 use Rattle.vte.proofs.turns.Kinds.{hold_turn-all, hold_turn-rest}
 use Rattle.vte.proofs.turns.Slices.{parse-nothing}
 use Rattle.vte.proofs.updates.Sequences.{cases_Option, stays_held, suffix-length}
-use Rattle.vte.specs.declared.ansi.hold.SyncState.{SyncState}
+use Rattle.vte.specs.declared.ansi.updates.hold.SyncState.{SyncState}
 
 module _ {V W : Type 0} (m : Meaning V W) where
   abbrev cut : State V W → List ℕ → State V W

@@ -9,8 +9,8 @@ use Rattle.vte.specs.Processor.{Meaning, State, prefix_to_begin, parsing_turn, p
 use Rattle.vte.specs.ProcessorCalls.{IsAt}
 use Rattle.vte.specs.Refusal.{TakesTurnsUntilRefused}
 use Rattle.vte.specs.Views.{EngineHasMemory, EngineStandsAt, EngineView}
-use Rattle.vte.specs.declared.ansi.performer.ProcessorState.{ProcessorState}
-use Rattle.vte.specs.declared.ansi.engine.Engine.{Engine}
+use Rattle.vte.specs.declared.ansi.calls.performer.ProcessorState.{ProcessorState}
+use Rattle.vte.specs.declared.ansi.updates.engine.Engine.{Engine}
 
 -- ---- what is true between the parts of a turn
 

@@ -2,8 +2,8 @@
 use Rattle.std.specs.Prelude.{◌≡◌, ℕ, ◌+◌, ◌-◌, ◌<◌, ◌≤◌, ◌&&◌, false, eqb, Option, Some, None, List, ◌++◌, length, take, drop, slice_index}
 use Rattle.vte.specs.ProcessorCalls.{held_of}
 use Rattle.vte.specs.Synchronized.{after_last_end, begin_update, begins_ending_in_last, begins_with, end_update, from_begin_update, part_after_last_end}
-use Rattle.vte.specs.declared.ansi.hold.SyncState.{SyncState}
-use Rattle.vte.specs.declared.ansi.release.Release.{Release}
+use Rattle.vte.specs.declared.ansi.updates.hold.SyncState.{SyncState}
+use Rattle.vte.specs.declared.ansi.updates.release.Release.{Release}
 
 -- The bytes before the held ones, which the last turn released.
 abbrev pub released_of : {A : Type 0} → SyncState A → List ℕ

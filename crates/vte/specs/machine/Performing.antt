@@ -10,8 +10,8 @@ use Rattle.vte.specs.Views.{ParserView}
 use Rattle.vte.specs.Processor.{set_times}
 use Rattle.vte.specs.Numbers.{first_numbers}
 use Rattle.vte.specs.machine.Performer.{FitsText, PerformerValue}
-use Rattle.vte.specs.declared.ansi.control_calls.ModeChange.TheVariants.{SetPrivate}
-use Rattle.vte.specs.declared.ansi.performer.Performer.{Performer}
+use Rattle.vte.specs.declared.ansi.calls.control.ModeChange.TheVariants.{SetPrivate}
+use Rattle.vte.specs.declared.ansi.calls.performer.Performer.{Performer}
 use Rattle.vte_core.specs.EarlyStop.{StopsExactly, resumed_stream}
 use Rattle.vte_core.specs.Event.{Event}
 use Rattle.vte_core.specs.Perform.{after as performed}

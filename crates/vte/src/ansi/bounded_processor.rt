@@ -6,9 +6,9 @@ ghost use Rattle.vte.specs.BoundedProcessor.{HasParsedAndHoldsWithin, held_withi
 ghost use Rattle.vte.specs.Processor.{meaning_of};
 ghost use Rattle.vte.specs.ProcessorCalls.{CountsHeld, Creates, ReadsInTurns, SaysParsedLoss, StopsSync};
 
-use crate::ansi::engine::Engine;
-use crate::ansi::growing_text::GrowingText;
-use crate::ansi::parsing::EventParser;
+use crate::ansi::calls::growing_text::GrowingText;
+use crate::ansi::updates::engine::Engine;
+use crate::ansi::updates::parsing::EventParser;
 use std::alloc::Allocator;
 use vte_core::{ByCharacter, InRuns, Parser};
 use vte_handler::{Handler, HandlerText, Timeout};

@@ -7,8 +7,8 @@ ghost use Rattle.vte.specs.LongProcessor.{AdvancesLong, HasParsedAndHoldsLong, R
 ghost use Rattle.vte.specs.Memory.{HasFreedMemory, HasMemory, KeepsMemory, held_long, parser_long, timeout_long};
 ghost use Rattle.vte.specs.ProcessorCalls.{CountsHeld, Creates, IsCopyOf, SaysParsedLoss};
 
-use crate::ansi::engine::Engine;
-use crate::ansi::growing_text::GrowingText;
+use crate::ansi::calls::growing_text::GrowingText;
+use crate::ansi::updates::engine::Engine;
 use std::alloc::{AllocError, Allocator};
 use vte_core::{ByCharacter, InRuns, LongParser, Refused};
 use vte_handler::{Handler, HandlerText, Timeout};

@@ -6,8 +6,8 @@ ghost use Rattle.vte.specs.ProcessorCalls.{CountsHeld, Creates, HasParsedAndHold
 ghost use Rattle.vte_core.specs.Parser.{lost_data, reading_of};
 ghost use Rattle.vte_core.specs.Stream.{usual_limit};
 
-use crate::ansi::engine::Engine;
-use crate::ansi::parsing::{ProcessorParser, ProcessorText};
+use crate::ansi::updates::engine::Engine;
+use crate::ansi::updates::parsing::{ProcessorParser, ProcessorText};
 use std::alloc::{AllocError, Allocator};
 use vte_core::{ByCharacter, InRuns};
 use vte_handler::{Handler, HandlerText, Timeout};

@@ -1,6 +1,6 @@
 //! Colours and numbers of commands, as the functions read them that only this module calls.
-use crate::ansi::color_text::xparse_color;
-use crate::ansi::numbers::parse_number;
+use crate::ansi::calls::color_text::xparse_color;
+use crate::ansi::calls::numbers::parse_number;
 use vte_types::Rgb;
 
 #[test]

@@ -5,7 +5,7 @@ use Rattle.vte_core.proofs.bytes.EachLemmas.{block-byte, each-both}
 use Rattle.vte_core.proofs.bytes.Printable.{printable-nil}
 use Rattle.vte_core.specs.machine.TextRun.{IsRun}
 use Rattle.vte_core.specs.machine.Scans.{IsWindow}
-use Rattle.vte_core.specs.declared.scan.Window.{Window}
+use Rattle.vte_core.specs.declared.reader.Window.{Window}
 use Rattle.vte_core.proofs.automaton_states.Scanned.{so_far-all, state_after-next}
 use Rattle.vte_core.proofs.automaton_states.Steps.{state_after-append, next_state-failed, phase-between, phase-failed, phase-waiting, phase}
 use Rattle.vte_core.specs.machine.Automaton.{state_after, Follows, FollowsAt, IsPlain, open_count, AutomatonState, Between, One, Two, Three, AfterE0, AfterED, AfterF0, AfterF4, AfterC2, Failed, next_between, next_if_in, next_state, Trails}

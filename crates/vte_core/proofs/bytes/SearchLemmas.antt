@@ -1,6 +1,6 @@
 -- A search goes on where another ended: runs join (`run-append`), and a block adds its first bytes.
 use Rattle.vte_core.proofs.Common.{◌≡◌, ℕ, ◌+◌, ◌≤◌, Bool, List, length, take, drop, arith, looked, IsRun, Scans}
-use Rattle.vte_core.specs.declared.scan.Reader.{Reader}
+use Rattle.vte_core.specs.declared.reader.Reader.{Reader}
 use Rattle.vte_core.specs.machine.Each.{Each}
 use Rattle.vte_core.proofs.bytes.EachLemmas.{each-both, each-block}
 use Rattle.vte_core.proofs.bytes.Printable.{run-append}

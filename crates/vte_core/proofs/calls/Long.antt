@@ -1,6 +1,6 @@
 -- What a call ensures: the facts of `drive`, put into the contract of each call, of both parsers.
-use Rattle.vte_core.specs.declared.scan.run.Run.{Run}
-use Rattle.vte_core.specs.declared.scan.run.RunRange.{RunRange}
+use Rattle.vte_core.specs.declared.reader.run.Run.{Run}
+use Rattle.vte_core.specs.declared.reader.run.RunRange.{RunRange}
 use Rattle.vte_core.specs.Advance.{ReadsBytes}
 use Rattle.vte_core.specs.AdvanceToRun.{ReadsToRun}
 use Rattle.vte_core.specs.AdvanceUntilTerminated.{ReadsUntilTerminated}

@@ -4,12 +4,12 @@ use Rattle.vte_core.proofs.Common.{◌≡◌, ℕ, zero, suc, ◌+◌, ◌-◌, 
 use Rattle.vte_core.specs.machine.Prelude.{ArePut, AreOfKind, ComesToRun, IsOutsideTextAndData, IsDeviceData, IsTaken}
 use Rattle.vte_core.specs.machine.ToRun.{HasRun, IsWholeAt, bytes_at, kind_events}
 use Rattle.vte_core.specs.AdvanceToRun.{IsRunIn, IsLongestRun, ReturnsRun, run_bytes, taken_bytes, taken_events}
-use Rattle.vte_core.specs.declared.scan.run.Run.{Run}
-use Rattle.vte_core.specs.declared.scan.run.RunKind.{RunKind}
-use Rattle.vte_core.specs.declared.scan.run.RunKind.TheVariants.{OfText, OfData, Empty}
-use Rattle.vte_core.specs.declared.scan.run.RunRange.{RunRange}
-use Rattle.vte_core.specs.declared.scan.run.Taken.{Taken}
-use Rattle.vte_core.specs.declared.scan.run.Taken.TheVariants.{Text as TakenText, Data, Nothing as TakenNothing}
+use Rattle.vte_core.specs.declared.reader.run.Run.{Run}
+use Rattle.vte_core.specs.declared.reader.run.RunKind.{RunKind}
+use Rattle.vte_core.specs.declared.reader.run.RunKind.TheVariants.{OfText, OfData, Empty}
+use Rattle.vte_core.specs.declared.reader.run.RunRange.{RunRange}
+use Rattle.vte_core.specs.declared.reader.run.Taken.{Taken}
+use Rattle.vte_core.specs.declared.reader.run.Taken.TheVariants.{Text as TakenText, Data, Nothing as TakenNothing}
 use Rattle.vte_core.specs.Text.{IsRunText}
 use Rattle.vte_core.proofs.bytes.ClassCases.{data_ends_nothing}
 use Rattle.vte_core.proofs.calls.CallEnds.{ends-comes, ends-reads}

@@ -1,7 +1,7 @@
 -- The automaton that reads text which may hold HT, LF and CR, byte by byte, and what the last three
 -- bytes say of its state. No code has these states.
 use Rattle.std.specs.Prelude.{◌≡◌, ℕ, ◌<◌, ◌≤◌, Bool, false, List, [], ◌∷◌, slice_index, ◌==◌, if◌then◌else◌, nat_le}
-use Rattle.vte_core.specs.declared.scan.Window.{Window}
+use Rattle.vte_core.specs.declared.reader.Window.{Window}
 use Rattle.vte_core.specs.Text.{is_layout}
 use Rattle.vte_core.specs.Utf8.{Range, from_to, is_in}
 

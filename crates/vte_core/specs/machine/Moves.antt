@@ -7,7 +7,7 @@
 -- per byte, so 66 bytes leave 22: for the three before the blocks of a long run, and the window of
 -- 19 in which it ends.
 use Rattle.std.specs.Prelude.{ℕ, ◌≡◌, ◌+◌, ◌*◌, ◌<◌, ◌≤◌, List, length, Result, IfOk}
-use Rattle.vte_core.specs.declared.scan.Reader.{Reader}
+use Rattle.vte_core.specs.declared.reader.Reader.{Reader}
 use Rattle.vte_core.specs.declared.parser.machine.Machine.{Machine}
 use Rattle.vte_core.specs.declared.parser.refused.Refused.{Refused}
 use Rattle.vte_core.specs.Looks.{looked}

@@ -1,6 +1,6 @@
 -- What it means that a performer receives events, with the count of looks.
 use Rattle.std.specs.Prelude.{◌≡◌, ℕ, ◌+◌, List}
-use Rattle.vte_core.specs.declared.scan.Reader.{Reader}
+use Rattle.vte_core.specs.declared.reader.Reader.{Reader}
 use Rattle.vte_core.specs.Event.{Event}
 use Rattle.vte_core.specs.Looks.{looked}
 use Rattle.vte_core.specs.Perform.{after}

@@ -1,7 +1,7 @@
 -- Parts of a call's bytes, how far a search in them goes, and how few looks are taken.
 use Rattle.std.specs.Prelude.{◌≡◌, ℕ, ◌+◌, ◌<◌, ◌≤◌, List, drop, length, min, slice_index, take}
-use Rattle.vte_core.specs.declared.scan.Reader.{Reader}
-use Rattle.vte_core.specs.declared.scan.Window.{Window}
+use Rattle.vte_core.specs.declared.reader.Reader.{Reader}
+use Rattle.vte_core.specs.declared.reader.Window.{Window}
 use Rattle.vte_core.specs.Looks.{looked}
 use Rattle.vte_core.specs.machine.Each.{Each}
 

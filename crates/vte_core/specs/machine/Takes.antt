@@ -1,7 +1,7 @@
 -- What the parser did with a byte, or several: the events that it reported, and the place at which
 -- it then stands.
 use Rattle.std.specs.Prelude.{◌≡◌, ◌≤◌, ℕ, List, Option}
-use Rattle.vte_core.specs.declared.scan.Reader.{Reader}
+use Rattle.vte_core.specs.declared.reader.Reader.{Reader}
 use Rattle.vte_core.specs.declared.parser.machine.Machine.{Machine}
 use Rattle.vte_core.specs.declared.parser.State.TheVariants.{Text}
 use Rattle.vte_core.specs.declared.utf8.Unfinished.TheVariants.{Nothing}

@@ -1,11 +1,11 @@
 -- How far a call has come that returns a run.
 use Rattle.std.specs.Prelude.{◌≡◌, ℕ, ◌-◌, ◌<◌, true, false, List, [], ◌++◌, length, map, take, drop, Option, Result, Ok, Err, slice_index, ⊤}
 use Rattle.std.specs.Str.{chars}
-use Rattle.vte_core.specs.declared.scan.run.RunKind.{RunKind}
-use Rattle.vte_core.specs.declared.scan.run.RunKind.TheVariants.{OfText, OfData, Empty}
-use Rattle.vte_core.specs.declared.scan.run.RunRange.{RunRange}
-use Rattle.vte_core.specs.declared.scan.run.Taken.{Taken}
-use Rattle.vte_core.specs.declared.scan.run.Taken.TheVariants.{Text as TakenText, Data, Nothing}
+use Rattle.vte_core.specs.declared.reader.run.RunKind.{RunKind}
+use Rattle.vte_core.specs.declared.reader.run.RunKind.TheVariants.{OfText, OfData, Empty}
+use Rattle.vte_core.specs.declared.reader.run.RunRange.{RunRange}
+use Rattle.vte_core.specs.declared.reader.run.Taken.{Taken}
+use Rattle.vte_core.specs.declared.reader.run.Taken.TheVariants.{Text as TakenText, Data, Nothing}
 use Rattle.vte_core.specs.declared.parser.machine.Machine.{Machine}
 use Rattle.vte_core.specs.declared.parser.refused.Refused.{Refused}
 use Rattle.vte_core.specs.declared.parser.State.{State}

@@ -4,7 +4,7 @@ ghost use Rattle.vte_core.specs.machine.Prelude.{Advances, BeginsFour, BeginsThr
 
 use crate::buffer::Buffer;
 use crate::parser::{Machine, State};
-use crate::scan::{CountedPerform, Granularity, Input, Reader};
+use crate::reader::{CountedPerform, Granularity, Input, Reader};
 use crate::utf8::{
     Carried, Unfinished, character_of_four, character_of_three, character_of_two, is_continuation,
     may_begin_four, may_begin_three,

@@ -6,7 +6,7 @@ use crate::buffer::Buffer;
 use crate::class::{ends_body, is_final, is_plain_control};
 use crate::head::HeadProgress;
 use crate::parser::{Machine, State, Unfinished};
-use crate::scan::{CountedPerform, Granularity, Input, Reader};
+use crate::reader::{CountedPerform, Granularity, Input, Reader};
 
 impl<B: Buffer> Machine<B> {
     /// Reads the first number of a control sequence, if any, and a final byte right after it. Most

@@ -5,7 +5,7 @@ ghost use Rattle.vte_core.specs.machine.Prelude.{Advances, Escape, HandlesByte, 
 use crate::buffer::Buffer;
 use crate::class::ESCAPE;
 use crate::parser::{Machine, State, Unfinished};
-use crate::scan::{CountedPerform, Granularity, Input, Reader};
+use crate::reader::{CountedPerform, Granularity, Input, Reader};
 
 impl<B: Buffer> Machine<B> {
     /// Closes what is open, and then begins an escape sequence, or executes CAN or SUB.

@@ -10,7 +10,7 @@ use crate::class::{
 };
 use crate::head::HeadProgress;
 use crate::parser::{Machine, State, Unfinished};
-use crate::scan::{CountedPerform, Granularity, Input, Reader};
+use crate::reader::{CountedPerform, Granularity, Input, Reader};
 
 impl<B: Buffer> Machine<B> {
     /// Begins an escape sequence at an ESC in a text, which was looked at, and reads the bytes

@@ -4,7 +4,7 @@ ghost use Rattle.vte_core.specs.machine.Prelude.{Advances, IgnoredString, MayRea
 
 use crate::buffer::Buffer;
 use crate::parser::machine::Machine;
-use crate::scan::{CountedPerform, Granularity, Input, Reader};
+use crate::reader::{CountedPerform, Granularity, Input, Reader};
 
 impl<B: Buffer> Machine<B> {
     /// Reads a string that means nothing, and the byte that ends it.

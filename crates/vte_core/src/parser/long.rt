@@ -9,7 +9,7 @@ ghost use Rattle.vte_core.specs.Stream.{outcome};
 ghost use Rattle.vte_core.specs.machine.Prelude.{ComesToRun, Costs, NoCharacterStops, ReadsUntilRefused, ReadsUpTo, ReportsOutsideRuns, chunk_call, counted, read_before_range, read_count, read_through_range};
 
 use crate::parser::{Machine, Open, Refused, State};
-use crate::scan::{ByCharacter, Chunk, CountedPerform, Granularity, Looks, RunRange};
+use crate::reader::{ByCharacter, Chunk, CountedPerform, Granularity, Looks, RunRange};
 use std::alloc::{AllocError, Allocator};
 
 /// A parser whose calls return an error if they are refused memory.

@@ -5,7 +5,7 @@ ghost use Rattle.vte_core.specs.machine.Prelude.{Advances, MayReadAt, MovesWithi
 use crate::buffer::Buffer;
 use crate::class::ends_body;
 use crate::parser::{Machine, Refused, State, Unfinished};
-use crate::scan::{CountedPerform, Granularity, Input, Reader};
+use crate::reader::{CountedPerform, Granularity, Input, Reader};
 
 const BELL: u8 = 0x07;
 

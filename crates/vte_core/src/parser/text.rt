@@ -5,7 +5,7 @@ ghost use Rattle.vte_core.specs.machine.Prelude.{Advances, IsPrintedAscii, MayRe
 use crate::buffer::Buffer;
 use crate::class::ESCAPE;
 use crate::parser::Machine;
-use crate::scan::{CountedPerform, Granularity, Input, Reader};
+use crate::reader::{CountedPerform, Granularity, Input, Reader};
 use crate::utf8::{is_lead, is_printed_ascii};
 
 /// The bytes of a text that are read before it is searched for ESC. Shorter texts, and so most,

@@ -6,7 +6,7 @@ ghost use Rattle.vte_core.specs.machine.Prelude.{Advances, ComesToRun, Costs, Ha
 use crate::buffer::Buffer;
 use crate::class::ESCAPE;
 use crate::parser::{Machine, Parser, Refused, State};
-use crate::scan::{ByCharacter, Chunk, CountedPerform, Input, Reader, RunKind, RunRange};
+use crate::reader::{ByCharacter, Chunk, CountedPerform, Input, Reader, RunKind, RunRange};
 use crate::utf8::{is_lead, is_printed_ascii};
 
 impl<const OSC_RAW_BUF_SIZE: usize> Parser<OSC_RAW_BUF_SIZE> {

@@ -4,7 +4,7 @@
 use crate::adapter::array_vec::ArrayVec;
 #[cfg(any(feature = "std", feature = "ansi"))]
 use crate::prelude::Vec;
-use crate::proved::vte_core::scan::Reader;
+use crate::proved::vte_core::reader::Reader;
 
 /// Holds bytes, up to a limit or as many as there is memory for.
 pub(crate) trait Buffer {

@@ -5,7 +5,7 @@
 use crate::adapter::array_vec::ArrayVec;
 use crate::proved::vte_core::class::{digit_of, is_head_byte, is_intermediate, is_parameter_text};
 use crate::proved::vte_core::params::Params;
-use crate::proved::vte_core::scan::Reader;
+use crate::proved::vte_core::reader::Reader;
 
 /// How many intermediates of a sequence are kept, a marker among them.
 const MOST_INTERMEDIATES: usize = 2;

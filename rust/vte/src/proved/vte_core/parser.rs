@@ -21,7 +21,7 @@ mod to_run;
 
 use crate::adapter::array_vec::ArrayVec;
 use crate::proved::vte_core::head::HeadProgress;
-use crate::proved::vte_core::scan::{CountedPerform, Granularity, Reader};
+use crate::proved::vte_core::reader::{CountedPerform, Granularity, Reader};
 use crate::proved::vte_core::utf8::Unfinished;
 #[cfg(any(feature = "std", feature = "ansi"))]
 pub use long::LongParser;

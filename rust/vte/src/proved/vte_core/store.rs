@@ -5,7 +5,7 @@ use crate::adapter::array_vec::ArrayVec;
 #[cfg(any(feature = "std", feature = "ansi"))]
 use crate::prelude::Vec;
 use crate::proved::vte_core::buffer::Buffer;
-use crate::proved::vte_core::scan::{CountedPerform, Granularity, Reader};
+use crate::proved::vte_core::reader::{CountedPerform, Granularity, Reader};
 
 /// The most pieces of a command.
 const MOST_PIECES: usize = 16;

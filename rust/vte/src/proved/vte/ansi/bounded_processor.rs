@@ -1,9 +1,9 @@
 // Written by tools/erase from crates/vte/src/ansi/bounded_processor.rt: edit that one.
 //! The processor with a limit of its own.
 
-use crate::proved::vte::ansi::engine::Engine;
-use crate::proved::vte::ansi::growing_text::GrowingText;
-use crate::proved::vte::ansi::parsing::EventParser;
+use crate::proved::vte::ansi::calls::growing_text::GrowingText;
+use crate::proved::vte::ansi::updates::engine::Engine;
+use crate::proved::vte::ansi::updates::parsing::EventParser;
 use crate::proved::vte_core::{ByCharacter, InRuns, Parser};
 use crate::proved::vte_handler::{Handler, HandlerText, Timeout};
 

@@ -1,8 +1,8 @@
 // Written by tools/erase from crates/vte/src/ansi/long_processor.rt: edit that one.
 //! The processor without a limit.
 
-use crate::proved::vte::ansi::engine::Engine;
-use crate::proved::vte::ansi::growing_text::GrowingText;
+use crate::proved::vte::ansi::calls::growing_text::GrowingText;
+use crate::proved::vte::ansi::updates::engine::Engine;
 use crate::proved::vte_core::{ByCharacter, InRuns, LongParser, Refused};
 use crate::proved::vte_handler::{Handler, HandlerText, Timeout};
 

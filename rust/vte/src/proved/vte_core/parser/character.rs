@@ -3,7 +3,7 @@
 
 use crate::proved::vte_core::buffer::Buffer;
 use crate::proved::vte_core::parser::{Machine, State};
-use crate::proved::vte_core::scan::{text, CountedPerform, Granularity, Reader};
+use crate::proved::vte_core::reader::{text, CountedPerform, Granularity, Reader};
 use crate::proved::vte_core::utf8::{
     character_of_four, character_of_three, character_of_two, is_continuation, may_begin_four,
     may_begin_three, Carried, Unfinished,

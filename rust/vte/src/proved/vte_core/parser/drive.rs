@@ -3,7 +3,7 @@
 
 use crate::proved::vte_core::buffer::Buffer;
 use crate::proved::vte_core::parser::{Machine, Refused, State};
-use crate::proved::vte_core::scan::{CountedPerform, Granularity, Reader};
+use crate::proved::vte_core::reader::{CountedPerform, Granularity, Reader};
 
 impl<B: Buffer> Machine<B> {
     /// Reads the bytes of a call, as many as there is memory for, and returns how many: all of

@@ -3,7 +3,7 @@
 
 use crate::proved::vte_core::buffer::Buffer;
 use crate::proved::vte_core::parser::machine::Machine;
-use crate::proved::vte_core::scan::{CountedPerform, Granularity, Reader};
+use crate::proved::vte_core::reader::{CountedPerform, Granularity, Reader};
 
 impl<B: Buffer> Machine<B> {
     /// Reads a string that means nothing, and the byte that ends it.

@@ -3,7 +3,7 @@
 
 use crate::prelude::Vec;
 use crate::proved::vte_core::parser::{Machine, Open, Refused, State};
-use crate::proved::vte_core::scan::{ByCharacter, CountedPerform, Granularity, Reader, RunRange};
+use crate::proved::vte_core::reader::{ByCharacter, CountedPerform, Granularity, Reader, RunRange};
 
 /// A parser whose calls return an error if they are refused memory.
 ///

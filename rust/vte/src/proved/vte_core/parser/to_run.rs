@@ -4,7 +4,7 @@
 use crate::proved::vte_core::buffer::Buffer;
 use crate::proved::vte_core::class::ESCAPE;
 use crate::proved::vte_core::parser::{Machine, Parser, Refused, State};
-use crate::proved::vte_core::scan::{ByCharacter, CountedPerform, Reader, RunKind, RunRange};
+use crate::proved::vte_core::reader::{ByCharacter, CountedPerform, Reader, RunKind, RunRange};
 use crate::proved::vte_core::utf8::{is_lead, is_printed_ascii};
 
 impl<const OSC_RAW_BUF_SIZE: usize> Parser<OSC_RAW_BUF_SIZE> {

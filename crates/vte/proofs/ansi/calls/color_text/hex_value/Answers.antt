@@ -1,0 +1,14 @@
+-- Three digits at most give a small number, so nothing overflows.
+use Rattle.vte.proofs.Common.{arith, rules}
+use Rattle.vte.proofs.ColorTexts.{few_hex_digits}
+use Rattle.vte.proofs.ansi.calls.color_text.hex_value.Goals as goal
+
+pub overflow_mul-number : goal.overflow_mul-number
+overflow_mul-number c =
+    let k = few_hex_digits c.loop-byte.byte-index c.loop-byte.number (search rules) c.loop-byte.invariant.1 in
+    omega (arith, k)
+
+pub overflow_add-number : goal.overflow_add-number
+overflow_add-number c =
+    let k = few_hex_digits c.loop-byte.byte-index c.loop-byte.number
+    (search rules) c.loop-byte.invariant.1 in search rules

@@ -1,0 +1,8 @@
+-- The digits that are left give what all give.
+use Rattle.vte.proofs.Common.{◌≡◌, ◌<◌, ◌^◌, drop}
+use Rattle.vte_types.specs.Hex.{hex_from, hex_number}
+use Rattle.vte.proofs.ansi.calls.color_text.hex_value.Given as goal
+
+abbrev pub invariant-loop-byte : goal.invariant-loop-byte
+invariant-loop-byte l =
+    (hex_from l.number (drop l.byte-index l.digits) ≡ hex_number l.digits) × (l.number < 16 ^ l.byte-index)

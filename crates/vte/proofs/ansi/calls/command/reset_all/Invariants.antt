@@ -1,0 +1,9 @@
+-- The numbers that are left give what all give.
+use Rattle.vte.proofs.Common.{◌≡◌, ◌-◌, map, range_with_len, all_reset, ResetColor, after}
+use Rattle.vte.proofs.ansi.calls.command.reset_all.Given as goal
+
+abbrev pub invariant-loop-index : goal.invariant-loop-index
+invariant-loop-index g l =
+    after g.H.Handler.step (g.H.Handler.value_of l.handler)
+    (map (λ index. ResetColor index) (range_with_len l.index (256 - l.index)))
+    ≡ after g.H.Handler.step (g.H.Handler.value_of l.fn.handler) all_reset

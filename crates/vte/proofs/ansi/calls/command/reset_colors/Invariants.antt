@@ -1,0 +1,10 @@
+-- The numbers that are left give what all give.
+use Rattle.vte.proofs.Common.{◌≡◌, drop, map, filter_map, decimal_number, ResetColor, after}
+use Rattle.vte.proofs.ansi.calls.command.reset_colors.Given as goal
+
+abbrev pub invariant-loop-text : goal.invariant-loop-text
+invariant-loop-text g l =
+    after g.H.Handler.step (g.H.Handler.value_of l.handler)
+    (map (λ index. ResetColor index) (filter_map decimal_number (map (λ piece. piece.now) (drop l.text-index l.texts))))
+    ≡ after g.H.Handler.step (g.H.Handler.value_of l.fn.handler)
+    (map (λ index. ResetColor index) (filter_map decimal_number (map (λ piece. piece.now) l.texts)))

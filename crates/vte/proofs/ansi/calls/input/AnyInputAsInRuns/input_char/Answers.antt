@@ -1,0 +1,20 @@
+-- A character is a text of one, of which it is the only input.
+use Rattle.vte.proofs.Common.{◌≡◌, false, [], ◌∷◌, map, ap, sym, subst, ◌∙◌, arith, nat_tests, All, chars, Input, after}
+use Rattle.std.proofs.lemmas.List.Elements.{All-cons, All-nil}
+use Rattle.vte_core.specs.Text.{is_control_character}
+use Rattle.vte_core.proofs.bytes.Printable.{chars-encode}
+use Rattle.vte.proofs.ansi.calls.input.AnyInputAsInRuns.input_char.Goals as goal
+
+pub input_text-requires-clause-plain : goal.input_text-requires-clause-plain
+input_text-requires-clause-plain g c =
+    let shown : is_control_character c.args.c ≡ false = grind (arith, nat_tests) in
+    let spelt : chars c.encode_utf8.result.now ≡ c.args.c ∷ [] =
+    rw c.encode_utf8.ensures.value (chars-encode c.args.c c.ranges.c.0) in
+    subst (All (λ x. is_control_character x ≡ false)) (sym spelt)
+    (All-cons (λ x. is_control_character x ≡ false) c.args.c [] shown (All-nil (λ x. is_control_character x ≡ false)))
+
+pub returns-in_default : goal.returns-in_default
+returns-in_default g c =
+    let spelt : chars c.encode_utf8.result.now ≡ c.args.c ∷ [] =
+    rw c.encode_utf8.ensures.value (chars-encode c.args.c c.ranges.c.0) in
+    c.input_text.ensures ∙ ap (λ cs. after g.H.Handler.step (g.H.Handler.value_of c.args.self.now) (map Input cs)) spelt

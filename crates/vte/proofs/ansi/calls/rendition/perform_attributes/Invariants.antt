@@ -1,0 +1,11 @@
+-- What is left to call gives what all calls give.
+use Rattle.vte.proofs.Common.{◌≡◌, length, after, attribute_calls}
+use Rattle.vte.proofs.ansi.calls.rendition.perform_attributes.Given as goal
+
+abbrev pub invariant-loop-group : goal.invariant-loop-group
+invariant-loop-group g l =
+    after g.H.Handler.step (g.H.Handler.value_of l.handler) (attribute_calls l.groups)
+    ≡ after g.H.Handler.step (g.H.Handler.value_of l.fn.handler) (attribute_calls l.fn.params)
+
+abbrev pub decreases-loop-group : goal.decreases-loop-group
+decreases-loop-group g l = length l.groups

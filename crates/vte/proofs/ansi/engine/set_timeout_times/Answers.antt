@@ -1,8 +1,0 @@
--- Once more is one more.
-use Rattle.vte.proofs.Common.{◌∙◌}
-use Rattle.vte.proofs.performing.CallLists.{set_times-add}
-use Rattle.vte.proofs.ansi.engine.set_timeout_times.Goals as goal
-
-pub loop-time-preserved : goal.loop-time-preserved
-loop-time-preserved g c =
-    c.set_timeout.ensures ∙ rw (c.from_millis.ensures, c.loop-time.invariant, set_times-add _ _ c.loop-time._time 1)

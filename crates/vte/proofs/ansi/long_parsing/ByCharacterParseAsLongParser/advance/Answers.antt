@@ -1,6 +1,0 @@
--- The parser's contract is the one of turns (`performing/Rooms`).
-use Rattle.vte.proofs.performing.Rooms.{long_parses}
-use Rattle.vte.proofs.ansi.long_parsing.ByCharacterParseAsLongParser.advance.Goals as goal
-
-pub returns : goal.returns
-returns g c = long_parses _ c.advance.ensures

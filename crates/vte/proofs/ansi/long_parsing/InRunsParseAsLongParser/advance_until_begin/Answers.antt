@@ -1,6 +1,0 @@
--- The parser's contract is the one of turns (`performing/Rooms`).
-use Rattle.vte.proofs.performing.Rooms.{long_stops}
-use Rattle.vte.proofs.ansi.long_parsing.InRunsParseAsLongParser.advance_until_begin.Goals as goal
-
-pub returns-in-Ok : goal.returns-in-Ok
-returns-in-Ok g c = long_stops _ c.in-Ok.ensures

@@ -1,0 +1,17 @@
+-- The turns so far have led to a state in which the processor stands. Each reads a byte or more.
+use Rattle.vte.proofs.Common.{◌<◌, ◌≤◌, length, meaning_of, EngineIsAt, engine_view, EngineIsAtKeeping, State}
+use Rattle.vte.proofs.turns.EngineTurns.{HasReached}
+use Rattle.vte.proofs.ansi.updates.engine.Engine.read.Given as goal
+
+abbrev pub invariant-loop-turn : goal.invariant-loop-turn
+invariant-loop-turn g l =
+    let m = meaning_of g.P.EventParser.limit g.H.Handler.step g.T.Timeout.set g.T.Timeout.clear g.T.Timeout.allows in
+    let view = engine_view g.P.EventParser.limit g.P.EventParser.reading g.B.TextBuffer.room g.T.Timeout.value_of in
+    record {
+      within : l.read ≤ length l.bytes;
+      some : l._turn < length l.bytes → l.read < length l.bytes;
+      reaches : (s : State g.H.Handler.Value g.T.Timeout.Value)
+          → EngineIsAt view l.initial.self (g.H.Handler.value_of l.initial.handler) s
+          → HasReached m s l.bytes l._turn l.read
+          (EngineIsAtKeeping view l.initial.self l.self (g.H.Handler.value_of l.handler));
+    }

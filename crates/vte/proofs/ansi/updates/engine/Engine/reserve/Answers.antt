@@ -1,0 +1,20 @@
+-- What the parser reserves: the parsed and held bytes stay as they were, and there is room for as many more.
+use Rattle.vte.proofs.Common.{length}
+use Rattle.vte.proofs.ansi.updates.engine.Engine.reserve.Goals as goal
+
+pub returns-clause-reserved : goal.returns-clause-reserved
+returns-clause-reserved g c = record {
+  same = λ parsed held timeout had. record {
+    has_read = c.reserve.ensures.reads parsed had.has_read;
+    last = had.last;
+    timeout_is = had.timeout_is;
+    holds = had.holds;
+    has_memory = λ some. c.reserve.ensures.memory parsed (length held) (had.has_memory some);
+  };
+  room =
+      λ yes parsed held timeout had.
+      rw (← had.holds, ← c.len.ensures.count) (c.reserve.ensures.room yes parsed had.has_read);
+  memory = c.reserve.ensures.memory;
+  lost = c.reserve.ensures.lost;
+  lacks = λ no stream reads. rw (← c.len.ensures.count) (c.reserve.ensures.lacks no stream reads);
+}

@@ -1,0 +1,93 @@
+-- Slices in which no update begins add up to a longer prefix (`open-more`). The turn ends with the slice in which one
+-- begins, with the last byte, or where memory is refused.
+use Rattle.vte.proofs.Common.{refl, sym, arith, ◌∙◌}
+use Rattle.vte.proofs.turns.Slices.{begin-whole, open-all, open-ends, open-more, open-nothing, slice_size}
+use Rattle.vte.proofs.turns.EngineTurns.{kept-next, next-at, slice_parsed}
+use Rattle.vte.proofs.ansi.updates.engine.Engine.take_parsing_turn.Goals as goal
+use Rattle.vte.proofs.ansi.updates.engine.Engine.take_parsing_turn.Goals.{then-begins-via-then-begins, then-begins-via-else-begins+then-read-bytes}
+
+-- Before the first slice nothing is read.
+pub loop-slice-init : goal.loop-slice-init
+loop-slice-init g c =
+    record {
+      within = omega arith;
+      some = λ some. some;
+      reaches = λ s at. (omega arith, open-nothing _ s c.args.bytes.now (next-at at));
+    }
+
+-- Memory was refused for a slice: the processor stands before it.
+pub returns-then-not-reserve-clause-opened : goal.returns-then-not-reserve-clause-opened
+returns-then-not-reserve-clause-opened g c = λ s at.
+    let o = (c.loop-slice.invariant.reaches s at).1 in
+    record {
+      opened = tt;
+      halted = record { none_begin = o.none_begin; is_at = kept-next c.reserve.ensures.reserved o.is_at };
+    }
+
+-- A slice in which an update begins ends the turn there; one that has the last byte, and begins none, ends it too.
+pub returns-then-begins-clause-opened : goal.returns-then-begins-clause-opened
+returns-then-begins-clause-opened g c = λ s at.
+    let o = (c.loop-slice.invariant.reaches s at).1 in
+    let slice =
+    slice_size c.args.bytes.now c.loop-slice.read c.loop-slice.invariant.within
+    (omega (arith, c.min-count.ensures)) in
+    let e = slice_parsed o c.if-not-reserve.ensures.reserved slice (sym at.stands.holds ∙ c.requires.none)
+    c.parse_until_begin-parsed.ensures.stops in
+    elim c.then-begins.branch [
+      -- An update begins.
+      | then-begins-via-then-begins w ↦
+          record {
+            opened = open-ends _ s c.args.bytes.now _ o c.loop-slice.invariant.within refl e
+                w.if-begins.true;
+            halted = tt;
+          }
+      -- None does, and all bytes are read.
+      | then-begins-via-else-begins+then-read-bytes w ↦
+          record {
+            opened = open-all _ s c.args.bytes.now (open-more _ s c.args.bytes.now _ o refl e w.if-begins.false)
+                (omega (arith, w.if-read-bytes.true));
+            halted = tt;
+          }
+    ]
+
+-- A slice in which none begins is read whole, and more is left.
+pub loop-slice-preserved : goal.loop-slice-preserved
+loop-slice-preserved g c =
+    let before = c.loop-slice.invariant in
+    let slice =
+    slice_size c.args.bytes.now c.loop-slice.read before.within
+    (omega (arith, c.min-count.ensures)) in
+    record {
+      within = omega (arith, c.parse_until_begin-parsed.ensures.within, slice, c.min-count.ensures, before.within);
+      some =
+          λ more.
+          omega (
+            arith,
+            c.parse_until_begin-parsed.ensures.within,
+            slice,
+            c.min-count.ensures,
+            before.within,
+            c.if-read-bytes.false,
+          );
+      reaches = λ s at.
+          let o = before.reaches s at in
+          let e = slice_parsed o.1 c.if-not-reserve.ensures.reserved slice (sym at.stands.holds ∙ c.requires.none)
+          c.parse_until_begin-parsed.ensures.stops in (
+            omega (
+              arith,
+              o.0,
+              begin-whole e c.if-begins.false,
+              slice,
+              c.min-count.ensures,
+              before.some
+                  c.loop-slice-test.true,
+            ),
+            open-more _ s c.args.bytes.now _ o.1 refl e c.if-begins.false,
+          );
+    }
+
+-- The loop ends with all bytes read.
+pub returns-clause-opened : goal.returns-clause-opened
+returns-clause-opened g c = λ s at.
+    let o = c.loop-slice.invariant.reaches s at in
+    record { opened = open-all _ s c.args.bytes.now o.1 (omega (arith, o.0, c.loop-slice-test.false)); halted = tt }

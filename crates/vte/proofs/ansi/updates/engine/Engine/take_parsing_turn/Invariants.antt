@@ -1,0 +1,17 @@
+-- The slices so far begin no update, and are parsed. Each has at least one byte, so the loop reads all.
+use Rattle.vte.proofs.Common.{◌<◌, ◌≤◌, length, meaning_of, EngineIsAt, engine_view, EngineIsAtKeeping, HasParsedWithoutBegin, State}
+use Rattle.vte.proofs.ansi.updates.engine.Engine.take_parsing_turn.Given as goal
+
+abbrev pub invariant-loop-slice : goal.invariant-loop-slice
+invariant-loop-slice g l =
+    let m = meaning_of g.P.EventParser.limit g.H.Handler.step g.T.Timeout.set g.T.Timeout.clear g.T.Timeout.allows in
+    let view = engine_view g.P.EventParser.limit g.P.EventParser.reading g.B.TextBuffer.room g.T.Timeout.value_of in
+    record {
+      within : l.read ≤ length l.bytes;
+      some : l._slice < length l.bytes → l.read < length l.bytes;
+      reaches : (s : State g.H.Handler.Value g.T.Timeout.Value)
+          → EngineIsAt view l.initial.self (g.H.Handler.value_of l.initial.handler) s
+          → (l._slice ≤ l.read)
+          × HasParsedWithoutBegin m s l.bytes l.read
+          (EngineIsAtKeeping view l.initial.self l.self (g.H.Handler.value_of l.handler));
+    }

@@ -1,0 +1,41 @@
+-- The older bytes have no end of an update, so the search over the last seven of them and the new ones finds what the
+-- whole hold has (`find_release`).
+use Rattle.vte.proofs.Common.{ℕ, List, refl, rules, ◌≡◌, ◌++◌, ◌-◌, ◌∙◌, ap, length, length-append, length-drop, drop, take, take_all, arith, Adds, IsHeldTail, held_of}
+use Rattle.vte.proofs.updates.Sequences.{stays_held, stays-is}
+use Rattle.vte.proofs.ansi.updates.hold.SyncState.add.Goals as goal
+
+is_end : {bytes old more : List ℕ} {start len : ℕ} → bytes ≡ old ++ more → len ≡ length old → start ≡ len - 7
+    → IsHeldTail old more (take (length bytes - start) (drop start bytes)) start
+is_end {bytes} {start} is from position =
+    record {
+      start_is = position ∙ ap (λ n. n - 7) from;
+      is = take_all (length bytes - start) (drop start bytes) (rw length-drop (omega arith)) ∙ ap (drop start) is;
+    }
+
+pub invariant_of-self : goal.invariant_of-self
+invariant_of-self g c =
+    let old = held_of c.args.self.now in
+    let all = old ++ c.args.more.now in
+    let is : c.extend_from_slice.new.self.items ≡ all = search rules in
+    let added : Adds all (length c.args.more.now) c.find_release-added.result =
+    c.find_release-added.ensures old c.args.more.now
+    (is_end (c.as_slice.ensures.value ∙ is) (search rules) c.saturating_sub-start.ensures) c.args.self.now.no_end in
+    record {
+      within = rw is (omega (arith, added.released));
+      no_end = rw (is, added.released, stays-is) (stays_held all).no_end;
+      fits = rw (is, length-drop) (omega (arith, c.requires, length-append old c.args.more.now));
+      room = search rules;
+    }
+
+pub returns : goal.returns
+returns g c =
+    let old = held_of c.args.self.now in
+    let is : c.extend_from_slice.new.self.items ≡ old ++ c.args.more.now = search rules in
+    let added : Adds (old ++ c.args.more.now) (length c.args.more.now) c.find_release-added.result =
+    c.find_release-added.ensures old c.args.more.now
+    (is_end (c.as_slice.ensures.value ∙ is) (search rules) c.saturating_sub-start.ensures) c.args.self.now.no_end in
+    record {
+      held_is = rw (is, added.released) (stays-is (old ++ c.args.more.now));
+      released_is = rw (is, added.released) refl;
+      begins_are = added.begins;
+    }

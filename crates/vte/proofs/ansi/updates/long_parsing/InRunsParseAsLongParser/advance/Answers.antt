@@ -1,0 +1,6 @@
+-- The parser's contract is the one of turns (`performing/Rooms`).
+use Rattle.vte.proofs.performing.Rooms.{long_parses}
+use Rattle.vte.proofs.ansi.updates.long_parsing.InRunsParseAsLongParser.advance.Goals as goal
+
+pub returns : goal.returns
+returns g c = long_parses _ c.advance_text.ensures

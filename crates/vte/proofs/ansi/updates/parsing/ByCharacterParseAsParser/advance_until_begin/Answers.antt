@@ -1,0 +1,6 @@
+-- The parser's contract is the one of turns (`performing/Rooms`).
+use Rattle.vte.proofs.performing.Rooms.{short_stops}
+use Rattle.vte.proofs.ansi.updates.parsing.ByCharacterParseAsParser.advance_until_begin.Goals as goal
+
+pub returns : goal.returns
+returns g c = short_stops c.advance_until_terminated.ensures

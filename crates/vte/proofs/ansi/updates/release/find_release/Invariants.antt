@@ -1,0 +1,14 @@
+-- The search has come back to this position, and what it has seen decides what the whole text does (`HasSeen`).
+use Rattle.vte.proofs.Common.{ℕ, ◌+◌, ◌≤◌, List, ◌++◌, length, IsHeldTail}
+use Rattle.vte.proofs.updates.Seen.{HasSeen}
+use Rattle.vte.proofs.ansi.updates.release.find_release.Given as goal
+
+abbrev pub invariant-loop-position : goal.invariant-loop-position
+invariant-loop-position l = record {
+  few : l.begins + l.unread ≤ length l.text;
+  seen : (held more : List ℕ) → IsHeldTail held more l.text l.start
+      → HasSeen (held ++ more) (length more) (l.start + l.unread) l.begin l.begins;
+}
+
+abbrev pub decreases-loop-position : goal.decreases-loop-position
+decreases-loop-position l = l.unread

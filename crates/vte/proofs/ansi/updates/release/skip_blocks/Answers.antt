@@ -1,0 +1,20 @@
+-- A block in which neither sequence begins is added whole.
+use Rattle.vte.proofs.Common.{◌≡◌, ◌-◌, ◌∙◌, ap, arith, cases_lt, drop, inl, inr, length, length-drop, take, take_all}
+use Rattle.vte.proofs.updates.Seen.{neither-block}
+use Rattle.vte.proofs.ansi.updates.release.skip_blocks.Goals as goal
+
+pub loop-unread-preserved : goal.loop-unread-preserved
+loop-unread-preserved c =
+    let v = c.loop-unread.invariant in
+    let at = c.loop-unread.unread - 32 in
+    let block : c.in-Some.block.now ≡ take 34 (drop at c.args.text.now) =
+    c.in-Some.ensures.cases.same
+    ∙ ap (take 34) (take_all (length c.args.text.now - at) (drop at c.args.text.now) (rw length-drop (omega arith))) in
+    let plain = rw block at c.is_plain_block.ensures c.if-is_plain_block.true in
+    record {
+      within = omega (arith, v.within);
+      none = λ k low high. elim (cases_lt k c.loop-unread.unread) [
+        | inl inside ↦ neither-block c.args.text.now at 32 plain k low (omega (arith, c.loop-unread-test.true))
+        | inr later ↦ v.none k later high
+      ];
+    }

@@ -1,0 +1,52 @@
+//! Texts that are joined from pieces.
+ghost use Rattle.std.specs.Prelude.{◌≡◌, ◌≤◌, ◌+◌, ◌++◌, length, map, option_map};
+ghost use Rattle.vte.specs.Titles.{joined_texts, text_in};
+ghost use Rattle.vte.specs.machine.Texts.{FitsRoom, text_to_join};
+
+use crate::ansi::calls::text_buffer::TextBuffer;
+
+/// A joined text may have a separator after each of 16 pieces.
+pub(crate) const SEPARATORS: usize = 16;
+
+/// The size of the buffer for a joined text of 1,024 bytes.
+// cargo lacks: not used
+pub(crate) const TEXT_ROOM: usize = 1024 + SEPARATORS;
+
+/// Joins pieces with `;` between them. One that isn't UTF-8 counts as empty if all are kept, and is
+/// left out otherwise.
+pub(crate) fn join_texts<B: TextBuffer>(text: &mut B, pieces: &[&[u8]], keeps_all: bool)
+    requires { FitsRoom (B.room text.old) (map (λ piece. piece.now) pieces.now) }
+    ensures joined { B.held text.new
+        ≡ joined_texts keeps_all (map (λ piece. piece.now) pieces.now) }
+    ensures same { B.room text.new ≡ B.room text.old }
+{
+    text.clear();
+    let mut is_first = true;
+    for piece in pieces {
+        if let Some(part) = text_in(piece, keeps_all) {
+            push_part(text, is_first, part);
+            is_first = false;
+        }
+    }
+}
+
+/// Appends a text to those before it, after a `;` unless it is the first.
+fn push_part<B: TextBuffer>(text: &mut B, is_first: bool, part: &str)
+    requires { length (B.held text.old) + length part.now + 1 ≤ B.room text.old }
+    ensures pushed { B.held text.new ≡ B.held text.old ++ text_to_join is_first part.now }
+    ensures same { B.room text.new ≡ B.room text.old }
+{
+    if !is_first {
+        text.push(';');
+    }
+    text.push_str(part);
+}
+
+/// Returns the text of a piece, if it is UTF-8. Any other counts as empty if all are kept.
+#[tactic(auto, using(crate::proofs::Joining::is_text, crate::proofs::Joining::no_utf8))]
+pub(crate) fn text_in(piece: &[u8], keeps_all: bool) -> Option<&str>
+    ensures { option_map (λ text. text.now) result ≡ text_in keeps_all piece.now }
+{
+    let text = str::from_utf8(piece).ok();
+    if keeps_all { text.or(Some("")) } else { text }
+}

@@ -1,0 +1,177 @@
+//! The performer that calls a handler.
+ghost use Rattle.std.specs.Prelude.{◌≡◌, false, map};
+ghost use Rattle.std.specs.Str.{chars};
+ghost use Rattle.vte_core.specs.Event.{Print};
+ghost use Rattle.vte.specs.Calls.{last_printed_from};
+ghost use Rattle.vte.specs.machine.Performing.{performer_value, with_private_mode, with_private_modes};
+ghost use Rattle.vte.specs.machine.Texts.{fits_room};
+ghost use Rattle.vte_handler.specs.Timeout.{timeout_meaning};
+
+use crate::ansi::calls::command::perform_system_command;
+use crate::ansi::calls::control::{ModeChange, change_mode, perform_control};
+use crate::ansi::calls::escape::{perform_escape, perform_execute};
+use crate::ansi::calls::input::InputAs;
+use crate::ansi::calls::numbers::first_number;
+use crate::ansi::calls::text_buffer::TextBuffer;
+use std::marker::PhantomData;
+use std::time::Duration;
+use vte_core::{InRuns, Params, Perform, PerformText, PerformThroughText};
+use vte_handler::{Handler, HandlerText, Timeout};
+use vte_types::NamedPrivateMode;
+
+/// How long an update may take.
+pub(crate) const UPDATE_TIMEOUT_MILLIS: u64 = 150;
+
+/// What a processor keeps between events.
+#[derive(Clone, Drop)]
+pub(crate) struct ProcessorState<T: Drop, B: Drop> {
+    pub(crate) preceding_char: Option<char>,
+    pub(crate) text: B,
+    pub(crate) timeout: T,
+}
+
+/// Calls a handler for each event, while it borrows the handler and the processor's state.
+#[derive(Drop)]
+pub(crate) struct Performer<'s, 'h, H: Handler, T: Timeout + Drop, B: TextBuffer + Drop, G> {
+    pub(crate) state: &'s mut ProcessorState<T, B>,
+    pub(crate) handler: &'h mut H,
+    /// Whether an update has begun, so that the next turn reads the bytes that follow.
+    pub(crate) terminated: bool,
+    pub(crate) granularity: PhantomData<G>,
+}
+
+impl<'s, 'h, H: InputAs<G>, T: Timeout + Drop, B: TextBuffer + Drop, G> Perform
+    for Performer<'s, 'h, H, T, B, G> {
+    ghost use Rattle.vte.specs.machine.Performer.{PerformerValue, with_event};
+
+    ghost Value = { PerformerValue H.Value T.Value };
+
+    ghost value_of = { performer_value H.value_of T.value_of B.room };
+
+    ghost step = { with_event H.step (timeout_meaning T.set T.clear T.allows) };
+
+    ghost is_terminated = { λ lent. lent.terminated };
+
+    // cargo: #[inline]
+    fn print(&mut self, c: char) {
+        self.handler.input_char(c);
+        self.state.preceding_char = Some(c);
+    }
+
+    // cargo: #[inline]
+    fn execute(&mut self, byte: u8) {
+        perform_execute(self.handler, byte);
+    }
+
+    fn hook(&mut self, _params: &Params, _intermediates: &[u8], _ignore: bool, _action: char) {}
+
+    fn put(&mut self, _byte: u8) {}
+
+    fn unhook(&mut self) {}
+
+    fn osc_dispatch(&mut self, params: &[&[u8]], bell_terminated: bool) {
+        // Always, for the events of a processor's parser.
+        if pieces_fit(params, self.state.text.capacity()) {
+            perform_system_command(self.handler, &mut self.state.text, params, bell_terminated);
+        }
+    }
+
+    // cargo: #[inline]
+    fn csi_dispatch(&mut self, params: &Params, intermediates: &[u8], ignore: bool, action: char) {
+        if ignore {
+            return;
+        }
+        if action == 'h' && matches!(intermediates, [b'?']) {
+            self.set_private_modes(params);
+        } else {
+            let last = self.state.preceding_char;
+            perform_control::<H, G>(self.handler, last, params, intermediates, action);
+        }
+    }
+
+    fn esc_dispatch(&mut self, intermediates: &[u8], _ignore: bool, byte: u8) {
+        perform_escape(self.handler, intermediates, byte);
+    }
+
+    // cargo: #[inline]
+    fn terminated(&self) -> bool {
+        self.terminated
+    }
+}
+
+impl<'s, 'h, H: HandlerText, T: Timeout + Drop, B: TextBuffer + Drop> PerformText
+    for Performer<'s, 'h, H, T, B, InRuns> {
+    ghost layout = { false };
+
+    fn keeps_layout(&self) -> bool {
+        false
+    }
+
+    #[inline(always)]
+    #[tactic(auto, using(crate::proofs::performing::TextRuns::performed_run))]
+    fn print_text(&mut self, text: &str) {
+        self.handler.input_text(text);
+        self.state.preceding_char = last_char(text, self.state.preceding_char);
+    }
+}
+
+// cargo lacks: only proofs use it
+impl<'s, 'h, H: HandlerText, T: Timeout + Drop, B: TextBuffer + Drop> PerformThroughText
+    for Performer<'s, 'h, H, T, B, InRuns> {
+    ghost use Rattle.std.proofs.Common.{◌∙◌};
+    ghost use Rattle.std.proofs.Math.Bool.{or-false};
+
+    // A character begins no update.
+    ghost no_stop = { λ lent c goes_on. or-false lent.terminated ∙ goes_on };
+}
+
+impl<'s, 'h, H: Handler, T: Timeout + Drop, B: TextBuffer + Drop, G> Performer<'s, 'h, H, T, B, G> {
+    /// Sets the private modes, group by group.
+    fn set_private_modes(&mut self, params: &Params)
+        ensures { performer_value H.value_of T.value_of B.room self.new
+            ≡ with_private_modes H.step (timeout_meaning T.set T.clear T.allows)
+            (performer_value H.value_of T.value_of B.room self.old) params.now }
+    {
+        for group in params {
+            self.set_private_mode(first_number(group));
+        }
+    }
+
+    /// Sets a private mode. For that of updates it sets the timeout before the call.
+    fn set_private_mode(&mut self, number: u16)
+        ensures { performer_value H.value_of T.value_of B.room self.new
+            ≡ with_private_mode H.step (timeout_meaning T.set T.clear T.allows)
+            (performer_value H.value_of T.value_of B.room self.old) number }
+    {
+        if number == NamedPrivateMode::SyncUpdate as u16 {
+            self.state
+                .timeout
+                .set_timeout(Duration::from_millis(UPDATE_TIMEOUT_MILLIS));
+            self.terminated = true;
+        }
+        change_mode(self.handler, ModeChange::SetPrivate, number);
+    }
+}
+
+/// Returns the last character of a text, or the one before it if the text is empty.
+#[tactic(auto, using(crate::proofs::performing::TextRuns::last_of_text))]
+// cargo: #[inline(always)]
+fn last_char(text: &str, before: Option<char>) -> Option<char>
+    ensures { result ≡ last_printed_from before (map Print (chars text.now)) }
+{
+    text.chars().next_back().or(before)
+}
+
+/// Returns whether the joined pieces fit a buffer of this size.
+fn pieces_fit(pieces: &[&[u8]], size: usize) -> bool
+    ensures { result ≡ fits_room size (map (λ piece. piece.now) pieces.now) }
+{
+    let mut room = size;
+    for piece in pieces {
+        if piece.len() >= room {
+            return false;
+        }
+        room -= piece.len() + 1;
+    }
+    true
+}

@@ -1,0 +1,277 @@
+//! What a processor is, whatever its limit. It takes turns: each parses bytes of a call, or holds
+//! them back.
+ghost use Rattle.std.specs.Prelude.{◌≡◌, ℕ, ◌+◌, ◌≤◌, [], length, IfErr, IfOk, MatchResult, ◌-◌, ◌<◌, ◌++◌, nat_le};
+ghost use Rattle.vte.specs.Views.{EngineStandsAt, engine_view};
+ghost use Rattle.vte.specs.ProcessorCalls.{held_of};
+ghost use Rattle.vte.specs.machine.Hold.{released_of};
+ghost use Rattle.vte.specs.Processor.{State, hold_turn, meaning_of, most_held, parse, set_times, stop};
+ghost use Rattle.vte.specs.machine.Engine.{EngineIsAtKeeping, EndsParsingTurn, EndsTurn, ArePartsAt, ArePartsAtKeeping, ArePartsAtWithMemory, LeadOn};
+ghost use Rattle.vte.specs.LongProcessor.{EngineReads, EngineStops, LacksMemoryForSome, Reserves};
+ghost use Rattle.vte_handler.specs.Timeout.{timeout_meaning};
+
+use crate::ansi::calls::performer::{ProcessorState, UPDATE_TIMEOUT_MILLIS};
+use crate::ansi::calls::text_buffer::TextBuffer;
+use crate::ansi::updates::hold::{MOST_HELD, SyncState};
+use crate::ansi::updates::parsing::{EventParser, ParseAs, parse_all, parse_until_begin};
+use std::alloc::Allocator;
+use std::time::Duration;
+use vte_core::{Refused, laws};
+use vte_handler::{Handler, Timeout};
+use vte_types::{NamedPrivateMode, PrivateMode};
+
+/// For how many bytes a parsing turn takes memory at once: little beside the memory of a hold, and
+/// enough that few slices are taken.
+const SLICE: usize = 65_536;
+
+/// The parser, the hold and the state of a processor, whatever its limit. `P`: parser, `B`: buffer
+/// for joined texts, `T`: timeout, `A`: allocator.
+#[derive(Clone, Drop)]
+pub(crate) struct Engine<P: Drop, B: Drop, T: Drop, A: Allocator> {
+    pub(crate) parser: P,
+    pub(crate) hold: SyncState<A>,
+    pub(crate) state: ProcessorState<T, B>,
+}
+
+impl<P: EventParser + Drop, B: TextBuffer + Drop, T: Timeout + Drop, A: Allocator> Engine<
+    P,
+    B,
+    T,
+    A,
+> {
+    /// Creates an engine of a parser that has read nothing, with memory for a hold. Returns the
+    /// timeout if memory runs out.
+    pub(crate) fn new(alloc: A, parser: P, text: B, timeout: T) -> Result<Self, T>
+        requires reads { P.reading.has_read parser [] }
+        ensures stands { MatchResult result
+            (λ engine. EngineStandsAt (engine_view P.limit P.reading B.room T.value_of) engine
+            [] [] (T.value_of timeout)) (λ back. back ≡ timeout) }
+        ensures timeout { IfOk result (λ engine. engine.state.timeout ≡ timeout) }
+        ensures text { IfOk result (λ engine. engine.state.text ≡ text) }
+    {
+        laws::empty_stream();
+        match SyncState::new(alloc) {
+            Ok(hold) => Ok(Engine {
+                parser,
+                hold,
+                state: ProcessorState {
+                    preceding_char: None,
+                    text,
+                    timeout,
+                },
+            }),
+            Err(_) => Err(timeout),
+        }
+    }
+
+    /// Reads bytes, and parses them or holds them back: all of them, or as many as there is memory
+    /// for. `G` says how the handler receives text.
+    // cargo: #[inline]
+    pub(crate) fn read<H: Handler, G: ParseAs<H, T, P>>(
+        &mut self,
+        handler: &mut H,
+        bytes: &[u8],
+    ) -> Result<(), Refused>
+        ensures { EngineReads (engine_view P.limit P.reading B.room T.value_of)
+            (meaning_of P.limit H.step T.set T.clear T.allows)
+            self.old self.new (H.value_of handler.old) (H.value_of handler.new) bytes.now result }
+    {
+        let mut read = 0;
+        // Each turn reads at least one byte.
+        // proof: that is known only at a state, so a `while` would have no measure.
+        for _turn in 0..bytes.len() {
+            match self.turn::<H, G>(handler, &bytes[read..]) {
+                Ok(count) => read += count,
+                Err(refused) => {
+                    let read = read + refused.read;
+                    return Err(Refused { read });
+                }
+            }
+            if read == bytes.len() {
+                return Ok(());
+            }
+        }
+        Ok(())
+    }
+
+    /// Stops the update, whatever is held: there is memory to parse it.
+    // stops are rare: kept out of a turn, they leave its loop over bytes as it is
+    // cargo: #[inline(never)]
+    pub(crate) fn stop<H: Handler, G: ParseAs<H, T, P>>(&mut self, handler: &mut H)
+        ensures stopped { EngineStops (engine_view P.limit P.reading B.room T.value_of)
+            (meaning_of P.limit H.step T.set T.clear T.allows) self.old self.new
+            (H.value_of handler.old) (H.value_of handler.new) }
+        ensures none { held_of self.new.hold ≡ [] }
+    {
+        self.hold.release_all();
+        self.end_update::<H, G>(handler);
+    }
+
+    /// Parses the released bytes, after which nothing is held, and tells the handler that the
+    /// update has ended.
+    fn end_update<H: Handler, G: ParseAs<H, T, P>>(&mut self, handler: &mut H)
+        ensures stops { (s : State H.Value T.Value) (n : ℕ)
+            → ArePartsAt (engine_view P.limit P.reading B.room T.value_of) self.old.parser
+            self.old.state (H.value_of handler.old) s →
+            released_of self.old.hold ≡ s.held → held_of self.old.hold ≡ []
+            → (0 < length s.held
+            → P.reading.has_memory self.old.parser (B.room self.old.state.text) s.parsed
+            (length s.held + n)) →
+            EngineIsAtKeeping (engine_view P.limit P.reading B.room T.value_of) self.old self.new
+            (H.value_of handler.new) (stop (meaning_of P.limit H.step T.set T.clear T.allows) s) }
+        ensures hold { self.new.hold ≡ self.old.hold }
+    {
+        self.parse_released::<H, G>(handler);
+        handler.unset_private_mode(PrivateMode::Named(NamedPrivateMode::SyncUpdate));
+        self.state.timeout.clear_timeout();
+    }
+
+    /// Parses the released bytes.
+    fn parse_released<H: Handler, G: ParseAs<H, T, P>>(&mut self, handler: &mut H)
+        ensures parsed { (s : State H.Value T.Value) (n : ℕ)
+            → ArePartsAt (engine_view P.limit P.reading B.room T.value_of) self.old.parser
+            self.old.state (H.value_of handler.old) s →
+            (0 < length (released_of self.old.hold)
+            → P.reading.has_memory self.old.parser (B.room self.old.state.text) s.parsed
+            (length (released_of self.old.hold) + n)) →
+            ArePartsAtKeeping
+            (engine_view P.limit P.reading B.room T.value_of) self.old.parser self.old.state
+            self.new.parser self.new.state (H.value_of handler.new)
+            (parse (meaning_of P.limit H.step T.set T.clear T.allows) s
+            (released_of self.old.hold)) }
+        ensures room { (s : State H.Value T.Value) (n : ℕ) →
+            ArePartsAtWithMemory
+            (engine_view P.limit P.reading B.room T.value_of) self.old.parser self.old.state
+            (H.value_of handler.old) s (length (released_of self.old.hold) + n) →
+            P.reading.has_memory self.new.parser (B.room self.new.state.text)
+            (s.parsed ++ released_of self.old.hold) n }
+        ensures hold { self.new.hold ≡ self.old.hold }
+    {
+        let released = self.hold.released();
+        if released.is_empty() {
+            return;
+        }
+        parse_all::<H, B, T, P, G>(&mut self.parser, &mut self.state, handler, released);
+    }
+
+    /// Takes one turn, and returns how many bytes it read, or how many until memory was refused. It
+    /// asks the timeout once: while an update is pending, the bytes are held, or the update is
+    /// stopped if there is no room for them.
+    // cargo: #[inline]
+    fn turn<H: Handler, G: ParseAs<H, T, P>>(
+        &mut self,
+        handler: &mut H,
+        bytes: &[u8],
+    ) -> Result<usize, Refused>
+        requires some { 0 < length bytes.now }
+        ensures within { MatchResult result (λ read. read ≤ length bytes.now)
+            (λ refused. refused.read < length bytes.now) }
+        ensures turned { LeadOn (engine_view P.limit P.reading B.room T.value_of) self.old
+            self.new (H.value_of handler.old) (H.value_of handler.new)
+            (λ s. EndsTurn (meaning_of P.limit H.step T.set T.clear T.allows) s bytes.now result) }
+        ensures lacks { IfErr result
+            (λ refused. LacksMemoryForSome (engine_view P.limit P.reading B.room T.value_of)
+            self.new (length bytes.now - refused.read)) }
+    {
+        let pending = self.state.timeout.pending_timeout();
+        if pending && self.has_room(bytes.len()) {
+            if !self.reserve(bytes.len()) {
+                return Err(Refused { read: 0 });
+            }
+            self.hold_bytes::<H, G>(handler, bytes);
+            return Ok(bytes.len());
+        }
+        // There is no room, or the update has expired while bytes of it are held.
+        if pending || self.hold.len() > 0 {
+            self.stop::<H, G>(handler);
+        }
+        self.take_parsing_turn::<H, G>(handler, bytes)
+    }
+
+    /// Returns whether there is room to hold this many more bytes.
+    fn has_room(&self, count: usize) -> bool
+        ensures { result ≡ nat_le (length (held_of self.now.hold) + count) most_held }
+    {
+        count <= MOST_HELD && self.hold.len() <= MOST_HELD - count
+    }
+
+    /// Parses bytes up to the one that begins an update, a slice at a time, and returns how many.
+    /// Memory is taken before each slice.
+    fn take_parsing_turn<H: Handler, G: ParseAs<H, T, P>>(
+        &mut self,
+        handler: &mut H,
+        bytes: &[u8],
+    ) -> Result<usize, Refused>
+        requires none { held_of self.old.hold ≡ [] }
+        ensures within { MatchResult result (λ read. read ≤ length bytes.now)
+            (λ refused. refused.read < length bytes.now) }
+        ensures opened { LeadOn (engine_view P.limit P.reading B.room T.value_of) self.old
+            self.new (H.value_of handler.old) (H.value_of handler.new)
+            (λ s. EndsParsingTurn (meaning_of P.limit H.step T.set T.clear T.allows) s bytes.now
+            result) }
+        ensures lacks { IfErr result
+            (λ refused. LacksMemoryForSome (engine_view P.limit P.reading B.room T.value_of)
+            self.new (length bytes.now - refused.read)) }
+    {
+        let mut read = 0;
+        // Each slice has at least one byte.
+        for _slice in 0..bytes.len() {
+            let count = (bytes.len() - read).min(SLICE);
+            if !self.reserve(count) {
+                return Err(Refused { read });
+            }
+            let slice = &bytes[read..read + count];
+            let (parsed, begins) = parse_until_begin::<H, B, T, P, G>(
+                &mut self.parser,
+                &mut self.state,
+                handler,
+                slice,
+            );
+            read += parsed;
+            if begins || read == bytes.len() {
+                return Ok(read);
+            }
+        }
+        Ok(read)
+    }
+
+    /// Takes memory for the held bytes and for this many more, and returns whether it is there.
+    pub(crate) fn reserve(&mut self, more: usize) -> bool
+        ensures reserved { Reserves
+            (engine_view P.limit P.reading B.room T.value_of) self.old self.new more result }
+        ensures hold { self.new.hold ≡ self.old.hold }
+    {
+        self.parser
+            .reserve(&mut self.state.text, self.hold.len(), more)
+    }
+
+    /// Holds all bytes, and parses those that the end of an update among them releases.
+    // cargo: #[inline]
+    fn hold_bytes<H: Handler, G: ParseAs<H, T, P>>(&mut self, handler: &mut H, bytes: &[u8])
+        requires some { 0 < length bytes.now }
+        requires room { length (held_of self.old.hold) + length bytes.now ≤ most_held }
+        ensures { LeadOn (engine_view P.limit P.reading B.room T.value_of) self.old self.new
+            (H.value_of handler.old) (H.value_of handler.new)
+            (λ s IsNowAt. P.reading.has_memory self.old.parser (B.room self.old.state.text) s.parsed
+            (length s.held + length bytes.now) →
+            IsNowAt (hold_turn (meaning_of P.limit H.step T.set T.clear T.allows) s bytes.now)) }
+    {
+        let begins = self.hold.add(bytes);
+        set_timeout_times(&mut self.state.timeout, begins);
+        // Nothing stays held only if an update ends, and no other begins after it.
+        if self.hold.len() == 0 {
+            self.end_update::<H, G>(handler);
+        } else {
+            self.parse_released::<H, G>(handler);
+        }
+    }
+}
+
+/// Sets the timeout this many times.
+fn set_timeout_times<T: Timeout>(timeout: &mut T, count: usize)
+    ensures { T.value_of timeout.new
+        ≡ set_times (timeout_meaning T.set T.clear T.allows) count (T.value_of timeout.old) }
+{
+    for _time in 0..count {
+        timeout.set_timeout(Duration::from_millis(UPDATE_TIMEOUT_MILLIS));
+    }
+}

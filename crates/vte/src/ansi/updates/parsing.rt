@@ -1,0 +1,188 @@
+//! The parser, together with what a processor lends it. The references are separate parameters, not
+//! fields of one struct, so that the performer can borrow each.
+ghost use Rattle.std.specs.Prelude.{◌≡◌, ◌≤◌, ◌+◌, ◌++◌, ℕ, List, Option, Some, true, false, length};
+ghost use Rattle.vte.specs.machine.Performing.{AdvancesAll, AdvancesUntilStop, performer_value};
+ghost use Rattle.vte.specs.Processor.{State, meaning_of, parse};
+ghost use Rattle.vte.specs.machine.Performer.{with_event};
+ghost use Rattle.vte.specs.machine.Engine.{HasParsedPrefix, ArePartsAtKeeping, ArePartsAtWithMemory};
+ghost use Rattle.vte.specs.Views.{ParserView, engine_view, limited_parser_view};
+ghost use Rattle.vte.specs.Memory.{KeepsMemory};
+ghost use Rattle.vte_handler.specs.Timeout.{timeout_meaning};
+
+use crate::ansi::calls::joined_text::{SEPARATORS, TEXT_ROOM};
+use crate::ansi::calls::performer::{Performer, ProcessorState};
+use crate::ansi::calls::text_buffer::TextBuffer;
+use arrayvec::ArrayString;
+use std::marker::PhantomData;
+use vte_core::{ByCharacter, InRuns, Parser};
+use vte_handler::{Handler, HandlerText, Timeout};
+
+/// The parser of a processor.
+// cargo lacks: not used
+pub(crate) type ProcessorParser = Parser<1024>;
+
+/// The buffer of a processor for joined texts.
+// cargo lacks: not used
+pub(crate) type ProcessorText = ArrayString<TEXT_ROOM>;
+
+/// A parser whose events a processor interprets.
+pub(crate) trait EventParser {
+    /// How many data bytes of an operating system command it keeps, if there is a limit.
+    ghost limit: { Option ℕ };
+
+    /// Which streams it has read, for which bytes it has memory, and whether data were lost.
+    ghost reading: { ParserView Self };
+
+    /// Takes memory for held bytes and for more, and for the texts that are joined from them.
+    /// Returns whether it is there.
+    fn reserve<B: TextBuffer>(&mut self, text: &mut B, held: usize, more: usize) -> bool
+        ensures reads { (stream : List ℕ) → reading.has_read self.old stream
+            → reading.has_read self.new stream }
+        ensures room { result ≡ true → (stream : List ℕ) → reading.has_read self.new stream
+            → reading.has_memory self.new (B.room text.new) stream (held + more) }
+        ensures memory { KeepsMemory (reading.has_memory self.old (B.room text.old))
+            (reading.has_memory self.new (B.room text.new)) }
+        ensures lost { reading.lost self.new ≡ reading.lost self.old }
+        ensures lacks { result ≡ false → (stream : List ℕ) → reading.has_read self.new stream
+            → ¬ reading.has_memory self.new (B.room text.new) stream (held + more) };
+}
+
+impl<const N: usize> EventParser for Parser<N> {
+    ghost limit = { Some N };
+
+    ghost reading = { limited_parser_view };
+
+    fn reserve<B: TextBuffer>(&mut self, text: &mut B, _held: usize, _more: usize) -> bool {
+        match N.checked_add(SEPARATORS) {
+            Some(size) => text.reserve(size),
+            None => false,
+        }
+    }
+}
+
+/// Parses for a handler that receives text `ByCharacter` or `InRuns`.
+pub(crate) trait ParseAs<H: Handler, T: Timeout + Drop, P: EventParser>: Sized {
+    /// Parses all bytes.
+    fn advance<B: TextBuffer + Drop>(
+        parser: &mut P,
+        performer: &mut Performer<'_, '_, H, T, B, Self>,
+        bytes: &[u8],
+    )
+        ensures { let value = performer_value H.value_of T.value_of B.room in
+            AdvancesAll P.reading P.limit
+            (with_event H.step (timeout_meaning T.set T.clear T.allows))
+            parser.old parser.new (value performer.old) (value performer.new) bytes.now };
+
+    /// Parses bytes until an update begins, and returns how many it parsed.
+    fn advance_until_begin<B: TextBuffer + Drop>(
+        parser: &mut P,
+        performer: &mut Performer<'_, '_, H, T, B, Self>,
+        bytes: &[u8],
+    ) -> usize
+        ensures { let value = performer_value H.value_of T.value_of B.room in
+            AdvancesUntilStop P.reading P.limit
+            (with_event H.step (timeout_meaning T.set T.clear T.allows))
+            parser.old parser.new (value performer.old) (value performer.new)
+            bytes.now result };
+}
+
+#[tactic(auto, using(crate::proofs::performing::Rooms::short_parses))]
+impl<H: Handler, T: Timeout + Drop, const N: usize> ParseAs<H, T, Parser<N>> for ByCharacter {
+    #[inline(always)]
+    fn advance<B: TextBuffer + Drop>(
+        parser: &mut Parser<N>,
+        performer: &mut Performer<'_, '_, H, T, B, Self>,
+        bytes: &[u8],
+    ) {
+        parser.advance(performer, bytes);
+    }
+
+    #[inline(always)]
+    fn advance_until_begin<B: TextBuffer + Drop>(
+        parser: &mut Parser<N>,
+        performer: &mut Performer<'_, '_, H, T, B, Self>,
+        bytes: &[u8],
+    ) -> usize {
+        parser.advance_until_terminated(performer, bytes)
+    }
+}
+
+#[tactic(auto, using(crate::proofs::performing::Rooms::short_parses))]
+impl<H: HandlerText, T: Timeout + Drop, const N: usize> ParseAs<H, T, Parser<N>> for InRuns {
+    #[inline(always)]
+    fn advance<B: TextBuffer + Drop>(
+        parser: &mut Parser<N>,
+        performer: &mut Performer<'_, '_, H, T, B, Self>,
+        bytes: &[u8],
+    ) {
+        parser.advance_text(performer, bytes);
+    }
+
+    #[inline(always)]
+    fn advance_until_begin<B: TextBuffer + Drop>(
+        parser: &mut Parser<N>,
+        performer: &mut Performer<'_, '_, H, T, B, Self>,
+        bytes: &[u8],
+    ) -> usize {
+        parser.advance_text_until_terminated(performer, bytes)
+    }
+}
+
+/// Parses all bytes.
+pub(crate) fn parse_all<
+    H: Handler,
+    B: TextBuffer + Drop,
+    T: Timeout + Drop,
+    P: EventParser,
+    G: ParseAs<H, T, P>,
+>(parser: &mut P, state: &mut ProcessorState<T, B>, handler: &mut H, bytes: &[u8])
+    ensures parsed { (s : State H.Value T.Value) (n : ℕ)
+        → ArePartsAtWithMemory (engine_view P.limit P.reading B.room T.value_of) parser.old
+        state.old (H.value_of handler.old) s (length bytes.now + n) →
+        ArePartsAtKeeping
+        (engine_view P.limit P.reading B.room T.value_of) parser.old state.old parser.new
+        state.new
+        (H.value_of handler.new)
+        (parse (meaning_of P.limit H.step T.set T.clear T.allows) s bytes.now) }
+    ensures room { (s : State H.Value T.Value) (n : ℕ)
+        → ArePartsAtWithMemory (engine_view P.limit P.reading B.room T.value_of) parser.old
+        state.old (H.value_of handler.old) s (length bytes.now + n) →
+        P.reading.has_memory parser.new (B.room state.new.text) (s.parsed ++ bytes.now) n }
+{
+    let mut performer = Performer {
+        state,
+        handler,
+        terminated: false,
+        granularity: PhantomData::<G>,
+    };
+    G::advance(parser, &mut performer, bytes);
+}
+
+/// Parses the bytes up to the one that begins an update. Returns how many it parsed, and whether an
+/// update begins.
+pub(crate) fn parse_until_begin<
+    H: Handler,
+    B: TextBuffer + Drop,
+    T: Timeout + Drop,
+    P: EventParser,
+    G: ParseAs<H, T, P>,
+>(parser: &mut P, state: &mut ProcessorState<T, B>, handler: &mut H, bytes: &[u8]) -> (usize, bool)
+    ensures within { result.0 ≤ length bytes.now }
+    ensures stops { (s : State H.Value T.Value) (n : ℕ)
+        → ArePartsAtWithMemory (engine_view P.limit P.reading B.room T.value_of) parser.old
+        state.old (H.value_of handler.old) s (length bytes.now + n) →
+        HasParsedPrefix (meaning_of P.limit H.step T.set T.clear T.allows) s bytes.now result.0
+        result.1 (ArePartsAtKeeping
+        (engine_view P.limit P.reading B.room T.value_of) parser.old state.old parser.new
+        state.new
+        (H.value_of handler.new)) }
+{
+    let mut performer = Performer {
+        state,
+        handler,
+        terminated: false,
+        granularity: PhantomData::<G>,
+    };
+    let read = G::advance_until_begin(parser, &mut performer, bytes);
+    (read, performer.terminated)
+}

@@ -1,0 +1,15 @@
+-- All bytes so far are data of a command.
+use Rattle.vte_core.proofs.Common.{◌-◌, ◌≤◌, length}
+use Rattle.vte_core.specs.SystemCommand.{IsCommandData}
+use Rattle.vte_core.specs.machine.Each.{Each}
+use Rattle.vte_core.proofs.reader.Reader.find_command_data_end.Given as goal
+
+abbrev pub invariant-loop-end : goal.invariant-loop-end
+invariant-loop-end l = record {
+  low : l.from ≤ l.end;
+  high : l.end ≤ length l.input.bytes.now;
+  are : Each IsCommandData l.input.bytes.now l.from l.end;
+}
+
+abbrev pub decreases-loop-end : goal.decreases-loop-end
+decreases-loop-end l = length l.input.bytes.now - l.end

@@ -1,0 +1,13 @@
+-- All bytes so far are put.
+use Rattle.vte_core.proofs.Common.{◌-◌, ◌≤◌, length, ArePut}
+use Rattle.vte_core.proofs.reader.Reader.find_device_data_end.Given as goal
+
+abbrev pub invariant-loop-end : goal.invariant-loop-end
+invariant-loop-end l = record {
+  low : l.from ≤ l.end;
+  high : l.end ≤ length l.input.bytes.now;
+  are : ArePut l.input.bytes.now l.from l.end;
+}
+
+abbrev pub decreases-loop-end : goal.decreases-loop-end
+decreases-loop-end l = length l.input.bytes.now - l.end

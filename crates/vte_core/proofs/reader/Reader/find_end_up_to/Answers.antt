@@ -1,0 +1,53 @@
+-- Each round adds ASCII, or one character that is longer or a kept control, to the run (`scans-run`).
+use Rattle.vte_core.proofs.Common.{arith, subst, sym, ◌∙◌, slice_index, IsPrintedAscii}
+use Rattle.vte_core.proofs.bytes.EachLemmas.{each-one, each-both}
+use Rattle.vte_core.proofs.bytes.Printable.{printed-in_range, run-none, run-ascii}
+use Rattle.vte_core.proofs.bytes.SearchLemmas.{scans-run}
+use Rattle.vte_core.proofs.reader.Reader.find_end_up_to.Goals as goal
+
+pub loop-end-init : goal.loop-end-init
+loop-end-init c = record {
+  scans =
+      record {
+        low = omega arith;
+        high = omega (arith, c.requires.range.in_order, c.requires.range.within);
+        are = run-none c.args.layout c.args.input.bytes.now c.args.from;
+        least = omega arith;
+      };
+  count = omega arith;
+}
+
+-- ASCII that is printed, as far as it goes.
+pub loop-end-preserved-then-is_printed_ascii : goal.loop-end-preserved-then-is_printed_ascii
+loop-end-preserved-then-is_printed_ascii c =
+    let v = c.loop-end.invariant in
+    let bytes = c.args.input.bytes.now in
+    let ascii = c.find_ascii_end-end.ensures in
+    let printed : IsPrintedAscii (slice_index bytes c.loop-end.end) = subst IsPrintedAscii c.byte_at-byte.ensures.value
+    (printed-in_range c.byte_at-byte.result (sym c.is_printed_ascii.ensures ∙ c.if-is_printed_ascii.true)) in
+    record {
+      scans = scans-run v.scans (record {
+        low = omega (arith, ascii.scans.low);
+        high = ascii.scans.high;
+        are =
+            run-ascii _ _ _ _
+            (each-both IsPrintedAscii _ _ _ _ (each-one IsPrintedAscii bytes c.loop-end.end printed) ascii.scans.are);
+        least = omega (arith, ascii.scans.least, c.byte_at-byte.ensures.count);
+      });
+      count = omega (arith, v.count, ascii.count, c.byte_at-byte.ensures.count);
+    }
+
+-- What else a run goes on by.
+pub loop-end-preserved : goal.loop-end-preserved
+loop-end-preserved c =
+    let v = c.loop-end.invariant in
+    let other = c.in-Some.ensures in
+    record {
+      scans = scans-run v.scans (record {
+        low = omega (arith, other.progress);
+        high = other.high;
+        are = other.run;
+        least = omega (arith, other.count, c.byte_at-byte.ensures.count);
+      });
+      count = omega (arith, v.count, other.count, other.progress, c.byte_at-byte.ensures.count);
+    }

@@ -1,0 +1,36 @@
+-- The search of std, in the rest of the bytes from a position on: no byte before what it finds is ESC.
+use Rattle.vte_core.proofs.Common.{◌≡◌, ℕ, ◌+◌, ◌-◌, List, refl, sym, eqb-true, length, take, drop, get_or, ap, ◌∙◌, arith, nat_tests, get_or-drop, take_rest, rules}
+use Rattle.vte_core.proofs.reader.Reader.find_escape.Goals as goal
+
+rest-byte : (bytes : List ℕ) (from i k : ℕ) → from + i ≡ k
+    → get_or (take (length bytes - from) (drop from bytes)) i 0 ≡ get_or bytes k 0
+rest-byte bytes from i k is =
+    ap (λ rest. get_or rest i 0) (take_rest bytes from) ∙ get_or-drop from bytes i 0 ∙ ap (λ k. get_or bytes k 0) is
+
+pub returns-in-Some : goal.returns-in-Some
+returns-in-Some c =
+    let first = c.in-Some.ensures in
+    record {
+      low = omega arith;
+      high = search rules;
+      are = λ k low high is.
+          let no = first.0.before (k - c.args.from) (omega arith) (omega (arith, low, high)) in
+          let there = rest-byte c.args.input.bytes.now c.args.from (k - c.args.from) k (omega (arith, low)) ∙ is in
+          grind (arith, nat_tests);
+      ended =
+          λ within no.
+          no (sym (rest-byte c.args.input.bytes.now c.args.from c.in-Some.distance _ refl) ∙ eqb-true _ _ first.1);
+      count = search rules;
+    }
+
+pub returns-in-None : goal.returns-in-None
+returns-in-None c = record {
+  low = omega (arith, c.requires);
+  high = search rules;
+  are = λ k low high is.
+      let no = c.in-None.ensures (k - c.args.from) (omega arith) (omega (arith, low, high)) in
+      let there = rest-byte c.args.input.bytes.now c.args.from (k - c.args.from) k (omega (arith, low)) ∙ is in
+      grind (arith, nat_tests);
+  ended = λ within no. omega (arith, within);
+  count = search rules;
+}

@@ -1,0 +1,20 @@
+-- A block more.
+use Rattle.vte_core.proofs.Common.{arith}
+use Rattle.vte_core.proofs.bytes.EachLemmas.{each-both, each-block}
+use Rattle.vte_core.specs.machine.Automaton.{IsPlain}
+use Rattle.vte_core.proofs.reader.Reader.skip_ascii_blocks.Goals as goal
+
+pub loop-block-preserved : goal.loop-block-preserved
+loop-block-preserved c =
+    let v = c.loop-block.invariant in
+    let block = c.in-Some.ensures in
+    let bytes = c.args.input.bytes.now in
+    record {
+      low = omega (arith, v.low);
+      high = block.0;
+      plain =
+          each-both IsPlain bytes c.args.from c.loop-block.at _ v.plain
+          (each-block IsPlain bytes c.in-Some.block c.loop-block.at 32 32 block.1 (omega arith)
+          (c.is_plain.ensures c.if-not-is_plain.false));
+      count = omega (arith, v.count, block.2);
+    }

@@ -1,0 +1,16 @@
+-- All blocks so far are plain.
+use Rattle.vte_core.proofs.Common.{length, ◌+◌, ◌-◌, ◌≡◌, ◌≤◌, looked}
+use Rattle.vte_core.specs.machine.Automaton.{IsPlain}
+use Rattle.vte_core.specs.machine.Each.{Each}
+use Rattle.vte_core.proofs.reader.Reader.skip_ascii_blocks.Given as goal
+
+abbrev pub invariant-loop-block : goal.invariant-loop-block
+invariant-loop-block l = record {
+  low : l.from ≤ l.at;
+  high : l.at ≤ length l.input.bytes.now;
+  plain : Each IsPlain l.input.bytes.now l.from l.at;
+  count : looked l.self + l.from ≡ looked l.initial.self + l.at;
+}
+
+abbrev pub decreases-loop-block : goal.decreases-loop-block
+decreases-loop-block l = length l.input.bytes.now - l.at

@@ -1,0 +1,119 @@
+-- A block whose bytes all fit is skipped. The run ends before the character that the last bytes leave open.
+use Rattle.vte_core.proofs.Common.{◌≡◌, ◌≤◌, ◌<◌, ◌+◌, ◌-◌, false, drop, arith, false≢true, ◌∙◌, inl, inr, cases_lt, sym, subst, get_or-drop, looked, rules}
+use Rattle.vte_core.specs.machine.Each.{Each}
+use Rattle.vte_core.proofs.automaton_states.Readings.{run-kept}
+use Rattle.vte_core.proofs.automaton_states.Windows.{above-block, leads-ascii, leads-block, run-before-open, run-none}
+use Rattle.vte_core.proofs.reader.Reader.skip_run_blocks.Goals.{then-is_ascii, else-is_ascii}
+use Rattle.vte_core.proofs.reader.Reader.skip_run_blocks.Goals as goal
+
+pub returns-then-open_bytes-gt0-clause-scans : goal.returns-then-open_bytes-gt0-clause-scans
+returns-then-open_bytes-gt0-clause-scans c = record {
+  low = omega arith;
+  high = c.requires.within;
+  are = run-none c.args.layout c.args.input.bytes.now c.args.from;
+  least = omega (arith, c.open_bytes.ensures.least);
+}
+
+pub overflow_add-plain : goal.overflow_add-plain
+overflow_add-plain c = omega (arith, c.loop-window.invariant.few, c.loop-window.auto.at-fits)
+
+pub loop-window-preserved : goal.loop-window-preserved
+loop-window-preserved c =
+    let v = c.loop-window.invariant in
+    let window = c.in-Some.ensures.0 in
+    let count = c.in-Some.ensures.1 in
+    let early : 3 ≤ c.loop-window.at = omega (arith, v.low, c.requires.before) in
+    let fits = c.continues_run.ensures c.if-not-continues_run.false in
+    record {
+      low = omega (arith, v.low);
+      high = omega (arith, early, window.within);
+      leads =
+          leads-block c.args.layout c.args.input.bytes.now c.in-Some.window c.args.from c.loop-window.at early v.low
+          window fits v.leads 16 (omega arith);
+      kept = λ none.
+          above-block c.args.layout c.args.input.bytes.now c.in-Some.window c.args.from c.loop-window.at early v.low
+          window fits none (v.kept none);
+      whole = λ _. omega (arith, v.low);
+      least = omega (arith, v.least, count);
+      none = λ e. absurd (omega (arith, e, v.low));
+      spare = λ _. elim (cases_lt c.args.from c.loop-window.at) [
+        | inl past ↦ omega (arith, v.spare past, count)
+        | inr here ↦ omega (arith, here, v.none (omega (arith, here, v.low)), v.low, count)
+      ];
+      few = elim c.if-is_ascii.branch [
+        | then-is_ascii w ↦ omega (arith, w.plain-is, v.few)
+        | else-is_ascii w ↦ omega (arith, w.plain-is)
+      ];
+      early = λ e. absurd (omega (arith, e, v.low));
+    }
+
+pub loop-window-preserved-then-plain-ge-PLAIN_BLOCKS : goal.loop-window-preserved-then-plain-ge-PLAIN_BLOCKS
+loop-window-preserved-then-plain-ge-PLAIN_BLOCKS c =
+    let v = c.loop-window.invariant in
+    let window = c.in-Some.ensures.0 in
+    let count = c.in-Some.ensures.1 in
+    let early : 3 ≤ c.loop-window.at = omega (arith, v.low, c.requires.before) in
+    let fits = c.continues_run.ensures c.if-not-continues_run.false in
+    let ascii = c.skip_ascii_blocks-at.ensures in
+    let past : c.args.from < c.loop-window.at = elim c.if-is_ascii.branch [
+      | else-is_ascii w ↦ absurd (omega (arith, w.plain-is, c.if-plain-ge-PLAIN_BLOCKS.true))
+      | then-is_ascii w ↦ elim (cases_lt c.args.from c.loop-window.at) [
+        | inl past ↦ past
+        | inr here ↦
+            absurd
+            (omega
+            (arith, w.plain-is, c.if-plain-ge-PLAIN_BLOCKS.true, v.early (omega (arith, here, v.low))))
+      ]
+    ] in
+    record {
+      low = omega (arith, v.low, ascii.low);
+      high = ascii.high;
+      leads =
+          leads-ascii c.args.input.bytes.now c.args.from (c.loop-window.at + 16)
+          c.skip_ascii_blocks-at.result (omega (arith, v.low)) ascii.low ascii.high
+          (leads-block c.args.layout c.args.input.bytes.now c.in-Some.window c.args.from c.loop-window.at early v.low
+          window fits v.leads 16 (omega arith)) ascii.closed ascii.plain;
+      kept = λ none. absurd (false≢true (sym none ∙ c.if-layout.true));
+      whole = λ _. omega (arith, v.low, ascii.low);
+      least = omega (arith, v.least, count, ascii.least);
+      none = λ e. absurd (omega (arith, e, v.low, ascii.low));
+      spare = λ _. omega (arith, v.spare past, count, ascii.count, ascii.low);
+      few = omega arith;
+      early = λ _. omega arith;
+    }
+
+pub returns-then-at-from-clause-scans : goal.returns-then-at-from-clause-scans
+returns-then-at-from-clause-scans c =
+    let least : looked c.loop-window.self ≤ looked c.get_window.new.self = search rules in
+    record {
+      low = omega arith;
+      high = c.requires.within;
+      are = run-none c.args.layout c.args.input.bytes.now c.args.from;
+      least =
+          omega
+          (arith, least, c.loop-window.invariant.least, c.open_bytes.ensures.least, c.loop-window.invariant.low);
+    }
+
+pub returns-clause-scans : goal.returns-clause-scans
+returns-clause-scans c =
+    let v = c.loop-window.invariant in
+    let bytes = c.args.input.bytes.now in
+    let text = drop c.args.from bytes in
+    let at = c.loop-window.at in
+    let whole : c.args.from + 16 ≤ at = v.whole (omega (arith, v.low, c.if-at-from.false)) in
+    let last =
+    run-before-open bytes c.args.from at (omega (arith, whole)) v.high v.leads c.open_bytes-2.result
+    c.open_bytes-2.ensures.value in
+    let kept : c.args.layout ≡ false → Each (λ byte. 0x20 ≤ byte) text 0 (at - c.args.from) =
+    λ none k _ low.
+    subst (λ byte. 0x20 ≤ byte) (sym (get_or-drop c.args.from bytes k 0))
+    (v.kept none (c.args.from + k) (omega arith) (omega (arith, low))) in
+    let least : looked c.loop-window.self ≤ looked c.get_window.new.self = search rules in
+    record {
+      low = omega (arith, whole, last.0);
+      high = omega (arith, v.high);
+      are =
+          run-kept c.args.layout text (at - c.args.from) (at - c.open_bytes-2.result - c.args.from) kept
+          (omega (arith, whole, last.0)) last.1;
+      least = omega (arith, v.least, least, c.open_bytes.ensures.least, c.open_bytes-2.ensures.least, last.0, whole);
+    }

@@ -1,0 +1,22 @@
+-- The bytes so far lead to a state that the last three of them say, and have no control that is left out.
+use Rattle.vte_core.proofs.Common.{false, length, ◌*◌, ◌+◌, ◌-◌, ◌≡◌, ◌≤◌, ◌<◌, looked}
+use Rattle.vte_core.specs.machine.Each.{Each}
+use Rattle.vte_core.proofs.automaton_states.Windows.{Leads}
+use Rattle.vte_core.proofs.reader.Reader.skip_run_blocks.Given as goal
+
+abbrev pub invariant-loop-window : goal.invariant-loop-window
+invariant-loop-window l = record {
+  low : l.from ≤ l.at;
+  high : l.at ≤ length l.input.bytes.now;
+  leads : Leads l.input.bytes.now l.from l.at;
+  kept : l.layout ≡ false → Each (λ byte. 0x20 ≤ byte) l.input.bytes.now l.from l.at;
+  whole : l.from < l.at → l.from + 16 ≤ l.at;
+  least : looked l.initial.self + l.at ≤ looked l.self + l.from;
+  none : l.at ≡ l.from → looked l.self ≡ looked l.initial.self;
+  spare : l.from < l.at → 3 * looked l.self + 11 * l.from + 110 ≤ 3 * looked l.initial.self + 11 * l.at;
+  few : l.plain ≤ l.at;
+  early : l.at ≡ l.from → l.plain ≤ 2;
+}
+
+abbrev pub decreases-loop-window : goal.decreases-loop-window
+decreases-loop-window l = length l.input.bytes.now - l.at

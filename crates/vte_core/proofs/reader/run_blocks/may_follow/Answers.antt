@@ -1,0 +1,64 @@
+-- The tests are those of `Windows`.
+use Rattle.vte_core.proofs.Common.{Bool, ℕ, arith, false, nat_le, nat_tests, and_parts, not, not-true, refl, sym, true, ◌≡◌, ◌||◌, ◌&&◌}
+use Rattle.std.proofs.Common.{nat_eq, nat_lt}
+use Rattle.std.proofs.lemmas.Bool.{or_parts}
+use Rattle.std.proofs.Math.Bool.{beq}
+use Rattle.vte_core.proofs.automaton_states.Windows.{leads}
+use Rattle.vte_core.proofs.reader.run_blocks.may_follow.Goals as goal
+
+same : (x y : Bool) → beq x y ≡ true → x ≡ y
+same true true e = refl
+same true false e = sym e
+same false true e = e
+same false false e = refl
+
+record Passes (inside continues unused other excluded : Bool) : Type 0 where
+  is_inside : inside ≡ continues
+  is_unused : unused ≡ false
+  is_other : other ≡ false
+  is_excluded : excluded ≡ false
+
+passes : (inside continues unused other excluded : Bool)
+    → (beq inside continues && not ((unused || other) || excluded)) ≡ true
+    → Passes inside continues unused other excluded
+passes inside continues unused other excluded all =
+    let parts = and_parts _ _ all in
+    let last = or_parts _ _ (not-true _ parts.1) in
+    let first = or_parts _ _ last.0 in
+    record { is_inside = same _ _ parts.0; is_unused = first.0; is_other = first.1; is_excluded = last.1 }
+
+pub returns : goal.returns
+returns c = λ all.
+    let t : ℕ = c.args.third in
+    let s : ℕ = c.args.second in
+    let f : ℕ = c.args.first in
+    let b : ℕ = c.args.byte in
+    let low : Bool = nat_le 0x80 b && nat_lt b 0xa0 in
+    let lowest : Bool = nat_le 0x80 b && nat_lt b 0x90 in
+    let e0 : Bool = (nat_eq f 0xe0 || nat_eq f 0xc2) && low in
+    let ed : Bool = nat_eq f 0xed && not low in
+    let f0 : Bool = nat_eq f 0xf0 && lowest in
+    let f4 : Bool = nat_eq f 0xf4 && not lowest in
+    let is =
+    passes (nat_le 1 c.max-is_open.result) c.is_continuation.result
+    (nat_eq b 0xc0 || nat_eq b 0xc1)
+    ((nat_lt b 0x20 || nat_le 0xf5 b) && not (c.is_layout.result && c.args.layout))
+    (((e0 || ed) || f0) || f4) all in
+    let third = or_parts ((e0 || ed) || f0) f4 is.is_excluded in
+    let second = or_parts (e0 || ed) f0 third.0 in
+    let first = or_parts e0 ed second.0 in
+    let continues = c.is_continuation.ensures in
+    record {
+      leads = leads t s f b (record {
+        inside = λ no_more. grind (arith, nat_tests, is.is_inside, no_more, continues);
+        outside = λ more low below. grind (arith, nat_tests, is.is_inside, more, low, below, continues);
+        plain = λ below. grind (arith, nat_tests, is.is_other, below, c.is_layout.ensures);
+        lead = λ above. grind (arith, nat_tests, is.is_unused, is.is_other, above, c.is_layout.ensures);
+        after_e0 = λ e. grind (arith, nat_tests, is.is_inside, continues, first.0, e);
+        after_ed = λ e. grind (arith, nat_tests, is.is_inside, continues, first.1, e);
+        after_f0 = λ e. grind (arith, nat_tests, is.is_inside, continues, second.1, e);
+        after_f4 = λ e. grind (arith, nat_tests, is.is_inside, continues, third.1, e);
+        after_c2 = λ e. grind (arith, nat_tests, is.is_inside, continues, first.0, e);
+      });
+      above = λ none. grind (arith, nat_tests, is.is_other, none);
+    }

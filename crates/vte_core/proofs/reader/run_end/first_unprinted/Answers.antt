@@ -1,0 +1,22 @@
+-- No mark: all eight bytes are printed. Otherwise the lowest mark is at the first that is not (`bytes/EightBytes`).
+use Rattle.std.proofs.Common.{ap, arith, w64, ◌∙◌}
+use Rattle.std.specs.Int.{bit_at}
+use Rattle.std.proofs.lemmas.Nat.Bits.{bit_at-trailing_zeros, bit_at-zero}
+use Rattle.vte_core.proofs.bytes.EightBytes.{prefix-printed, marks-fit}
+use Rattle.vte_core.proofs.reader.run_end.first_unprinted.Goals as goal
+
+pub returns-then-marks-eq0 : goal.returns-then-marks-eq0
+returns-then-marks-eq0 c =
+    let digits = c.from_le_bytes-digits in
+    prefix-printed _ 8 c.fits-word c.told-word digits.type_inv digits.ensures (omega arith)
+    (λ i low. ap (λ n. bit_at n i) c.if-marks-eq0.true ∙ bit_at-zero i)
+
+pub returns : goal.returns
+returns c =
+    let digits = c.from_le_bytes-digits in
+    let h =
+    bit_at-trailing_zeros w64 _ (omega (arith, c.if-marks-eq0.false)) (omega (arith, marks-fit digits.result)) in (
+      omega (arith, h.0),
+      prefix-printed _ _ c.fits-word c.told-word digits.type_inv digits.ensures
+          (omega (arith, h.0)) (λ i low. h.2 i (omega (arith, low))),
+    )

@@ -1,8 +1,0 @@
--- Each byte before this one is plain, unless one was found that isn't.
-use Rattle.std.proofs.Common.{◌≡◌, true}
-use Rattle.vte_core.specs.machine.Automaton.{IsPlain}
-use Rattle.vte_core.specs.machine.Each.{Each}
-use Rattle.vte_core.proofs.run_blocks.is_plain.Given as goal
-
-abbrev pub invariant-loop-byte : goal.invariant-loop-byte
-invariant-loop-byte l = l.all ≡ true → Each IsPlain l.block 0 l.byte-index

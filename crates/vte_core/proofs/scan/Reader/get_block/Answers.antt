@@ -1,8 +1,0 @@
--- The block is the prefix of the bytes from a position on.
-use Rattle.vte_core.proofs.bytes.EachLemmas.{prefix-block}
-use Rattle.vte_core.proofs.scan.Reader.get_block.Goals as goal
-
-pub returns : goal.returns
-returns g c =
-    let prefix = prefix-block _ _ c.args.from g.row.N c.requires c.in_ok-block.ensures.cases in
-    (prefix.0, prefix.1, c.add.ensures)

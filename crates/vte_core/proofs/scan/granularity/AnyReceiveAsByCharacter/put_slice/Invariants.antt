@@ -1,7 +1,0 @@
--- What is left to put gives what all gives.
-use Rattle.vte_core.proofs.Common.{◌≡◌, drop, map, Put, after}
-use Rattle.vte_core.proofs.scan.granularity.AnyReceiveAsByCharacter.put_slice.Given as goal
-
-abbrev pub invariant-loop-byte : goal.invariant-loop-byte
-invariant-loop-byte g l = after g.P.Perform.step (g.P.Perform.value_of l.self) (map Put (drop l.byte-index l.bytes))
-    ≡ after g.P.Perform.step (g.P.Perform.value_of l.initial.self) (map Put l.bytes)

@@ -1,0 +1,404 @@
+//! The only module that has the bytes of a call, and the only way to report events.
+// proof: It counts both, for contracts alone. Each form of `advance` makes a [`Chunk`] of its
+// bytes, and passes nothing else on. The one [`Reader`] of a chunk is the only way to the bytes of
+// its [`Input`], and a [`CountedPerform`] takes events with a reader alone. No other module can
+// make one of these. Bytes leave this module one by one, in blocks, as a copy in a buffer, or as
+// text or data: for a performer, or in a [`Run`] for the caller.
+ghost use Rattle.std.specs.Prelude.{◌≡◌, ◌+◌, ◌-◌, ◌<◌, ◌≤◌, ℕ, [], ◌∷◌, ◌++◌, false, true, length, drop, map, take, slice_index, vec_capacity, MatchOption, IsUtf8};
+ghost use Rattle.vte_core.specs.machine.Prelude.{AreOfKind, ArePut, IsRange, IsRun, IsTaken, IsWindow, PrintsRun, Put, Reports, after, character_event, counted, is_in, looked, malformed_event, from_to};
+
+mod calls;
+mod counted_perform;
+mod granularity;
+// cargo: #[cfg(any(feature = "std", feature = "ansi"))]
+mod long_calls;
+mod run;
+mod run_blocks;
+mod run_end;
+mod search;
+
+use arrayvec::{ArrayVec, CapacityError};
+pub(crate) use counted_perform::CountedPerform;
+pub(crate) use granularity::Granularity;
+pub use granularity::{ByCharacter, InRuns};
+pub use run::{Run, Taken};
+pub(crate) use run::{RunKind, RunRange};
+// cargo: #[cfg(any(feature = "std", feature = "ansi"))]
+// cargo instead: use crate::prelude::{AllocError, Vec};
+use std::alloc::{AllocError, Allocator};
+use std::snapshot::Snapshot;
+use std::{mem, str};
+
+/// The looks so far, and how many there were each time. Only contracts read it.
+#[derive(Drop)]
+// cargo lacks: only contracts read it
+enum Trail {
+    Start,
+    Then(Snapshot<Trail>, usize),
+    Both(Snapshot<Trail>, Snapshot<Trail>),
+}
+
+/// The looks of all calls of a parser. It has no bytes at run time.
+#[derive(Drop)]
+// cargo lacks: only contracts read it
+pub(crate) struct Looks {
+    trail: Snapshot<Trail>,
+}
+
+// cargo lacks: only contracts read it
+impl Looks {
+    /// Creates the count of a parser that has read nothing.
+    pub(crate) fn none() -> Self
+        ensures { counted result ≡ 0 }
+    {
+        Looks {
+            trail: Snapshot::of(&Trail::Start),
+        }
+    }
+
+    /// Adds the looks of a call, whose reader ends.
+    pub(crate) fn add(&mut self, reader: Reader)
+        ensures { counted self.new ≡ counted self.old + looked reader }
+    {
+        let Reader { trail } = reader;
+        let before = mem::replace(&mut self.trail, Snapshot::of(&Trail::Start));
+        self.trail = Snapshot::of(&Trail::Both(before, trail));
+    }
+}
+
+/// The bytes of a call, which has one reader.
+// cargo lacks: a slice serves
+pub(crate) struct Chunk<'a> {
+    bytes: &'a [u8],
+}
+
+// cargo lacks: a slice serves
+impl<'a> Chunk<'a> {
+    fn new(bytes: &'a [u8]) -> Self
+        ensures { result.bytes.now ≡ bytes.now }
+    {
+        Chunk { bytes }
+    }
+
+    /// Returns the call's reader, which has taken no looks, and what it reads.
+    pub(crate) fn open(self) -> (Reader, Input<'a>)
+        ensures looks { looked result.0 ≡ 0 }
+        ensures bytes { result.1.bytes.now ≡ self.entry.bytes.now }
+    {
+        let Chunk { bytes } = self;
+        let reader = Reader {
+            trail: Snapshot::of(&Trail::Start),
+        };
+        (reader, Input { bytes })
+    }
+}
+
+/// Reads the bytes of a call and reports events. It has no bytes: only Rattle's contracts need
+/// its count.
+// proof: it can't be dropped: its looks are added to those of the parser.
+// cargo: #[derive(Clone, Copy)]
+pub(crate) struct Reader {
+    // cargo lacks: only contracts read it
+    trail: Snapshot<Trail>,
+}
+
+/// The bytes of a call, which only its [`Reader`] reads.
+#[derive(Clone, Copy)]
+// cargo lacks: a slice serves
+pub(crate) struct Input<'a> {
+    bytes: &'a [u8],
+}
+
+/// Sixteen bytes (`last`), and those one, two and three places before each of them.
+#[derive(Drop)]
+pub(crate) struct Window {
+    pub(crate) third: [u8; 16],
+    pub(crate) second: [u8; 16],
+    pub(crate) first: [u8; 16],
+    pub(crate) last: [u8; 16],
+}
+
+// cargo: /// Returns the bytes up to a position.
+// cargo: #[inline(always)]
+// cargo: pub(crate) fn up_to(input: &[u8], to: usize) -> &[u8] {
+// cargo:     &input[..to]
+// cargo: }
+
+// cargo lacks: a slice serves
+impl<'a> Input<'a> {
+    pub(crate) fn len(self) -> usize
+        ensures { result ≡ length self.entry.bytes.now }
+    {
+        self.bytes.len()
+    }
+
+    /// Returns the bytes up to a position.
+    #[inline(always)]
+    pub(crate) fn up_to(self, to: usize) -> Self
+        requires { to ≤ length self.bytes.now }
+        ensures length { length result.bytes.now ≡ to }
+        ensures same { (k : ℕ) → k < to
+            → slice_index result.bytes.now k ≡ slice_index self.entry.bytes.now k }
+    {
+        Input {
+            bytes: &self.bytes[..to],
+        }
+    }
+}
+
+/// Returns the text from one position to another.
+///
+/// # Safety
+///
+/// The bytes between them must be whole characters. They are if a search for the end of a run,
+/// begun at `from` or after whole characters that stand there, ended at `to`: it passes one
+/// whole character at a time, a byte of ASCII, or a lead byte with all its continuation bytes,
+/// the first of which `may_begin_three` and `may_begin_four` test. Blocks whose bytes all fit, as
+/// `may_follow` tests, may end inside a character: the search then goes back to where it began.
+#[inline(always)]
+#[allow(unsafe_code)]
+// cargo instead: pub(crate) unsafe fn text(bytes: &[u8], from: usize, to: usize) -> &str
+fn text(bytes: &[u8], from: usize, to: usize) -> &str
+    requires range { IsRange bytes.now from to }
+    requires utf8 { IsUtf8 (take (to - from) (drop from bytes.now)) }
+    ensures { result.now ≡ take (to - from) (drop from bytes.now) }
+{
+    let bytes = &bytes[from..to];
+    // cargo: debug_assert!(str::from_utf8(bytes).is_ok());
+    // SAFETY: this is what the caller promises.
+    unsafe { str::from_utf8_unchecked(bytes) }
+}
+
+/// Returns the data from one position to another.
+#[inline(always)]
+fn data(bytes: &[u8], from: usize, to: usize) -> &[u8]
+    requires range { IsRange bytes.now from to }
+    ensures { result.now ≡ take (to - from) (drop from bytes.now) }
+{
+    &bytes[from..to]
+}
+
+/// Returns the run that stands at a position, whose bytes were looked at.
+///
+/// # Safety
+///
+/// The bytes of a run of text must be whole characters, as [`text`] says.
+#[allow(unsafe_code)]
+// cargo instead: unsafe fn take_run(bytes: &[u8], range: RunRange) -> Run<'_>
+fn take_run(bytes: &[u8], range: RunRange) -> Run<'_>
+    requires range { IsRange bytes.now range.start range.end }
+    requires kind { AreOfKind range.kind
+        (take (range.end - range.start) (drop range.start bytes.now)) }
+    ensures start { result.start ≡ range.start }
+    ensures end { result.end ≡ range.end }
+    ensures taken { IsTaken range.kind
+        (take (range.end - range.start) (drop range.start bytes.now)) result.taken }
+{
+    let taken = match range.kind {
+        // SAFETY: this is what the caller promises.
+        RunKind::OfText => Taken::Text(text(bytes, range.start, range.end)),
+        RunKind::OfData => Taken::Data(data(bytes, range.start, range.end)),
+        RunKind::Empty => Taken::Nothing,
+    };
+    Run {
+        start: range.start,
+        end: range.end,
+        taken,
+    }
+}
+
+impl Reader {
+    /// Only Rattle's contracts count.
+    fn add(&mut self, count: usize)
+        ensures { looked self.new ≡ looked self.old + count }
+    {
+        // cargo instead: let _ = count;
+        let before = mem::replace(&mut self.trail, Snapshot::of(&Trail::Start));
+        // cargo instead:
+        self.trail = Snapshot::of(&Trail::Then(before, count));
+    }
+
+    /// Returns the byte at an index.
+    pub(crate) fn byte_at(&mut self, input: Input<'_>, index: usize) -> u8
+        requires { index < length input.bytes.now }
+        ensures value { result ≡ slice_index input.entry.bytes.now index }
+        ensures count { looked self.new ≡ looked self.old + 1 }
+    {
+        self.add(1);
+        input.bytes[index]
+    }
+
+    /// Returns the byte at an index, or `None` past the end.
+    #[inline(always)]
+    pub(crate) fn get_byte(&mut self, input: Input<'_>, index: usize) -> Option<u8>
+        ensures { MatchOption result
+            ((length input.entry.bytes.now ≤ index) × (looked self.new ≡ looked self.old)) (λ byte.
+            (index < length input.entry.bytes.now)
+            × (byte ≡ slice_index input.entry.bytes.now index)
+            × (looked self.new ≡ looked self.old + 1)) }
+    {
+        let byte = *input.bytes.get(index)?;
+        self.add(1);
+        Some(byte)
+    }
+
+    /// Returns a copy of the `N` bytes from a position on, or `None` if there are fewer.
+    #[inline(always)]
+    pub(crate) fn get_block<const N: usize>(
+        &mut self,
+        input: Input<'_>,
+        from: usize,
+    ) -> Option<[u8; N]>
+        requires { from ≤ length input.bytes.now }
+        ensures { MatchOption result (looked self.new ≡ looked self.old)
+            (λ block. (from + N ≤ length input.entry.bytes.now)
+            × (block ≡ take N (drop from input.entry.bytes.now))
+            × (looked self.new ≡ looked self.old + N)) }
+    {
+        let block = *input.bytes[from..].first_chunk::<N>()?;
+        self.add(N);
+        Some(block)
+    }
+
+    /// Returns the 19 bytes from a position on, or `None` if there are fewer. No copy is read at
+    /// two offsets, because loads across two stores wait for both.
+    #[inline(always)]
+    pub(crate) fn get_window(&mut self, input: Input<'_>, from: usize) -> Option<Window>
+        requires { from ≤ length input.bytes.now }
+        ensures { MatchOption result (looked self.new ≡ looked self.old)
+            (λ window. IsWindow input.entry.bytes.now from window
+            × (looked self.new ≡ looked self.old + 19)) }
+    {
+        let bytes = input.bytes[from..].first_chunk::<19>()?;
+        let window = Window {
+            third: *bytes.first_chunk::<16>()?,
+            second: *bytes[1..].first_chunk::<16>()?,
+            first: *bytes[2..].first_chunk::<16>()?,
+            last: *bytes[3..].first_chunk::<16>()?,
+        };
+        self.add(19);
+        Some(window)
+    }
+
+    /// Reports a whole character.
+    #[inline(always)]
+    #[tactic(auto, unfolding(crate::specs::Text::character_event))]
+    pub(crate) fn report_character<P: CountedPerform<G>, G: Granularity>(
+        &mut self,
+        performer: &mut P,
+        c: char,
+    )
+        ensures { Reports P.step (P.value_of performer.old) (P.value_of performer.new)
+            (character_event c) self.old self.new }
+    {
+        match c {
+            '\u{0}'..='\u{1f}' | '\u{80}'..='\u{9f}' => performer.execute_control(self, c as u8),
+            _ => performer.print_char(self, c),
+        }
+    }
+
+    /// Reports a byte that is neither printed nor a lead byte: a control, or a malformed sequence
+    /// alone.
+    #[inline(always)]
+    #[tactic(auto, unfolding(crate::specs::Text::character_event, crate::specs::Text::malformed_event))]
+    pub(crate) fn report_lone_byte<P: CountedPerform<G>, G: Granularity>(
+        &mut self,
+        performer: &mut P,
+        byte: u8,
+    )
+        requires { is_in (from_to 0x20 0x7f) byte ≡ false }
+        ensures control { byte < 0x80
+            → P.value_of performer.new ≡ P.step (P.value_of performer.old) (character_event byte) }
+        ensures malformed { 0x80 ≤ byte
+            → P.value_of performer.new
+            ≡ P.step (P.value_of performer.old) (malformed_event (byte ∷ [])) }
+        ensures count { looked self.new ≡ looked self.old + 1 }
+    {
+        match byte {
+            0x00..=0x1f | 0x80..=0x9f => performer.execute_control(self, byte),
+            _ => performer.print_char(self, char::REPLACEMENT_CHARACTER),
+        }
+    }
+
+    // cargo lacks: the crate calls `print_text`
+    /// Reports the run of text that stands from one position to another, which counts its bytes.
+    #[inline(always)]
+    pub(crate) fn report_text<P: CountedPerform<G>, G: Granularity>(
+        &mut self,
+        performer: &mut P,
+        input: Input<'_>,
+        from: usize,
+        to: usize,
+    )
+        requires in_runs { G.IN_RUNS ≡ true }
+        requires some { from < to }
+        requires within { to ≤ length input.bytes.now }
+        requires run { IsRun P.layout input.bytes.now from to }
+        ensures printed { PrintsRun P.layout P.step (P.value_of performer.old)
+            (P.value_of performer.new) input.entry.bytes.now from to }
+        ensures count { looked self.new + from ≡ looked self.old + to }
+    {
+        performer.print_text(self, text(input.bytes, from, to));
+    }
+
+    /// Reports the data that stand from one position to another.
+    #[inline(always)]
+    pub(crate) fn report_data<P: CountedPerform<G>, G: Granularity>(
+        &mut self,
+        performer: &mut P,
+        input: Input<'_>,
+        from: usize,
+        to: usize,
+    )
+        requires in_runs { G.IN_RUNS ≡ true }
+        requires some { from < to }
+        requires within { to ≤ length input.bytes.now }
+        requires put { ArePut input.bytes.now from to }
+        ensures put { P.value_of performer.new
+            ≡ after P.step (P.value_of performer.old)
+            (map Put (take (to - from) (drop from input.entry.bytes.now))) }
+        ensures count { looked self.new + from ≡ looked self.old + to }
+    {
+        performer.put_slice(self, data(input.bytes, from, to));
+    }
+
+    /// Appends the bytes from one position to another to an array that has room for them.
+    pub(crate) fn copy_to_array<const N: usize>(
+        &mut self,
+        input: Input<'_>,
+        from: usize,
+        to: usize,
+        array: &mut ArrayVec<u8, N>,
+    ) -> Result<(), CapacityError>
+        requires range { IsRange input.bytes.now from to }
+        requires room { length array.old.items + (to - from) ≤ N }
+        ensures appended { array.new.items
+            ≡ array.old.items ++ take (to - from) (drop from input.entry.bytes.now) }
+        ensures count { looked self.new + from ≡ looked self.old + to }
+    {
+        self.add(to - from);
+        array.try_extend_from_slice(&input.bytes[from..to])
+    }
+}
+
+// cargo: #[cfg(any(feature = "std", feature = "ansi"))]
+impl Reader {
+    /// Appends the bytes from one position to another to a vector that has memory for them.
+    pub(crate) fn copy_to_vec<A: Allocator>(
+        &mut self,
+        input: Input<'_>,
+        from: usize,
+        to: usize,
+        vec: &mut Vec<u8, A>,
+    ) -> Result<(), AllocError>
+        requires range { IsRange input.bytes.now from to }
+        requires room { length vec.old.items + (to - from) ≤ vec_capacity vec.old }
+        ensures appended { vec.new.items
+            ≡ vec.old.items ++ take (to - from) (drop from input.entry.bytes.now) }
+        ensures memory { vec_capacity vec.old ≤ vec_capacity vec.new }
+        ensures count { looked self.new + from ≡ looked self.old + to }
+    {
+        self.add(to - from);
+        vec.extend_from_slice(&input.bytes[from..to])
+    }
+}

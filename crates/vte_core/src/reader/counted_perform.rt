@@ -1,0 +1,165 @@
+//! Performers, as the functions of a parser see them.
+// proof: they count each event as it is reported.
+ghost use Rattle.std.specs.Prelude.{◌≡◌, ◌<◌, Bool, false, true, length, map, chars};
+ghost use Rattle.vte_core.specs.machine.Prelude.{CsiDispatch, EscDispatch, Event, Execute, Hook, IsNonEmptyRun, OscDispatch, Print, Put, Reports, ReportsAll, Unhook, is_control_character, run_event};
+
+use crate::head::Collected;
+use crate::perform::Perform;
+use crate::reader::Reader;
+use crate::reader::granularity::{Granularity, ReceiveAs};
+
+/// A performer, as the functions of a parser see it.
+pub(crate) trait CountedPerform<G: Granularity> {
+    ghost Value: { Type 0 };
+
+    ghost value_of: { Self → Value };
+
+    ghost step: { Value → Event → Value };
+
+    ghost is_terminated: { Value → Bool };
+
+    ghost layout: { Bool };
+
+    /// Returns whether HT, LF and CR come as text.
+    fn keeps_layout(&self) -> bool
+        ensures { result ≡ layout };
+
+    fn print_char(&mut self, reader: &mut Reader, c: char)
+        requires { is_control_character c ≡ false }
+        ensures { Reports step (value_of self.old) (value_of self.new)
+            (Print c) reader.old reader.new };
+
+    /// Counts a text's bytes, which are no fewer than its characters.
+    fn print_text(&mut self, reader: &mut Reader, text: &str)
+        requires in_runs { G.IN_RUNS ≡ true }
+        requires run { IsNonEmptyRun layout text.now }
+        ensures { ReportsAll step (value_of self.old) (value_of self.new)
+            (map (run_event layout) (chars text.now)) (length text.now) reader.old reader.new };
+
+    fn execute_control(&mut self, reader: &mut Reader, byte: u8)
+        ensures { Reports step (value_of self.old) (value_of self.new)
+            (Execute byte) reader.old reader.new };
+
+    fn hook(&mut self, reader: &mut Reader, collected: &Collected, ignore: bool, byte: u8)
+        ensures { Reports step (value_of self.old) (value_of self.new)
+            (Hook collected.now.params collected.now.intermediates.items ignore byte) reader.old
+            reader.new };
+
+    fn put_byte(&mut self, reader: &mut Reader, byte: u8)
+        ensures { Reports step (value_of self.old) (value_of self.new)
+            (Put byte) reader.old reader.new };
+
+    /// Counts each byte.
+    fn put_slice(&mut self, reader: &mut Reader, bytes: &[u8])
+        requires in_runs { G.IN_RUNS ≡ true }
+        requires some { 0 < length bytes.now }
+        ensures { ReportsAll step (value_of self.old) (value_of self.new) (map Put bytes.now)
+            (length bytes.now) reader.old reader.new };
+
+    fn unhook(&mut self, reader: &mut Reader)
+        ensures { Reports step (value_of self.old) (value_of self.new) Unhook
+            reader.old reader.new };
+
+    fn osc_dispatch(&mut self, reader: &mut Reader, pieces: &[&[u8]], bell: bool)
+        ensures { Reports step (value_of self.old) (value_of self.new)
+            (OscDispatch (map (λ piece. piece.now) pieces.now) bell) reader.old reader.new };
+
+    fn csi_dispatch(&mut self, reader: &mut Reader, collected: &Collected, ignore: bool, byte: u8)
+        ensures { Reports step (value_of self.old) (value_of self.new)
+            (CsiDispatch collected.now.params collected.now.intermediates.items ignore byte)
+            reader.old reader.new };
+
+    fn esc_dispatch(&mut self, reader: &mut Reader, collected: &Collected, byte: u8)
+        ensures { Reports step (value_of self.old) (value_of self.new)
+            (EscDispatch collected.now.intermediates.items collected.now.too_many_intermediates
+            byte)
+            reader.old reader.new };
+
+    fn terminated(&self) -> bool
+        ensures { result ≡ is_terminated (value_of self.now) };
+}
+
+impl<P: ReceiveAs<G>, G: Granularity> CountedPerform<G> for P {
+    ghost Value = { P.Value };
+
+    ghost value_of = { P.value_of };
+
+    ghost step = { P.step };
+
+    ghost is_terminated = { P.is_terminated };
+
+    ghost layout = { P.layout };
+
+    #[inline(always)]
+    fn keeps_layout(&self) -> bool {
+        ReceiveAs::<G>::keeps_layout(self)
+    }
+
+    #[inline(always)]
+    fn print_char(&mut self, reader: &mut Reader, c: char) {
+        reader.add(1);
+        ReceiveAs::<G>::print_char(self, c);
+    }
+
+    #[inline(always)]
+    fn print_text(&mut self, reader: &mut Reader, text: &str) {
+        reader.add(text.len());
+        ReceiveAs::<G>::print_text(self, text);
+    }
+
+    #[inline(always)]
+    fn execute_control(&mut self, reader: &mut Reader, byte: u8) {
+        reader.add(1);
+        ReceiveAs::<G>::execute_control(self, byte);
+    }
+
+    #[inline(always)]
+    fn hook(&mut self, reader: &mut Reader, collected: &Collected, ignore: bool, byte: u8) {
+        reader.add(1);
+        let (intermediates, action) = (collected.intermediates.as_slice(), char::from(byte));
+        Perform::hook(self, &collected.params, intermediates, ignore, action);
+    }
+
+    #[inline(always)]
+    fn put_byte(&mut self, reader: &mut Reader, byte: u8) {
+        reader.add(1);
+        ReceiveAs::<G>::put_byte(self, byte);
+    }
+
+    #[inline(always)]
+    fn put_slice(&mut self, reader: &mut Reader, bytes: &[u8]) {
+        reader.add(bytes.len());
+        ReceiveAs::<G>::put_slice(self, bytes);
+    }
+
+    #[inline(always)]
+    fn unhook(&mut self, reader: &mut Reader) {
+        reader.add(1);
+        Perform::unhook(self);
+    }
+
+    #[inline(always)]
+    fn osc_dispatch(&mut self, reader: &mut Reader, pieces: &[&[u8]], bell: bool) {
+        reader.add(1);
+        Perform::osc_dispatch(self, pieces, bell);
+    }
+
+    #[inline(always)]
+    fn csi_dispatch(&mut self, reader: &mut Reader, collected: &Collected, ignore: bool, byte: u8) {
+        reader.add(1);
+        let (intermediates, action) = (collected.intermediates.as_slice(), char::from(byte));
+        Perform::csi_dispatch(self, &collected.params, intermediates, ignore, action);
+    }
+
+    #[inline(always)]
+    fn esc_dispatch(&mut self, reader: &mut Reader, collected: &Collected, byte: u8) {
+        reader.add(1);
+        let intermediates = collected.intermediates.as_slice();
+        Perform::esc_dispatch(self, intermediates, collected.too_many_intermediates, byte);
+    }
+
+    #[inline(always)]
+    fn terminated(&self) -> bool {
+        Perform::terminated(self)
+    }
+}

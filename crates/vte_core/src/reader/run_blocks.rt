@@ -1,0 +1,163 @@
+//! Long runs, by blocks.
+//!
+//! Whether a byte fits depends on the three before it alone. So no test waits for another, and
+//! compilers make vector instructions of a block's tests, if they have no `&&` and `||`. But the
+//! block in which a run ends is wasted, so only long runs come here.
+ghost use Rattle.std.specs.Prelude.{◌≡◌, ◌+◌, ◌-◌, ◌*◌, ◌<◌, ◌≤◌, ℕ, true, length, slice_index};
+ghost use Rattle.vte_core.specs.machine.Automaton.{Follows, FollowsAt, IsPlain, open_count};
+ghost use Rattle.vte_core.specs.machine.Prelude.{Each, IsRun, Scans, looked};
+
+use crate::class::is_layout;
+use crate::reader::{Input, Reader, Window};
+use crate::utf8::{is_continuation, is_printed_ascii};
+
+/// After so many blocks of ASCII one after another, larger ones are tried: in text with a few other
+/// characters they would mostly be wasted. Without line ends, ASCII is read by words before.
+const PLAIN_BLOCKS: usize = 4;
+
+impl Reader {
+    /// Skips blocks of a run, and returns where the last character ended. With `layout`, the run
+    /// may hold HT, LF and CR. A block with a byte that fits nowhere, or with another control, is
+    /// wasted.
+    #[inline(never)]
+    pub(crate) fn skip_run_blocks(&mut self, input: Input<'_>, from: usize, layout: bool) -> usize
+        requires before { 3 ≤ from }
+        requires within { from ≤ length input.bytes.now }
+        ensures scans { Scans (IsRun layout) input.entry.bytes.now from result self.old self.new }
+        ensures count { 3 * looked self.new + 11 * from ≤ 3 * looked self.old + 11 * result + 66 }
+    {
+        if self.open_bytes(input, from) > 0 {
+            return from;
+        }
+        let mut at = from;
+        // Two are enough at first, since most runs are of ASCII.
+        let mut plain = PLAIN_BLOCKS / 2;
+        while let Some(window) = self.get_window(input, at - 3) {
+            if !continues_run(&window, layout) {
+                break;
+            }
+            at += 16;
+            plain = if is_ascii(&window.last) { plain + 1 } else { 0 };
+            if layout && plain >= PLAIN_BLOCKS {
+                plain = 0;
+                at = self.skip_ascii_blocks(input, at);
+            }
+        }
+        if at == from {
+            return from;
+        }
+        at - self.open_bytes(input, at)
+    }
+
+    /// Skips blocks of printed ASCII, HT, LF and CR from a position on, if no character is open.
+    #[inline(always)]
+    fn skip_ascii_blocks(&mut self, input: Input<'_>, from: usize) -> usize
+        requires before { 3 ≤ from }
+        requires within { from ≤ length input.bytes.now }
+        ensures low { from ≤ result }
+        ensures high { result ≤ length input.entry.bytes.now }
+        ensures closed { from < result
+            → open_count (slice_index input.entry.bytes.now (from - 3))
+            (slice_index input.entry.bytes.now (from - 2))
+            (slice_index input.entry.bytes.now (from - 1)) ≡ 0 }
+        ensures plain { Each IsPlain input.entry.bytes.now from result }
+        ensures count { looked self.new + from ≤ looked self.old + result + 35 }
+        ensures least { looked self.old + result ≤ looked self.new + from }
+    {
+        if self.open_bytes(input, from) > 0 {
+            return from;
+        }
+        let mut at = from;
+        while let Some(block) = self.get_block::<32>(input, at) {
+            if !is_plain(&block) {
+                break;
+            }
+            at += 32;
+        }
+        at
+    }
+
+    /// Returns how many of the three bytes before a position are those of a character that they
+    /// leave open.
+    #[inline(always)]
+    fn open_bytes(&mut self, input: Input<'_>, at: usize) -> usize
+        requires before { 3 ≤ at }
+        requires within { at ≤ length input.bytes.now }
+        ensures value { result ≡ open_count (slice_index input.entry.bytes.now (at - 3))
+            (slice_index input.entry.bytes.now (at - 2))
+            (slice_index input.entry.bytes.now (at - 1)) }
+        ensures few { looked self.new ≤ looked self.old + 3 }
+        ensures least { looked self.old ≤ looked self.new }
+    {
+        if self.byte_at(input, at - 1) >= 0xc0 {
+            1
+        } else if self.byte_at(input, at - 2) >= 0xe0 {
+            2
+        } else if self.byte_at(input, at - 3) >= 0xf0 {
+            3
+        } else {
+            0
+        }
+    }
+}
+
+/// Returns whether 16 bytes are ASCII. It decides only what is tried next.
+#[inline(always)]
+fn is_ascii(block: &[u8; 16]) -> bool {
+    let mut all = true;
+    for byte in block {
+        all &= *byte < 0x80;
+    }
+    all
+}
+
+/// Returns whether 32 bytes are printed ASCII, HT, LF or CR.
+#[inline(always)]
+fn is_plain(block: &[u8; 32]) -> bool
+    ensures { result ≡ true → Each IsPlain block.now 0 32 }
+{
+    let mut all = true;
+    for byte in block {
+        all &= is_printed_ascii(*byte) | is_layout(*byte);
+    }
+    all
+}
+
+/// Returns whether 16 bytes go on with a run, after the three before them.
+#[inline(always)]
+fn continues_run(window: &Window, layout: bool) -> bool
+    ensures { result ≡ true → (k : ℕ) → k < 16 → FollowsAt layout window.now k }
+{
+    let mut all = true;
+    for k in 0..16 {
+        all &= may_follow(
+            window.third[k],
+            window.second[k],
+            window.first[k],
+            window.last[k],
+            layout,
+        );
+    }
+    all
+}
+
+/// Returns whether a byte may follow these three in a run.
+#[inline(always)]
+fn may_follow(third: u8, second: u8, first: u8, byte: u8, layout: bool) -> bool
+    ensures { result ≡ true → Follows layout third second first byte }
+{
+    // Vectors have one instruction for each of these, and two for a comparison.
+    let wanted = second.saturating_sub(0xdf).max(third.saturating_sub(0xef));
+    let is_open = first.saturating_sub(0xbf).max(wanted) > 0;
+    let is_unused = (byte == 0xc0) | (byte == 0xc1);
+    let is_other = ((byte < 0x20) | (byte >= 0xf5)) & !(is_layout(byte) & layout);
+    // The second bytes of overlong forms, surrogates, numbers past the last character's (Unicode,
+    // table 3-7) and controls.
+    let is_low = (byte >= 0x80) & (byte < 0xa0);
+    let is_lowest = (byte >= 0x80) & (byte < 0x90);
+    let is_excluded = (((first == 0xe0) | (first == 0xc2)) & is_low)
+        | ((first == 0xed) & !is_low)
+        | ((first == 0xf0) & is_lowest)
+        | ((first == 0xf4) & !is_lowest);
+    (is_open == is_continuation(byte)) & !(is_unused | is_other | is_excluded)
+}

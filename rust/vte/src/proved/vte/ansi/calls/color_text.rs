@@ -1,0 +1,73 @@
+// Written by tools/erase from crates/vte/src/ansi/calls/color_text.rt: edit that one.
+//! Colours as texts.
+
+use crate::proved::vte::ansi::split::{split_at_first, strip_word};
+use crate::proved::vte_types::Rgb;
+
+/// Returns the colour that a text names.
+pub(crate) fn xparse_color(text: &[u8]) -> Option<Rgb> {
+    if let Some(parts) = strip_word(text, b"rgb:") {
+        return color_by_parts(parts);
+    }
+    color_by_thirds(strip_word(text, b"#")?)
+}
+
+/// Returns the color of three numbers with `/` between them.
+fn color_by_parts(text: &[u8]) -> Option<Rgb> {
+    let (r, after_r) = split_at_first(text, b'/');
+    let (g, after_g) = split_at_first(after_r?, b'/');
+    let (b, after_b) = split_at_first(after_g?, b'/');
+    if after_b.is_some() {
+        return None;
+    }
+    Some(Rgb {
+        r: share_of(r)?,
+        g: share_of(g)?,
+        b: share_of(b)?,
+    })
+}
+
+/// Returns the color of digits in three parts of the same length.
+fn color_by_thirds(digits: &[u8]) -> Option<Rgb> {
+    let count = digits.len() / 3;
+    if digits.len() != 3 * count {
+        return None;
+    }
+    let r = top_of(&digits[..count])?;
+    let g = top_of(&digits[count..][..count])?;
+    let b = top_of(&digits[2 * count..])?;
+    Some(Rgb { r, g, b })
+}
+
+/// Returns the number that hex digits write.
+fn hex_value(digits: &[u8]) -> Option<u32> {
+    let mut number: u32 = 0;
+    for byte in digits {
+        number = 16 * number + char::from(*byte).to_digit(16)?;
+    }
+    Some(number)
+}
+
+/// Scales a number to 255, from the greatest number of as many digits.
+fn share_of(digits: &[u8]) -> Option<u8> {
+    let greatest = match digits.len() {
+        1 => 0xf,
+        2 => 0xff,
+        3 => 0xfff,
+        4 => 0xffff,
+        _ => return None,
+    };
+    Some((255 * hex_value(digits)? / greatest) as u8)
+}
+
+/// Returns the top eight bits of a number of this many digits.
+fn top_of(digits: &[u8]) -> Option<u8> {
+    let range = match digits.len() {
+        1 => 0x10,
+        2 => 0x100,
+        3 => 0x1000,
+        4 => 0x10000,
+        _ => return None,
+    };
+    Some((256 * hex_value(digits)? / range) as u8)
+}

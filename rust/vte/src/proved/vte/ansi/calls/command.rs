@@ -1,0 +1,217 @@
+// Written by tools/erase from crates/vte/src/ansi/calls/command.rt: edit that one.
+//! The calls of operating system commands.
+
+use crate::adapter::array_string::ArrayString;
+use crate::proved::vte::ansi::calls::color_text::xparse_color;
+use crate::proved::vte::ansi::calls::joined_text::{join_texts, text_in};
+use crate::proved::vte::ansi::calls::numbers::{parse_number, push_number};
+use crate::proved::vte::ansi::calls::text_buffer::TextBuffer;
+use crate::proved::vte::ansi::split::{id_in, strip_word};
+use crate::proved::vte_handler::{Handler, Hyperlink};
+use crate::proved::vte_types::cursor_icon::CursorIcon;
+use crate::proved::vte_types::CursorShape;
+use crate::proved::vte_types::NamedColor::{Background, Cursor, Foreground};
+use core::str::FromStr;
+
+/// Makes the calls of an operating system command.
+pub(crate) fn perform_system_command<H: Handler + ?Sized, B: TextBuffer>(
+    handler: &mut H,
+    text: &mut B,
+    pieces: &[&[u8]],
+    bell_terminated: bool,
+) {
+    if let [first, texts @ ..] = pieces {
+        let terminator = if bell_terminated { "\x07" } else { "\x1b\\" };
+        match *first {
+            b"0" | b"2" => set_title(handler, text, texts),
+            b"4" => set_palette(handler, texts, terminator),
+            b"8" => set_link(handler, text, texts),
+            b"10" => set_dynamic_colors(handler, 10, texts, terminator),
+            b"11" => set_dynamic_colors(handler, 11, texts, terminator),
+            b"12" => set_dynamic_colors(handler, 12, texts, terminator),
+            b"22" => set_pointer(handler, texts),
+            b"50" => set_shape(handler, texts),
+            b"52" => use_clipboard(handler, texts, terminator),
+            b"104" => reset_colors(handler, texts),
+            b"110" => handler.reset_color(Foreground as usize),
+            b"111" => handler.reset_color(Background as usize),
+            b"112" => handler.reset_color(Cursor as usize),
+            _ => {}
+        }
+    }
+}
+
+/// Sets the title that these pieces make: 0 and 2. A title of one piece is lent, and not copied.
+fn set_title<H: Handler + ?Sized, B: TextBuffer>(handler: &mut H, text: &mut B, texts: &[&[u8]]) {
+    match texts {
+        [] => {}
+        [title] => handler.set_title(Some(text_in(title, false).unwrap_or("").trim())),
+        _ => {
+            join_texts(text, texts, false);
+            handler.set_title(Some(text.as_str().trim()));
+        }
+    }
+}
+
+/// Returns whether a text asks for a value.
+fn is_question(text: &[u8]) -> bool {
+    matches!(text, [b'?'])
+}
+
+/// Sets a colour, or asks for it.
+fn set_color<H: Handler + ?Sized>(
+    handler: &mut H,
+    prefix: &str,
+    index: usize,
+    terminator: &str,
+    text: &[u8],
+) {
+    if is_question(text) {
+        handler.dynamic_color_sequence(prefix, index, terminator);
+    } else if let Some(color) = xparse_color(text) {
+        handler.set_color(index, color);
+    }
+}
+
+/// Sets a colour of the palette, or asks for it.
+fn set_palette_entry<H: Handler + ?Sized>(
+    handler: &mut H,
+    index: &[u8],
+    color: &[u8],
+    terminator: &str,
+) {
+    if let Some(index) = parse_number(index) {
+        let mut prefix = ArrayString::<5>::new();
+        prefix.push_str("4;");
+        push_number(&mut prefix, index);
+        set_color(
+            handler,
+            prefix.as_str(),
+            usize::from(index),
+            terminator,
+            color,
+        );
+    }
+}
+
+/// Sets colours of the palette, or asks for them: 4. Each index is followed by its colour.
+fn set_palette<H: Handler + ?Sized>(handler: &mut H, texts: &[&[u8]], terminator: &str) {
+    if texts.len() % 2 != 0 {
+        return;
+    }
+    let mut left = texts;
+    while let [index, color, rest @ ..] = left {
+        set_palette_entry(handler, index, color, terminator);
+        left = rest;
+    }
+}
+
+/// Sets the link that these pieces make. A URI of one piece is lent, and not copied.
+fn set_link<H: Handler + ?Sized, B: TextBuffer>(handler: &mut H, text: &mut B, texts: &[&[u8]]) {
+    match texts {
+        [] | [_] => {}
+        [parameters, uri] => set_link_to(handler, parameters, text_in(uri, true).unwrap_or("")),
+        [parameters, uri @ ..] => {
+            join_texts(text, uri, true);
+            set_link_to(handler, parameters, text.as_str());
+        }
+    }
+}
+
+/// Begins a link to a URI, or ends one if it is empty.
+fn set_link_to<H: Handler + ?Sized>(handler: &mut H, parameters: &[u8], uri: &str) {
+    if uri.is_empty() {
+        handler.set_hyperlink(None);
+    } else {
+        let id = id_in(parameters).and_then(|id| text_in(id, false));
+        handler.set_hyperlink(Some(Hyperlink { id, uri }));
+    }
+}
+
+/// Sets the colour of the foreground, of the background or of the cursor, or asks for it.
+fn set_dynamic_color<H: Handler + ?Sized>(
+    handler: &mut H,
+    code: usize,
+    terminator: &str,
+    text: &[u8],
+) {
+    match code {
+        10 => set_color(handler, "10", Foreground as usize, terminator, text),
+        11 => set_color(handler, "11", Background as usize, terminator, text),
+        12 => set_color(handler, "12", Cursor as usize, terminator, text),
+        _ => {}
+    }
+}
+
+/// Sets such colours, or asks for them: 10, 11 or 12, and those after it, one for each text.
+fn set_dynamic_colors<H: Handler + ?Sized>(
+    handler: &mut H,
+    first: usize,
+    texts: &[&[u8]],
+    terminator: &str,
+) {
+    let mut code = first;
+    for text in texts {
+        set_dynamic_color(handler, code, terminator, text);
+        code += 1;
+    }
+}
+
+/// Sets the icon of the mouse pointer: 22.
+fn set_pointer<H: Handler + ?Sized>(handler: &mut H, texts: &[&[u8]]) {
+    if let [name] = texts {
+        if let Some(icon) = icon_named(name) {
+            handler.set_mouse_cursor_icon(icon);
+        }
+    }
+}
+
+/// Returns the icon of a keyword.
+fn icon_named(name: &[u8]) -> Option<CursorIcon> {
+    CursorIcon::from_str(text_in(name, false)?).ok()
+}
+
+/// Sets the shape of the cursor: 50.
+fn set_shape<H: Handler + ?Sized>(handler: &mut H, texts: &[&[u8]]) {
+    if let [text, ..] = texts {
+        match strip_word(text, b"CursorShape=") {
+            Some([b'0', ..]) => handler.set_cursor_shape(CursorShape::Block),
+            Some([b'1', ..]) => handler.set_cursor_shape(CursorShape::Beam),
+            Some([b'2', ..]) => handler.set_cursor_shape(CursorShape::Underline),
+            _ => {}
+        }
+    }
+}
+
+/// Stores data in a clipboard, or asks for what it holds: 52.
+fn use_clipboard<H: Handler + ?Sized>(handler: &mut H, texts: &[&[u8]], terminator: &str) {
+    if let [name, data, ..] = texts {
+        let clipboard = name.first().copied().unwrap_or(b'c');
+        if is_question(data) {
+            handler.clipboard_load(clipboard, terminator);
+        } else {
+            handler.clipboard_store(clipboard, data);
+        }
+    }
+}
+
+/// Resets all colours of the palette.
+fn reset_all<H: Handler + ?Sized>(handler: &mut H) {
+    for index in 0..256 {
+        handler.reset_color(index);
+    }
+}
+
+/// Resets colours of the palette: 104. Without an index, all are reset.
+fn reset_colors<H: Handler + ?Sized>(handler: &mut H, texts: &[&[u8]]) {
+    match texts {
+        [] | [[], ..] => reset_all(handler),
+        _ => {
+            for text in texts {
+                if let Some(index) = parse_number(text) {
+                    handler.reset_color(usize::from(index));
+                }
+            }
+        }
+    }
+}

@@ -1,0 +1,62 @@
+// Written by tools/erase from crates/vte/src/ansi/calls/escape.rt: edit that one.
+//! The calls of executed bytes and of escape sequences.
+
+use crate::proved::vte_handler::Handler;
+use crate::proved::vte_types::{CharsetIndex, StandardCharset};
+
+/// Makes the calls of an executed byte.
+// three numbers for one jump by a table: a range is compared first
+#[allow(clippy::manual_range_patterns)]
+pub(crate) fn perform_execute<H: Handler + ?Sized>(handler: &mut H, byte: u8) {
+    match byte {
+        0x07 => handler.bell(),
+        0x08 => handler.backspace(),
+        0x09 => handler.put_tab(1),
+        0x0a | 0x0b | 0x0c => handler.linefeed(),
+        0x0d => handler.carriage_return(),
+        0x0e => handler.set_active_charset(CharsetIndex::G1),
+        0x0f => handler.set_active_charset(CharsetIndex::G0),
+        0x1a => handler.substitute(),
+        _ => {}
+    }
+}
+
+/// Makes the calls of an escape sequence.
+pub(crate) fn perform_escape<H: Handler + ?Sized>(handler: &mut H, intermediates: &[u8], byte: u8) {
+    match (byte, intermediates) {
+        (b'B', [index]) => configure(handler, *index, StandardCharset::Ascii),
+        (b'0', [index]) => {
+            configure(
+                handler,
+                *index,
+                StandardCharset::SpecialCharacterAndLineDrawing,
+            );
+        }
+        (b'D', []) => handler.linefeed(),
+        (b'E', []) => {
+            handler.linefeed();
+            handler.carriage_return();
+        }
+        (b'H', []) => handler.set_horizontal_tabstop(),
+        (b'M', []) => handler.reverse_index(),
+        (b'Z', []) => handler.identify_terminal(None),
+        (b'c', []) => handler.reset_state(),
+        (b'7', []) => handler.save_cursor_position(),
+        (b'8', []) => handler.restore_cursor_position(),
+        (b'=', []) => handler.set_keypad_application_mode(),
+        (b'>', []) => handler.unset_keypad_application_mode(),
+        (b'8', [b'#']) => handler.decaln(),
+        _ => {}
+    }
+}
+
+/// Configures the index that an intermediate designates.
+fn configure<H: Handler + ?Sized>(handler: &mut H, intermediate: u8, charset: StandardCharset) {
+    match intermediate {
+        b'(' => handler.configure_charset(CharsetIndex::G0, charset),
+        b')' => handler.configure_charset(CharsetIndex::G1, charset),
+        b'*' => handler.configure_charset(CharsetIndex::G2, charset),
+        b'+' => handler.configure_charset(CharsetIndex::G3, charset),
+        _ => {}
+    }
+}

@@ -1,0 +1,74 @@
+// Written by tools/erase from crates/vte/src/ansi/calls/growing_text.rt: edit that one.
+//! A text that grows when room is asked for.
+
+use crate::prelude::String;
+use crate::proved::vte::ansi::calls::text_buffer::TextBuffer;
+
+/// A joined text, with as much room as was asked for.
+#[derive(Clone)]
+pub(crate) struct GrowingText {
+    text: String,
+    // for how many bytes room was asked
+    size: usize,
+}
+
+impl GrowingText {
+    /// Creates an empty text. It takes no memory.
+    #[inline]
+    pub(crate) fn new() -> Self {
+        GrowingText {
+            text: String::new(),
+            size: 0,
+        }
+    }
+
+    /// Gives back its memory.
+    #[inline]
+    pub(crate) fn free(&mut self) {
+        self.text.clear();
+        self.text.shrink_to_fit();
+        self.size = 0;
+    }
+}
+
+impl TextBuffer for GrowingText {
+    #[inline]
+    fn capacity(&self) -> usize {
+        self.size
+    }
+
+    #[inline]
+    fn reserve(&mut self, size: usize) -> bool {
+        if size <= self.size {
+            return true;
+        }
+        self.text.clear();
+        if self.text.reserve(size).is_err() {
+            return false;
+        }
+        self.size = size;
+        true
+    }
+
+    #[inline]
+    fn clear(&mut self) {
+        self.text.clear();
+    }
+
+    #[inline]
+    fn push(&mut self, c: char) {
+        // There is room.
+        let _ = self.text.push(c);
+    }
+
+    #[inline]
+    fn push_str(&mut self, part: &str) {
+        // There is room.
+        let _ = self.text.push_str(part);
+    }
+
+    #[inline]
+    fn as_str(&self) -> &str {
+        self.text.as_str()
+    }
+}

@@ -1,0 +1,8 @@
+// Written by tools/erase from crates/vte/src/ansi/updates.rt: edit that one.
+//! Turns of a processor: the bytes that it parses, and those of an update that it holds back.
+
+pub(crate) mod engine;
+pub(crate) mod hold;
+pub(crate) mod long_parsing;
+pub(crate) mod parsing;
+pub(crate) mod release;

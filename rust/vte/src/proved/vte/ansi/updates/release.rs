@@ -1,0 +1,75 @@
+// Written by tools/erase from crates/vte/src/ansi/updates/release.rt: edit that one.
+//! What a hold releases when bytes are added to it.
+
+use crate::prelude::first_chunk;
+use memchr::memrchr;
+
+/// The first byte of both sequences.
+const ESCAPE: u8 = 0x1b;
+
+/// What is found when bytes are added to a hold.
+#[derive(Clone, Copy)]
+pub(crate) struct Release {
+    /// How many updates begin among the added bytes, after the last one that ends.
+    pub(crate) begins: usize,
+    /// How many bytes are released: none if no update ends, otherwise those before the next update,
+    /// or all.
+    pub(crate) released: usize,
+}
+
+/// Finds what a hold releases, given its end, from a position on: the new bytes, and at most seven
+/// before them. No update ends among the older bytes, so it is enough to search these, backward,
+/// down to the last end-update.
+pub(crate) fn find_release(text: &[u8], start: usize) -> Release {
+    let mut begin = start + text.len();
+    let mut begins = 0;
+    // A sequence has eight bytes, and only the first is ESC: none begins among the last seven
+    // bytes, or the seven before an ESC.
+    let mut unread = skip_blocks(text, text.len().saturating_sub(7));
+    while let Some(position) = memrchr(ESCAPE, &text[..unread]) {
+        unread = skip_blocks(text, position.saturating_sub(7));
+        let sequence = &text[position..];
+        if begins_update(sequence) {
+            begin = start + position;
+            begins += 1;
+        } else if ends_update(sequence) {
+            let released = begin;
+            return Release { begins, released };
+        }
+    }
+    let released = 0;
+    Release { begins, released }
+}
+
+/// Goes back from a position over blocks in which neither sequence begins, and returns how far.
+fn skip_blocks(text: &[u8], before: usize) -> usize {
+    let mut unread = before;
+    while unread >= 32 {
+        match first_chunk::<34>(&text[unread - 32..]) {
+            Some(block) if is_plain_block(block) => unread -= 32,
+            _ => break,
+        }
+    }
+    unread
+}
+
+/// Returns whether neither sequence begins in the first 32 bytes of a block, because no ESC is
+/// followed by what both have as their third byte. Compilers make vector instructions of the loop.
+#[inline(always)]
+fn is_plain_block(block: &[u8; 34]) -> bool {
+    let mut plain = true;
+    for at in 0..32 {
+        plain &= (block[at] != ESCAPE) | (block[at + 2] != b'?');
+    }
+    plain
+}
+
+/// Returns whether the text starts with a begin-update.
+fn begins_update(text: &[u8]) -> bool {
+    text.starts_with(b"\x1b[?2026h")
+}
+
+/// Returns whether the text starts with an end-update.
+fn ends_update(text: &[u8]) -> bool {
+    text.starts_with(b"\x1b[?2026l")
+}

@@ -1,0 +1,196 @@
+// Written by tools/erase from crates/vte_core/src/reader.rt: edit that one.
+//! The only module that has the bytes of a call, and the only way to report events.
+
+mod calls;
+mod counted_perform;
+mod granularity;
+#[cfg(any(feature = "std", feature = "ansi"))]
+mod long_calls;
+mod run;
+mod run_blocks;
+mod run_end;
+mod search;
+
+use crate::adapter::array_vec::{ArrayVec, CapacityError};
+use crate::prelude::first_chunk;
+#[cfg(any(feature = "std", feature = "ansi"))]
+use crate::prelude::{AllocError, Vec};
+use core::str;
+pub(crate) use counted_perform::CountedPerform;
+pub(crate) use granularity::Granularity;
+pub use granularity::{ByCharacter, InRuns};
+pub use run::{Run, Taken};
+pub(crate) use run::{RunKind, RunRange};
+
+/// Reads the bytes of a call and reports events. It has no bytes: only Rattle's contracts need
+/// its count.
+#[derive(Clone, Copy)]
+pub(crate) struct Reader {}
+
+/// Sixteen bytes (`last`), and those one, two and three places before each of them.
+pub(crate) struct Window {
+    pub(crate) third: [u8; 16],
+    pub(crate) second: [u8; 16],
+    pub(crate) first: [u8; 16],
+    pub(crate) last: [u8; 16],
+}
+
+/// Returns the bytes up to a position.
+#[inline(always)]
+pub(crate) fn up_to(input: &[u8], to: usize) -> &[u8] {
+    &input[..to]
+}
+
+/// Returns the text from one position to another.
+///
+/// # Safety
+///
+/// The bytes between them must be whole characters. They are if a search for the end of a run,
+/// begun at `from` or after whole characters that stand there, ended at `to`: it passes one
+/// whole character at a time, a byte of ASCII, or a lead byte with all its continuation bytes,
+/// the first of which `may_begin_three` and `may_begin_four` test. Blocks whose bytes all fit, as
+/// `may_follow` tests, may end inside a character: the search then goes back to where it began.
+#[inline(always)]
+#[allow(unsafe_code)]
+pub(crate) unsafe fn text(bytes: &[u8], from: usize, to: usize) -> &str {
+    let bytes = &bytes[from..to];
+    debug_assert!(str::from_utf8(bytes).is_ok());
+    // SAFETY: this is what the caller promises.
+    unsafe { str::from_utf8_unchecked(bytes) }
+}
+
+/// Returns the data from one position to another.
+#[inline(always)]
+fn data(bytes: &[u8], from: usize, to: usize) -> &[u8] {
+    &bytes[from..to]
+}
+
+/// Returns the run that stands at a position, whose bytes were looked at.
+///
+/// # Safety
+///
+/// The bytes of a run of text must be whole characters, as [`text`] says.
+#[allow(unsafe_code)]
+unsafe fn take_run(bytes: &[u8], range: RunRange) -> Run<'_> {
+    let taken = match range.kind {
+        // SAFETY: this is what the caller promises.
+        RunKind::OfText => Taken::Text(unsafe { text(bytes, range.start, range.end) }),
+        RunKind::OfData => Taken::Data(data(bytes, range.start, range.end)),
+        RunKind::Empty => Taken::Nothing,
+    };
+    Run {
+        start: range.start,
+        end: range.end,
+        taken,
+    }
+}
+
+impl Reader {
+    /// Only Rattle's contracts count.
+    fn add(self, count: usize) {
+        let _ = count;
+    }
+
+    /// Returns the byte at an index.
+    pub(crate) fn byte_at(self, input: &[u8], index: usize) -> u8 {
+        self.add(1);
+        input[index]
+    }
+
+    /// Returns the byte at an index, or `None` past the end.
+    #[inline(always)]
+    pub(crate) fn get_byte(self, input: &[u8], index: usize) -> Option<u8> {
+        let byte = *input.get(index)?;
+        self.add(1);
+        Some(byte)
+    }
+
+    /// Returns a copy of the `N` bytes from a position on, or `None` if there are fewer.
+    #[inline(always)]
+    pub(crate) fn get_block<const N: usize>(self, input: &[u8], from: usize) -> Option<[u8; N]> {
+        let block = *first_chunk::<N>(&input[from..])?;
+        self.add(N);
+        Some(block)
+    }
+
+    /// Returns the 19 bytes from a position on, or `None` if there are fewer. No copy is read at
+    /// two offsets, because loads across two stores wait for both.
+    #[inline(always)]
+    pub(crate) fn get_window(self, input: &[u8], from: usize) -> Option<Window> {
+        let bytes = first_chunk::<19>(&input[from..])?;
+        let window = Window {
+            third: *first_chunk::<16>(bytes)?,
+            second: *first_chunk::<16>(&bytes[1..])?,
+            first: *first_chunk::<16>(&bytes[2..])?,
+            last: *first_chunk::<16>(&bytes[3..])?,
+        };
+        self.add(19);
+        Some(window)
+    }
+
+    /// Reports a whole character.
+    #[inline(always)]
+    pub(crate) fn report_character<P: CountedPerform<G> + ?Sized, G: Granularity>(
+        self,
+        performer: &mut P,
+        c: char,
+    ) {
+        match c {
+            '\u{0}'..='\u{1f}' | '\u{80}'..='\u{9f}' => performer.execute_control(self, c as u8),
+            _ => performer.print_char(self, c),
+        }
+    }
+
+    /// Reports a byte that is neither printed nor a lead byte: a control, or a malformed sequence
+    /// alone.
+    #[inline(always)]
+    pub(crate) fn report_lone_byte<P: CountedPerform<G> + ?Sized, G: Granularity>(
+        self,
+        performer: &mut P,
+        byte: u8,
+    ) {
+        match byte {
+            0x00..=0x1f | 0x80..=0x9f => performer.execute_control(self, byte),
+            _ => performer.print_char(self, char::REPLACEMENT_CHARACTER),
+        }
+    }
+
+    /// Reports the data that stand from one position to another.
+    #[inline(always)]
+    pub(crate) fn report_data<P: CountedPerform<G> + ?Sized, G: Granularity>(
+        self,
+        performer: &mut P,
+        input: &[u8],
+        from: usize,
+        to: usize,
+    ) {
+        performer.put_slice(self, data(input, from, to));
+    }
+
+    /// Appends the bytes from one position to another to an array that has room for them.
+    pub(crate) fn copy_to_array<const N: usize>(
+        self,
+        input: &[u8],
+        from: usize,
+        to: usize,
+        array: &mut ArrayVec<u8, N>,
+    ) -> Result<(), CapacityError> {
+        self.add(to - from);
+        array.try_extend_from_slice(&input[from..to])
+    }
+}
+
+#[cfg(any(feature = "std", feature = "ansi"))]
+impl Reader {
+    /// Appends the bytes from one position to another to a vector that has memory for them.
+    pub(crate) fn copy_to_vec(
+        self,
+        input: &[u8],
+        from: usize,
+        to: usize,
+        vec: &mut Vec<u8>,
+    ) -> Result<(), AllocError> {
+        self.add(to - from);
+        vec.extend_from_slice(&input[from..to])
+    }
+}

@@ -1,0 +1,76 @@
+// Written by tools/erase from crates/vte_core/src/reader/calls.rt: edit that one.
+//! The calls that read bytes into a [`Parser`].
+
+use crate::proved::vte_core::parser::Parser;
+use crate::proved::vte_core::perform::{Perform, PerformText};
+use crate::proved::vte_core::reader::{take_run, ByCharacter, InRuns, Run};
+
+impl<const OSC_RAW_BUF_SIZE: usize> Parser<OSC_RAW_BUF_SIZE> {
+    /// Reads the next bytes of the stream, and performs the events that they add to it.
+    ///
+    /// However calls split the stream, the events are the same. An unfinished character or sequence
+    /// at the end waits for more bytes.
+    pub fn advance<P: Perform + ?Sized>(&mut self, performer: &mut P, bytes: &[u8]) {
+        self.drive::<P, ByCharacter, false>(performer, bytes);
+    }
+
+    /// Reads the next bytes of the stream as [`advance`](Self::advance) does, and passes characters
+    /// to print in [runs](crate::PerformText), and the data of device control strings in
+    /// [slices](crate::PerformText::put_slice).
+    pub fn advance_text<P: PerformText + ?Sized>(&mut self, performer: &mut P, bytes: &[u8]) {
+        self.drive::<P, InRuns, false>(performer, bytes);
+    }
+
+    /// Reads bytes until the performer is terminated, and returns how many were read.
+    ///
+    /// A character that an earlier call began is finished first. Then the performer is asked, and
+    /// again after each character, malformed sequence or byte that was reported. Where nothing is
+    /// reported, many bytes may be read between two questions. An unfinished character at the end
+    /// of the bytes counts as read.
+    #[must_use = "the bytes after the stop are still to be read"]
+    pub fn advance_until_terminated<P: Perform + ?Sized>(
+        &mut self,
+        performer: &mut P,
+        bytes: &[u8],
+    ) -> usize {
+        self.drive::<P, ByCharacter, true>(performer, bytes)
+    }
+
+    /// Reads bytes as [`advance_until_terminated`](Self::advance_until_terminated) does, and passes
+    /// characters to print in [runs](crate::PerformText). Only for performers that nothing in a run
+    /// terminates: they aren't asked there.
+    #[cfg(any(feature = "__own", feature = "ansi"))]
+    pub(crate) fn advance_text_until_terminated<P: PerformText + ?Sized>(
+        &mut self,
+        performer: &mut P,
+        bytes: &[u8],
+    ) -> usize {
+        self.drive::<P, InRuns, true>(performer, bytes)
+    }
+
+    /// Reads bytes up to a run of text, or of data of a device control string, and the run itself,
+    /// which it returns instead of performing it.
+    ///
+    /// Text comes in two ways: by the returned run, and by [`print`](Perform::print) a character
+    /// that was divided between two calls, and U+FFFD for malformed bytes. A performer without
+    /// `print` loses these.
+    ///
+    /// A caller can take text from its own input in this way, with its position and without a copy.
+    ///
+    /// A run begins where nothing is open and a character stands in the bytes that is printed as it
+    /// is, or at a data byte that is put. It ends before the first control, malformed sequence,
+    /// unfinished character or byte that isn't put. What an earlier call began is performed.
+    /// Without a run the call ends with the bytes, or if the performer is terminated, which is
+    /// asked as by [`advance_until_terminated`](Self::advance_until_terminated).
+    #[must_use = "the bytes after the run are still to be read"]
+    #[allow(unsafe_code)]
+    pub fn advance_to_run<'a, P: Perform + ?Sized>(
+        &mut self,
+        performer: &mut P,
+        bytes: &'a [u8],
+    ) -> Run<'a> {
+        let range = self.drive_to_run(performer, bytes);
+        // SAFETY: `drive_to_run` found the range in these bytes.
+        unsafe { take_run(bytes, range) }
+    }
+}

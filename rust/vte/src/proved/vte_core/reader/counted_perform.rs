@@ -1,0 +1,112 @@
+// Written by tools/erase from crates/vte_core/src/reader/counted_perform.rt: edit that one.
+//! Performers, as the functions of a parser see them.
+
+use crate::proved::vte_core::head::Collected;
+use crate::proved::vte_core::perform::Perform;
+use crate::proved::vte_core::reader::granularity::{Granularity, ReceiveAs};
+use crate::proved::vte_core::reader::Reader;
+
+/// A performer, as the functions of a parser see it.
+pub(crate) trait CountedPerform<G: Granularity> {
+    /// Returns whether HT, LF and CR come as text.
+    fn keeps_layout(&self) -> bool;
+
+    fn print_char(&mut self, reader: Reader, c: char);
+
+    /// Counts a text's bytes, which are no fewer than its characters.
+    fn print_text(&mut self, reader: Reader, text: &str);
+
+    fn execute_control(&mut self, reader: Reader, byte: u8);
+
+    fn hook(&mut self, reader: Reader, collected: &Collected, ignore: bool, byte: u8);
+
+    fn put_byte(&mut self, reader: Reader, byte: u8);
+
+    /// Counts each byte.
+    fn put_slice(&mut self, reader: Reader, bytes: &[u8]);
+
+    fn unhook(&mut self, reader: Reader);
+
+    fn osc_dispatch(&mut self, reader: Reader, pieces: &[&[u8]], bell: bool);
+
+    fn csi_dispatch(&mut self, reader: Reader, collected: &Collected, ignore: bool, byte: u8);
+
+    fn esc_dispatch(&mut self, reader: Reader, collected: &Collected, byte: u8);
+
+    fn terminated(&self) -> bool;
+}
+
+impl<P: ReceiveAs<G> + ?Sized, G: Granularity> CountedPerform<G> for P {
+    #[inline(always)]
+    fn keeps_layout(&self) -> bool {
+        ReceiveAs::<G>::keeps_layout(self)
+    }
+
+    #[inline(always)]
+    fn print_char(&mut self, reader: Reader, c: char) {
+        reader.add(1);
+        ReceiveAs::<G>::print_char(self, c);
+    }
+
+    #[inline(always)]
+    fn print_text(&mut self, reader: Reader, text: &str) {
+        reader.add(text.len());
+        ReceiveAs::<G>::print_text(self, text);
+    }
+
+    #[inline(always)]
+    fn execute_control(&mut self, reader: Reader, byte: u8) {
+        reader.add(1);
+        ReceiveAs::<G>::execute_control(self, byte);
+    }
+
+    #[inline(always)]
+    fn hook(&mut self, reader: Reader, collected: &Collected, ignore: bool, byte: u8) {
+        reader.add(1);
+        let (intermediates, action) = (collected.intermediates.as_slice(), char::from(byte));
+        Perform::hook(self, &collected.params, intermediates, ignore, action);
+    }
+
+    #[inline(always)]
+    fn put_byte(&mut self, reader: Reader, byte: u8) {
+        reader.add(1);
+        ReceiveAs::<G>::put_byte(self, byte);
+    }
+
+    #[inline(always)]
+    fn put_slice(&mut self, reader: Reader, bytes: &[u8]) {
+        reader.add(bytes.len());
+        ReceiveAs::<G>::put_slice(self, bytes);
+    }
+
+    #[inline(always)]
+    fn unhook(&mut self, reader: Reader) {
+        reader.add(1);
+        Perform::unhook(self);
+    }
+
+    #[inline(always)]
+    fn osc_dispatch(&mut self, reader: Reader, pieces: &[&[u8]], bell: bool) {
+        reader.add(1);
+        Perform::osc_dispatch(self, pieces, bell);
+    }
+
+    #[inline(always)]
+    fn csi_dispatch(&mut self, reader: Reader, collected: &Collected, ignore: bool, byte: u8) {
+        reader.add(1);
+        let (intermediates, action) = (collected.intermediates.as_slice(), char::from(byte));
+        Perform::csi_dispatch(self, &collected.params, intermediates, ignore, action);
+    }
+
+    #[inline(always)]
+    fn esc_dispatch(&mut self, reader: Reader, collected: &Collected, byte: u8) {
+        reader.add(1);
+        let intermediates = collected.intermediates.as_slice();
+        Perform::esc_dispatch(self, intermediates, collected.too_many_intermediates, byte);
+    }
+
+    #[inline(always)]
+    fn terminated(&self) -> bool {
+        Perform::terminated(self)
+    }
+}

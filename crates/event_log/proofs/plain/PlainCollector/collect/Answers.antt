@@ -17,7 +17,7 @@ loop-self-preserved c =
       keeps = λ whole before.
           let h = c.loop-self.invariant.keeps whole before in
           kept_text chunk c.split_at.result.1.now (c.bytes_are_brief.ensures usual_limit) h
-          (rw (c.split_at.ensures.prefix, c.split_at.ensures.back)
+          (rw (c.split_at.ensures.front, c.split_at.ensures.back)
           (take-append-drop c.min.result c.loop-self.unread.now)) (omega arith)
           (c.advance_text.ensures.performs h.adds_up.since h.adds_up.parsed)
           (c.advance_text.ensures.reads h.adds_up.since h.adds_up.parsed);

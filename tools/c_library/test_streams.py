@@ -1,6 +1,7 @@
 """Vectors and streams, by the C programs: however a stream is cut, they write the same."""
-from c_library.library import TOOLS, at_once, output_of
+from c_library.library import at_once, output_of
 from generating.hostile_streams import OF_TEXT, hostile_stream
+from generating.streams import recorded
 from generating.vectors import bytes_of, lines_of, vectors
 from judging import definition, house
 
@@ -67,15 +68,15 @@ def test_vectors(library):
         else:
             compare(library, name, stream, bytes_of(vector["text"]), [STRIP_WAYS[0], STRIP_WAYS[2]])
 
-    at_once(test_vector, [vector for vector in vectors()
-                       if vector["kind"] in ("events", "text") and vector["limit"] == LIMIT])
+    at_once(test_vector, [vector for vector in vectors() if vector["kind"] in ("events", "text")
+                          and vector["limit"] == LIMIT])
 
 
 def all_streams(given):
     """Recorded streams and groups of random ones, with their names. With --short no recorded one is
     longer than 10,000 bytes."""
-    for file in sorted((TOOLS / "recorded").glob("*.bin")):
-        yield file.name, file.read_bytes()[:10_000 if given.short else None]
+    for name, pieces in recorded():
+        yield name, b"".join(pieces)[:10_000 if given.short else None]
     count = given.streams or (400 if given.short else 20_000)
     for at in range(0, count, 200):
         group = (b"".join(hostile_stream(given.seed, number, OF_TEXT))

@@ -31,10 +31,10 @@ class Comparison:
 def comparisons(row):
     """Each pair of sides that are compared in a row, by what it is called."""
     sides = row["nanoseconds"]
-    if row["race"] == "calls":
+    if row["kind"] == "calls":
         return {name: Comparison(row, name, "libvterm") for name in sides
                 if name != "libvterm" and "libvterm" in sides}
-    pairs = {"over `advance`": ("rust", "advance")} if row["race"] == "strip" else {
+    pairs = {"over `advance`": ("rust", "advance")} if row["kind"] == "strip" else {
         name: pair for name, pair in BUILDS.items() if pair[0] in sides}
     return {name: Comparison(row, *pair) for name, pair in pairs.items()}
 
@@ -46,16 +46,16 @@ def line(row):
 
 
 def shown(row):
-    return f"{row['race']} `{row['stream']}` in calls of {row['piece']:,} B"
+    return f"{row['kind']} `{row['stream']}` in calls of {row['piece']:,} B"
 
 
 def tables(rows):
     """The tables of the page, of what was measured."""
-    found = {(row["race"], row["stream"]): comparisons(row) for row in rows
+    found = {(row["kind"], row["stream"]): comparisons(row) for row in rows
              if row["piece"] == 4096 and row["stream"] in COMMON_STREAMS}
-    stripped = [row for row in rows if row["race"] == "strip"]
-    called = [row for row in rows if row["race"] == "calls"]
-    others = dict.fromkeys(row["race"] for row in rows)
+    stripped = [row for row in rows if row["kind"] == "strip"]
+    called = [row for row in rows if row["kind"] == "calls"]
+    others = dict.fromkeys(row["kind"] for row in rows)
     if kinds := [kind for kind in others if kind not in ("strip", "calls")]:
         yield by_stream(found, kinds)
         yield by_build(found, kinds)

@@ -27,10 +27,10 @@ def vectors(file):
     return json.loads((FOLDER / file).read_text())["vectors"]
 
 
-def stream_of(row):
+def stream_of(vector):
     """All bytes of a test vector."""
-    steps = [step.get("bytes") or step.get("advance") or "" for step in row.get("steps", ())]
-    return bytes.fromhex("".join([*row.get("pieces", ()), row.get("before", ""), *steps]))
+    steps = [step.get("bytes") or step.get("advance") or "" for step in vector.get("steps", ())]
+    return bytes.fromhex("".join([*vector.get("pieces", ()), vector.get("before", ""), *steps]))
 
 
 STREAMS = {

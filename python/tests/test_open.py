@@ -37,8 +37,8 @@ def test_prefixes():
     sys.path.append(str(TOOLS))
     from judging.open_ends import open_at_end
 
-    rows = vectors("events.json", "events")
-    streams = [b"".join(map(bytes.fromhex, row["pieces"])) for row in rows]
+    streams = [b"".join(map(bytes.fromhex, vector["pieces"]))
+               for vector in vectors("events.json", "events")]
     assert len(streams) > 90
     for stream in streams:
         if len(stream) < 300:

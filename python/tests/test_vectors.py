@@ -14,17 +14,17 @@ FOLDER = EXAMPLES.parent.parent / "vectors"
 
 
 def vectors(file, kind):
-    rows = json.loads((FOLDER / file).read_text())["vectors"] if FOLDER.is_dir() else []
-    return [row for row in rows if row["kind"] == kind]
+    listed = json.loads((FOLDER / file).read_text())["vectors"] if FOLDER.is_dir() else []
+    return [vector for vector in listed if vector["kind"] == kind]
 
 
 def each(file, kind):
-    return pytest.mark.parametrize("row", vectors(file, kind), ids=lambda row: row["id"])
+    return pytest.mark.parametrize("vector", vectors(file, kind), ids=lambda vector: vector["id"])
 
 
-def cuttings(row):
+def cuttings(vector):
     """The pieces, the whole, and single bytes."""
-    pieces = [bytes.fromhex(piece) for piece in row["pieces"]]
+    pieces = [bytes.fromhex(piece) for piece in vector["pieces"]]
     stream = b"".join(pieces)
     return pieces, [stream], cut(stream, 1)
 
@@ -43,22 +43,22 @@ def wanted_words(lines):
 
 
 @each("events.json", "events")
-def test_events(row):
-    if row["limit"] not in (None, 1024):
+def test_events(vector):
+    if vector["limit"] not in (None, 1024):
         pytest.skip("no parser has this limit")
-    for pieces in cuttings(row):
+    for pieces in cuttings(vector):
         for limit in None, 1024:
-            if limit == row["limit"] or limit is None and len(b"".join(pieces)) <= 1024:
+            if limit == vector["limit"] or limit is None and len(b"".join(pieces)) <= 1024:
                 parser = vte.Parser(limit)
-                assert event_lines(feed(parser, pieces)) == row["events"]
+                assert event_lines(feed(parser, pieces)) == vector["events"]
                 # the next byte means what it should
                 assert parser.feed(b"\x18x")[-2:] == [vte.Execute(0x18), vte.Text("x")]
                 assert parser.feed(b"x") == [vte.Text("x")]
 
 
 @each("calls.json", "text")
-def test_text(row):
-    for pieces in cuttings(row):
+def test_text(vector):
+    for pieces in cuttings(vector):
         for errors in "replace", "surrogateescape":
             stripper = vte.Stripper(errors)
             texts = [*map(stripper.strip, pieces)]
@@ -67,16 +67,16 @@ def test_text(row):
             assert b"".join([*texts, end]) == vte.strip(b"".join(pieces), errors)
             assert (stripper.strip(b"\x18x")[-1:], stripper.strip(b"x")) == (b"x", b"x")
             if errors == "replace":
-                assert b"".join(texts).hex() == row["text"]
+                assert b"".join(texts).hex() == vector["text"]
                 assert end in (b"", "\ufffd".encode())
 
 
 @each("calls.json", "calls")
-def test_calls(row):
-    wanted, (_, [stream], _) = wanted_words(row["calls"]), cuttings(row)
+def test_calls(vector):
+    wanted, (_, [stream], _) = wanted_words(vector["calls"]), cuttings(vector)
     if len(stream) > 1024:
         pytest.skip("a processor has no limit")
-    for pieces in cuttings(row):
+    for pieces in cuttings(vector):
         processor = vte.Processor()
         found = call_lines(feed(processor, pieces))
         # what is held comes when the update is stopped
@@ -86,11 +86,11 @@ def test_calls(row):
 
 
 @each("calls.json", "updates")
-def test_updates(row):
-    if row["timeout"] not in ("counting", "expiring"):
+def test_updates(vector):
+    if vector["timeout"] not in ("counting", "expiring"):
         pytest.skip("a processor has one timeout")
     processor = vte.Processor()
-    for step in row["steps"]:
+    for step in vector["steps"]:
         if step.get("act") == "expire":
             pytest.skip("no clock tells a processor that an update has expired")
         made = (processor.feed(bytes.fromhex(step["advance"])) if "advance" in step
@@ -102,5 +102,6 @@ def test_updates(row):
 @pytest.mark.skipif(not FOLDER.is_dir(), reason="no vectors")
 def test_each_call_has_vectors():
     # but for those that no sequence makes
-    made = {text.split()[0] for row in vectors("calls.json", "calls") for text in row["calls"]}
+    made = {text.split()[0] for vector in vectors("calls.json", "calls")
+            for text in vector["calls"]}
     assert len(made & set(map(name_of, calls.KINDS))) >= 69

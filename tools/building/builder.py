@@ -36,7 +36,6 @@ vte = { SOURCE, default-features = false, features = ["ansi", "std"] }
 """
 # where the code of a placed program begins, and the bytes that its functions are aligned to
 CODE_START, ALIGNMENT = 0x200000, 16
-CRATES = ["arrayvec", "bitflags", "cursor-icon", "log", "memchr", "serde", "serde-derive", "vte"]
 
 
 def stop(message):
@@ -59,10 +58,9 @@ def proved_program(crate, words=()):
 
 @functools.cache
 def crates():
-    """The environment in which cargo finds CRATES."""
+    """The environment in which cargo finds crates."""
     cache = Path(os.environ.get("XDG_CACHE_HOME") or Path.home() / ".cache") / "naqshuve"
-    packages = [f"librust-{name}-dev" for name in CRATES]
-    said = run([TOOLS / "next_release", cache, *packages], "crates of Debian's next release")
+    said = run([TOOLS / "next_release", cache], "crates of Debian's next release")
     home = re.search(r"CARGO_HOME=(\S+)", said.decode())
     return {"CARGO_HOME": home[1]} if home else {}
 

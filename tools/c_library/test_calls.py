@@ -1,4 +1,4 @@
-"""Handler calls and what is held of updates are those of the rows, from C and C++."""
+"""Handler calls and what is held of updates are those of the vectors, from C and C++."""
 import re
 from functools import cache
 from typing import List, NamedTuple
@@ -6,7 +6,7 @@ from typing import List, NamedTuple
 import pytest
 from generating.calls import TRAIT, calls_of
 from generating.files import TOP
-from generating.rows import all_rows, bytes_of, lines_of
+from generating.vectors import all_vectors, bytes_of, lines_of
 from tests.missing import miss, need
 
 from c_library.library import BESIDE, HERE, SANITIZERS, output_of
@@ -23,7 +23,7 @@ PARAMETER = re.compile(r"const uint8_t \*(?P<text>\w+),\s+size_t \w+|vte_color (
 MOST_CUT = 50_000
 
 
-# ---- the lines of the rows for what calls.c wrote: numbers, `tHEX` for a text, `-` for none, and
+# ---- the lines of vectors for what calls.c wrote: numbers, `tHEX` for a text, `-` for none, and
 # `c` and five numbers for a colour
 
 
@@ -93,7 +93,7 @@ def hexadecimal(word):
     return f"{int(word):02x}"
 
 
-# how an argument is written in the rows, and of how many words, by its type in Rust
+# how an argument is written in the vectors, and of how many words, by its type in Rust
 SHOWN = {
     "Attr": (attribute, 2), "Option<CursorStyle>": (style, 2), "Option<Hyperlink<'_>>": (link, 2),
     **{kind: (show, 1) for kind, show in {
@@ -114,7 +114,7 @@ CALLS = calls_of((TOP / TRAIT).read_text())
 
 @cache
 def lines_for(line):
-    """The lines of the rows for a line that calls.c wrote."""
+    """The lines of the vectors for a line that calls.c wrote."""
     name, *words = line.split()
     if line == SET:
         return [line]
@@ -166,17 +166,17 @@ def cuttings(pieces):
 
 
 def scripts():
-    for row in all_rows():
-        if row["kind"] == "calls":
-            for cutting in cuttings(list(map(bytes_of, row["pieces"]))):
-                step = Step(advances(cutting), lines_of(row["calls"]))
-                yield Script(f"{row['name']}, in {len(cutting)}", [step], "timeouts" in row)
-        elif row["kind"] == "updates" and row["timeout"] in ("counting", "expiring"):
-            yield Script(row["name"], list(map(step_of, row["steps"])))
+    for vector in all_vectors():
+        if vector["kind"] == "calls":
+            for cutting in cuttings(list(map(bytes_of, vector["pieces"]))):
+                step = Step(advances(cutting), lines_of(vector["calls"]))
+                yield Script(f"{vector['name']}, in {len(cutting)}", [step], "timeouts" in vector)
+        elif vector["kind"] == "updates" and vector["timeout"] in ("counting", "expiring"):
+            yield Script(vector["name"], list(map(step_of, vector["steps"])))
 
 
 def step_of(step):
-    """An act of a row. If an update expires, it is stopped."""
+    """An act of a vector. If an update expires, it is stopped."""
     if step.get("act") == "expire":
         return Step(["stop_sync"], lines_of(step["calls"]), (0, 0, None))
     sets = step["timeouts"].count("set") if "timeouts" in step else None
@@ -259,7 +259,7 @@ def test_other_programs(whole, outputs, suffix, words):
         assert output == wanted, script.name
 
 
-def test_each_call_has_a_row():
+def test_each_call_has_a_vector():
     """.. but for `newline`, which no sequence gives."""
     made = {call.split()[0] for script in SCRIPTS for step in script.steps for call in step.calls}
     assert CALLS.keys() - made == {"newline"}

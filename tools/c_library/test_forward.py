@@ -5,9 +5,10 @@ import re
 import subprocess
 
 import pytest
+from generating import streams
 from judging import definition, house
 
-from c_library.library import EXAMPLES, HERE, SANITIZERS, TOOLS, at_once, output_of
+from c_library.library import EXAMPLES, HERE, SANITIZERS, at_once, output_of
 from c_library.test_examples import assert_slow, program, status_of
 
 ST = b"\x1b\\"
@@ -80,9 +81,9 @@ def hostile_streams():
 def test_recorded(library):
     """Streams without such commands are passed on, each byte once it is known to be of none."""
     forward = program(library, "c/forward.c")
+    recorded = {name: b"".join(pieces) for name, pieces in streams.recorded()}
     for name in "vim", "tmux", "sixel", "malformed-text":
-        recorded = (TOOLS / f"recorded/{name}.bin").read_bytes()
-        assert output_of([forward], recorded) == recorded
+        assert output_of([forward], recorded[name]) == recorded[name]
     large = b"a\x1b]52;c;" + b"YQ==" * 30000
     assert output_of([forward], large + b"\x1b\\b") == b"a\x1b\\b"
     assert_slow([forward], [(b"a\xc3\x1b]52;c;", b"a\xc3"), (b"YQ==\x07b\x1b", b"\x1b\\b"),

@@ -1,9 +1,9 @@
-"""What is open, at each byte of rows and of hostile streams."""
+"""What is open, at each byte of vectors and of hostile streams."""
 from ctypes import CDLL, byref, c_size_t, c_uint8, c_uint64
 
 import pytest
 from generating.hostile_streams import hostile_stream
-from generating.rows import bytes_of, vectors
+from generating.vectors import bytes_of, vectors
 from judging.open_ends import open_at_end
 
 from c_library.library import at_once
@@ -63,6 +63,6 @@ def test_prefixes(library):
     def test(stream):
         assert_open(library, stream, [open_at_end(stream[:end]) for end in range(len(stream) + 1)])
 
-    rows = [bytes_of(row["pieces"]) for row in vectors() if row["kind"] == "events"]
+    vectors = [bytes_of(vector["pieces"]) for vector in vectors() if vector["kind"] == "events"]
     hostile = [b"".join(hostile_stream(52, number)) for number in range(100)]
-    at_once(test, [stream for stream in rows + hostile if len(stream) < 300])
+    at_once(test, [stream for stream in vectors + hostile if len(stream) < 300])

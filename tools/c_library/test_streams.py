@@ -1,7 +1,8 @@
-"""Rows and streams, by the C programs: however a stream is cut, they write the same."""
-from c_library.library import TOOLS, at_once, output_of
+"""Vectors and streams, by the C programs: however a stream is cut, they write the same."""
+from c_library.library import at_once, output_of
 from generating.hostile_streams import OF_TEXT, hostile_stream
-from generating.rows import bytes_of, lines_of, vectors
+from generating.streams import recorded
+from generating.vectors import bytes_of, lines_of, vectors
 from judging import definition, house
 
 # arguments of the C program: pieces of one byte, of 4,096, and of random sizes in random room
@@ -55,27 +56,27 @@ def losses(stream, limit):
                     for has, wanted in zip(kept, all_data))
 
 
-def test_rows(library):
+def test_vectors(library):
     """Events and text are those that were worked out by hand, for a parser that keeps 1,024
     bytes."""
-    def test_row(row):
-        stream, name = bytes_of(row["pieces"]), f"row: {row['name']}"
+    def test_vector(vector):
+        stream, name = bytes_of(vector["pieces"]), f"vector: {vector['name']}"
         compare_losses(library, name, stream)
-        if row["kind"] == "events":
-            lines = "".join(f"{line}\n" for line in lines_of(row["events"])).encode()
+        if vector["kind"] == "events":
+            lines = "".join(f"{line}\n" for line in lines_of(vector["events"])).encode()
             compare_lines(library, name, stream, lines, [WAYS[0], WAYS[2]])
         else:
-            compare(library, name, stream, bytes_of(row["text"]), [STRIP_WAYS[0], STRIP_WAYS[2]])
+            compare(library, name, stream, bytes_of(vector["text"]), [STRIP_WAYS[0], STRIP_WAYS[2]])
 
-    at_once(test_row, [row for row in vectors()
-                       if row["kind"] in ("events", "text") and row["limit"] == LIMIT])
+    at_once(test_vector, [vector for vector in vectors() if vector["kind"] in ("events", "text")
+                          and vector["limit"] == LIMIT])
 
 
 def all_streams(given):
     """Recorded streams and groups of random ones, with their names. With --short no recorded one is
     longer than 10,000 bytes."""
-    for file in sorted((TOOLS / "recorded").glob("*.bin")):
-        yield file.name, file.read_bytes()[:10_000 if given.short else None]
+    for name, pieces in recorded():
+        yield name, b"".join(pieces)[:10_000 if given.short else None]
     count = given.streams or (400 if given.short else 20_000)
     for at in range(0, count, 200):
         group = (b"".join(hostile_stream(given.seed, number, OF_TEXT))

@@ -5,6 +5,7 @@ stream is cut at its size, so it may end inside a character or a sequence. It re
 import itertools
 import json
 import random
+import tarfile
 from functools import partial
 from pathlib import Path
 
@@ -182,9 +183,12 @@ def generate(name, size):
 
 
 def recorded():
-    """Streams that real programs wrote: each with its name and the pieces that it came in."""
-    folder = Path(__file__).resolve().parent.parent / "recorded"
-    for name, lengths in json.loads((folder / "pieces.json").read_text()).items():
-        stream = (folder / f"{name}.bin").read_bytes()
-        ends = list(itertools.accumulate(lengths))
-        yield name, cut_at(stream, ends[:-1])
+    """Streams that real programs wrote: each with its name and the pieces that it came in. The
+    archive has a file for each, and their lengths in pieces.json."""
+    with tarfile.open(Path(__file__).with_name("recorded.tar.xz")) as archive:
+        def read(name):
+            return archive.extractfile(name).read()
+
+        for name, lengths in json.loads(read("pieces.json")).items():
+            ends = list(itertools.accumulate(lengths))
+            yield name, cut_at(read(f"{name}.bin"), ends[:-1])

@@ -5,7 +5,7 @@ from typing import NamedTuple
 
 from generating.hostile_streams import OF_TEXT, hostile_stream
 from generating.random_text import cut_at_random
-from generating.rows import pieces_of, vectors
+from generating.vectors import pieces_of, vectors
 from generating.streams import recorded
 
 SOURCES = ("vectors", "random", "recorded")

@@ -497,6 +497,31 @@ def test_the_table_of_c_has_one_order(calls):
     told = tool.run("--check")[0]
     assert told.startswith(HEADER) and told.endswith("the functions don't have one order")
 
+# ---- make_vectors
+
+PLAIN, MARK = "crates/conformance/src/log_tests/plain.rt", "// Written by tools/make_vectors."
+
+
+@pytest.mark.parametrize("old, new, told", [
+    ("", "", None),
+    ('text: b"\\x0a"', 'text: b"\\x0d"',
+     f"these files aren't up to date; run tools/make_vectors:\n  {PLAIN}"),
+    ("plain text of nothing", "nothing",
+     f'{PLAIN}: no vector of text has the name "nothing"'),
+    ("[PlainVector;", "[Plain;", f"{PLAIN}: 0 tables, and 1 times `{MARK}`"),
+    ("// Written by", "// By", f"{PLAIN}: 1 tables, and 0 times `{MARK}`"),
+    (None, None, "crates/conformance has no table of PlainVector")])
+def test_a_wrong_table_is_refused(folder, old, new, told):
+    for name in "conformance/src", "call_vectors":
+        shutil.copytree(TOOLS.parent / "crates" / name, folder / "crates" / name)
+    text = Path(PLAIN).read_text()
+    if old is None:
+        Path(PLAIN).unlink()
+    else:
+        assert old in text
+        write(PLAIN, text.replace(old, new, 1))
+    assert Tool("make_vectors").run("--check") == (told, "")
+
 
 # ---- check_public_items
 
@@ -638,19 +663,19 @@ def test_status_of_fuzz(is_clean, finds):
 # ---- building
 
 @pytest.mark.parametrize("newest, is_built", [
-    ("race/out/race", False), ("vte/src/lib.rt", True), ("vte/specs/a/B.antt", True),
+    ("benchmark/out/benchmark", False), ("vte/src/lib.rt", True), ("vte/specs/a/B.antt", True),
     ("vte/proofs/C.antt", True), ("../crates.txt", True)])
 def test_a_proved_program_is_built_unless_it_is_newer(folder, monkeypatch, newest, is_built):
     built = []
     monkeypatch.setattr(builder, "TOOLS", folder / "tools")
     monkeypatch.setattr(builder, "run", lambda words, *_, **__: built.append(words))
-    for name in ("race/out/race", "vte/src/lib.rt", "vte/specs/a/B.antt", "vte/proofs/C.antt",
-                 "../crates.txt"):
+    for name in ("benchmark/out/benchmark", "vte/src/lib.rt", "vte/specs/a/B.antt",
+                 "vte/proofs/C.antt", "../crates.txt"):
         os.utime(write(f"crates/{name}", ""), (0, 2 if name == newest else 1))
     for part in (folder / "crates").rglob("*"):
         if part.is_dir():
             os.utime(part, (0, 1))
-    assert builder.proved_program("race") == folder / "crates/race/out/race"
+    assert builder.proved_program("benchmark") == folder / "crates/benchmark/out/benchmark"
     assert built == [["rt", "run"]] * is_built
 
 

@@ -1,17 +1,17 @@
-//! Early stops: rows worked out by hand. `tools/make_tables` writes the table.
+//! Early stops: vectors worked out by hand. `tools/make_vectors` writes the table.
 
-mod rows;
+mod vectors;
 
 use crate::feed::feed_with_stop;
-use crate::rows::{LinesRow, tables};
 use crate::tests::joined_lines;
+use crate::vectors::{LinesVector, tables};
 use std::process::Abort;
 use std::test::Fail;
 use test_lines::{EventLines, Stop};
 use vte_core::{Parser, Perform};
 
 /// Calls of a parser that has read `before`, with a performer that asks for a stop at `stop`.
-struct UntilRow {
+struct UntilVector {
     name: &'static str,
     stop: Stop,
     before: &'static [u8],
@@ -32,21 +32,21 @@ enum Call {
 
 #[test]
 fn until_terminated(rt: HostRuntime) -> Result<(), Fail> {
-    for row in &rows::ROWS {
+    for vector in &vectors::VECTORS {
         let mut parser = Parser::<1024>::new_with_size();
-        let mut lines = EventLines::new(rt.alloc(), row.stop);
-        parser.advance(&mut lines, row.before);
-        for step in row.steps {
+        let mut lines = EventLines::new(rt.alloc(), vector.stop);
+        parser.advance(&mut lines, vector.before);
+        for step in vector.steps {
             lines.clear();
             match step.call {
                 Call::Advance => parser.advance(&mut lines, step.bytes),
                 Call::UntilTerminated { answer } => {
                     let read = parser.advance_until_terminated(&mut lines, step.bytes);
-                    assert_eq!(rt; read, answer, "{}", row.name);
+                    assert_eq!(rt; read, answer, "{}", vector.name);
                 }
             }
             let want = joined_lines(rt.alloc(), step.lines)?;
-            assert_eq!(rt; lines.text(), Some(want.as_str()), "{}", row.name);
+            assert_eq!(rt; lines.text(), Some(want.as_str()), "{}", vector.name);
         }
     }
     Ok(())
@@ -56,29 +56,32 @@ fn until_terminated(rt: HostRuntime) -> Result<(), Fail> {
 const STOPPED: usize = 64;
 
 /// Whichever event asks for the stop, the parser stops, and the unread bytes give the rest.
-fn assert_stops(rt: &(impl Abort + AllocGlobal), row: &LinesRow) -> Result<(), Fail> {
-    let bytes = row.bytes(rt.alloc())?;
+fn assert_stops(rt: &(impl Abort + AllocGlobal), vector: &LinesVector) -> Result<(), Fail> {
+    let bytes = vector.bytes(rt.alloc())?;
     if bytes.len() > STOPPED {
         return Ok(());
     }
-    let want = row.text(rt.alloc())?;
-    for event in 0..row.lines.len() {
+    let want = vector.text(rt.alloc())?;
+    for event in 0..vector.lines.len() {
         let mut lines = EventLines::new(rt.alloc(), Stop::After(event));
-        let fed = feed_with_stop(row.size, &mut lines, bytes.as_slice());
-        assert!(rt; fed && lines.terminated(), "{}, event {event}", row.name);
+        let fed = feed_with_stop(vector.size, &mut lines, bytes.as_slice());
+        assert!(rt; fed && lines.terminated(), "{}, event {event}", vector.name);
         assert_eq!(rt;
             lines.text(),
             Some(want.as_str()),
             "{}, event {event}",
-            row.name
+            vector.name
         );
     }
     Ok(())
 }
 
-fn assert_rows_stop(rt: &(impl Abort + AllocGlobal), rows: &[LinesRow]) -> Result<(), Fail> {
-    for row in rows {
-        assert_stops(rt, row)?;
+fn assert_vectors_stop(
+    rt: &(impl Abort + AllocGlobal),
+    vectors: &[LinesVector],
+) -> Result<(), Fail> {
+    for vector in vectors {
+        assert_stops(rt, vector)?;
     }
     Ok(())
 }
@@ -86,7 +89,7 @@ fn assert_rows_stop(rt: &(impl Abort + AllocGlobal), rows: &[LinesRow]) -> Resul
 #[test]
 fn a_stop_after_each_event(rt: HostRuntime) -> Result<(), Fail> {
     for table in tables() {
-        assert_rows_stop(&rt, table)?;
+        assert_vectors_stop(&rt, table)?;
     }
     Ok(())
 }

@@ -1,7 +1,7 @@
 //! A stream that breaks off starts over at CAN and at ESC.
 
 use crate::feed::{Text, feed_new};
-use crate::rows::{LinesRow, tables};
+use crate::vectors::{LinesVector, tables};
 use std::process::Abort;
 use std::test::Fail;
 use test_lines::{EventLines, Stop};
@@ -40,22 +40,31 @@ fn assert_resyncs(
     Ok(())
 }
 
-fn assert_fronts(rt: &(impl Abort + AllocGlobal), row: &LinesRow) -> Result<(), Fail> {
-    let bytes = row.bytes(rt.alloc())?;
+fn assert_fronts(rt: &(impl Abort + AllocGlobal), vector: &LinesVector) -> Result<(), Fail> {
+    let bytes = vector.bytes(rt.alloc())?;
     if bytes.len() > BROKEN_OFF {
         return Ok(());
     }
     for place in 0..=bytes.len() {
         let (front, _) = bytes.split_at(place);
-        assert_resyncs(rt, row.size, front, [b"\x18", b"\x18z"], "print 007a\n")?;
-        assert_resyncs(rt, row.size, front, [b"\x1b", b"\x1bc"], "esc - false 63\n")?;
+        assert_resyncs(rt, vector.size, front, [b"\x18", b"\x18z"], "print 007a\n")?;
+        assert_resyncs(
+            rt,
+            vector.size,
+            front,
+            [b"\x1b", b"\x1bc"],
+            "esc - false 63\n",
+        )?;
     }
     Ok(())
 }
 
-fn assert_fronts_of_rows(rt: &(impl Abort + AllocGlobal), rows: &[LinesRow]) -> Result<(), Fail> {
-    for row in rows {
-        assert_fronts(rt, row)?;
+fn assert_fronts_of_vectors(
+    rt: &(impl Abort + AllocGlobal),
+    vectors: &[LinesVector],
+) -> Result<(), Fail> {
+    for vector in vectors {
+        assert_fronts(rt, vector)?;
     }
     Ok(())
 }
@@ -63,7 +72,7 @@ fn assert_fronts_of_rows(rt: &(impl Abort + AllocGlobal), rows: &[LinesRow]) -> 
 #[test]
 fn each_front_and_a_new_beginning(rt: HostRuntime) -> Result<(), Fail> {
     for table in tables() {
-        assert_fronts_of_rows(&rt, table)?;
+        assert_fronts_of_vectors(&rt, table)?;
     }
     Ok(())
 }

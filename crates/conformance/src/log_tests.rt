@@ -1,5 +1,5 @@
-//! `run`, `run_text` and their performers: the rows, and streams with their plain text.
-//! tools/make_tables writes the table `plain`.
+//! `run`, `run_text` and their performers: the vectors, and streams with their plain text.
+//! tools/make_vectors writes the table `plain`.
 
 mod faults;
 mod flushes;
@@ -8,8 +8,8 @@ mod plain;
 mod recorder;
 
 use self::peers::{AtMost, Pieces, Written};
-use crate::rows::{LinesRow, tables};
 use crate::tests::joined_lines;
+use crate::vectors::{LinesVector, tables};
 use event_log::{Device, Fault, Plain, Recorder, run, run_text};
 use std::alloc::{AllocError, Global};
 use std::process::Abort;
@@ -17,7 +17,7 @@ use std::test::Fail;
 use vte_core::{LongParser, Parser, Perform};
 
 /// A stream and its plain text.
-struct PlainRow {
+struct PlainVector {
     name: &'static str,
     bytes: &'static [u8],
     text: &'static [u8],
@@ -31,7 +31,7 @@ enum What {
 }
 
 /// The pieces that a reader gives before it fails, and the lines that are written for them.
-struct FailingReadRow {
+struct FailingReadVector {
     name: &'static str,
     reads: &'static [&'static [u8]],
     lines: &'static [&'static str],
@@ -39,7 +39,7 @@ struct FailingReadRow {
 
 /// The stream `front`, `times` times `unit`, and `back`; the number of bytes that a recorder holds
 /// after it, and whether a line was lost.
-struct RecorderRow {
+struct RecorderVector {
     name: &'static str,
     front: &'static [u8],
     unit: &'static [u8],
@@ -90,42 +90,42 @@ fn assert_written(
     assert_run(rt, name, what, reader, Ok(()), written)
 }
 
-fn assert_rows(rt: &(impl Abort + AllocGlobal), rows: &[LinesRow]) -> Result<(), Fail> {
-    for row in rows {
+fn assert_vectors(rt: &(impl Abort + AllocGlobal), vectors: &[LinesVector]) -> Result<(), Fail> {
+    for vector in vectors {
         // The parser of a run has a buffer of 1,024 bytes.
-        if row.size == 1024 {
-            let bytes = row.bytes(rt.alloc())?;
-            let text = row.text(rt.alloc())?;
+        if vector.size == 1024 {
+            let bytes = vector.bytes(rt.alloc())?;
+            let text = vector.text(rt.alloc())?;
             let (bytes, text) = (bytes.as_slice(), text.as_bytes());
-            assert_written(rt, row.name, What::Lines, bytes, text)?;
+            assert_written(rt, vector.name, What::Lines, bytes, text)?;
         }
     }
     Ok(())
 }
 
 #[test]
-fn lines_of_rows(rt: HostRuntime) -> Result<(), Fail> {
+fn lines_of_vectors(rt: HostRuntime) -> Result<(), Fail> {
     for table in tables() {
-        assert_rows(&rt, table)?;
+        assert_vectors(&rt, table)?;
     }
     Ok(())
 }
 
 #[test]
-fn plain_rows(rt: HostRuntime) -> Result<(), Fail> {
-    for row in &plain::ROWS {
-        assert_written(&rt, row.name, What::Text, row.bytes, row.text)?;
+fn plain_vectors(rt: HostRuntime) -> Result<(), Fail> {
+    for vector in &plain::VECTORS {
+        assert_written(&rt, vector.name, What::Text, vector.bytes, vector.text)?;
     }
     Ok(())
 }
 
 #[test]
 fn failing_reads(rt: HostRuntime) -> Result<(), Fail> {
-    for row in &faults::ROWS {
-        let reader = Pieces::new(row.reads, true);
-        let text = joined_lines(rt.alloc(), row.lines)?;
+    for vector in &faults::VECTORS {
+        let reader = Pieces::new(vector.reads, true);
+        let text = joined_lines(rt.alloc(), vector.lines)?;
         let want = Err(Fault::Read);
-        assert_run(&rt, row.name, What::Lines, reader, want, text.as_bytes())?;
+        assert_run(&rt, vector.name, What::Lines, reader, want, text.as_bytes())?;
     }
     Ok(())
 }
@@ -249,7 +249,7 @@ fn plain_takes_a_run(rt: HostRuntime) {
 /// However much text the bytes give, in two full pieces of 4,096 bytes, none of it is lost.
 #[test]
 fn text_that_grows(rt: HostRuntime) -> Result<(), Fail> {
-    let rows: [(&[u8], usize, &[u8], usize); 5] = [
+    let streams: [(&[u8], usize, &[u8], usize); 5] = [
         (b"a", 8192, b"a", 8192),
         (b"\xff", 8192, b"\xef\xbf\xbd", 8192),
         // each FF breaks the character that E4 began, and is malformed itself
@@ -258,7 +258,7 @@ fn text_that_grows(rt: HostRuntime) -> Result<(), Fail> {
         (b"\xff\xe4", 4096, b"\xef\xbf\xbd", 8191),
         (b"\xf0\x9f\x98\x80", 2048, b"\xf0\x9f\x98\x80", 2048),
     ];
-    for (unit, times, character, count) in rows {
+    for (unit, times, character, count) in streams {
         let stream = repeated(rt.alloc(), unit, times)?;
         let (first, second) = stream.split_at(stream.len() / 2);
         let text = repeated(rt.alloc(), character, count)?;
@@ -270,15 +270,15 @@ fn text_that_grows(rt: HostRuntime) -> Result<(), Fail> {
 }
 
 #[test]
-fn recorder_rows(rt: HostRuntime) -> Result<(), Fail> {
-    for row in &recorder::ROWS {
-        let mut stream = row.front.to_vec(rt.alloc())?;
-        stream.extend_from_slice(repeated(rt.alloc(), row.unit, row.times)?.as_slice())?;
-        stream.extend_from_slice(row.back)?;
+fn recorder_vectors(rt: HostRuntime) -> Result<(), Fail> {
+    for vector in &recorder::VECTORS {
+        let mut stream = vector.front.to_vec(rt.alloc())?;
+        stream.extend_from_slice(repeated(rt.alloc(), vector.unit, vector.times)?.as_slice())?;
+        stream.extend_from_slice(vector.back)?;
         let mut recorder = Recorder::new();
         Parser::<1024>::new_with_size().advance(&mut recorder, stream.as_slice());
-        assert_eq!(rt; recorder.bytes().len(), row.bytes, "{}", row.name);
-        assert_eq!(rt; recorder.lost(), row.lost, "{}", row.name);
+        assert_eq!(rt; recorder.bytes().len(), vector.bytes, "{}", vector.name);
+        assert_eq!(rt; recorder.lost(), vector.lost, "{}", vector.name);
     }
     Ok(())
 }

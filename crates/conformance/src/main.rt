@@ -18,8 +18,6 @@ mod log_tests;
 #[cfg(test)]
 mod prepared_memory;
 #[cfg(test)]
-mod rows;
-#[cfg(test)]
 mod runs;
 #[cfg(test)]
 mod serialized_colors;
@@ -28,6 +26,8 @@ mod tests;
 mod timeouts;
 #[cfg(test)]
 mod unlimited;
+#[cfg(test)]
+mod vectors;
 
 use calls::Calls;
 use events::Events;

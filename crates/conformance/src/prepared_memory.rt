@@ -1,20 +1,20 @@
 //! Runs over memory that was allocated before need no more.
 
-use crate::rows::{LinesRow, tables};
+use crate::vectors::{LinesVector, tables};
 use bumpalo::Bump;
 use event_log::{Device, run};
 use std::process::Abort;
 use std::test::Fail;
 
-/// With every allocation refused, a run writes the lines of a row into memory that was allocated
+/// With every allocation refused, a run writes the lines of a vector into memory that was allocated
 /// before.
-fn assert_written(rt: &(impl Abort + AllocGlobal), row: &LinesRow) -> Result<(), Fail> {
+fn assert_written(rt: &(impl Abort + AllocGlobal), vector: &LinesVector) -> Result<(), Fail> {
     // The parser of a run has a buffer of 1,024 bytes.
-    if row.size != 1024 {
+    if vector.size != 1024 {
         return Ok(());
     }
-    let bytes = row.bytes(rt.alloc())?;
-    let want = row.text(rt.alloc())?;
+    let bytes = vector.bytes(rt.alloc())?;
+    let want = vector.text(rt.alloc())?;
     let memory = Bump::new(rt.alloc());
     let mut written = Vec::with_capacity(&memory, want.len())?;
     // Use up the rest of the arena.
@@ -24,14 +24,17 @@ fn assert_written(rt: &(impl Abort + AllocGlobal), row: &LinesRow) -> Result<(),
         &mut Device::new(bytes.as_slice()),
         &mut Device::new(&mut written),
     );
-    assert_eq!(rt; result, Ok(()), "{}", row.name);
-    assert!(rt; written.as_slice() == want.as_bytes(), "{}", row.name);
+    assert_eq!(rt; result, Ok(()), "{}", vector.name);
+    assert!(rt; written.as_slice() == want.as_bytes(), "{}", vector.name);
     Ok(())
 }
 
-fn assert_rows_written(rt: &(impl Abort + AllocGlobal), rows: &[LinesRow]) -> Result<(), Fail> {
-    for row in rows {
-        assert_written(rt, row)?;
+fn assert_vectors_written(
+    rt: &(impl Abort + AllocGlobal),
+    vectors: &[LinesVector],
+) -> Result<(), Fail> {
+    for vector in vectors {
+        assert_written(rt, vector)?;
     }
     Ok(())
 }
@@ -39,7 +42,7 @@ fn assert_rows_written(rt: &(impl Abort + AllocGlobal), rows: &[LinesRow]) -> Re
 #[test]
 fn run_takes_no_memory(rt: HostRuntime) -> Result<(), Fail> {
     for table in tables() {
-        assert_rows_written(&rt, table)?;
+        assert_vectors_written(&rt, table)?;
     }
     Ok(())
 }

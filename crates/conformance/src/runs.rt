@@ -1,7 +1,7 @@
 //! All text comes in runs: one character or more, and none of them a control, but for line ends and
 //! tabs if these are kept.
 
-use crate::rows::{LinesRow, tables};
+use crate::vectors::{LinesVector, tables};
 use std::process::Abort;
 use std::test::Fail;
 use vte_core::{Params, Parser, Perform, PerformText};
@@ -117,22 +117,22 @@ fn check_runs<const KEEPS: bool>(rt: &impl Abort, name: &str, pieces: &[&[u8]]) 
     check
 }
 
-fn check_rows(rt: &(impl Abort + AllocGlobal), rows: &[LinesRow]) -> Result<(), Fail> {
-    for row in rows {
-        let bytes = row.bytes(rt.alloc())?;
+fn check_vectors(rt: &(impl Abort + AllocGlobal), vectors: &[LinesVector]) -> Result<(), Fail> {
+    for vector in vectors {
+        let bytes = vector.bytes(rt.alloc())?;
         for cut in 0..=bytes.len() {
             let (front, back) = bytes.split_at(cut);
-            check_runs::<false>(rt, row.name, &[front, back]);
-            check_runs::<true>(rt, row.name, &[front, back]);
+            check_runs::<false>(rt, vector.name, &[front, back]);
+            check_runs::<true>(rt, vector.name, &[front, back]);
         }
     }
     Ok(())
 }
 
 #[test]
-fn runs_of_rows_have_characters_and_no_control(rt: HostRuntime) -> Result<(), Fail> {
+fn runs_of_vectors_have_characters_and_no_control(rt: HostRuntime) -> Result<(), Fail> {
     for table in tables() {
-        check_rows(&rt, table)?;
+        check_vectors(&rt, table)?;
     }
     Ok(())
 }

@@ -1,7 +1,7 @@
-//! The rows: whole, byte by byte, and cut at every place.
+//! The vectors: whole, byte by byte, and cut at every place.
 
 use crate::feed::{Text, feed_new, feed_saved};
-use crate::rows::{self, LinesRow, RepeatedBytes, RepeatedText};
+use crate::vectors::{self, LinesVector, RepeatedBytes, RepeatedText};
 use std::alloc::{AllocError, Global};
 use std::process::Abort;
 use std::test::Fail;
@@ -80,53 +80,63 @@ fn assert_lines_at_each_cut(
     Ok(())
 }
 
-fn assert_row(rt: &(impl Abort + AllocGlobal), row: &LinesRow, text: Text) -> Result<(), Fail> {
-    let want = row.text(rt.alloc())?;
+fn assert_vector(
+    rt: &(impl Abort + AllocGlobal),
+    vector: &LinesVector,
+    text: Text,
+) -> Result<(), Fail> {
+    let want = vector.text(rt.alloc())?;
     let want = want.as_str();
-    assert_lines(rt, row.name, row.size, text, row.pieces, want)?;
-    let bytes = row.bytes(rt.alloc())?;
-    assert_lines_at_each_cut(rt, row.name, row.size, text, bytes.as_slice(), want)
+    assert_lines(rt, vector.name, vector.size, text, vector.pieces, want)?;
+    let bytes = vector.bytes(rt.alloc())?;
+    assert_lines_at_each_cut(rt, vector.name, vector.size, text, bytes.as_slice(), want)
 }
 
-fn assert_row_when_saved(rt: &(impl Abort + AllocGlobal), row: &LinesRow) -> Result<(), Fail> {
-    if row.size != 1024 {
+fn assert_vector_when_saved(
+    rt: &(impl Abort + AllocGlobal),
+    vector: &LinesVector,
+) -> Result<(), Fail> {
+    if vector.size != 1024 {
         return Ok(());
     }
-    let want = row.text(rt.alloc())?;
-    let bytes = row.bytes(rt.alloc())?;
+    let want = vector.text(rt.alloc())?;
+    let bytes = vector.bytes(rt.alloc())?;
     let each_byte: Vec<&[u8]> = bytes.as_slice().chunks(1).collect(rt.alloc())?;
-    assert_saved_lines(rt, row.name, row.pieces, want.as_str())?;
-    assert_saved_lines(rt, row.name, each_byte.as_slice(), want.as_str())
+    assert_saved_lines(rt, vector.name, vector.pieces, want.as_str())?;
+    assert_saved_lines(rt, vector.name, each_byte.as_slice(), want.as_str())
 }
 
-fn assert_rows(rt: &(impl Abort + AllocGlobal), rows: &[LinesRow]) -> Result<(), Fail> {
-    for row in rows {
-        assert_row(rt, row, Text::Characters)?;
-        assert_row_when_saved(rt, row)?;
+fn assert_vectors(rt: &(impl Abort + AllocGlobal), vectors: &[LinesVector]) -> Result<(), Fail> {
+    for vector in vectors {
+        assert_vector(rt, vector, Text::Characters)?;
+        assert_vector_when_saved(rt, vector)?;
     }
     Ok(())
 }
 
-fn assert_rows_in_runs(rt: &(impl Abort + AllocGlobal), rows: &[LinesRow]) -> Result<(), Fail> {
-    for row in rows {
-        assert_row(rt, row, Text::Runs)?;
-        assert_row(rt, row, Text::InTurn)?;
-    }
-    Ok(())
-}
-
-#[test]
-fn rows_by_characters(rt: HostRuntime) -> Result<(), Fail> {
-    for table in rows::tables() {
-        assert_rows(&rt, table)?;
+fn assert_vectors_in_runs(
+    rt: &(impl Abort + AllocGlobal),
+    vectors: &[LinesVector],
+) -> Result<(), Fail> {
+    for vector in vectors {
+        assert_vector(rt, vector, Text::Runs)?;
+        assert_vector(rt, vector, Text::InTurn)?;
     }
     Ok(())
 }
 
 #[test]
-fn rows_in_runs(rt: HostRuntime) -> Result<(), Fail> {
-    for table in rows::tables() {
-        assert_rows_in_runs(&rt, table)?;
+fn vectors_by_characters(rt: HostRuntime) -> Result<(), Fail> {
+    for table in vectors::tables() {
+        assert_vectors(&rt, table)?;
+    }
+    Ok(())
+}
+
+#[test]
+fn vectors_in_runs(rt: HostRuntime) -> Result<(), Fail> {
+    for table in vectors::tables() {
+        assert_vectors_in_runs(&rt, table)?;
     }
     Ok(())
 }
@@ -154,11 +164,11 @@ fn cut<'a>(alloc: Global, bytes: &'a [u8], cuts: u32) -> Result<Vec<&'a [u8]>, A
 
 fn assert_lines_at_each_set_of_cuts(
     rt: &(impl Abort + AllocGlobal),
-    row: &LinesRow,
+    vector: &LinesVector,
     text: Text,
 ) -> Result<(), Fail> {
-    let bytes = row.bytes(rt.alloc())?;
-    let want = row.text(rt.alloc())?;
+    let bytes = vector.bytes(rt.alloc())?;
+    let want = vector.text(rt.alloc())?;
     if bytes.len() > CUT_IN_EVERY_WAY as usize {
         return Ok(());
     }
@@ -167,8 +177,8 @@ fn assert_lines_at_each_set_of_cuts(
         let pieces = cut(rt.alloc(), bytes.as_slice(), cuts)?;
         assert_lines(
             rt,
-            row.name,
-            row.size,
+            vector.name,
+            vector.size,
             text,
             pieces.as_slice(),
             want.as_str(),
@@ -177,29 +187,29 @@ fn assert_lines_at_each_set_of_cuts(
     Ok(())
 }
 
-fn assert_rows_at_each_set_of_cuts(
+fn assert_vectors_at_each_set_of_cuts(
     rt: &(impl Abort + AllocGlobal),
-    rows: &[LinesRow],
+    vectors: &[LinesVector],
     text: Text,
 ) -> Result<(), Fail> {
-    for row in rows {
-        assert_lines_at_each_set_of_cuts(rt, row, text)?;
+    for vector in vectors {
+        assert_lines_at_each_set_of_cuts(rt, vector, text)?;
     }
     Ok(())
 }
 
 #[test]
 fn every_set_of_cuts(rt: HostRuntime) -> Result<(), Fail> {
-    for table in rows::tables() {
-        assert_rows_at_each_set_of_cuts(&rt, table, Text::Characters)?;
+    for table in vectors::tables() {
+        assert_vectors_at_each_set_of_cuts(&rt, table, Text::Characters)?;
     }
     Ok(())
 }
 
 #[test]
 fn every_set_of_cuts_in_runs(rt: HostRuntime) -> Result<(), Fail> {
-    for table in rows::tables() {
-        assert_rows_at_each_set_of_cuts(&rt, table, Text::Runs)?;
+    for table in vectors::tables() {
+        assert_vectors_at_each_set_of_cuts(&rt, table, Text::Runs)?;
     }
     Ok(())
 }
@@ -224,13 +234,13 @@ pub(crate) fn repeated_text(alloc: Global, parts: &RepeatedText) -> Result<Strin
 }
 
 fn assert_long_lines(rt: &(impl Abort + AllocGlobal), text: Text) -> Result<(), Fail> {
-    for row in &rows::long::ROWS {
-        let bytes = repeated_bytes(rt.alloc(), &row.bytes)?;
-        let want = repeated_text(rt.alloc(), &row.text)?;
+    for vector in &vectors::long::VECTORS {
+        let bytes = repeated_bytes(rt.alloc(), &vector.bytes)?;
+        let want = repeated_text(rt.alloc(), &vector.text)?;
         assert_lines_at_each_cut(
             rt,
-            row.name,
-            row.size,
+            vector.name,
+            vector.size,
             text,
             bytes.as_slice(),
             want.as_str(),

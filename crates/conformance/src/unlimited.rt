@@ -2,8 +2,8 @@
 
 ghost use Rattle.std.specs.Prelude.{◌<◌};
 
-use crate::rows::{RepeatedBytes, RepeatedText};
 use crate::tests::{repeated_bytes, repeated_text};
+use crate::vectors::{RepeatedBytes, RepeatedText};
 use bumpalo::Bump;
 use std::alloc::Allocator;
 use std::process::Abort;
@@ -12,15 +12,15 @@ use test_lines::{EventLines, Stop};
 use vte_core::{LongParser, Refused, Run, Taken};
 
 /// A stream, and the lines of all its events.
-struct UnlimitedRow {
+struct UnlimitedVector {
     name: &'static str,
     bytes: RepeatedBytes,
     text: RepeatedText,
 }
 
 /// Streams whose events need memory.
-static LONG_ROWS: [UnlimitedRow; 2] = [
-    UnlimitedRow {
+static LONG_VECTORS: [UnlimitedVector; 2] = [
+    UnlimitedVector {
         name: "OSC of 1,125 bytes",
         bytes: RepeatedBytes {
             front: b"\x1b]52;s",
@@ -35,7 +35,7 @@ static LONG_ROWS: [UnlimitedRow; 2] = [
             back: "\n",
         },
     },
-    UnlimitedRow {
+    UnlimitedVector {
         name: "clipboard of 100,000 bytes",
         bytes: RepeatedBytes {
             front: b"\x1b]52;",
@@ -53,8 +53,8 @@ static LONG_ROWS: [UnlimitedRow; 2] = [
 ];
 
 /// Streams whose events need none.
-static SHORT_ROWS: [UnlimitedRow; 2] = [
-    UnlimitedRow {
+static SHORT_VECTORS: [UnlimitedVector; 2] = [
+    UnlimitedVector {
         name: "bytes behind the sixteenth separator",
         bytes: RepeatedBytes {
             front: b"\x1b];;;;;;;;;;;;;;;;",
@@ -69,7 +69,7 @@ static SHORT_ROWS: [UnlimitedRow; 2] = [
             back: "\n",
         },
     },
-    UnlimitedRow {
+    UnlimitedVector {
         name: "no OSC",
         bytes: RepeatedBytes {
             front: b"\x1b[1m",
@@ -102,27 +102,27 @@ fn assert_read<A: Allocator>(
 fn assert_reads<A: Allocator>(
     rt: &(impl Abort + AllocGlobal),
     alloc: A,
-    row: &UnlimitedRow,
+    vector: &UnlimitedVector,
     size: usize,
 ) -> Result<(), Fail>
     requires { 0 < size }
 {
-    let bytes = repeated_bytes(rt.alloc(), &row.bytes)?;
-    let text = repeated_text(rt.alloc(), &row.text)?;
+    let bytes = repeated_bytes(rt.alloc(), &vector.bytes)?;
+    let text = repeated_text(rt.alloc(), &vector.text)?;
     let mut parser = LongParser::new(alloc);
     let mut lines = EventLines::new(rt.alloc(), Stop::Never);
     for piece in bytes.chunks(size) {
-        assert_read(rt, row.name, &mut parser, &mut lines, piece);
+        assert_read(rt, vector.name, &mut parser, &mut lines, piece);
     }
-    assert_eq!(rt; lines.text(), Some(text.as_str()), "{}", row.name);
+    assert_eq!(rt; lines.text(), Some(text.as_str()), "{}", vector.name);
     Ok(())
 }
 
 #[test]
 fn with_memory(rt: HostRuntime) -> Result<(), Fail> {
-    for row in &LONG_ROWS {
+    for vector in &LONG_VECTORS {
         for size in [1, 1000, 200_000] {
-            assert_reads(&rt, rt.alloc(), row, size)?;
+            assert_reads(&rt, rt.alloc(), vector, size)?;
         }
     }
     Ok(())
@@ -132,9 +132,9 @@ fn with_memory(rt: HostRuntime) -> Result<(), Fail> {
 fn without_memory(rt: HostRuntime) -> Result<(), Fail> {
     let none = Bump::new(rt.alloc());
     none.set_allocation_limit(Some(0));
-    for row in &SHORT_ROWS {
+    for vector in &SHORT_VECTORS {
         for size in [1, 200_000] {
-            assert_reads(&rt, &none, row, size)?;
+            assert_reads(&rt, &none, vector, size)?;
         }
     }
     Ok(())
@@ -159,9 +159,9 @@ fn first_growth_is_refused(rt: HostRuntime) {
 /// Each growth is refused once, and then granted.
 #[test]
 fn each_growth_is_refused_in_turn(rt: HostRuntime) -> Result<(), Fail> {
-    for row in &LONG_ROWS {
-        let bytes = repeated_bytes(rt.alloc(), &row.bytes)?;
-        let text = repeated_text(rt.alloc(), &row.text)?;
+    for vector in &LONG_VECTORS {
+        let bytes = repeated_bytes(rt.alloc(), &vector.bytes)?;
+        let text = repeated_text(rt.alloc(), &vector.text)?;
         let memory = Bump::new(rt.alloc());
         let mut parser = LongParser::new(&memory);
         let mut lines = EventLines::new(rt.alloc(), Stop::Never);
@@ -172,11 +172,11 @@ fn each_growth_is_refused_in_turn(rt: HostRuntime) -> Result<(), Fail> {
                 refusals = refusals.saturating_add(1);
                 memory.set_allocation_limit(None);
                 let rest = &piece[refused.read..];
-                assert_read(&rt, row.name, &mut parser, &mut lines, rest);
+                assert_read(&rt, vector.name, &mut parser, &mut lines, rest);
             }
         }
-        assert!(rt; refusals > 1, "{}", row.name);
-        assert_eq!(rt; lines.text(), Some(text.as_str()), "{}", row.name);
+        assert!(rt; refusals > 1, "{}", vector.name);
+        assert_eq!(rt; lines.text(), Some(text.as_str()), "{}", vector.name);
     }
     Ok(())
 }
@@ -184,12 +184,12 @@ fn each_growth_is_refused_in_turn(rt: HostRuntime) -> Result<(), Fail> {
 /// Memory grows in proportion, so a command that arrives byte by byte isn't copied over and over.
 #[test]
 fn growths_are_few(rt: HostRuntime) -> Result<(), Fail> {
-    for row in &LONG_ROWS {
-        let bytes = repeated_bytes(rt.alloc(), &row.bytes)?;
+    for vector in &LONG_VECTORS {
+        let bytes = repeated_bytes(rt.alloc(), &vector.bytes)?;
         let memory = Bump::new(rt.alloc());
         // The arena never frees, so the limit covers all blocks ever allocated.
         memory.set_allocation_limit(Some(bytes.len().saturating_mul(8)));
-        assert_reads(&rt, &memory, row, 1)?;
+        assert_reads(&rt, &memory, vector, 1)?;
     }
     Ok(())
 }
@@ -197,13 +197,13 @@ fn growths_are_few(rt: HostRuntime) -> Result<(), Fail> {
 /// The memory of one command is reused for the next.
 #[test]
 fn a_second_command_needs_no_memory(rt: HostRuntime) -> Result<(), Fail> {
-    for row in &LONG_ROWS {
-        let bytes = repeated_bytes(rt.alloc(), &row.bytes)?;
-        let text = repeated_text(rt.alloc(), &row.text)?;
+    for vector in &LONG_VECTORS {
+        let bytes = repeated_bytes(rt.alloc(), &vector.bytes)?;
+        let text = repeated_text(rt.alloc(), &vector.text)?;
         let memory = Bump::new(rt.alloc());
         let mut parser = LongParser::new(&memory);
         let mut lines = EventLines::new(rt.alloc(), Stop::Never);
-        assert_read(&rt, row.name, &mut parser, &mut lines, bytes.as_slice());
+        assert_read(&rt, vector.name, &mut parser, &mut lines, bytes.as_slice());
         // Use up the rest of the arena.
         let left = memory.chunk_capacity();
         let _filling = memory.try_alloc_slice_fill_clone(left, &0u8)?;
@@ -211,9 +211,9 @@ fn a_second_command_needs_no_memory(rt: HostRuntime) -> Result<(), Fail> {
         for size in [1, 1000, 200_000] {
             lines.clear();
             for piece in bytes.chunks(size) {
-                assert_read(&rt, row.name, &mut parser, &mut lines, piece);
+                assert_read(&rt, vector.name, &mut parser, &mut lines, piece);
             }
-            assert_eq!(rt; lines.text(), Some(text.as_str()), "{}", row.name);
+            assert_eq!(rt; lines.text(), Some(text.as_str()), "{}", vector.name);
         }
     }
     Ok(())
@@ -222,15 +222,15 @@ fn a_second_command_needs_no_memory(rt: HostRuntime) -> Result<(), Fail> {
 /// What a command took is free for the next as soon as it has ended.
 #[test]
 fn an_ended_command_needs_no_memory(rt: HostRuntime) -> Result<(), Fail> {
-    for row in &LONG_ROWS {
-        let bytes = repeated_bytes(rt.alloc(), &row.bytes)?;
+    for vector in &LONG_VECTORS {
+        let bytes = repeated_bytes(rt.alloc(), &vector.bytes)?;
         let mut parser = LongParser::new(rt.alloc());
         let mut lines = EventLines::new(rt.alloc(), Stop::Never);
-        assert_read(&rt, row.name, &mut parser, &mut lines, bytes.as_slice());
+        assert_read(&rt, vector.name, &mut parser, &mut lines, bytes.as_slice());
         let memory = parser.memory();
         for more in [1000, memory] {
-            assert!(rt; parser.reserve(more), "{}", row.name);
-            assert_eq!(rt; parser.memory(), memory, "{}", row.name);
+            assert!(rt; parser.reserve(more), "{}", vector.name);
+            assert_eq!(rt; parser.memory(), memory, "{}", vector.name);
         }
     }
     Ok(())
@@ -239,17 +239,17 @@ fn an_ended_command_needs_no_memory(rt: HostRuntime) -> Result<(), Fail> {
 /// The bytes of an open command stay, and memory is reserved beside them.
 #[test]
 fn an_open_command_keeps_its_bytes(rt: HostRuntime) -> Result<(), Fail> {
-    for row in &LONG_ROWS {
-        let bytes = repeated_bytes(rt.alloc(), &row.bytes)?;
-        let text = repeated_text(rt.alloc(), &row.text)?;
+    for vector in &LONG_VECTORS {
+        let bytes = repeated_bytes(rt.alloc(), &vector.bytes)?;
+        let text = repeated_text(rt.alloc(), &vector.text)?;
         let mut parser = LongParser::new(rt.alloc());
         let mut lines = EventLines::new(rt.alloc(), Stop::Never);
         for byte in bytes.chunks(1) {
-            assert_read(&rt, row.name, &mut parser, &mut lines, byte);
-            assert!(rt; parser.reserve(1000), "{}", row.name);
+            assert_read(&rt, vector.name, &mut parser, &mut lines, byte);
+            assert!(rt; parser.reserve(1000), "{}", vector.name);
         }
-        assert_eq!(rt; lines.text(), Some(text.as_str()), "{}", row.name);
-        assert!(rt; parser.reserve(parser.memory()), "{}", row.name);
+        assert_eq!(rt; lines.text(), Some(text.as_str()), "{}", vector.name);
+        assert!(rt; parser.reserve(parser.memory()), "{}", vector.name);
     }
     Ok(())
 }

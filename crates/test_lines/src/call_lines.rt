@@ -73,7 +73,7 @@ impl<A: Allocator> CallLines<A> {
 }
 
 impl<A: Allocator> TakeCall for CallLines<A> {
-    // The contract says nothing about the lines; the rows and the comparisons check them.
+    // The contract says nothing about the lines; the vectors and the comparisons check them.
     ghost Value = { Unit {0} };
 
     ghost value_of = { λ _. tt };

@@ -80,7 +80,7 @@ impl Timeout for TestTimeout {
 
     ghost clear = { λ _. tt };
 
-    // The contract allows any answer; the rows check them.
+    // The contract allows any answer; the vectors check them.
     ghost allows = { λ _ _. Unit {0} };
 
     fn set_timeout(&mut self, _duration: Duration) {

@@ -1,4 +1,4 @@
-//! Where a stream is divided. tests/rows reads the parts.
+//! Where a stream is divided. tests/vectors reads the parts.
 use vte::parts;
 
 fn parts_of(stream: &'static str, size: usize) -> Vec<&'static str> {

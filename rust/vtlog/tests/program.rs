@@ -1,4 +1,4 @@
-//! The program: its arguments, statuses and messages, and the rows of events.
+//! The program: its arguments, statuses and messages, and the vectors of events.
 //!
 //! It is the one that cargo builds, or the one that the variable `VTLOG` names, such as the proved
 //! program.
@@ -10,7 +10,7 @@ use std::process::{Command, Output, Stdio};
 use std::time::Duration;
 
 #[allow(dead_code)]
-#[path = "../../vte/tests/rows/vectors.rs"]
+#[path = "../../vte/tests/vectors/json.rs"]
 mod vectors;
 
 use vectors::{vectors, Value};
@@ -59,15 +59,19 @@ fn failure(verb: &str, stream: &str, why: &str) -> String {
 }
 
 #[test]
-fn rows_give_their_lines() {
+fn vectors_give_their_lines() {
     let mut count = 0;
-    for row in vectors() {
-        let (arguments, wanted): (&[&str], _) = match (row.text("kind"), row.number("limit")) {
-            ("events", Some(1024)) => (&[], row.events().into_bytes()),
-            ("text", _) => (&["text"], row.get("text").map_or(vec![], Value::bytes)),
+    for vector in vectors() {
+        let (kind, limit) = (vector.text("kind"), vector.number("limit"));
+        let (arguments, wanted): (&[&str], _) = match (kind, limit) {
+            ("events", Some(1024)) => (&[], vector.events().into_bytes()),
+            ("text", _) => (&["text"], vector.get("text").map_or(vec![], Value::bytes)),
             _ => continue,
         };
-        let (output, name) = (run(arguments, &row.pieces().concat()), row.text("name"));
+        let (output, name) = (
+            run(arguments, &vector.pieces().concat()),
+            vector.text("name"),
+        );
         assert!(output.stdout == wanted, "{name}");
         assert!(
             output.status.success() && output.stderr.is_empty(),
@@ -75,7 +79,7 @@ fn rows_give_their_lines() {
         );
         count += 1;
     }
-    assert!(count > 190, "{count} rows");
+    assert!(count > 190, "{count} vectors");
 }
 
 #[test]

@@ -1,7 +1,7 @@
 """The head of a vector, as the definition of events gives it: rules, levels and house rules."""
 import re
 
-from generating.rows import bytes_of, pieces_of
+from generating.vectors import bytes_of, pieces_of
 from judging import definition
 from judging.house import CHOICES, House
 from judging.rules import LEVELS, MUST, RULES

@@ -8,11 +8,11 @@ import sys
 
 import my_parser
 import pytest
-from generating.rows import PRIVATE, bytes_of, lines_of
+from generating.vectors import bytes_of, lines_of
 from heads import head_of
 from judging import definition
 from judging.house import House
-from support import EVENTS, FILES, NAMES, TOOLS, TOY, VECTORS, run, run_python
+from support import EVENTS, FILES, NAMES, TOY, VECTORS, run, run_python
 from tests.missing import miss, need
 
 each_file = pytest.mark.parametrize("file", FILES, ids=NAMES)
@@ -53,14 +53,6 @@ def test_a_vector_is_a_line(name):
     file = FILES[NAMES.index(name)]
     wanted = [json.dumps(vector) for vector in file["vectors"] + file["long"]]
     assert [line.rstrip(",") for line in lines if line.startswith('{"id": ')] == wanted
-
-
-def test_private_rows_are_tested():
-    """tools/make_rows reads those of updates; the others name their test."""
-    for row in json.loads(PRIVATE.read_text()):
-        if row["kind"] != "updates":
-            path, name = row["test"].split()
-            assert f"fn {name}(" in (TOOLS.parent / path).read_text(), row["name"]
 
 
 @each_file

@@ -1,5 +1,5 @@
-//! A handler that folds all calls into a checksum, as cheaply as crates/race does: a number for the
-//! name of each, and its arguments.
+//! A handler that folds all calls into a checksum, as cheaply as crates/benchmark does: a number
+//! for the name of each, and its arguments.
 
 use vte::ansi::cursor_icon::CursorIcon;
 use vte::ansi::{

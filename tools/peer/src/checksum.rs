@@ -1,4 +1,4 @@
-//! A performer that folds all events into a checksum, as cheaply as crates/race does.
+//! A performer that folds all events into a checksum, as cheaply as crates/benchmark does.
 
 use std::fmt;
 

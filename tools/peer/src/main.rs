@@ -1,5 +1,5 @@
 //! Times the parser or processor of the crate `vte` 0.15.0, or of rust/vte (`--cfg runs`), alone,
-//! as crates/race does ours, for bench/: `peer KIND PIECE PASSES` reads a stream from standard
+//! as crates/benchmark does ours, for bench/: `peer KIND PIECE PASSES` reads a stream from standard
 //! input. Standard output gets the checksum, standard error the nanoseconds of the fastest pass.
 //! The kinds are `parser` and `processor`, with a performer or handler that folds all into a
 //! checksum, `screen` and `terminal`, with a screen as the parser's performer or the processor's
@@ -44,9 +44,9 @@ impl Timeout for UntilCleared {
 }
 
 /// Writes the function of each kind: what reads a stream, who receives it, by which call, the
-/// checksum of that, and what begins a pass. Its time is that of the fastest pass. `race_of`
+/// checksum of that, and what begins a pass. Its time is that of the fastest pass. `function_of`
 /// chooses one.
-macro_rules! races {
+macro_rules! kinds {
     ($(
         $(#[$runs:meta])?
         $kind:ident: $reader:expr, $receiver:expr, $advance:expr, $checksum:expr $(, $begin:expr)?;
@@ -68,10 +68,10 @@ macro_rules! races {
             }
         )*
 
-        fn race_of(kind: &str) -> fn(&[u8], usize, usize) -> (Checksum, Duration) {
+        fn function_of(kind: &str) -> fn(&[u8], usize, usize) -> (Checksum, Duration) {
             match kind {
                 $($(#[$runs])? stringify!($kind) => $kind,)*
-                _ => panic!("no such race here: {kind}"),
+                _ => panic!("no such kind here: {kind}"),
             }
         }
     };
@@ -79,7 +79,7 @@ macro_rules! races {
 
 type Terminal = Processor<UntilCleared>;
 
-races! {
+kinds! {
     parser: Parser::<1024>::default(), Checksum::default(), Parser::advance, |checksum| checksum;
     screen: Parser::<1024>::default(), Screen::new(), Parser::advance, Screen::checksum;
     strip: Parser::<1024>::default(), Text::default(), Parser::advance, Text::checksum, Text::clear;
@@ -107,7 +107,7 @@ fn main() {
     let mut stream = Vec::new();
     let read = std::io::stdin().lock().read_to_end(&mut stream);
     read.expect("the read failed");
-    let (checksum, time) = race_of(kind)(&stream, number(piece), number(passes));
+    let (checksum, time) = function_of(kind)(&stream, number(piece), number(passes));
     println!("{checksum}");
     eprintln!("{}", time.as_nanos());
 }

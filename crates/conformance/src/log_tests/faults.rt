@@ -1,14 +1,14 @@
 //! Reads that fail.
 
-use super::FailingReadRow;
+use super::FailingReadVector;
 
-pub(crate) static ROWS: [FailingReadRow; 2] = [
-    FailingReadRow {
+pub(crate) static VECTORS: [FailingReadVector; 2] = [
+    FailingReadVector {
         name: "reader that fails behind two pieces",
         reads: &[b"a", b"\x0a"],
         lines: &["print 0061", "execute 0a"],
     },
-    FailingReadRow {
+    FailingReadVector {
         name: "reader that fails at once",
         reads: &[],
         lines: &[],

@@ -1,9 +1,9 @@
 //! Long lines.
 
-use super::RecorderRow;
+use super::RecorderVector;
 
-pub(crate) static ROWS: [RecorderRow; 2] = [
-    RecorderRow {
+pub(crate) static VECTORS: [RecorderVector; 2] = [
+    RecorderVector {
         name: "longest osc line",
         front: b"\x1b];;;;;;;;;;;;;;;",
         unit: b"a",
@@ -12,7 +12,7 @@ pub(crate) static ROWS: [RecorderRow; 2] = [
         bytes: 2103,
         lost: false,
     },
-    RecorderRow {
+    RecorderVector {
         name: "longest hook line",
         front: b"\x1bP?",
         unit: b"65535;",

@@ -3,12 +3,12 @@
 //! The first two bytes of the input say where the stream, which follows them, is cut.
 #![no_main]
 
-#[path = "../../tests/rows/call_lines.rs"]
+#[path = "../../tests/vectors/call_lines.rs"]
 mod call_lines;
 #[path = "../cutting.rs"]
 mod cutting;
 #[allow(dead_code)]
-#[path = "../../tests/rows/event_lines.rs"]
+#[path = "../../tests/vectors/event_lines.rs"]
 mod event_lines;
 #[path = "../of_parsers.rs"]
 mod of_parsers;

@@ -2,10 +2,10 @@
 //! (see the two manifests beside this file).
 
 #[allow(dead_code)]
-#[path = "../../tests/rows/call_lines.rs"]
+#[path = "../../tests/vectors/call_lines.rs"]
 mod call_lines;
 #[allow(dead_code)]
-#[path = "../../tests/rows/event_lines.rs"]
+#[path = "../../tests/vectors/event_lines.rs"]
 mod event_lines;
 #[path = "../../tests/programs.rs"]
 pub mod programs;

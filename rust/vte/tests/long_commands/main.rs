@@ -2,16 +2,16 @@
 //! titles, links, clipboards, colours.
 //!
 //! Their calls are worked out from docs/EVENTS.md and docs/CALLS.md. The data bytes of a command
-//! are all but its `;`. Each row says what follows ESC `]` and which calls it makes.
+//! are all but its `;`. Each case says what follows ESC `]` and which calls it makes.
 #![cfg(feature = "ansi")]
 
 mod calls;
-mod rows;
+mod cases;
 #[path = "../support/mod.rs"]
 mod support;
 
 use calls::store;
-use rows::{check_counts, check_rows, query, row, text, Row, LIMIT};
+use cases::{case, check_cases, check_counts, query, text, Case, LIMIT};
 
 /// Which of three: for commands up to the limit, with a byte more, and far longer ones.
 fn up_to_limit<T>(count: usize, whole: T, but_one: T, front: T) -> T {
@@ -27,7 +27,7 @@ fn titles() {
     check_counts(titles_of);
 }
 
-fn titles_of(count: usize, _: bool) -> Vec<Row> {
+fn titles_of(count: usize, _: bool) -> Vec<Case> {
     let kept = count.min(LIMIT);
     let joined = |count| format!("{};{};{}", text(300), text(400), text(count - 701));
     let (front, rest) = (text(500), text(count - 902));
@@ -49,19 +49,19 @@ fn titles_of(count: usize, _: bool) -> Vec<Row> {
     let ending = up_to_limit(count, whole.clone(), "ab".to_owned(), front_of);
     let semicolons = ";".repeat(14);
     vec![
-        row(format!("2;{}", text(count - 1)), title(text(kept - 1))),
+        case(format!("2;{}", text(count - 1)), title(text(kept - 1))),
         // they don't count
-        row(
+        case(
             format!("2;{semicolons}{}", text(count - 1)),
             title(semicolons + &text(kept - 1)),
         ),
-        row(format!("0;{}", joined(count)), title(joined(kept))),
-        row(
+        case(format!("0;{}", joined(count)), title(joined(kept))),
+        case(
             format!("2;{};;", text(count - 1)),
             title(text(kept - 1) + after),
         ),
-        row(format!("2;{whole}"), title(ending)),
-        row(malformed, title(format!("{front};{}", text(kept - 902)))),
+        case(format!("2;{whole}"), title(ending)),
+        case(malformed, title(format!("{front};{}", text(kept - 902)))),
     ]
 }
 
@@ -70,7 +70,7 @@ fn links() {
     check_counts(links_of);
 }
 
-fn links_of(count: usize, _: bool) -> Vec<Row> {
+fn links_of(count: usize, _: bool) -> Vec<Case> {
     let kept = count.min(LIMIT);
     let uri = |count| format!("{};{}", text(500), text(count - 500));
     let (front, rest, id) = (text(500), text(count - 502), text(count - 5));
@@ -78,17 +78,17 @@ fn links_of(count: usize, _: bool) -> Vec<Row> {
     let link = |id: Option<&str>, uri: String| vec![format!("link {id:?} {uri}")];
     let long_id = link(Some(&id), "u".to_owned());
     vec![
-        row(format!("8;;{}", uri(count - 1)), link(None, uri(kept - 1))),
-        row(
+        case(format!("8;;{}", uri(count - 1)), link(None, uri(kept - 1))),
+        case(
             format!("8;id=x;{}", uri(count - 5)),
             link(Some("x"), uri(kept - 5)),
         ),
         // without its third piece it is no link
-        row(
+        case(
             format!("8;id={id};u"),
             up_to_limit(count, long_id, vec![], vec![]),
         ),
-        row(
+        case(
             malformed,
             link(None, format!("{front};;{}", text(kept - 502))),
         ),
@@ -100,25 +100,25 @@ fn clipboards() {
     check_counts(clipboards_of);
 }
 
-fn clipboards_of(count: usize, _: bool) -> Vec<Row> {
+fn clipboards_of(count: usize, _: bool) -> Vec<Case> {
     let kept = count.min(LIMIT);
     let store = |clipboard, data: &[u8]| vec![store(clipboard, data)];
     let (front, rest) = (text(500), text(count - 503));
     let malformed = [&b"52;s;"[..], &vec![0xfe; count - 3]].concat();
     vec![
-        row(
+        case(
             format!("52;c;{}", text(count - 3)),
             store(b'c', text(kept - 3).as_bytes()),
         ),
-        row(
+        case(
             format!("52;;{}", text(count - 2)),
             store(b'c', text(kept - 2).as_bytes()),
         ),
-        row(
+        case(
             format!("52;p;{front};{rest}"),
             store(b'p', front.as_bytes()),
         ),
-        row(malformed, store(b's', &vec![0xfe; kept - 3])),
+        case(malformed, store(b's', &vec![0xfe; kept - 3])),
     ]
 }
 
@@ -130,7 +130,7 @@ fn colours() {
 /// Six pairs, with 42 data bytes.
 const PAIRS: &str = "4;1;#fff;2;?;3;rgb:f/0/8;4;#010203;5;#123456789abc;6;?";
 
-fn colours_of(count: usize, is_bell: bool) -> Vec<Row> {
+fn colours_of(count: usize, is_bell: bool) -> Vec<Case> {
     let color = |index: usize, digits: &str| format!("color {index} {digits}");
     let six = vec![
         color(1, "f0f0f0"),
@@ -154,12 +154,12 @@ fn colours_of(count: usize, is_bell: bool) -> Vec<Row> {
     let zeros = "0".repeat(count - 50);
     vec![
         // five digits are no colour, and an index without one is no pair
-        row(
+        case(
             format!("{PAIRS};{zeros}7;#102030"),
             up_to_limit(count, seven, six, vec![]),
         ),
-        row(format!("10;?;{};?", text(count - 4)), queries),
-        row(format!("10;#fff0f1;{};#102030", text(count - 16)), colors),
+        case(format!("10;?;{};?", text(count - 4)), queries),
+        case(format!("10;#fff0f1;{};#102030", text(count - 16)), colors),
     ]
 }
 
@@ -169,7 +169,7 @@ fn short_commands_after_long_ones() {
     check_counts(|count, _| commands_of(count.min(600_000)));
 }
 
-fn commands_of(count: usize) -> Vec<Row> {
+fn commands_of(count: usize) -> Vec<Case> {
     let (title, uri, data) = (text(count - 2), text(count - 6), text(count - 3));
     let commands = [
         format!("2;{title};x"),
@@ -197,14 +197,14 @@ fn commands_of(count: usize) -> Vec<Row> {
         store(b'p', b"s"),
         "link".to_owned(),
     ];
-    vec![row(commands.join("\x07\x1b]"), calls)]
+    vec![case(commands.join("\x07\x1b]"), calls)]
 }
 
 #[test]
 fn sixteen_pieces_count() {
     for size in [60, 1000, 5000] {
         for semicolons in [14, 15, 16, 17, 40] {
-            check_rows(|is_bell| pieces_of(size, semicolons, is_bell));
+            check_cases(|is_bell| pieces_of(size, semicolons, is_bell));
         }
     }
 }
@@ -219,7 +219,7 @@ fn kept_pieces(size: usize, count: usize) -> String {
     sizes.into_iter().map(text).collect::<Vec<_>>().join(";")
 }
 
-fn pieces_of(size: usize, semicolons: usize, is_bell: bool) -> Vec<Row> {
+fn pieces_of(size: usize, semicolons: usize, is_bell: bool) -> Vec<Case> {
     let pieces = |count| vec![text(size); count].join(";");
     let title = kept_pieces(size, semicolons.min(15));
     let uri = kept_pieces(size, (semicolons - 1).min(14));
@@ -229,15 +229,15 @@ fn pieces_of(size: usize, semicolons: usize, is_bell: bool) -> Vec<Row> {
     let are_pairs = pairs.len() == 7 && (size == 60 || LIMIT > 1024);
     let queries = (0..7).map(|index| query(&format!("4;{index}"), index, is_bell));
     vec![
-        row(
+        case(
             format!("2;{}", pieces(semicolons)),
             vec![format!("title {title}")],
         ),
-        row(
+        case(
             format!("8;;{}", pieces(semicolons - 1)),
             vec![format!("link None {uri}")],
         ),
-        row(
+        case(
             format!("4;{}", pairs.join(";")),
             queries.filter(|_| are_pairs).collect(),
         ),

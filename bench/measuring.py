@@ -1,0 +1,161 @@
+"""The kinds of benchmarks, and the programs and streams that they take.
+
+Each kind yields rows: what was measured, and the nanoseconds per byte of each side, per round."""
+import functools
+import random
+import subprocess
+import sys
+from concurrent.futures import ThreadPoolExecutor
+from pathlib import Path
+
+sys.path.insert(0, str(Path(__file__).resolve().parent.parent / "tools"))
+from building import builder
+from generating import streams
+
+# The sides: ours as rt proves and builds it, the same text in the crates of rust/, and the crate,
+# these two in the best build (fat link-time optimization) and in cargo's default release profile.
+IN_RUST = {"rust": "fat", "rust_release": "release", "best": "fat", "release": "release"}
+OURS_IN_RUST = ("rust", "rust_release")
+# the kinds of tools/peer that put text into memory: in runs, and character by character, both by
+# ours in the best build
+STRIPPERS = {"rust": "strip_runs", "advance": "strip"}
+# the kinds of bench/calls.c: each function of the C library, and the parser of libvterm
+IN_C = ("vte_feed", "vte_long_feed", "vte_processor")
+THEIRS_IN_C = "libvterm"
+# the minimum time of a side in a round
+SECONDS = 0.05
+
+STREAMS = ["ascii", "prose", "cjk", "latin1", "ls_color", "coloured", "dense_cells", "random",
+           "bad_ff", "bad_trunc4", "bad_alternate", "lead_esc", "osc_title", "osc_clipboard",
+           "sixel", "updates"]
+# streams with something to show on a screen
+SCREEN_STREAMS = [*STREAMS, "emoji", "cursor"]
+# streams to strip of sequences
+STRIPPED = ["ascii", "prose", "cjk", "cyrillic", "ls_color", "coloured", "random"]
+# the streams of each kind, by the bytes of a call
+STREAMS_OF = {
+    "parser": {4096: [*STREAMS, "emoji", "esc_flood", "ignored", "sos_open"],
+               65536: STREAMS, 1: ["ascii", "cjk", "dense_cells", "random"]},
+    "screen": {4096: SCREEN_STREAMS},
+    "processor": {4096: [*STREAMS, "cursor", "update_open"]},
+    "terminal": {4096: SCREEN_STREAMS},
+    "strip": {4096: STRIPPED},
+    "calls": dict.fromkeys((1, 64, 4096), ["ascii", "ls_color", "coloured"])}
+# streams of commands with more than the 1,024 bytes that Rattle's parser and processor keep
+BEYOND_THE_LIMIT = ["osc_clipboard"]
+# the bytes of a stream whose checksums are compared: the crate takes quadratic time for malformed
+# text in one call
+CHECKED = 50_000
+
+
+class Programs:
+    """The programs, those in Rust in so many placements of their code, and a folder for streams."""
+
+    def __init__(self, folder, placements=1):
+        self.folder = Path(folder)
+        self.placements = placements
+
+    @functools.cache
+    def peers(self, side):
+        """The program of a side of IN_RUST, once for each placement of its code. It has the default
+        features of the crate, and so of rust/vte: commands have no limit."""
+        return builder.placed_peers(side in OURS_IN_RUST, self.folder / side, IN_RUST[side],
+                                     self.placements)
+
+    @functools.cached_property
+    def in_c(self):
+        """bench/calls.c with cargo's C library, and with libvterm if it is here."""
+        return builder.c_program(Path(__file__).resolve().parent / "calls.c", self.folder / "c")
+
+    @functools.cached_property
+    def proved(self):
+        return builder.proved_program("benchmark", ["parser", "1", "1"])
+
+    def commands(self, kind):
+        """The commands of each side: one for each placement of its code. Rattle's build has one."""
+        if kind == "calls":
+            sides = [*IN_C, *[THEIRS_IN_C] * builder.has_libvterm()]
+            return {side: [[self.in_c, side]] for side in sides}
+        if kind == "strip":
+            return {side: [[program, name] for program in self.peers("rust")]
+                    for side, name in STRIPPERS.items()}
+        sides = {"ours": [self.proved] * self.placements,
+                 **{side: self.peers(side) for side in IN_RUST}}
+        return {side: [[program, kind] for program in of_side] for side, of_side in sides.items()}
+
+    def build(self, kinds):
+        """Builds every program that these kinds run, before one is measured."""
+        sides = {"rust"} if "strip" in kinds else set()
+        if "calls" in kinds:
+            _ = self.in_c
+        if set(kinds) - {"strip", "calls"}:
+            sides = IN_RUST
+            _ = self.proved
+        with ThreadPoolExecutor() as pool:
+            list(pool.map(self.peers, sides))
+
+    def stream(self, name, size):
+        """A file with a prefix of a stream."""
+        place = self.folder / f"{name}_{size}"
+        if not place.exists():
+            place.write_bytes(streams.generate(name, size))
+        return place
+
+
+def run(words, place):
+    """The standard output and standard error of a program for the stream in a file."""
+    with open(place, "rb") as stream:
+        done = subprocess.run(words, stdin=stream, capture_output=True, text=True)
+    if done.returncode != 0:
+        builder.stop(f"{' '.join(map(str, words))}: status {done.returncode}: {done.stderr}")
+    return done.stdout, done.stderr
+
+
+def in_rounds(rounds, sides):
+    """The seconds of each side, round by round: a list, with one number for each of its programs.
+
+    A round runs the first program of each side, one right after the other, then the second of
+    each, and so on, in an order of its own."""
+    times = {name: [[] for _ in range(rounds)] for name in sides}
+    for count in range(rounds):
+        order = random.sample([*sides], len(sides))
+        for programs in zip(*(sides[name] for name in order)):
+            for name, seconds in zip(order, programs):
+                times[name][count].append(seconds())
+    return times
+
+
+def in_passes(words, place, piece):
+    """A function that runs a program over a stream, and returns the seconds of its fastest pass."""
+    def seconds(passes):
+        return int(run([*words, str(piece), str(passes)], place)[1]) / 1e9
+
+    passes = max(1, round(SECONDS / seconds(1)))
+    return lambda: seconds(passes)
+
+
+def compare_checksums(name, sides, place):
+    """Stops if the sides' checksums of a stream differ. They get it in one call, because the
+    crate's events can be wrong in pieces."""
+    size = str(place.stat().st_size)
+    told = {side: run([*commands[0], size, "1"], place)[0] for side, commands in sides.items()}
+    if len(set(told.values())) > 1:
+        builder.stop(f"the checksums of {name} differ: {told}")
+
+
+def rows(kind, programs, given):
+    """Measures each side over the given streams: nanoseconds per byte, a number for each round and
+    placement."""
+    sides = programs.commands(kind)
+    asked = {4096: given.streams} if given.streams else STREAMS_OF[kind]
+    for name, piece in ((name, piece) for piece, names in asked.items() for name in names):
+        commands = {side: of_side for side, of_side in sides.items()
+                    if side != "ours" or name not in BEYOND_THE_LIMIT}
+        if kind != "calls":
+            compare_checksums(name, commands, programs.stream(name, CHECKED))
+        place = programs.stream(name, given.bytes)
+        times = in_rounds(given.rounds, {side: [in_passes(words, place, piece) for words in of_side]
+                                         for side, of_side in commands.items()})
+        found = {side: [[its / given.bytes * 1e9 for its in seconds] for seconds in of_side]
+                 for side, of_side in times.items()}
+        yield {"kind": kind, "stream": name, "piece": piece, "nanoseconds": found}

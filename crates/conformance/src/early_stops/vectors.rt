@@ -1,0 +1,102 @@
+//! Early stops.
+// Written by tools/make_vectors.
+
+use super::{Call, Step, UntilVector};
+use test_lines::Stop;
+
+pub(crate) static VECTORS: [UntilVector; 8] = [
+    UntilVector {
+        name: "stop at an unfinished character found malformed",
+        stop: Stop::AtPrint,
+        before: b"",
+        steps: &[
+            Step {
+                call: Call::UntilTerminated { answer: 2 },
+                bytes: b"\xe4\xbfa",
+                lines: &["print fffd"],
+            },
+            Step {
+                call: Call::Advance,
+                bytes: b"a",
+                lines: &["print 0061"],
+            },
+        ],
+    },
+    UntilVector {
+        name: "stop inside a run of text",
+        stop: Stop::AtPrint,
+        before: b"",
+        steps: &[
+            Step {
+                call: Call::UntilTerminated { answer: 1 },
+                bytes: b"ab",
+                lines: &["print 0061"],
+            },
+            Step {
+                call: Call::UntilTerminated { answer: 0 },
+                bytes: b"b",
+                lines: &[],
+            },
+        ],
+    },
+    UntilVector {
+        name: "stop behind an ESC sequence",
+        stop: Stop::AtEscape,
+        before: b"",
+        steps: &[Step {
+            call: Call::UntilTerminated { answer: 2 },
+            bytes: b"\x1bcab",
+            lines: &["esc - false 63"],
+        }],
+    },
+    UntilVector {
+        name: "begun character carried on without a question",
+        stop: Stop::Reached,
+        before: b"\xe4",
+        steps: &[Step {
+            call: Call::UntilTerminated { answer: 2 },
+            bytes: b"\xbf\x99a",
+            lines: &["print 4fd9"],
+        }],
+    },
+    UntilVector {
+        name: "begun character found malformed at the first byte",
+        stop: Stop::Reached,
+        before: b"\xe4",
+        steps: &[Step {
+            call: Call::UntilTerminated { answer: 0 },
+            bytes: b"a",
+            lines: &["print fffd"],
+        }],
+    },
+    UntilVector {
+        name: "no bytes, terminated from the start",
+        stop: Stop::Reached,
+        before: b"",
+        steps: &[Step {
+            call: Call::UntilTerminated { answer: 0 },
+            bytes: b"",
+            lines: &[],
+        }],
+    },
+    UntilVector {
+        name: "no bytes, never terminated",
+        stop: Stop::Never,
+        before: b"",
+        steps: &[Step {
+            call: Call::UntilTerminated { answer: 0 },
+            bytes: b"",
+            lines: &[],
+        }],
+    },
+    UntilVector {
+        name: "unfinished character counts as read",
+        stop: Stop::Never,
+        before: b"",
+        steps: &[Step {
+            call: Call::UntilTerminated { answer: 2 },
+            bytes: b"\xe4\xbf",
+            lines: &[],
+        }],
+    },
+];

@@ -15,11 +15,13 @@ const STREAM: &[u8] = b"before it\x1b[?2026hinside it";
 /// dropped.
 const IMAGE: &[u8] = b"\x1bPq#0~\r~\x7f\xe9~~\x9c";
 
-/// The runs, the characters that came alone, the slices, the bytes that came alone, and the titles.
+/// The runs, which may keep HT, LF and CR; the characters that came alone; controls; the slices, the
+/// bytes that came alone, and the titles.
 #[derive(Default)]
-struct Received {
+struct Received<const KEEPS: bool = false> {
     runs: Vec<String>,
     alone: String,
+    controls: Vec<u8>,
     slices: Vec<Vec<u8>>,
     bytes: Vec<u8>,
     titles: Vec<String>,
@@ -56,9 +58,13 @@ impl HandlerText for Lent<'_> {
     }
 }
 
-impl Perform for Received {
+impl<const KEEPS: bool> Perform for Received<KEEPS> {
     fn print(&mut self, c: char) {
         self.alone.push(c);
+    }
+
+    fn execute(&mut self, byte: u8) {
+        self.controls.push(byte);
     }
 
     fn put(&mut self, byte: u8) {
@@ -66,7 +72,11 @@ impl Perform for Received {
     }
 }
 
-impl PerformText for Received {
+impl<const KEEPS: bool> PerformText for Received<KEEPS> {
+    fn keeps_layout(&self) -> bool {
+        KEEPS
+    }
+
     fn print_text(&mut self, text: &str) {
         self.runs.push(text.to_owned());
     }
@@ -76,7 +86,7 @@ impl PerformText for Received {
     }
 }
 
-impl Received {
+impl<const KEEPS: bool> Received<KEEPS> {
     /// All text came in these runs.
     fn assert_runs(&self, runs: &[&str]) {
         assert_eq!(self.runs, runs);
@@ -109,29 +119,6 @@ fn processors_pass_text_in_runs() {
     assert_passes_runs!(new().expect("memory"), it => &mut it);
 }
 
-/// Text with HT, LF and CR, and the other controls.
-#[derive(Default)]
-struct Lines {
-    runs: Vec<String>,
-    alone: Vec<u8>,
-}
-
-impl Perform for Lines {
-    fn execute(&mut self, byte: u8) {
-        self.alone.push(byte);
-    }
-}
-
-impl PerformText for Lines {
-    fn keeps_layout(&self) -> bool {
-        true
-    }
-
-    fn print_text(&mut self, text: &str) {
-        self.runs.push(text.to_owned());
-    }
-}
-
 #[test]
 fn line_ends_are_in_the_runs_of_those_who_keep_them() {
     for line in [
@@ -140,11 +127,12 @@ fn line_ends_are_in_the_runs_of_those_who_keep_them() {
         "\u{4f60}\u{597d}\n",
         "\u{1f600} a face\n",
     ] {
-        let (mut lines, text) = (Lines::default(), line.repeat(100));
+        let (mut lines, text) = (Received::<true>::default(), line.repeat(100));
         Parser::new().advance_text(&mut lines, text.as_bytes());
-        assert_eq!((lines.runs, lines.alone), (vec![text.clone()], vec![]));
+        lines.assert_runs(&[&text]);
+        assert_eq!(lines.controls, []);
         // without line ends one run will do for others, too
-        let (mut received, plain) = (Received::default(), text.replace(['\t', '\n', '\r'], ""));
+        let (mut received, plain) = (<Received>::default(), text.replace(['\t', '\n', '\r'], ""));
         Parser::new().advance_text(&mut received, plain.as_bytes());
         received.assert_runs(&[&plain]);
     }
@@ -154,20 +142,20 @@ fn line_ends_are_in_the_runs_of_those_who_keep_them() {
 fn other_controls_end_every_run() {
     let kept = [b'\t', b'\n', b'\r'];
     for byte in (0..0x20).filter(|byte| *byte != 0x1b && !kept.contains(byte)) {
-        let mut lines = Lines::default();
+        let mut lines = Received::<true>::default();
         let stream = [b"a line\n".as_slice(), &[byte], b"another line"].concat();
         Parser::new().advance_text(&mut lines, &stream);
-        assert_eq!(lines.runs, ["a line\n", "another line"]);
-        assert_eq!(lines.alone, [byte]);
+        lines.assert_runs(&["a line\n", "another line"]);
+        assert_eq!(lines.controls, [byte]);
     }
 }
 
 #[test]
 fn parsers_pass_device_data_in_slices() {
-    let (mut received, mut parser) = (Received::default(), Parser::new());
+    let (mut received, mut parser) = (<Received>::default(), Parser::new());
     parser.advance_text(&mut received, IMAGE);
     received.assert_slices(&[b"#0~\r~", b"~~"]);
-    let (mut received, mut parser) = (Received::default(), LongParser::new());
+    let (mut received, mut parser) = (<Received>::default(), LongParser::new());
     assert_eq!(parser.advance_text(&mut received, &IMAGE[..5]), Ok(()));
     assert_eq!(parser.advance_text(&mut received, &IMAGE[5..]), Ok(()));
     received.assert_slices(&[b"#0", b"~\r~", b"~~"]);
@@ -177,7 +165,7 @@ fn parsers_pass_device_data_in_slices() {
 #[test]
 fn calls_that_may_stop_pass_slices_of_one_byte() {
     use vte::{BoundedParser, Own};
-    let (mut received, mut parser) = (Received::default(), BoundedParser::new());
+    let (mut received, mut parser) = (<Received>::default(), BoundedParser::new());
     let read = parser.advance_text_until_terminated(&mut received, IMAGE);
     assert_eq!(read, IMAGE.len());
     received.assert_slices(&[b"#", b"0", b"~", b"\r", b"~", b"~", b"~"]);

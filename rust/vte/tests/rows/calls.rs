@@ -80,33 +80,23 @@ fn check_rows<R: Reader>() {
     assert!(count > 600, "{count} rows");
 }
 
-#[test]
-fn owned_texts() {
-    check_rows::<OwnedTexts>();
+/// Tests that the rows' calls are made by these readers.
+macro_rules! test_readers {
+    ($($name:ident: $reader:ident;)*) => {$(
+        #[test]
+        fn $name() {
+            check_rows::<$reader>();
+        }
+    )*};
 }
 
-#[test]
-fn calls_by_object() {
-    check_rows::<ByObject>();
-}
-
-#[test]
-fn lent_texts() {
-    check_rows::<LentTexts>();
-}
-
-#[test]
-fn owned_texts_in_runs() {
-    check_rows::<OwnedTextsInRuns>();
-}
-
-#[test]
-fn lent_texts_in_runs() {
-    check_rows::<LentTextsInRuns>();
+test_readers! {
+    owned_texts: OwnedTexts;
+    calls_by_object: ByObject;
+    lent_texts: LentTexts;
+    owned_texts_in_runs: OwnedTextsInRuns;
+    lent_texts_in_runs: LentTextsInRuns;
 }
 
 #[cfg(feature = "__own")]
-#[test]
-fn calls_in_runs() {
-    check_rows::<CallsInRuns>();
-}
+test_readers!(calls_in_runs: CallsInRuns;);

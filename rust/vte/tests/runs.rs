@@ -15,8 +15,8 @@ const STREAM: &[u8] = b"before it\x1b[?2026hinside it";
 /// dropped.
 const IMAGE: &[u8] = b"\x1bPq#0~\r~\x7f\xe9~~\x9c";
 
-/// The runs, which may keep HT, LF and CR; the characters that came alone; controls; the slices, the
-/// bytes that came alone, and the titles.
+/// The runs, which may keep HT, LF and CR; what came alone: characters, controls; the slices, and
+/// bytes that came alone; and the titles.
 #[derive(Default)]
 struct Received<const KEEPS: bool = false> {
     runs: Vec<String>,

@@ -1,5 +1,4 @@
-//! Text in runs and device data in slices, from each type that passes them, and texts that are
-//! joined one after another.
+//! Text in runs and device data in slices, from each type that passes them.
 #![cfg(feature = "ansi")]
 
 mod support;
@@ -16,7 +15,7 @@ const STREAM: &[u8] = b"before it\x1b[?2026hinside it";
 const IMAGE: &[u8] = b"\x1bPq#0~\r~\x7f\xe9~~\x9c";
 
 /// The runs, which may keep HT, LF and CR; what came alone: characters, controls; the slices, and
-/// bytes that came alone; and the titles.
+/// bytes that came alone.
 #[derive(Default)]
 struct Received<const KEEPS: bool = false> {
     runs: Vec<String>,
@@ -24,16 +23,11 @@ struct Received<const KEEPS: bool = false> {
     controls: Vec<u8>,
     slices: Vec<Vec<u8>>,
     bytes: Vec<u8>,
-    titles: Vec<String>,
 }
 
 impl Handler for Received {
     fn input(&mut self, c: char) {
         self.alone.push(c);
-    }
-
-    fn set_title(&mut self, title: Option<String>) {
-        self.titles.push(title.unwrap_or_default());
     }
 }
 
@@ -256,12 +250,4 @@ fn repeated_characters_come_as_text_too() {
     processor.advance_text(&mut text, "ab\u{e9}\x1b[2bc\x1b[?2026hd\x1b[b".as_bytes());
     processor.stop_sync_text(&mut text);
     assert_eq!(text.0, "ab\u{e9}\u{e9}\u{e9}cdd");
-}
-
-#[test]
-fn each_joined_text_stands_alone() {
-    let stream = b"\x1b]2;one;two\x07\x1b]2;three;four\x07\x1b]2;five\x07";
-    let (mut received, mut processor) = (Received::default(), Processor::<Pending>::new());
-    processor.advance(&mut received, stream);
-    assert_eq!(received.titles, ["one;two", "three;four", "five"]);
 }

@@ -23,8 +23,10 @@ def long_commands(end):
         b"a\x1b]52;c;", b"b\x1bP1$q", b"c\x1b_", b"d\x1b[1;"))
 
 
-def vectors(file):
-    return json.loads((FOLDER / file).read_text())["vectors"]
+def vectors(file, kind=None):
+    """The test vectors of a file, of all kinds or one. An sdist has none."""
+    rows = json.loads((FOLDER / file).read_text())["vectors"] if FOLDER.is_dir() else []
+    return [row for row in rows if kind in (None, row["kind"])]
 
 
 def stream_of(vector):
@@ -44,5 +46,4 @@ STREAMS = {
     "empty": b"",
 }
 if FOLDER.is_dir():
-    # an sdist doesn't have them
     STREAMS["vectors"] = b"".join(map(stream_of, vectors("events.json") + vectors("calls.json")))

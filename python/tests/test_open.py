@@ -3,7 +3,7 @@ import sys
 
 import pytest
 from common import EXAMPLES, parsers
-from test_vectors import vectors
+from hostile import vectors
 
 from vte import Osc
 

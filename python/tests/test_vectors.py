@@ -1,21 +1,14 @@
 """Compares events, texts and calls with the test vectors, which an sdist doesn't have."""
 import copy
-import json
 
 import pytest
 from call_words import lines_of, name_of, words_of_line
-from common import EXAMPLES, cut, feed
+from common import cut, feed
 from events import line
+from hostile import FOLDER, vectors
 
 import vte
 from vte import calls
-
-FOLDER = EXAMPLES.parent.parent / "vectors"
-
-
-def vectors(file, kind):
-    listed = json.loads((FOLDER / file).read_text())["vectors"] if FOLDER.is_dir() else []
-    return [vector for vector in listed if vector["kind"] == kind]
 
 
 def each(file, kind):

@@ -21,8 +21,9 @@ def test_what_is_fuzzed(words, targets, seconds):
                 fuzz=lambda target, *given: print(target, *given) or True,
                 finds=lambda *given: print(*given) or True)
     status, said = fuzz.run(*words.split())
-    assert (status, sorted(said.splitlines())) == (0, sorted(
-        line for it in targets.split() for line in (f"{it} {(it, seconds)} {seconds}", f"{it} {it}")))
+    told = [line for it in targets.split()
+            for line in (f"{it} {(it, seconds)} {seconds}", f"{it} {it}")]
+    assert (status, sorted(said.splitlines())) == (0, sorted(told))
 
 
 @pytest.mark.parametrize("words, covers, wanted", [
@@ -97,14 +98,16 @@ def test_next_release(monkeypatch, words, has_crates, status, said):
     assert said is None or re.match(said, lines[0])
 
 
-@pytest.mark.parametrize("words, status", [("", 2), ("--help", 0), ("--chek", 2), ("a b", 2),
-                                           ("there", 1), ("made", 1)])
-def test_words_of_release(words, status):
-    write("there/file", "")
-    for place in "rust/vte/Cargo.toml", "crates/vte_c/include/vte.h":
+# what git is asked for: the files, if the folder isn't there
+@pytest.mark.parametrize("words, status, asked", [
+    ("", 2, ""), ("--help", 0, ""), ("--chek", 2, ""), ("a b", 2, ""), ("there", 1, "log"),
+    ("new", 2, "log archive")])
+def test_words_of_release(words, status, asked):
+    for place in "there/file", "asked", "rust/vte/Cargo.toml", "crates/vte_c/include/vte.h":
         write(place, "")
-    found, _ = run_here("release", *words.split(), cargo="echo cargo 1.90.0", git="echo 1; exit 1")
-    assert found == status and os.listdir("there") == ["file"]
+    git = f"echo $1 >>{Path.cwd()}/asked; [ $1 = log ] && echo 1"
+    found, _ = run_here("release", *words.split(), cargo="echo cargo 1.90.0", git=git)
+    assert (found, Path("asked").read_text().split()) == (status, asked.split())
 
 
 # ---- bench
@@ -140,23 +143,28 @@ def test_speed(monkeypatch, words, changes):
     assert found == {**STRIP, **changes}
 
 
-@pytest.mark.parametrize("words, kinds, streams, jobs", [
-    ("strip", "strip filter", 7, os.cpu_count()), ("screens", "screen terminal", 7, os.cpu_count()),
-    ("strip --streams cjk emoji", "strip filter", 2, os.cpu_count()),
-    ("strip --bytes 99", "strip filter", 7, os.cpu_count()),
-    ("screens --jobs 3", "screen terminal", 7, 3), ("calls", "vte_feed", 9, os.cpu_count())])
-def test_counts(monkeypatch, words, kinds, streams, jobs):
+@pytest.mark.parametrize("words, kinds, changes", [
+    ("strip", "strip filter", {}), ("screens", "screen terminal", {}),
+    ("strip --streams cjk emoji", "strip filter", {"streams": ["cjk", "emoji"]}),
+    ("strip --bytes 99", "strip filter", {"bytes": 99}),
+    ("screens --jobs 3", "screen terminal", {"jobs": 3}),
+    ("calls", "vte_feed", {"streams": ["ascii", "ls_color", "coloured"] * 3})])
+def test_counts(monkeypatch, words, kinds, changes):
     monkeypatch.syspath_prepend(str(TOOLS.parent / "bench"))
-    pool, asked, size = Tool("../bench/count").parts["ThreadPoolExecutor"], [], 200_000
-    count = Tool("../bench/count", passed=lambda words, *_: (size, "left"),
-                 ThreadPoolExecutor=lambda jobs: asked.append(jobs) or pool(jobs))
-    if "--bytes" in words:
-        size = 99
+    pool, found = Tool("../bench/count").parts["ThreadPoolExecutor"], {"streams": []}
+
+    def stream(name, size):
+        found["streams"].append(name)
+        return SimpleNamespace(name=name, size=size)
+
+    count = Tool("../bench/count", passed=lambda words, _, place: (place.size, "left"),
+                 ThreadPoolExecutor=lambda jobs: found.update(jobs=jobs) or pool(jobs))
     monkeypatch.setattr(count.parts["races"], "Programs", lambda _: SimpleNamespace(
         peers=lambda side: [side], proved="proved", commands=lambda _: {"vte_feed": [["in C"]]},
-        stream=lambda name, size: SimpleNamespace(name=name)))
+        stream=lambda name, size: found.update(bytes=size) or stream(name, size)))
     _, said = count.run(*words.split())
-    lines = [line.split(" | ") for line in said.splitlines() if "`" in line and "vte`" not in line]
-    assert {*re.findall(r"^\| (?:stream \| call \| )?(\w+) \|", said, re.M)} == {*kinds.split()}
-    assert len(lines) == streams * len(kinds.split()) and asked == [jobs]
-    assert {cell.strip(" |") for line in lines for cell in line[-1:]} == {"1.00"}
+    wanted = {"streams": STRIP["streams"], "bytes": 200_000, "jobs": os.cpu_count(), **changes}
+    wanted["streams"] = wanted["streams"] * len(kinds.split())
+    assert sorted(found["streams"]) == sorted(wanted["streams"])
+    assert {**found, "streams": re.findall(r"^\| `(\w+)` .* 1\.00 \|$", said, re.M)} == wanted
+    assert re.findall(r"^\| (?:stream \| call \| )?(\w+) \|", said, re.M) == kinds.split()

@@ -265,36 +265,6 @@ fn a_stop_ends_the_call_before_a_run() {
     assert_eq!(run, run_of(0, "text", b""));
 }
 
-/// A character that a cut divides is printed, and so is U+FFFD for what is malformed.
-#[test]
-fn runs_and_printed_characters_are_the_whole_text() {
-    let stream = "na\u{ef}ve \u{1f642}".as_bytes();
-    for cut in 0..=stream.len() {
-        let (mut parser, mut events) = (Parser::new(), Events::default());
-        for piece in [&stream[..cut], &stream[cut..], b"\xff"] {
-            read_by_runs(&mut parser, &mut events, piece);
-        }
-        assert_eq!(events.text, "na\u{ef}ve \u{1f642}\u{fffd}", "cut at {cut}");
-        let is_divided = std::str::from_utf8(&stream[..cut]).is_err();
-        assert_eq!(
-            events.performed.chars().count(),
-            1 + usize::from(is_divided)
-        );
-    }
-}
-
-#[test]
-fn the_text_is_the_callers() {
-    let mut bytes = PLAIN.to_vec();
-    let run = Parser::new().advance_to_run(&mut Events::default(), &bytes);
-    let text = match run.taken {
-        Taken::Text(text) => text,
-        _ => panic!("no text"),
-    };
-    assert_eq!((text.as_ptr(), text.len()), (bytes.as_ptr(), bytes.len()));
-    bytes.clear();
-}
-
 #[cfg(any(feature = "std", feature = "ansi"))]
 #[test]
 fn a_long_parser_has_it_too() {

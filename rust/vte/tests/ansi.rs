@@ -65,40 +65,28 @@ fn copies_read_on() {
 
 #[cfg(feature = "std")]
 #[test]
-fn the_default_timeout_remembers_when_it_expires() {
-    use std::time::{Duration, Instant};
-    let mut processor: Processor = Processor::new();
-    assert_eq!(processor.sync_timeout().sync_timeout(), None);
-    let before = Instant::now();
-    processor.advance(&mut Calls::default(), b"\x1b[?2026h");
-    let expiry = processor.sync_timeout().sync_timeout().unwrap();
-    assert!(
-        expiry >= before + Duration::from_millis(150)
-            && expiry <= Instant::now() + Duration::from_millis(150)
-    );
-    processor.stop_sync(&mut Calls::default());
-    assert_eq!(processor.sync_timeout().sync_timeout(), None);
-}
-
-#[cfg(feature = "std")]
-#[test]
 fn the_default_timeout_is_pending_until_it_is_told() {
+    use std::time::{Duration, Instant};
     let mut calls = Calls::default();
     let mut processor: Processor = Processor::new();
     processor.advance(&mut calls, b"a");
     assert_eq!((calls.0.len(), processor.sync_bytes_count()), (1, 0));
+    assert_eq!(processor.sync_timeout().sync_timeout(), None);
+    let before = Instant::now();
     processor.advance(&mut calls, b"\x1b[?2026hb");
     assert_eq!((calls.0.len(), processor.sync_bytes_count()), (1, 1));
     let first = processor.sync_timeout().sync_timeout().unwrap();
+    let pending = Duration::from_millis(150);
+    assert!(before + pending <= first && first <= Instant::now() + pending);
     // past its expiry it still holds and says when that was, and another begin moves it
-    std::thread::sleep(std::time::Duration::from_millis(151));
+    std::thread::sleep(Duration::from_millis(151));
     assert_eq!(processor.sync_timeout().sync_timeout(), Some(first));
     processor.advance(&mut calls, b"c");
     assert_eq!((calls.0.len(), processor.sync_bytes_count()), (1, 2));
     assert_eq!(processor.sync_timeout().sync_timeout(), Some(first));
     processor.advance(&mut calls, b"\x1b[?2026h");
     let second = processor.sync_timeout().sync_timeout().unwrap();
-    assert!(second - first >= std::time::Duration::from_millis(151));
+    assert!(second - first >= Duration::from_millis(151));
     // once it is told, the next bytes are passed on at once
     processor.stop_sync(&mut calls);
     assert_eq!(processor.sync_timeout().sync_timeout(), None);

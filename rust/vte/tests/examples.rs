@@ -62,44 +62,26 @@ osc_dispatch ["999", "x"]
 osc_dispatch ["999", "y"]
 "#;
 
-const EXAMPLES: [(Example, &[u8], &str); 7] = [
-    (
-        |input, output| parselog::write_events(input, output),
-        EVENTS,
-        LOG,
-    ),
-    (
-        |input, output| strip::strip(input, output),
-        b"a\x1b[1mb\x1b[m\tc\r\n\x07\x08\x1b]0;t\x07\xff\x1bPd\x1b\\e",
-        "ab\tc\r\n\u{fffd}e",
-    ),
-    (
-        |input, output| refused::write_commands(input, output),
-        b"a\x1b]0;t\x07b\x1b]52;c;eA==\x1b\\c\x1b]open",
-        "0;t\n52;c;eA==\n",
-    ),
-    (
-        |input, output| updates::write_updates(input, output),
-        UPDATES,
-        COUNTS,
-    ),
+/// Functions of examples, what they read, and what they write then.
+macro_rules! examples {
+    ($($function:path: $input:expr => $output:expr;)*) => {
+        const EXAMPLES: &[(Example, &[u8], &str)] =
+            &[$((|input, output| $function(input, output), $input, $output)),*];
+    };
+}
+
+examples! {
+    parselog::write_events: EVENTS => LOG;
+    strip::strip: b"a\x1b[1mb\x1b[m\tc\r\n\x07\x08\x1b]0;t\x07\xff\x1bPd\x1b\\e"
+        => "ab\tc\r\n\u{fffd}e";
+    refused::write_commands: b"a\x1b]0;t\x07b\x1b]52;c;eA==\x1b\\c\x1b]open"
+        => "0;t\n52;c;eA==\n";
+    updates::write_updates: UPDATES => COUNTS;
     // nothing is held
-    (
-        |input, output| updates::write_updates(input, output),
-        b"\x1b[?2026h",
-        "update 1: 0 characters\n",
-    ),
-    (
-        |input, output| updates::write_updates(input, output),
-        b"no update\x1b[?2026l",
-        "",
-    ),
-    (
-        |input, output| unknown::write_unknown(input, output),
-        SEQUENCES,
-        UNKNOWN,
-    ),
-];
+    updates::write_updates: b"\x1b[?2026h" => "update 1: 0 characters\n";
+    updates::write_updates: b"no update\x1b[?2026l" => "";
+    unknown::write_unknown: SEQUENCES => UNKNOWN;
+}
 
 /// Reads byte by byte.
 struct Singly<'a>(&'a [u8]);
@@ -132,9 +114,9 @@ impl Write for Broken {
 
 #[test]
 fn examples_write_what_they_say() {
-    for (example, stream, wanted) in EXAMPLES {
+    for &(example, stream, wanted) in EXAMPLES {
         let (mut whole, mut singly) = (Vec::new(), Vec::new());
-        example(&mut &stream[..], &mut whole).unwrap();
+        example(&mut &*stream, &mut whole).unwrap();
         example(&mut Singly(stream), &mut singly).unwrap();
         assert_eq!(String::from_utf8(whole).unwrap(), wanted);
         assert_eq!(String::from_utf8(singly).unwrap(), wanted);
@@ -177,10 +159,10 @@ fn the_page_names_uses_of_new_items() {
 
 #[test]
 fn examples_return_errors() {
-    for (example, stream, wanted) in EXAMPLES {
+    for &(example, stream, wanted) in EXAMPLES {
         assert!(example(&mut Broken, &mut Vec::new()).is_err());
         assert_eq!(
-            example(&mut &stream[..], &mut Broken).is_ok(),
+            example(&mut &*stream, &mut Broken).is_ok(),
             wanted.is_empty()
         );
     }

@@ -1,5 +1,4 @@
-//! Text in runs and device data in slices, from each type that passes them, and texts that are
-//! joined one after another.
+//! Text in runs and device data in slices, from each type that passes them.
 #![cfg(feature = "ansi")]
 
 mod support;
@@ -15,23 +14,20 @@ const STREAM: &[u8] = b"before it\x1b[?2026hinside it";
 /// dropped.
 const IMAGE: &[u8] = b"\x1bPq#0~\r~\x7f\xe9~~\x9c";
 
-/// The runs, the characters that came alone, the slices, the bytes that came alone, and the titles.
+/// The runs, which may keep HT, LF and CR; what came alone: characters, controls; the slices, and
+/// bytes that came alone.
 #[derive(Default)]
-struct Received {
+struct Received<const KEEPS: bool = false> {
     runs: Vec<String>,
     alone: String,
+    controls: Vec<u8>,
     slices: Vec<Vec<u8>>,
     bytes: Vec<u8>,
-    titles: Vec<String>,
 }
 
 impl Handler for Received {
     fn input(&mut self, c: char) {
         self.alone.push(c);
-    }
-
-    fn set_title(&mut self, title: Option<String>) {
-        self.titles.push(title.unwrap_or_default());
     }
 }
 
@@ -56,9 +52,13 @@ impl HandlerText for Lent<'_> {
     }
 }
 
-impl Perform for Received {
+impl<const KEEPS: bool> Perform for Received<KEEPS> {
     fn print(&mut self, c: char) {
         self.alone.push(c);
+    }
+
+    fn execute(&mut self, byte: u8) {
+        self.controls.push(byte);
     }
 
     fn put(&mut self, byte: u8) {
@@ -66,7 +66,11 @@ impl Perform for Received {
     }
 }
 
-impl PerformText for Received {
+impl<const KEEPS: bool> PerformText for Received<KEEPS> {
+    fn keeps_layout(&self) -> bool {
+        KEEPS
+    }
+
     fn print_text(&mut self, text: &str) {
         self.runs.push(text.to_owned());
     }
@@ -76,7 +80,7 @@ impl PerformText for Received {
     }
 }
 
-impl Received {
+impl<const KEEPS: bool> Received<KEEPS> {
     /// All text came in these runs.
     fn assert_runs(&self, runs: &[&str]) {
         assert_eq!(self.runs, runs);
@@ -109,29 +113,6 @@ fn processors_pass_text_in_runs() {
     assert_passes_runs!(new().expect("memory"), it => &mut it);
 }
 
-/// Text with HT, LF and CR, and the other controls.
-#[derive(Default)]
-struct Lines {
-    runs: Vec<String>,
-    alone: Vec<u8>,
-}
-
-impl Perform for Lines {
-    fn execute(&mut self, byte: u8) {
-        self.alone.push(byte);
-    }
-}
-
-impl PerformText for Lines {
-    fn keeps_layout(&self) -> bool {
-        true
-    }
-
-    fn print_text(&mut self, text: &str) {
-        self.runs.push(text.to_owned());
-    }
-}
-
 #[test]
 fn line_ends_are_in_the_runs_of_those_who_keep_them() {
     for line in [
@@ -140,11 +121,12 @@ fn line_ends_are_in_the_runs_of_those_who_keep_them() {
         "\u{4f60}\u{597d}\n",
         "\u{1f600} a face\n",
     ] {
-        let (mut lines, text) = (Lines::default(), line.repeat(100));
+        let (mut lines, text) = (Received::<true>::default(), line.repeat(100));
         Parser::new().advance_text(&mut lines, text.as_bytes());
-        assert_eq!((lines.runs, lines.alone), (vec![text.clone()], vec![]));
+        lines.assert_runs(&[&text]);
+        assert_eq!(lines.controls, []);
         // without line ends one run will do for others, too
-        let (mut received, plain) = (Received::default(), text.replace(['\t', '\n', '\r'], ""));
+        let (mut received, plain) = (<Received>::default(), text.replace(['\t', '\n', '\r'], ""));
         Parser::new().advance_text(&mut received, plain.as_bytes());
         received.assert_runs(&[&plain]);
     }
@@ -154,20 +136,20 @@ fn line_ends_are_in_the_runs_of_those_who_keep_them() {
 fn other_controls_end_every_run() {
     let kept = [b'\t', b'\n', b'\r'];
     for byte in (0..0x20).filter(|byte| *byte != 0x1b && !kept.contains(byte)) {
-        let mut lines = Lines::default();
+        let mut lines = Received::<true>::default();
         let stream = [b"a line\n".as_slice(), &[byte], b"another line"].concat();
         Parser::new().advance_text(&mut lines, &stream);
-        assert_eq!(lines.runs, ["a line\n", "another line"]);
-        assert_eq!(lines.alone, [byte]);
+        lines.assert_runs(&["a line\n", "another line"]);
+        assert_eq!(lines.controls, [byte]);
     }
 }
 
 #[test]
 fn parsers_pass_device_data_in_slices() {
-    let (mut received, mut parser) = (Received::default(), Parser::new());
+    let (mut received, mut parser) = (<Received>::default(), Parser::new());
     parser.advance_text(&mut received, IMAGE);
     received.assert_slices(&[b"#0~\r~", b"~~"]);
-    let (mut received, mut parser) = (Received::default(), LongParser::new());
+    let (mut received, mut parser) = (<Received>::default(), LongParser::new());
     assert_eq!(parser.advance_text(&mut received, &IMAGE[..5]), Ok(()));
     assert_eq!(parser.advance_text(&mut received, &IMAGE[5..]), Ok(()));
     received.assert_slices(&[b"#0", b"~\r~", b"~~"]);
@@ -177,7 +159,7 @@ fn parsers_pass_device_data_in_slices() {
 #[test]
 fn calls_that_may_stop_pass_slices_of_one_byte() {
     use vte::{BoundedParser, Own};
-    let (mut received, mut parser) = (Received::default(), BoundedParser::new());
+    let (mut received, mut parser) = (<Received>::default(), BoundedParser::new());
     let read = parser.advance_text_until_terminated(&mut received, IMAGE);
     assert_eq!(read, IMAGE.len());
     received.assert_slices(&[b"#", b"0", b"~", b"\r", b"~", b"~", b"~"]);
@@ -268,12 +250,4 @@ fn repeated_characters_come_as_text_too() {
     processor.advance_text(&mut text, "ab\u{e9}\x1b[2bc\x1b[?2026hd\x1b[b".as_bytes());
     processor.stop_sync_text(&mut text);
     assert_eq!(text.0, "ab\u{e9}\u{e9}\u{e9}cdd");
-}
-
-#[test]
-fn each_joined_text_stands_alone() {
-    let stream = b"\x1b]2;one;two\x07\x1b]2;three;four\x07\x1b]2;five\x07";
-    let (mut received, mut processor) = (Received::default(), Processor::<Pending>::new());
-    processor.advance(&mut received, stream);
-    assert_eq!(received.titles, ["one;two", "three;four", "five"]);
 }

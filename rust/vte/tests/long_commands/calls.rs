@@ -1,6 +1,6 @@
 //! The calls of a stream in pieces, to each kind of handler, and which pieces there are.
 
-use vte::ansi::lent::{self, Handler as _};
+use vte::ansi::lent;
 use vte::ansi::{Handler, HandlerText, Hyperlink, PrivateMode, Processor, Rgb};
 
 use crate::support::Pending;
@@ -9,86 +9,69 @@ use crate::support::Pending;
 #[derive(Clone, Default)]
 pub struct Calls(Vec<String>);
 
-impl lent::Handler for Calls {
-    fn input(&mut self, c: char) {
-        self.0.push(format!("input {c}"));
-    }
+/// Implements both kinds of handlers. The type has a method that returns where the lines are.
+macro_rules! handlers {
+    ($($handler:path, $type:ty, $text:ty, $link:path;)*) => {$(
+        impl $handler for $type {
+            fn input(&mut self, c: char) {
+                self.calls().push(format!("input {c}"));
+            }
 
-    fn set_title(&mut self, title: Option<&str>) {
-        self.0.push(format!("title {}", title.expect("a title")));
-    }
+            fn set_title(&mut self, title: Option<$text>) {
+                self.calls().push(format!("title {}", title.expect("a title")));
+            }
 
-    fn set_hyperlink(&mut self, link: Option<lent::Hyperlink<'_>>) {
-        self.0.push(match link {
-            Some(link) => format!("link {:?} {}", link.id, link.uri),
-            None => "link".to_owned(),
-        });
-    }
+            fn set_hyperlink(&mut self, link: Option<$link>) {
+                self.calls().push(match link {
+                    Some(link) => format!("link {:?} {}", link.id, link.uri),
+                    None => "link".to_owned(),
+                });
+            }
 
-    fn clipboard_store(&mut self, clipboard: u8, data: &[u8]) {
-        self.0.push(store(clipboard, data));
-    }
+            fn clipboard_store(&mut self, clipboard: u8, data: &[u8]) {
+                self.calls().push(store(clipboard, data));
+            }
 
-    fn set_color(&mut self, index: usize, color: Rgb) {
-        let Rgb { r, g, b } = color;
-        self.0.push(format!("color {index} {r:02x}{g:02x}{b:02x}"));
-    }
+            fn set_color(&mut self, index: usize, color: Rgb) {
+                let Rgb { r, g, b } = color;
+                self.calls().push(format!("color {index} {r:02x}{g:02x}{b:02x}"));
+            }
 
-    fn dynamic_color_sequence(&mut self, prefix: &str, index: usize, terminator: &str) {
-        self.0.push(format!("query {prefix} {index} {terminator}"));
-    }
+            fn dynamic_color_sequence(&mut self, prefix: $text, index: usize, terminator: &str) {
+                self.calls().push(format!("query {prefix} {index} {terminator}"));
+            }
 
-    fn unset_private_mode(&mut self, mode: PrivateMode) {
-        self.0.push(format!("unset {}", mode.raw()));
-    }
+            fn unset_private_mode(&mut self, mode: PrivateMode) {
+                self.calls().push(format!("unset {}", mode.raw()));
+            }
+        }
+
+        impl HandlerText for $type {
+            fn input_text(&mut self, text: &str) {
+                self.calls().extend(text.chars().map(|c| format!("input {c}")));
+            }
+        }
+    )*};
 }
 
-impl HandlerText for Calls {
-    fn input_text(&mut self, text: &str) {
-        text.chars().for_each(|c| self.input(c));
+impl Calls {
+    fn calls(&mut self) -> &mut Vec<String> {
+        &mut self.0
     }
 }
 
 /// The same as a handler of owned texts.
 struct Owned<'a>(&'a mut Calls);
 
-impl Handler for Owned<'_> {
-    fn input(&mut self, c: char) {
-        self.0.input(c);
-    }
-
-    fn set_title(&mut self, title: Option<String>) {
-        self.0.set_title(title.as_deref());
-    }
-
-    fn set_hyperlink(&mut self, link: Option<Hyperlink>) {
-        self.0 .0.push(match link {
-            Some(link) => format!("link {:?} {}", link.id, link.uri),
-            None => "link".to_owned(),
-        });
-    }
-
-    fn clipboard_store(&mut self, clipboard: u8, data: &[u8]) {
-        self.0.clipboard_store(clipboard, data);
-    }
-
-    fn set_color(&mut self, index: usize, color: Rgb) {
-        self.0.set_color(index, color);
-    }
-
-    fn dynamic_color_sequence(&mut self, prefix: String, index: usize, terminator: &str) {
-        self.0.dynamic_color_sequence(&prefix, index, terminator);
-    }
-
-    fn unset_private_mode(&mut self, mode: PrivateMode) {
-        self.0.unset_private_mode(mode);
+impl Owned<'_> {
+    fn calls(&mut self) -> &mut Vec<String> {
+        &mut self.0 .0
     }
 }
 
-impl HandlerText for Owned<'_> {
-    fn input_text(&mut self, text: &str) {
-        self.0.input_text(text);
-    }
+handlers! {
+    lent::Handler, Calls, &str, lent::Hyperlink<'_>;
+    Handler, Owned<'_>, String, Hyperlink;
 }
 
 /// The line of a clipboard. Data that are malformed have a character for each byte.

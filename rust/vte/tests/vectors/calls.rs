@@ -80,33 +80,23 @@ fn check_vectors<R: Reader>() {
     assert!(count > 600, "{count} vectors");
 }
 
-#[test]
-fn owned_texts() {
-    check_vectors::<OwnedTexts>();
+/// Tests that the vectors' calls are made by these readers.
+macro_rules! test_readers {
+    ($($name:ident: $reader:ident;)*) => {$(
+        #[test]
+        fn $name() {
+            check_vectors::<$reader>();
+        }
+    )*};
 }
 
-#[test]
-fn calls_by_object() {
-    check_vectors::<ByObject>();
-}
-
-#[test]
-fn lent_texts() {
-    check_vectors::<LentTexts>();
-}
-
-#[test]
-fn owned_texts_in_runs() {
-    check_vectors::<OwnedTextsInRuns>();
-}
-
-#[test]
-fn lent_texts_in_runs() {
-    check_vectors::<LentTextsInRuns>();
+test_readers! {
+    owned_texts: OwnedTexts;
+    calls_by_object: ByObject;
+    lent_texts: LentTexts;
+    owned_texts_in_runs: OwnedTextsInRuns;
+    lent_texts_in_runs: LentTextsInRuns;
 }
 
 #[cfg(feature = "__own")]
-#[test]
-fn calls_in_runs() {
-    check_vectors::<CallsInRuns>();
-}
+test_readers!(calls_in_runs: CallsInRuns;);

@@ -29,7 +29,7 @@ fn events_of_next(vector: &str) -> String {
     format!("{of_z}\nesc - false 63\n")
 }
 
-/// Returns what reads a stream in pieces by copies of a parser, and then `NEXT`: the events of both.
+/// Returns what reads a stream in pieces by copies of a parser, and `NEXT`: the events of both.
 fn by<P: Clone, const KEEPS: bool>(
     parser: P,
     advance: impl Fn(&mut P, &mut EventLines<KEEPS>, &[u8]),

@@ -1,9 +1,7 @@
-//! What is unfinished, at each byte of the vectors: by the grammar, from the last ESC on.
-use std::str;
+//! What is unfinished, at each byte of streams. tools/c_library/test_open.py tries all vectors, by
+//! their grammar.
 use vte::Open::*;
 use vte::{BoundedParser, Open, Parser, Perform};
-
-use crate::json::vectors;
 
 /// Worked out by hand: streams, and what is open after each of their bytes, by its letter.
 const BY_HAND: &[(&[u8], &str)] = &[
@@ -52,119 +50,33 @@ struct Silent;
 
 impl Perform for Silent {}
 
-fn is_cancel(byte: u8) -> bool {
-    matches!(byte, 0x18 | 0x1a)
-}
-
-/// A text is open only inside a character.
-fn open_in_text(text: &[u8]) -> Open {
-    match str::from_utf8(text) {
-        Ok(_) => Nothing,
-        Err(error) => match error.error_len() {
-            Some(length) => open_in_text(&text[error.valid_up_to() + length..]),
-            None => Character,
-        },
-    }
-}
-
-/// A sequence is open up to its end, after which a text follows.
-fn open_up_to(bytes: &[u8], ends: impl Fn(u8) -> bool, kind: Open) -> Open {
-    let end = bytes.iter().position(|&byte| is_cancel(byte) || ends(byte));
-    end.map_or(kind, |end| open_in_text(&bytes[end + 1..]))
-}
-
-/// After a well-shaped head come data, and after any other head what means nothing.
-fn open_in_device_control(bytes: &[u8]) -> Open {
-    let end = bytes
-        .iter()
-        .position(|&byte| is_cancel(byte) || matches!(byte, b'@'..=b'~'));
-    match end {
-        None => DeviceControl,
-        Some(end) if is_cancel(bytes[end]) => open_in_text(&bytes[end + 1..]),
-        Some(end) if is_well_shaped(&bytes[..end]) => {
-            open_up_to(&bytes[end + 1..], |byte| byte == 0x9c, DeviceControl)
-        }
-        Some(end) => open_up_to(&bytes[end + 1..], |_| false, IgnoredString),
-    }
-}
-
-/// A marker or none, parameters, intermediates.
-fn is_well_shaped(bytes: &[u8]) -> bool {
-    let head = bytes.iter().filter(|byte| (b' '..=b'?').contains(byte));
-    let mut head = head.enumerate().skip_while(|&(at, &byte)| match byte {
-        b'0'..=b';' => true,
-        b'<'..=b'?' => at == 0,
-        _ => false,
-    });
-    head.all(|(_, byte)| (b' '..=b'/').contains(byte))
-}
-
-fn open_in_body(body: &[u8]) -> Open {
-    let key = body
-        .iter()
-        .position(|&byte| is_cancel(byte) || matches!(byte, b' '..=b'~'));
-    let from_key = key.map_or(&[][..], |key| &body[key..]);
-    match from_key {
-        [] => EscapeSequence,
-        [b'[', rest @ ..] => open_up_to(rest, |byte| matches!(byte, b'@'..=b'~'), ControlSequence),
-        [b'P', rest @ ..] => open_in_device_control(rest),
-        [b']', rest @ ..] => open_up_to(rest, |byte| byte == 0x07, SystemCommand),
-        [b'X' | b'^' | b'_', rest @ ..] => open_up_to(rest, |_| false, IgnoredString),
-        _ => open_up_to(from_key, |byte| matches!(byte, b'0'..=b'~'), EscapeSequence),
-    }
-}
-
-fn open_by_grammar(stream: &[u8]) -> Open {
-    let escape = stream.iter().rposition(|&byte| byte == 0x1b);
-    escape.map_or_else(
-        || open_in_text(stream),
-        |escape| open_in_body(&stream[escape + 1..]),
-    )
-}
-
-/// Checks each prefix, read whole and byte by byte, and by each type of parser.
-fn check(stream: &[u8], wanted: impl Fn(usize) -> Open) {
-    let (mut byte_by_byte, mut limited) = (Parser::new(), BoundedParser::<2>::new_with_size());
-    #[cfg(any(feature = "std", feature = "ansi"))]
-    let mut long = vte::LongParser::new();
-    for end in 0..=stream.len() {
-        let (prefix, wanted) = (&stream[..end], wanted(end));
-        let mut whole = Parser::new();
-        whole.advance(&mut Silent, prefix);
-        assert_eq!(whole.open(), wanted, "{prefix:02x?}");
-        assert_eq!(whole.is_open(), wanted != Nothing, "{prefix:02x?}");
-        assert_eq!(byte_by_byte.open(), wanted, "{prefix:02x?}, byte by byte");
-        assert_eq!(limited.open(), wanted, "{prefix:02x?}, limited");
-        #[cfg(any(feature = "std", feature = "ansi"))]
-        assert_eq!(long.open(), wanted, "{prefix:02x?}, without a limit");
-        let next = &stream[end..stream.len().min(end + 1)];
-        byte_by_byte.advance(&mut Silent, next);
-        limited.advance(&mut Silent, next);
-        #[cfg(any(feature = "std", feature = "ansi"))]
-        long.advance(&mut Silent, next).unwrap();
-    }
-}
-
+/// By each type of parser, byte by byte, and by one that reads the whole.
 #[test]
-fn examples_by_hand() {
+fn each_byte() {
     for &(stream, letters) in BY_HAND {
+        let (mut parser, mut limited) = (Parser::new(), BoundedParser::<2>::new_with_size());
+        #[cfg(any(feature = "std", feature = "ansi"))]
+        let mut long = vte::LongParser::new();
         assert_eq!(stream.len(), letters.len());
         for (end, wanted) in (1..).zip(letters.chars()) {
-            let prefix = &stream[..end];
-            assert_eq!(letter(open_by_grammar(prefix)), wanted, "{prefix:02x?}");
+            let (prefix, next) = (&stream[..end], &stream[end - 1..end]);
+            let check = |open: Open, is_open: bool| {
+                let found = (letter(open), is_open);
+                assert_eq!(found, (wanted, wanted != 'N'), "{prefix:02x?}");
+            };
+            let mut whole = Parser::new();
+            assert_eq!((whole.open(), whole.is_open()), (Nothing, false));
+            whole.advance(&mut Silent, prefix);
+            check(whole.open(), whole.is_open());
+            parser.advance(&mut Silent, next);
+            check(parser.open(), parser.is_open());
+            limited.advance(&mut Silent, next);
+            check(limited.open(), limited.is_open());
+            #[cfg(any(feature = "std", feature = "ansi"))]
+            {
+                long.advance(&mut Silent, next).unwrap();
+                check(long.open(), long.is_open());
+            }
         }
-        check(stream, |end| open_by_grammar(&stream[..end]));
-    }
-}
-
-#[test]
-fn each_prefix_of_a_vector() {
-    let vectors: Vec<_> = vectors()
-        .map(|vector| vector.pieces().concat())
-        .filter(|stream| stream.len() < 256)
-        .collect();
-    assert!(vectors.len() > 800);
-    for stream in vectors {
-        check(&stream, |end| open_by_grammar(&stream[..end]));
     }
 }

@@ -14,7 +14,7 @@ import sys
 from pathlib import Path
 
 TOOLS = Path(__file__).resolve().parent.parent
-OURS = TOOLS.parent / "rust" / "vte"
+OURS, KEPT = TOOLS.parent / "rust" / "vte", TOOLS.parent / "rust" / "target"
 CARGO_PRODUCT = TOOLS / "building" / "cargo_product"
 PROFILES = {
     "fat": {"LTO": "fat", "CODEGEN_UNITS": "1"},
@@ -72,21 +72,22 @@ def environment(folder, profile):
 
 
 def placed_peers(is_ours, folder, profile, count):
-    """Builds tools/peer over the crate, or over ours, in a folder, without warnings: so many times,
-    each with its code at another place."""
-    folder = Path(folder)
+    """Builds tools/peer over the crate, or over ours, into a folder, without warnings: so many
+    times, each with its code at another place."""
+    folder, room = Path(folder), KEPT / f"peer_{profile}{'_ours' * is_ours}"
     source = f'path = "{OURS}"' if is_ours else 'version = "=0.15.0"'
     manifest = MANIFEST.replace("SOURCE", source).replace("MAIN", f"{TOOLS}/peer/src/main.rs")
-    folder.mkdir(parents=True, exist_ok=True)
-    (folder / "Cargo.toml").write_text(manifest)
+    for place in folder, room:
+        place.mkdir(parents=True, exist_ok=True)
+    (room / "Cargo.toml").write_text(manifest)
     # only ours has runs of text
     flags = ["--cap-lints", "allow", *["--cfg", "runs"] * is_ours]
     programs = []
     # four places take each function once to each part of a line of 64 bytes that it can begin at
     for place in range(count):
         start = f"link-arg=-Wl,-Ttext={CODE_START + ALIGNMENT * place:#x}"
-        words = ["rustc", "--release", "--manifest-path", folder / "Cargo.toml", "--", *flags]
-        made = run([CARGO_PRODUCT, *words, "-C", start], "tools/peer", environment(folder, profile))
+        words = ["rustc", "--release", "--manifest-path", room / "Cargo.toml", "--", *flags]
+        made = run([CARGO_PRODUCT, *words, "-C", start], "tools/peer", environment(room, profile))
         programs.append(shutil.copy(made.decode().rstrip("\n"), folder / f"peer_{place}"))
     return programs
 

@@ -68,5 +68,9 @@ class Library:
     @cached_property
     def sanitized(self):
         """The same program with sanitizers, or None if cc has none."""
-        words = [*self.of_events, *SANITIZERS]
-        return self.program(EXAMPLES / "events.c", *words, name="events_sanitized", optional=True)
+        def linked(*words):
+            return self.program(EXAMPLES / "events.c", *self.of_events, *SANITIZERS, *words,
+                                name="events_sanitized", optional=True)
+
+        # it begins sooner without shared libraries, which clang's never are
+        return linked("-static-libasan", "-static-libubsan") or linked()

@@ -82,7 +82,8 @@ def test_threads(whole):
 def test_threads_sanitized(whole):
     """The same, with the library and the program under the thread sanitizer."""
     folder = whole.folder / "for_threads"
-    environment = {"RUSTC_BOOTSTRAP": "1", "CARGO_TARGET_DIR": str(folder / "target"),
+    environment = {"RUSTC_BOOTSTRAP": "1",
+                   "CARGO_TARGET_DIR": f"{TOOLS.parent}/rust/target/for_threads",
                    "RUSTFLAGS": "-Zsanitizer=thread -Cunsafe-allow-abi-mismatch=sanitizer"}
     build = [TOOLS / "build_c_library", "--cargo", folder]
     words = ["cc", "-O1", "-g", "-fsanitize=thread", "-pthread", *INCLUDES, HERE / "threads.c",

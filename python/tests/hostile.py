@@ -25,8 +25,8 @@ def long_commands(end):
 
 def vectors(file, kind=None):
     """The test vectors of a file, of all kinds or one. An sdist has none."""
-    rows = json.loads((FOLDER / file).read_text())["vectors"] if FOLDER.is_dir() else []
-    return [row for row in rows if kind in (None, row["kind"])]
+    listed = json.loads((FOLDER / file).read_text())["vectors"] if FOLDER.is_dir() else []
+    return [vector for vector in listed if kind in (None, vector["kind"])]
 
 
 def stream_of(vector):

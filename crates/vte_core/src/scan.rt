@@ -152,7 +152,7 @@ impl<'a> Input<'a> {
 /// begun at `from` or after whole characters that stand there, ended at `to`: it passes one
 /// whole character at a time, a byte of ASCII, or a lead byte with all its continuation bytes,
 /// the first of which `may_begin_three` and `may_begin_four` test. Blocks whose bytes all fit, as
-/// `follows` tells, may end inside a character: the search then goes back to where it began.
+/// `may_follow` tells, may end inside a character: the search then goes back to where it began.
 #[inline(always)]
 #[allow(unsafe_code)]
 // cargo instead: pub(crate) unsafe fn text(bytes: &[u8], from: usize, to: usize) -> &str

@@ -54,7 +54,8 @@ pub(crate) fn is_command_data(byte: u8) -> bool
     ensures is { result ≡ true → IsCommandData byte }
     ensures other { result ≡ false → IsCommandData byte → ⊥ }
 {
-    byte >= 0x20 && byte != b';'
+    // One comparison passes most bytes.
+    byte > b';' || (byte >= 0x20 && byte < b';')
 }
 
 /// Returns whether a byte is an intermediate 20..2F.

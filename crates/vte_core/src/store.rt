@@ -63,6 +63,7 @@ impl<B: Buffer> Store<B> {
         ensures holds { HoldsItems B.limit self.new [] }
         ensures memory { self.new.capacity ≡ self.old.capacity }
     {
+        // cargo instead: self.ends.clear();
         self.ends = ArrayVec::new();
         self.bytes.clear();
         self.lost = false;
@@ -75,6 +76,7 @@ impl<B: Buffer> Store<B> {
         ensures lost { self.new.lost ≡ self.old.lost }
         ensures memory { self.new.capacity ≡ self.old.capacity }
     {
+        // cargo instead: self.ends.clear();
         self.ends = ArrayVec::new();
         self.bytes.clear();
     }
@@ -203,6 +205,7 @@ impl<const N: usize> Store<ArrayVec<u8, N>> {
         ensures ends { ArePieceEnds bytes.now ends.now → self.new.ends ≡ ends.now }
         ensures lost { self.new.lost ≡ lost }
     {
+        // cargo instead: self.ends.clear();
         self.ends = ArrayVec::new();
         self.bytes.clear();
         // They fit.

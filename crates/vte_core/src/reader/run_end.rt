@@ -12,8 +12,12 @@ use crate::utf8::{is_continuation, is_lead, is_printed_ascii, may_begin_four, ma
 
 /// Longer runs go on in blocks.
 // proof: by then single bytes have taken fewer looks than they may, enough to pay for one wasted
-// block.
-const SHORT_RUN: usize = 66;
+// block. For that 66 are enough.
+const SHORT_RUN: usize = 96;
+
+/// Runs without ASCII go on in blocks sooner, because their characters cost more one by one.
+// proof: a look for each byte leaves enough after the eighth.
+const SHORT_OTHER_RUN: usize = 24;
 
 impl Reader {
     /// Returns whether printed ASCII begins a run at a position: four bytes of it, of which the
@@ -109,7 +113,25 @@ impl Reader {
         ensures scans { Scans (IsRun P.layout) input.entry.bytes.now from result self.old self.new }
         ensures count { looked self.new + 4 * from ≤ looked self.old + 4 * result + 4 }
     {
-        self.find_run_end(input, from, performer.keeps_layout())
+        let layout = performer.keeps_layout();
+        let mut to = input.len().min(from + SHORT_OTHER_RUN);
+        let mut end = from;
+        while end < to {
+            let byte = self.byte_at(input, end);
+            if is_printed_ascii(byte) {
+                end = self.find_ascii_end(input, end + 1);
+                to = input.len().min(from + SHORT_RUN);
+            } else {
+                match self.find_other_character_end(input, end, byte, layout) {
+                    Some(next) => end = next,
+                    None => return end,
+                }
+            }
+        }
+        if end == input.len() {
+            return end;
+        }
+        self.find_run_end_by_blocks(input, end, layout)
     }
 
     /// Finds where the run ends that has come to a position. With `layout`, HT, LF and CR don't

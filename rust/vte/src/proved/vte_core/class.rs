@@ -38,7 +38,8 @@ pub(crate) fn is_device_data(byte: u8) -> bool {
 /// Returns whether a byte is data of an operating system command, and no `;`.
 #[inline(always)]
 pub(crate) fn is_command_data(byte: u8) -> bool {
-    byte >= 0x20 && byte != b';'
+    // One comparison passes most bytes.
+    byte > b';' || (byte >= 0x20 && byte < b';')
 }
 
 /// Returns whether a byte is an intermediate 20..2F.

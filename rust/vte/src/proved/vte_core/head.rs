@@ -66,7 +66,7 @@ impl Collected {
 
     /// Forgets the intermediates.
     pub(crate) fn begin_escape(&mut self) {
-        self.intermediates = ArrayVec::new();
+        self.intermediates.clear();
         self.too_many_intermediates = false;
     }
 

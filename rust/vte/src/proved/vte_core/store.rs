@@ -33,7 +33,7 @@ impl<B: Buffer> Store<B> {
 
     /// Removes all items. Their memory stays.
     pub(crate) fn clear(&mut self) {
-        self.ends = ArrayVec::new();
+        self.ends.clear();
         self.bytes.clear();
         self.lost = false;
     }
@@ -41,7 +41,7 @@ impl<B: Buffer> Store<B> {
     /// Removes the items of a command that has ended, but not whether it lost data.
     #[cfg(any(feature = "std", feature = "ansi"))]
     pub(crate) fn remove_items(&mut self) {
-        self.ends = ArrayVec::new();
+        self.ends.clear();
         self.bytes.clear();
     }
 
@@ -120,7 +120,7 @@ impl<const N: usize> Store<ArrayVec<u8, N>> {
 
     /// Holds these parts instead, without the ends if they can't be ends of pieces.
     pub(crate) fn restore(&mut self, bytes: &[u8], ends: &[usize], lost: bool) {
-        self.ends = ArrayVec::new();
+        self.ends.clear();
         self.bytes.clear();
         // They fit.
         let _ = self.bytes.try_extend_from_slice(bytes);

@@ -3,7 +3,7 @@ use Rattle.vte_core.proofs.Common.{◌≡◌, ◌≤◌, ◌<◌, ◌+◌, ◌-�
 use Rattle.vte_core.specs.machine.Each.{Each}
 use Rattle.vte_core.proofs.automaton_states.Readings.{run-kept}
 use Rattle.vte_core.proofs.automaton_states.Windows.{above-block, leads-ascii, leads-block, run-before-open, run-none}
-use Rattle.vte_core.proofs.reader.Reader.skip_run_blocks.Goals.{then-is_ascii, else-is_ascii}
+use Rattle.vte_core.proofs.reader.Reader.skip_run_blocks.Goals.{then-is_ascii, else-is_ascii, then-layout, else-layout}
 use Rattle.vte_core.proofs.reader.Reader.skip_run_blocks.Goals as goal
 
 pub returns-then-open_bytes-gt0-clause-scans : goal.returns-then-open_bytes-gt0-clause-scans
@@ -47,8 +47,8 @@ loop-window-preserved c =
       early = λ e. absurd (omega (arith, e, v.low));
     }
 
-pub loop-window-preserved-then-plain-ge-PLAIN_BLOCKS : goal.loop-window-preserved-then-plain-ge-PLAIN_BLOCKS
-loop-window-preserved-then-plain-ge-PLAIN_BLOCKS c =
+pub loop-window-preserved-then-plain-most : goal.loop-window-preserved-then-plain-most
+loop-window-preserved-then-plain-most c =
     let v = c.loop-window.invariant in
     let window = c.in-Some.ensures.0 in
     let count = c.in-Some.ensures.1 in
@@ -56,13 +56,13 @@ loop-window-preserved-then-plain-ge-PLAIN_BLOCKS c =
     let fits = c.continues_run.ensures c.if-not-continues_run.false in
     let ascii = c.skip_ascii_blocks-at.ensures in
     let past : c.args.from < c.loop-window.at = elim c.if-is_ascii.branch [
-      | else-is_ascii w ↦ absurd (omega (arith, w.plain-is, c.if-plain-ge-PLAIN_BLOCKS.true))
+      | else-is_ascii w ↦ absurd (omega (arith, w.plain-is, c.if-plain-most.true))
       | then-is_ascii w ↦ elim (cases_lt c.args.from c.loop-window.at) [
         | inl past ↦ past
         | inr here ↦
             absurd
             (omega
-            (arith, w.plain-is, c.if-plain-ge-PLAIN_BLOCKS.true, v.early (omega (arith, here, v.low))))
+            (arith, w.plain-is, c.if-plain-most.true, v.early (omega (arith, here, v.low))))
       ]
     ] in
     record {
@@ -73,7 +73,16 @@ loop-window-preserved-then-plain-ge-PLAIN_BLOCKS c =
           c.skip_ascii_blocks-at.result (omega (arith, v.low)) ascii.low ascii.high
           (leads-block c.args.layout c.args.input.bytes.now c.in-Some.window c.args.from c.loop-window.at early v.low
           window fits v.leads 16 (omega arith)) ascii.closed ascii.plain;
-      kept = λ none. absurd (false≢true (sym none ∙ c.if-layout.true));
+      kept = λ none. elim c.if-layout.branch [
+        | then-layout w ↦ absurd (false≢true (sym none ∙ w.if-layout.true))
+        | else-layout w ↦ elim c.if-is_ascii.branch [
+          | then-is_ascii a ↦
+              absurd
+              (omega
+              (arith, w.most-is, c.if-plain-most.true, a.plain-is, v.few, ascii.low, c.skip_ascii_blocks-at.type_inv))
+          | else-is_ascii a ↦ absurd (omega (arith, w.most-is, c.if-plain-most.true, a.plain-is))
+        ]
+      ];
       whole = λ _. omega (arith, v.low, ascii.low);
       least = omega (arith, v.least, count, ascii.least);
       none = λ e. absurd (omega (arith, e, v.low, ascii.low));

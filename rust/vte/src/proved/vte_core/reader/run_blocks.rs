@@ -25,13 +25,14 @@ impl Reader {
         let mut at = from;
         // Two are enough at first, since most runs are of ASCII.
         let mut plain = PLAIN_BLOCKS / 2;
+        let most = if layout { PLAIN_BLOCKS } else { usize::MAX };
         while let Some(window) = self.get_window(input, at - 3) {
             if !continues_run(&window, layout) {
                 break;
             }
             at += 16;
             plain = if is_ascii(&window.last) { plain + 1 } else { 0 };
-            if layout && plain >= PLAIN_BLOCKS {
+            if plain >= most {
                 plain = 0;
                 at = self.skip_ascii_blocks(input, at);
             }

@@ -12,7 +12,10 @@ use crate::proved::vte_core::utf8::{
 };
 
 /// Longer runs go on in blocks.
-const SHORT_RUN: usize = 66;
+const SHORT_RUN: usize = 96;
+
+/// Runs without ASCII go on in blocks sooner, because their characters cost more one by one.
+const SHORT_OTHER_RUN: usize = 24;
 
 impl Reader {
     /// Returns whether printed ASCII begins a run at a position: four bytes of it, of which the
@@ -78,7 +81,25 @@ impl Reader {
         input: &[u8],
         from: usize,
     ) -> usize {
-        self.find_run_end(input, from, performer.keeps_layout())
+        let layout = performer.keeps_layout();
+        let mut to = input.len().min(from + SHORT_OTHER_RUN);
+        let mut end = from;
+        while end < to {
+            let byte = self.byte_at(input, end);
+            if is_printed_ascii(byte) {
+                end = self.find_ascii_end(input, end + 1);
+                to = input.len().min(from + SHORT_RUN);
+            } else {
+                match self.find_other_character_end(input, end, byte, layout) {
+                    Some(next) => end = next,
+                    None => return end,
+                }
+            }
+        }
+        if end == input.len() {
+            return end;
+        }
+        self.find_run_end_by_blocks(input, end, layout)
     }
 
     /// Finds where the run ends that has come to a position. With `layout`, HT, LF and CR don't

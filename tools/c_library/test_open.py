@@ -63,6 +63,6 @@ def test_prefixes(library):
     def test(stream):
         assert_open(library, stream, [open_at_end(stream[:end]) for end in range(len(stream) + 1)])
 
-    vectors = [bytes_of(vector["pieces"]) for vector in vectors() if vector["kind"] == "events"]
+    by_hand = [bytes_of(vector["pieces"]) for vector in vectors() if vector["kind"] == "events"]
     hostile = [b"".join(hostile_stream(52, number)) for number in range(100)]
-    at_once(test, [stream for stream in vectors + hostile if len(stream) < 300])
+    at_once(test, [stream for stream in by_hand + hostile if len(stream) < 300])

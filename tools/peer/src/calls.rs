@@ -1,6 +1,9 @@
 //! A handler that folds all calls into a checksum, as cheaply as crates/benchmark does: a number
 //! for the name of each, and its arguments.
 
+use std::hash::{Hash, Hasher};
+use std::mem::discriminant;
+
 use vte::ansi::cursor_icon::CursorIcon;
 use vte::ansi::{
     Attr, CharsetIndex, ClearMode, Color, CursorShape, CursorStyle, Handler, Hyperlink,
@@ -112,35 +115,26 @@ impl<T: Argument> Argument for Option<T> {
     }
 }
 
-/// The place of an attribute's variant in its declaration.
+/// The place of an attribute's variant in its declaration, which is what its discriminant hashes.
+#[inline]
 fn place_of(attribute: &Attr) -> u64 {
-    match attribute {
-        Attr::Reset => 0,
-        Attr::Bold => 1,
-        Attr::Dim => 2,
-        Attr::Italic => 3,
-        Attr::Underline => 4,
-        Attr::DoubleUnderline => 5,
-        Attr::Undercurl => 6,
-        Attr::DottedUnderline => 7,
-        Attr::DashedUnderline => 8,
-        Attr::BlinkSlow => 9,
-        Attr::BlinkFast => 10,
-        Attr::Reverse => 11,
-        Attr::Hidden => 12,
-        Attr::Strike => 13,
-        Attr::CancelBold => 14,
-        Attr::CancelBoldDim => 15,
-        Attr::CancelItalic => 16,
-        Attr::CancelUnderline => 17,
-        Attr::CancelBlink => 18,
-        Attr::CancelReverse => 19,
-        Attr::CancelHidden => 20,
-        Attr::CancelStrike => 21,
-        Attr::Foreground(_) => 22,
-        Attr::Background(_) => 23,
-        Attr::UnderlineColor(_) => 24,
+    struct Place(u64);
+
+    impl Hasher for Place {
+        fn finish(&self) -> u64 {
+            self.0
+        }
+
+        fn write(&mut self, _bytes: &[u8]) {}
+
+        fn write_isize(&mut self, place: isize) {
+            self.0 = place as u64;
+        }
     }
+
+    let mut place = Place(0);
+    discriminant(attribute).hash(&mut place);
+    place.finish()
 }
 
 macro_rules! calls {

@@ -92,7 +92,7 @@ def test_a_program_that_passes_a_limit_is_a_difference(judge_toy, fault, ends):
     (["sh", "-c", "exit 3"], "--timeout 120", "(crash: status 3)"),
     (["sh", "-c", "kill -9 $$"], "--timeout 120", "(crash: signal 9)"),
     (["sleep", "9"], "--timeout 0.5", "(hang: no answer in time)"),
-    (["sleep", "600"], "--timeout 600 --memory 0", "(memory: more than 0 MiB)")])
+    (["sleep", "60"], "--timeout 60 --memory 0", "(memory: more than 0 MiB)")])
 def test_a_program_that_fails_is_a_difference(judge, pieces, command, words, told):
     assert told in judge(1, *pieces.split(), *words.split(), "--case", "61", *command)
 

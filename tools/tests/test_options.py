@@ -86,13 +86,17 @@ def test_packages(monkeypatch, gate, there, status, asked):
 
 
 @pytest.mark.parametrize("words, has_crates, status, said", [
-    ("", "", 2, "Puts crates .*"), ("folder", "", 2, "Puts crates .*"), ("-h", "", 0, "Puts .*"),
-    ("folder a", "", 0, r"export CARGO_HOME=\S+/folder/cargo PYTHONPATH=\S+ .*"),
-    ("folder a b", "yes", 0, "export PYTHONPATH=.*"), ("folder a b", "", 1, None)])
+    ("", "", 2, "Puts crates .*"), ("-h", "", 0, "Puts .*"),
+    ("folder", "", 0, r"export CARGO_HOME=\S+/folder/cargo PYTHONPATH=\S+ .*"),
+    ("folder a", "", 0, "export CARGO_HOME=.*"), ("folder a b", "yes", 0, "export PYTHONPATH=.*"),
+    ("folder a b", "", 1, None), ("other", "", 1, None)])
 def test_next_release(monkeypatch, words, has_crates, status, said):
     monkeypatch.setenv("HAS_CRATES", has_crates)
     # what was asked for before isn't fetched again
-    write("folder/had", "a\n")
+    needed = re.findall(r"(python3|librust)-\{(.*?)\}(-dev)?",
+                        (TOOLS / "next_release").read_text())
+    write("folder/had", "a\n" + "".join(f"{begin}-{name}{end}\n" for begin, names, end in needed
+                                       for name in names.split(",")))
     found, lines = run_here("next_release", *words.split(), **{"apt-get": "exit 1"})
     assert (found, bool(lines)) == (status, said is not None)
     assert said is None or re.match(said, lines[0])
@@ -112,7 +116,7 @@ def test_words_of_release(words, status, asked):
 
 # ---- bench
 
-STRIP = {"placements": 1, "cores": [], "race": "strip", "bytes": 500_000, "rounds": 11,
+STRIP = {"placements": 1, "cores": [], "kind": "strip", "bytes": 500_000, "rounds": 11,
          "streams": ["ascii", "prose", "cjk", "cyrillic", "ls_color", "coloured", "random"]}
 
 
@@ -120,22 +124,22 @@ STRIP = {"placements": 1, "cores": [], "race": "strip", "bytes": 500_000, "round
     ("strip", {}), ("strip --streams cjk emoji", {"streams": ["cjk", "emoji"]}),
     ("strip --bytes 99", {"bytes": 99}), ("strip --rounds 3", {"rounds": 3}),
     ("strip --placements 2", {"placements": 2}), ("strip --core 1", {"cores": [{1}]}),
-    ("calls", {"race": "calls", "streams": ["ascii", "ls_color", "coloured"] * 3})])
+    ("calls", {"kind": "calls", "streams": ["ascii", "ls_color", "coloured"] * 3})])
 def test_speed(monkeypatch, words, changes):
     monkeypatch.syspath_prepend(str(TOOLS.parent / "bench"))
     run, found = Tool("../bench/run", conditions=lambda *_: []), {"cores": [], "streams": []}
-    races, figures = run.parts["races"], run.parts["figures"]
+    measuring, figures = run.parts["measuring"], run.parts["figures"]
 
     def line(row):
         found["streams"].append(row["stream"])
-        return found.update(race=row["race"], rounds=len(row["nanoseconds"]["ours"]))
+        return found.update(kind=row["kind"], rounds=len(row["nanoseconds"]["ours"]))
 
-    monkeypatch.setattr(races, "Programs", lambda _, placements: found.update(
+    monkeypatch.setattr(measuring, "Programs", lambda _, placements: found.update(
         placements=placements) or SimpleNamespace(
             build=lambda _: None, commands=lambda _: {"ours": [["ours"]]},
-            stream=lambda _, size: size == races.CHECKED or found.update(bytes=size)))
-    monkeypatch.setattr(races, "compare_checksums", lambda *_: None)
-    monkeypatch.setattr(races, "in_passes", lambda *_: lambda: 1)
+            stream=lambda _, size: size == measuring.CHECKED or found.update(bytes=size)))
+    monkeypatch.setattr(measuring, "compare_checksums", lambda *_: None)
+    monkeypatch.setattr(measuring, "in_passes", lambda *_: lambda: 1)
     monkeypatch.setattr(figures, "line", line)
     monkeypatch.setattr(figures, "tables", lambda _: [])
     monkeypatch.setattr(os, "sched_setaffinity", lambda _, cores: found["cores"].append(cores))
@@ -159,7 +163,7 @@ def test_counts(monkeypatch, words, kinds, changes):
 
     count = Tool("../bench/count", passed=lambda words, _, place: (place.size, "left"),
                  ThreadPoolExecutor=lambda jobs: found.update(jobs=jobs) or pool(jobs))
-    monkeypatch.setattr(count.parts["races"], "Programs", lambda _: SimpleNamespace(
+    monkeypatch.setattr(count.parts["measuring"], "Programs", lambda _: SimpleNamespace(
         peers=lambda side: [side], proved="proved", commands=lambda _: {"vte_feed": [["in C"]]},
         stream=lambda name, size: found.update(bytes=size) or stream(name, size)))
     _, said = count.run(*words.split())

@@ -116,12 +116,16 @@ def test_cases_are_read_as_shown():
         assert report.case_shown(shown) == [[b"b", b"c"], [b"d"], pieces]
 
 
-@pytest.mark.parametrize("kind, name", [
-    ("vectors", "vector "), ("random", "stream "), ("recorded", "recorded stream ")])
-def test_kinds_of_streams_and_their_seeds(kind, name):
+# a kind of streams, how their names begin, and whether those in turn depend on the seed
+@pytest.mark.parametrize("kind, name, varies", [
+    ("vectors", "vector ", [False, False]), ("random", "stream ", [True, True]),
+    ("recorded", "recorded stream ", [False, True])])
+def test_kinds_of_streams_and_their_seeds(kind, name, varies):
     some, others = ([*all_cases([kind], seed, 6)] for seed in "12")
     assert some and all(case.name.startswith(name) for case in some)
-    assert (some == others) == (kind == "vectors")
+    found = [[case.pieces for case in some[at::2]] != [case.pieces for case in others[at::2]]
+             for at in (0, 1)]
+    assert found == varies
 
 
 @pytest.mark.parametrize("pieces, shown", [

@@ -1,5 +1,5 @@
 //! What is unfinished, at each byte of streams. tools/c_library/test_open.py tries all vectors, by
-//! their grammar.
+//! a grammar.
 use vte::Open::*;
 use vte::{BoundedParser, Open, Parser, Perform};
 

@@ -34,7 +34,7 @@ def comparisons(row):
     if row["kind"] == "calls":
         return {name: Comparison(row, name, "libvterm") for name in sides
                 if name != "libvterm" and "libvterm" in sides}
-    pairs = {"over `advance`": ("rust", "advance")} if row["kind"] == "strip" else {
+    pairs = {"over `advance`": ("rust", "`advance`")} if row["kind"] == "strip" else {
         name: pair for name, pair in BUILDS.items() if pair[0] in sides}
     return {name: Comparison(row, *pair) for name, pair in pairs.items()}
 
@@ -93,10 +93,12 @@ def slower(rows, build):
 
 
 def by_run(rows):
-    """Text in runs."""
-    return table(["stream", "ns/byte", "over `advance`"], [
-        [f"`{row['stream']}`", f"{Comparison(row, 'rust').median:.2f}",
-         *map(str, comparisons(row).values())] for row in rows])
+    """Text in runs: the nanoseconds per byte of each side, and the ratio."""
+    sides = list(rows[0]["nanoseconds"])
+    return table(["stream", "`advance_text`", *sides[1:], *comparisons(rows[0])], [
+        [f"`{row['stream']}`",
+         *(f"{Comparison(row, side).median:.2f}" if side in row["nanoseconds"] else ""
+           for side in sides), *map(str, comparisons(row).values())] for row in rows])
 
 
 def by_call(rows):

@@ -17,8 +17,9 @@ from generating import streams
 IN_RUST = {"rust": "fat", "rust_release": "release", "best": "fat", "release": "release"}
 OURS_IN_RUST = ("rust", "rust_release")
 # the kinds of tools/peer that put text into memory: in runs, and character by character, both by
-# ours in the best build
-STRIPPERS = {"rust": "strip_runs", "advance": "strip"}
+# ours in the best build, and those that do a part of it
+REFERENCES = {"`from_utf8`": "utf8", "a copy": "copy"}
+STRIPPERS = {"rust": "strip_runs", "`advance`": "strip", **REFERENCES}
 # the kinds of bench/calls.c: each function of the C library, and the parser of libvterm
 IN_C = ("vte_feed", "vte_long_feed", "vte_processor")
 THEIRS_IN_C = "libvterm"
@@ -31,7 +32,10 @@ STREAMS = ["ascii", "prose", "cjk", "latin1", "ls_color", "coloured", "dense_cel
 # streams with something to show on a screen
 SCREEN_STREAMS = [*STREAMS, "emoji", "cursor"]
 # streams to strip of sequences
-STRIPPED = ["ascii", "prose", "cjk", "cyrillic", "ls_color", "coloured", "random"]
+STRIPPED = ["ascii", "prose", "cjk", "cyrillic", "emoji", "ls_color", "coloured", "latin1",
+            "random"]
+# those that std would not check to their end
+MALFORMED = ["latin1", "random"]
 # the streams of each kind, by the bytes of a call
 STREAMS_OF = {
     "parser": {4096: [*STREAMS, "emoji", "esc_flood", "ignored", "sos_open"],
@@ -43,6 +47,8 @@ STREAMS_OF = {
     "calls": dict.fromkeys((1, 64, 4096), ["ascii", "ls_color", "coloured"])}
 # streams of commands with more than the 1,024 bytes that Rattle's parser and processor keep
 BEYOND_THE_LIMIT = ["osc_clipboard"]
+# the streams that a side isn't measured with
+LEFT_OUT = {"ours": BEYOND_THE_LIMIT, "`from_utf8`": MALFORMED}
 # the bytes of a stream whose checksums are compared: the crate takes quadratic time for malformed
 # text in one call
 CHECKED = 50_000
@@ -138,7 +144,8 @@ def compare_checksums(name, sides, place):
     """Stops if the sides' checksums of a stream differ. They get it in one call, because the
     crate's events can be wrong in pieces."""
     size = str(place.stat().st_size)
-    told = {side: run([*commands[0], size, "1"], place)[0] for side, commands in sides.items()}
+    told = {side: run([*commands[0], size, "1"], place)[0] for side, commands in sides.items()
+            if side not in REFERENCES}
     if len(set(told.values())) > 1:
         builder.stop(f"the checksums of {name} differ: {told}")
 
@@ -150,7 +157,7 @@ def rows(kind, programs, given):
     asked = {4096: given.streams} if given.streams else STREAMS_OF[kind]
     for name, piece in ((name, piece) for piece, names in asked.items() for name in names):
         commands = {side: of_side for side, of_side in sides.items()
-                    if side != "ours" or name not in BEYOND_THE_LIMIT}
+                    if name not in LEFT_OUT.get(side, [])}
         if kind != "calls":
             compare_checksums(name, commands, programs.stream(name, CHECKED))
         place = programs.stream(name, given.bytes)

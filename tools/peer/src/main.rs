@@ -4,7 +4,8 @@
 //! The kinds are `parser` and `processor`, with a performer or handler that folds all into a
 //! checksum, `screen` and `terminal`, with a screen as the parser's performer or the processor's
 //! handler, and `strip` and `filter`, which put text into memory. Over rust/vte the last four are
-//! there with `_runs` too, and get text in runs.
+//! there with `_runs` too, and get text in runs. `utf8` and `copy` do a part of the work of
+//! `strip_runs`: they only check text, or only copy it.
 
 mod calls;
 mod cell;
@@ -23,7 +24,7 @@ use vte::ansi::{Processor, Timeout};
 use calls::CallChecksum;
 use checksum::Checksum;
 use screen::Screen;
-use text::Text;
+use text::{Checker, Copier, Text};
 
 /// A timeout that is pending until it is cleared.
 #[derive(Default)]
@@ -87,6 +88,8 @@ kinds! {
         |calls: CallChecksum| calls.0;
     terminal: Terminal::new(), Screen::new(), Processor::advance, Screen::checksum;
     filter: Terminal::new(), Text::default(), Processor::advance, Text::checksum;
+    utf8: Checker, Text::default(), Checker::read, Text::checksum, Text::clear;
+    copy: Copier, Text::default(), Copier::read, Text::checksum, Text::clear;
     #[cfg(runs)]
     screen_runs: Parser::<1024>::default(), Screen::new(), Parser::advance_text, Screen::checksum;
     #[cfg(runs)]

@@ -1,5 +1,7 @@
 //! What strips a stream of sequences into memory, as a parser's performer and as a processor's
-//! handler.
+//! handler, and what does a part of that.
+
+use std::hint::black_box;
 
 use vte::Perform;
 use vte::ansi::Handler;
@@ -19,6 +21,24 @@ impl Text {
 
     pub fn clear(&mut self) {
         self.0.clear();
+    }
+}
+
+/// Only checks text.
+pub struct Checker;
+
+impl Checker {
+    pub fn read(&mut self, _text: &mut Text, bytes: &[u8]) {
+        black_box(std::str::from_utf8(bytes).is_ok());
+    }
+}
+
+/// Only copies.
+pub struct Copier;
+
+impl Copier {
+    pub fn read(&mut self, text: &mut Text, bytes: &[u8]) {
+        text.0.extend_from_slice(bytes);
     }
 }
 

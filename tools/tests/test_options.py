@@ -117,7 +117,8 @@ def test_words_of_release(words, status, asked):
 # ---- bench
 
 STRIP = {"placements": 1, "cores": [], "kind": "strip", "bytes": 500_000, "rounds": 11,
-         "streams": ["ascii", "prose", "cjk", "cyrillic", "ls_color", "coloured", "random"]}
+         "streams": ["ascii", "prose", "cjk", "cyrillic", "emoji", "ls_color", "coloured",
+                     "latin1", "random"]}
 
 
 @pytest.mark.parametrize("words, changes", [

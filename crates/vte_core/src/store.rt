@@ -63,6 +63,8 @@ impl<B: Buffer> Store<B> {
         ensures holds { HoldsItems B.limit self.new [] }
         ensures memory { self.new.capacity ≡ self.old.capacity }
     {
+        // proof: `clear` would write over the ends, by a call of its own.
+        // cargo instead: self.ends.clear();
         self.ends = ArrayVec::new();
         self.bytes.clear();
         self.lost = false;
@@ -75,6 +77,8 @@ impl<B: Buffer> Store<B> {
         ensures lost { self.new.lost ≡ self.old.lost }
         ensures memory { self.new.capacity ≡ self.old.capacity }
     {
+        // proof: `clear` would write over the ends, by a call of its own.
+        // cargo instead: self.ends.clear();
         self.ends = ArrayVec::new();
         self.bytes.clear();
     }
@@ -182,7 +186,7 @@ impl<B: Buffer> Store<B> {
 }
 
 // cargo: #[cfg(feature = "__own")]
-impl<const N: usize> Store<ArrayVec<u8, N>> {
+impl<const N: usize> Store<Option<ArrayVec<u8, N>>> {
     /// Returns the data bytes, the ends of the first 16 pieces in them, and whether data bytes were
     /// dropped.
     pub(crate) fn parts(&self) -> (&[u8], &[usize], bool)
@@ -192,7 +196,11 @@ impl<const N: usize> Store<ArrayVec<u8, N>> {
         ensures are { ArePieceEnds self.now.bytes self.now.ends }
         ensures lost { result.2 ≡ self.now.lost }
     {
-        (self.bytes.as_slice(), self.ends.as_slice(), self.lost)
+        let bytes = match &self.bytes {
+            Some(bytes) => bytes.as_slice(),
+            None => &[],
+        };
+        (bytes, self.ends.as_slice(), self.lost)
     }
 
     /// Holds these parts instead, without the ends if they can't be ends of pieces.
@@ -204,9 +212,11 @@ impl<const N: usize> Store<ArrayVec<u8, N>> {
         ensures lost { self.new.lost ≡ lost }
     {
         self.ends = ArrayVec::new();
-        self.bytes.clear();
-        // They fit.
-        let _ = self.bytes.try_extend_from_slice(bytes);
+        self.bytes = Some(ArrayVec::new());
+        if let Some(array) = &mut self.bytes {
+            // They fit.
+            let _ = array.try_extend_from_slice(bytes);
+        }
         if are_piece_ends(ends, bytes.len()) {
             let _ = self.ends.try_extend_from_slice(ends);
         }

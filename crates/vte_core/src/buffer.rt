@@ -1,5 +1,5 @@
 //! The buffer for the data bytes of an operating system command.
-ghost use Rattle.std.specs.Prelude.{◌≡◌, ◌+◌, ◌-◌, ◌<◌, ◌≤◌, ◌++◌, ℕ, true, false, List, [], Option, Some, None, not, length, drop, take, vec_capacity};
+ghost use Rattle.std.specs.Prelude.{◌≡◌, ◌+◌, ◌-◌, ◌<◌, ◌≤◌, ◌++◌, ℕ, true, false, List, [], Option, Some, None, not, length, drop, option_map, take, unwrap_or, vec_capacity};
 ghost use Rattle.vte_core.specs.machine.Prelude.{HasCapacity, IsRange, ReservesCapacity, LooksAtMost, fitting, has_room};
 
 use crate::reader::{Input, Reader};
@@ -52,23 +52,30 @@ pub(crate) trait Buffer {
         ensures few { LooksAtMost (to - from) reader.old reader.new };
 }
 
-impl<const N: usize> Buffer for ArrayVec<u8, N> {
+/// An array, once there are bytes: to clear it takes time, and a parser that C makes for one call
+/// seldom needs it.
+impl<const N: usize> Buffer for Option<ArrayVec<u8, N>> {
     ghost limit = { Some N };
 
-    ghost held = { λ buffer. buffer.items };
+    ghost held = { λ buffer. unwrap_or (option_map (λ bytes. bytes.items) buffer) [] };
 
     ghost capacity = { λ buffer. N };
 
     fn bytes(&self) -> &[u8] {
-        self.as_slice()
+        match self {
+            Some(bytes) => bytes.as_slice(),
+            None => &[],
+        }
     }
 
     fn clear(&mut self) {
-        self.clear();
+        if let Some(bytes) = self {
+            bytes.clear();
+        }
     }
 
     fn is_full(&self) -> bool {
-        self.is_full()
+        self.bytes().len() >= N
     }
 
     fn reserve(&mut self, _more: usize) -> bool {
@@ -76,9 +83,14 @@ impl<const N: usize> Buffer for ArrayVec<u8, N> {
     }
 
     fn append(&mut self, reader: &mut Reader, input: Input<'_>, from: usize, to: usize) {
-        let kept = (to - from).min(self.remaining_capacity());
-        // It fits.
-        let _ = reader.copy_to_array(input, from, from + kept, self);
+        if self.is_none() {
+            *self = Some(ArrayVec::new());
+        }
+        if let Some(bytes) = self {
+            let kept = (to - from).min(bytes.remaining_capacity());
+            // It fits.
+            let _ = reader.copy_to_array(input, from, from + kept, bytes);
+        }
     }
 }
 

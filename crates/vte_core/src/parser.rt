@@ -89,7 +89,7 @@ pub(crate) enum State {
 #[derive(Drop)]
 // cargo instead: pub struct Parser<const OSC_RAW_BUF_SIZE: usize = MAX_OSC_RAW> {
 pub struct Parser<const OSC_RAW_BUF_SIZE: usize> {
-    machine: Machine<ArrayVec<u8, OSC_RAW_BUF_SIZE>>,
+    machine: Machine<Option<ArrayVec<u8, OSC_RAW_BUF_SIZE>>>,
     looks: Looks,
 }
 
@@ -137,7 +137,7 @@ impl<const OSC_RAW_BUF_SIZE: usize> Parser<OSC_RAW_BUF_SIZE> {
         ensures { HasRead result [] }
     {
         Parser {
-            machine: Machine::new(ArrayVec::new()),
+            machine: Machine::new(None),
             looks: Looks::none(),
         }
     }

@@ -184,7 +184,7 @@ impl<B: Buffer> Store<B> {
 }
 
 // cargo: #[cfg(feature = "__own")]
-impl<const N: usize> Store<ArrayVec<u8, N>> {
+impl<const N: usize> Store<Option<ArrayVec<u8, N>>> {
     /// Returns the data bytes, the ends of the first 16 pieces in them, and whether data bytes were
     /// dropped.
     pub(crate) fn parts(&self) -> (&[u8], &[usize], bool)
@@ -194,7 +194,11 @@ impl<const N: usize> Store<ArrayVec<u8, N>> {
         ensures are { ArePieceEnds self.now.bytes self.now.ends }
         ensures lost { result.2 ≡ self.now.lost }
     {
-        (self.bytes.as_slice(), self.ends.as_slice(), self.lost)
+        let bytes = match &self.bytes {
+            Some(bytes) => bytes.as_slice(),
+            None => &[],
+        };
+        (bytes, self.ends.as_slice(), self.lost)
     }
 
     /// Holds these parts instead, without the ends if they can't be ends of pieces.
@@ -207,9 +211,11 @@ impl<const N: usize> Store<ArrayVec<u8, N>> {
     {
         // cargo instead: self.ends.clear();
         self.ends = ArrayVec::new();
-        self.bytes.clear();
-        // They fit.
-        let _ = self.bytes.try_extend_from_slice(bytes);
+        self.bytes = Some(ArrayVec::new());
+        if let Some(array) = &mut self.bytes {
+            // They fit.
+            let _ = array.try_extend_from_slice(bytes);
+        }
         if are_piece_ends(ends, bytes.len()) {
             let _ = self.ends.try_extend_from_slice(ends);
         }

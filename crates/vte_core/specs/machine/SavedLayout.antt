@@ -39,19 +39,26 @@ IsInHead (ControlSequence progress) = ⊤
 IsInHead (DeviceControl progress) = ⊤
 IsInHead _ = ⊥
 
+-- The state is one in which intermediates count.
+abbrev pub HasIntermediates : State → Type 0
+HasIntermediates Escape = ⊤
+HasIntermediates EscapeIntermediate = ⊤
+HasIntermediates state = IsInHead state
+
 -- The machine was restored from `saved`.
 pub record IsRestored {B : Type 0} (saved : Saved) (machine : Machine B) : Type 0 where
   pub state : (state : State) → saved.state ≡ state_bytes state → machine.state ≡ state
-  pub intermediates : machine.collected.intermediates.items
+  pub intermediates : HasIntermediates machine.state
+      → machine.collected.intermediates.items
       ≡ take saved.intermediate_count saved.intermediates
-  pub too_many_intermediates : machine.collected.too_many_intermediates
-      ≡ flag_of saved.too_many_intermediates
+  pub too_many_intermediates : HasIntermediates machine.state
+      → machine.collected.too_many_intermediates ≡ flag_of saved.too_many_intermediates
   pub params : IsInHead machine.state → (groups : List (List ℕ))
       → AreParts (take saved.group_count saved.lengths)
       (take saved.number_count saved.numbers) groups
       → machine.collected.params ≡ groups
-  pub number : machine.collected.number ≡ saved.number
-  pub joined : machine.collected.joined ≡ flag_of saved.joined
+  pub number : IsInHead machine.state → machine.collected.number ≡ saved.number
+  pub joined : IsInHead machine.state → machine.collected.joined ≡ flag_of saved.joined
   pub bytes : machine.state ≡ SystemCommand
       → machine.command.bytes ≡ take saved.byte_count saved.bytes
   pub ends : machine.state ≡ SystemCommand

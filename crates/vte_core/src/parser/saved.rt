@@ -63,9 +63,8 @@ fn collect_front<T: Copy + Default + Drop, const N: usize>(
 ) -> ArrayVec<T, N>
     ensures { result.items ≡ take count array.now }
 {
-    let mut collected = ArrayVec::new();
-    // They fit.
-    let _ = collected.try_extend_from_slice(first_elements(array, count));
+    let mut collected = ArrayVec::from(*array);
+    collected.truncate(count);
     collected
 }
 
@@ -150,8 +149,22 @@ impl Saved {
 impl Parser<MAX_OSC_RAW> {
     /// Saves the parser as plain data, but not whether a command that has ended lost data.
     #[doc(hidden)]
+    // cargo: #[inline]
     pub fn save(&self, saved: &mut Saved)
         // What was saved has read what the parser has.
+        ensures { (stream : List ℕ) → HasRead self.now stream → HasReadSaved saved.new stream }
+    {
+        // Most calls end between characters of a text, where nothing else counts.
+        if let State::Text(Unfinished::Nothing) = self.machine.state {
+            saved.state = [0; 4];
+        } else {
+            self.save_open(saved);
+        }
+    }
+
+    /// Saves a parser in which something may be unfinished.
+    #[inline(never)]
+    fn save_open(&self, saved: &mut Saved)
         ensures { (stream : List ℕ) → HasRead self.now stream → HasReadSaved saved.new stream }
     {
         let machine = &self.machine;
@@ -181,8 +194,21 @@ impl Parser<MAX_OSC_RAW> {
 
     /// Becomes the parser that was saved.
     #[doc(hidden)]
+    // cargo: #[inline]
     pub fn restore(&mut self, saved: &Saved)
         // The parser has read what was saved.
+        ensures { (stream : List ℕ) → HasReadSaved saved.now stream → HasRead self.new stream }
+    {
+        if saved.state[0] == 0 {
+            self.machine.state = State::Text(Unfinished::Nothing);
+        } else {
+            self.restore_open(saved);
+        }
+    }
+
+    /// Becomes the parser that was saved, in which something may be unfinished.
+    #[inline(never)]
+    fn restore_open(&mut self, saved: &Saved)
         ensures { (stream : List ℕ) → HasReadSaved saved.now stream → HasRead self.new stream }
     {
         let machine = &mut self.machine;

@@ -30,6 +30,13 @@ pub(crate) struct ArrayVec<T, const N: usize> {
     count: usize,
 }
 
+impl<T: Element, const N: usize> From<[T; N]> for ArrayVec<T, N> {
+    #[inline(always)]
+    fn from(elements: [T; N]) -> Self {
+        ArrayVec { elements, count: N }
+    }
+}
+
 // Each crate needs some of them.
 #[allow(dead_code)]
 impl<T: Element, const N: usize> ArrayVec<T, N> {
@@ -150,8 +157,7 @@ mod tests {
 
     #[test]
     fn elements_are_taken_away_from_the_end() {
-        let mut bytes = ArrayVec::<u8, 4>::new();
-        assert!(bytes.try_extend_from_slice(b"abcd").is_ok());
+        let mut bytes = ArrayVec::<u8, 4>::from(*b"abcd");
         bytes.truncate(5);
         assert_eq!(bytes.as_slice(), b"abcd");
         bytes.truncate(3);

@@ -25,17 +25,24 @@ pub(crate) trait Buffer {
     fn append(&mut self, reader: Reader, input: &[u8], from: usize, to: usize);
 }
 
-impl<const N: usize> Buffer for ArrayVec<u8, N> {
+/// An array, once there are bytes: to clear it takes time, and a parser that C makes for one call
+/// seldom needs it.
+impl<const N: usize> Buffer for Option<ArrayVec<u8, N>> {
     fn bytes(&self) -> &[u8] {
-        self.as_slice()
+        match self {
+            Some(bytes) => bytes.as_slice(),
+            None => &[],
+        }
     }
 
     fn clear(&mut self) {
-        self.clear();
+        if let Some(bytes) = self {
+            bytes.clear();
+        }
     }
 
     fn is_full(&self) -> bool {
-        self.is_full()
+        self.bytes().len() >= N
     }
 
     fn reserve(&mut self, _more: usize) -> bool {
@@ -43,9 +50,14 @@ impl<const N: usize> Buffer for ArrayVec<u8, N> {
     }
 
     fn append(&mut self, reader: Reader, input: &[u8], from: usize, to: usize) {
-        let kept = (to - from).min(self.remaining_capacity());
-        // It fits.
-        let _ = reader.copy_to_array(input, from, from + kept, self);
+        if self.is_none() {
+            *self = Some(ArrayVec::new());
+        }
+        if let Some(bytes) = self {
+            let kept = (to - from).min(bytes.remaining_capacity());
+            // It fits.
+            let _ = reader.copy_to_array(input, from, from + kept, bytes);
+        }
     }
 }
 

@@ -80,7 +80,7 @@ pub(crate) enum State {
 /// [`Parser`](crate::Parser) is the same type.
 #[derive(Clone)]
 pub struct Parser<const OSC_RAW_BUF_SIZE: usize = MAX_OSC_RAW> {
-    machine: Machine<ArrayVec<u8, OSC_RAW_BUF_SIZE>>,
+    machine: Machine<Option<ArrayVec<u8, OSC_RAW_BUF_SIZE>>>,
 }
 
 impl Parser<MAX_OSC_RAW> {
@@ -102,7 +102,7 @@ impl<const OSC_RAW_BUF_SIZE: usize> Parser<OSC_RAW_BUF_SIZE> {
     /// operating system command, which may be 0.
     pub const fn new_with_size() -> Self {
         Parser {
-            machine: Machine::new(ArrayVec::new()),
+            machine: Machine::new(None),
         }
     }
 

@@ -111,19 +111,25 @@ impl<B: Buffer> Store<B> {
 }
 
 #[cfg(feature = "__own")]
-impl<const N: usize> Store<ArrayVec<u8, N>> {
+impl<const N: usize> Store<Option<ArrayVec<u8, N>>> {
     /// Returns the data bytes, the ends of the first 16 pieces in them, and whether data bytes were
     /// dropped.
     pub(crate) fn parts(&self) -> (&[u8], &[usize], bool) {
-        (self.bytes.as_slice(), self.ends.as_slice(), self.lost)
+        let bytes = match &self.bytes {
+            Some(bytes) => bytes.as_slice(),
+            None => &[],
+        };
+        (bytes, self.ends.as_slice(), self.lost)
     }
 
     /// Holds these parts instead, without the ends if they can't be ends of pieces.
     pub(crate) fn restore(&mut self, bytes: &[u8], ends: &[usize], lost: bool) {
         self.ends.clear();
-        self.bytes.clear();
-        // They fit.
-        let _ = self.bytes.try_extend_from_slice(bytes);
+        self.bytes = Some(ArrayVec::new());
+        if let Some(array) = &mut self.bytes {
+            // They fit.
+            let _ = array.try_extend_from_slice(bytes);
+        }
         if are_piece_ends(ends, bytes.len()) {
             let _ = self.ends.try_extend_from_slice(ends);
         }

@@ -46,9 +46,8 @@ fn first_elements<T: Copy>(array: &[T], count: usize) -> &[T] {
 
 /// Collects the first elements of an array.
 fn collect_front<T: Element, const N: usize>(array: &[T; N], count: usize) -> ArrayVec<T, N> {
-    let mut collected = ArrayVec::new();
-    // They fit.
-    let _ = collected.try_extend_from_slice(first_elements(array, count));
+    let mut collected = ArrayVec::from(*array);
+    collected.truncate(count);
     collected
 }
 
@@ -126,7 +125,19 @@ impl Saved {
 impl Parser<MAX_OSC_RAW> {
     /// Saves the parser as plain data, but not whether a command that has ended lost data.
     #[doc(hidden)]
+    #[inline]
     pub fn save(&self, saved: &mut Saved) {
+        // Most calls end between characters of a text, where nothing else counts.
+        if let State::Text(Unfinished::Nothing) = self.machine.state {
+            saved.state = [0; 4];
+        } else {
+            self.save_open(saved);
+        }
+    }
+
+    /// Saves a parser in which something may be unfinished.
+    #[inline(never)]
+    fn save_open(&self, saved: &mut Saved) {
         let machine = &self.machine;
         // Numbers and commands of earlier sequences don't count.
         match machine.state {
@@ -154,7 +165,18 @@ impl Parser<MAX_OSC_RAW> {
 
     /// Becomes the parser that was saved.
     #[doc(hidden)]
+    #[inline]
     pub fn restore(&mut self, saved: &Saved) {
+        if saved.state[0] == 0 {
+            self.machine.state = State::Text(Unfinished::Nothing);
+        } else {
+            self.restore_open(saved);
+        }
+    }
+
+    /// Becomes the parser that was saved, in which something may be unfinished.
+    #[inline(never)]
+    fn restore_open(&mut self, saved: &Saved) {
         let machine = &mut self.machine;
         machine.state = restored_state(saved.state);
         match machine.state {

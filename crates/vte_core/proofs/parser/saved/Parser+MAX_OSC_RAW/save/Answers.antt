@@ -1,18 +1,18 @@
--- Each field is kept, so a machine made of them has read the same (`reads_saved`).
-use Rattle.vte_core.proofs.Common.{refl, rules}
+-- Of a text in which nothing is open, nothing but the state counts.
+use Rattle.vte_core.proofs.Common.{rules}
 use Rattle.vte_core.proofs.fields.Saved.{reads_saved}
 use Rattle.vte_core.proofs.parser.saved.Parser+MAX_OSC_RAW.save.Goals as goal
 
-pub returns : goal.returns
-returns c = λ stream h. reads_saved (record {
-  state = c.saved_state-saved.ensures;
+pub returns-in-Text-Nothing : goal.returns-in-Text-Nothing
+returns-in-Text-Nothing c = reads_saved (record {
+  state = search rules;
   intermediates = search rules;
   too_many_intermediates = search rules;
   params = search rules;
-  number = refl;
+  number = search rules;
   joined = search rules;
   bytes = search rules;
   ends = search rules;
   lost = search rules;
   are_ends = search rules;
-}) stream h
+})

@@ -5,6 +5,7 @@ import re
 import shutil
 import subprocess
 import sys
+from fnmatch import fnmatchcase
 from pathlib import Path
 from types import SimpleNamespace
 
@@ -658,6 +659,15 @@ def test_status_of_fuzz(is_clean, finds):
     fuzz = Tool("fuzz", missing=lambda: (), build=print, build_different=print,
                 fuzz=lambda *_: is_clean, finds=lambda *_: finds)
     assert fuzz.run()[0] == (not (is_clean and finds))
+
+
+def test_lines_that_are_not_run_are_there():
+    fuzz = Tool("fuzz").parts
+    for place in fuzz["UNREACHED"]:
+        file, function, line = re.fullmatch(r"(\S+) (\w+): (.*)", place).groups()
+        text = (TOOLS.parent / "rust/vte" / fuzz["PROVED"] / f"{file}.rs").read_text()
+        code = re.split(rf"\bfn {function}\b", text)[1].splitlines()
+        assert any(fnmatchcase(it.strip(), line) for it in code), place
 
 
 # ---- building

@@ -132,8 +132,8 @@ def test_trust_in_all_files_and_handles(folder):
 
 def failures(text, run=True):
     tool = Tool("check_docs", tracked=lambda: [Path("a/src/known.rt")],
-                words=lambda: {"one", "two", "three"},
-                words_by_file=lambda: [{"one", "two"}, {"three"}],
+                words=lambda: {"one", "two", "three", "rt"},
+                words_by_file=lambda: [{"one", "two", "rt"}, {"three"}],
                 source_lines=lambda: {"f();", "g(1);"},
                 is_in_history=lambda commit: commit == "abc1234")
     page = tool.parts["Page"](write("page.md", text))
@@ -152,6 +152,8 @@ def failures(text, run=True):
     ("`src/known.rt`, `./a/src/known`, `src/*.rt`, `out/gone.rt`", None),
     ("`a/target/gone`, `src/NAME.rt`, `/gone/file`", None),
     ("`src/gone.rt`", "no such file or folder: src/gone.rt"),
+    ("`known.rt`, `*.rt`, `one.two`", None),
+    ("`one.rt`", "no such file or folder: one.rt"),
     ("`one`, `one::two()`, `three!`, `ansi2txt`, `1b5d`", None),
     ("`four`", "no source file contains four"),
     ("`one::four`", "no source file contains four of one::four"),

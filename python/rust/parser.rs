@@ -9,7 +9,7 @@ use pyo3::exceptions::{PyTypeError, PyValueError};
 use pyo3::prelude::*;
 use pyo3::types::{PyBytes, PyString};
 use std::mem::{align_of, size_of};
-use vte::{LongParser, Open, Own as _, Refused, Saved};
+use vte::{skip_to_command, LongParser, Open, Own as _, Refused, Saved};
 
 /// How many data bytes of a command a parser with a limit keeps.
 const LIMIT: usize = 1024;
@@ -202,7 +202,7 @@ impl Reader for Parser {
             Machine::Limited(parser) => (parser.is_open(), LIMIT),
         };
         if recorder.only_commands() && !is_open {
-            let skipped = skipped(bytes);
+            let skipped = skip_to_command(bytes);
             if skipped > 0 {
                 return Ok(skipped);
             }
@@ -225,19 +225,4 @@ impl Reader for Parser {
         }
         Ok(read)
     }
-}
-
-/// How many bytes can be skipped if nothing is open and only commands are wanted: those up to the
-/// last ESC before a command, or up to an unfinished character.
-fn skipped(bytes: &[u8]) -> usize {
-    let (mut from, mut last) = (0, bytes.len().saturating_sub(3));
-    while let Some(found) = memchr::memchr(0x1B, &bytes[from..]) {
-        last = from + found;
-        from = last + 1;
-        match bytes.get(from) {
-            Some(b' '..=b'~') if bytes[from] != b']' => {}
-            _ => break,
-        }
-    }
-    last
 }

@@ -5,6 +5,7 @@ import re
 import shutil
 import subprocess
 import sys
+from fnmatch import fnmatchcase
 from pathlib import Path
 from types import SimpleNamespace
 
@@ -131,8 +132,8 @@ def test_trust_in_all_files_and_handles(folder):
 
 def failures(text, run=True):
     tool = Tool("check_docs", tracked=lambda: [Path("a/src/known.rt")],
-                words=lambda: {"one", "two", "three"},
-                words_by_file=lambda: [{"one", "two"}, {"three"}],
+                words=lambda: {"one", "two", "three", "rt"},
+                words_by_file=lambda: [{"one", "two", "rt"}, {"three"}],
                 source_lines=lambda: {"f();", "g(1);"},
                 is_in_history=lambda commit: commit == "abc1234")
     page = tool.parts["Page"](write("page.md", text))
@@ -151,6 +152,8 @@ def failures(text, run=True):
     ("`src/known.rt`, `./a/src/known`, `src/*.rt`, `out/gone.rt`", None),
     ("`a/target/gone`, `src/NAME.rt`, `/gone/file`", None),
     ("`src/gone.rt`", "no such file or folder: src/gone.rt"),
+    ("`known.rt`, `*.rt`, `one.two`", None),
+    ("`one.rt`", "no such file or folder: one.rt"),
     ("`one`, `one::two()`, `three!`, `ansi2txt`, `1b5d`", None),
     ("`four`", "no source file contains four"),
     ("`one::four`", "no source file contains four of one::four"),
@@ -658,6 +661,15 @@ def test_status_of_fuzz(is_clean, finds):
     fuzz = Tool("fuzz", missing=lambda: (), build=print, build_different=print,
                 fuzz=lambda *_: is_clean, finds=lambda *_: finds)
     assert fuzz.run()[0] == (not (is_clean and finds))
+
+
+def test_lines_that_are_not_run_are_there():
+    fuzz = Tool("fuzz").parts
+    for place in fuzz["UNREACHED"]:
+        file, function, line = re.fullmatch(r"(\S+) (\w+): (.*)", place).groups()
+        text = (TOOLS.parent / "rust/vte" / fuzz["PROVED"] / f"{file}.rs").read_text()
+        code = re.split(rf"\bfn {function}\b", text)[1].splitlines()
+        assert any(fnmatchcase(it.strip(), line) for it in code), place
 
 
 # ---- building

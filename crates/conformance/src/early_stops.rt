@@ -3,8 +3,7 @@
 mod vectors;
 
 use crate::feed::feed_with_stop;
-use crate::tests::joined_lines;
-use crate::vectors::{LinesVector, tables};
+use crate::vectors::{LinesVector, joined_lines, tables};
 use std::process::Abort;
 use std::test::Fail;
 use test_lines::{EventLines, Stop};

@@ -8,8 +8,7 @@ mod plain;
 mod recorder;
 
 use self::peers::{AtMost, Pieces, Written};
-use crate::tests::joined_lines;
-use crate::vectors::{LinesVector, tables};
+use crate::vectors::{LinesVector, joined_lines, tables};
 use event_log::{Device, Fault, Plain, Recorder, run, run_text};
 use std::alloc::{AllocError, Global};
 use std::process::Abort;

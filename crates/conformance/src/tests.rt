@@ -10,15 +10,6 @@ use test_lines::{EventLines, Stop};
 /// Streams of at most this many bytes are cut at every place.
 const CUT_EVERYWHERE: usize = 2048;
 
-pub(crate) fn joined_lines(alloc: Global, lines: &[&str]) -> Result<String, AllocError> {
-    let mut text = String::new(alloc);
-    for line in lines {
-        text.push_str(line)?;
-        text.push_str("\n")?;
-    }
-    Ok(text)
-}
-
 /// However `bytes` are cut, the lines are `want`.
 fn assert_lines(
     rt: &(impl Abort + AllocGlobal),

@@ -42,13 +42,18 @@ impl LinesVector {
 
     /// Returns the lines of all its events.
     pub(crate) fn text(&self, alloc: Global) -> Result<String, AllocError> {
-        let mut text = String::new(alloc);
-        for line in self.lines {
-            text.push_str(line)?;
-            text.push_str("\n")?;
-        }
-        Ok(text)
+        joined_lines(alloc, self.lines)
     }
+}
+
+/// Returns lines with an LF after each.
+pub(crate) fn joined_lines(alloc: Global, lines: &[&str]) -> Result<String, AllocError> {
+    let mut text = String::new(alloc);
+    for line in lines {
+        text.push_str(line)?;
+        text.push_str("\n")?;
+    }
+    Ok(text)
 }
 
 /// A long stream in one piece.

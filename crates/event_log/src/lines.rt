@@ -102,6 +102,7 @@ impl Lines {
         self.fits = true;
     }
 
+    /// Adds a text to the line, if what came before it and the text fit.
     pub(crate) fn push(&mut self, text: &[u8])
         ensures { ExtendsLine self.old text.now self.new }
     {

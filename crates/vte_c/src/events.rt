@@ -56,6 +56,7 @@ pub(crate) struct Events<'a> {
 impl<'a> Events<'a> {
     ghost use Rattle.vte_c.specs.Events.{AreCharacters, Holds, Room, Starts, is_full, paused_if, resumed, room_of, with_event, with_one, with_record, with_reported, with_run};
 
+    /// Creates a performer that has written nothing, and writes into these buffers.
     pub(crate) fn new(
         events: &'a mut [VteEvent],
         area: &'a mut [u8],
@@ -102,12 +103,14 @@ impl<'a> Events<'a> {
         self.count >= self.full_count
     }
 
+    /// Returns how many events were written.
     pub(crate) fn count(&self) -> usize
         ensures { result ≡ self.now.count }
     {
         self.count
     }
 
+    /// Returns how many data bytes were written.
     pub(crate) fn used(&self) -> usize
         ensures { result ≡ self.now.used }
     {

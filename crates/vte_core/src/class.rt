@@ -4,10 +4,13 @@
 ghost use Rattle.std.specs.Prelude.{◌≡◌, ◌-◌, ◌<◌, ◌≤◌, true, false, MatchOption};
 ghost use Rattle.vte_core.specs.machine.Prelude.{IsCommandData, begins_ignored_string, class_of, dispatches_escape, ends_body, is_plain_control, is_device_data, is_final, is_head_byte, is_intermediate, is_layout, is_parameter_text, is_separator};
 
+/// CAN: ends whatever is open.
 const CANCEL: u8 = 0x18;
 
+/// SUB: ends whatever is open.
 const SUBSTITUTE: u8 = 0x1a;
 
+/// ESC: ends whatever is open, and begins a sequence.
 pub(crate) const ESCAPE: u8 = 0x1b;
 
 /// Returns whether a byte is a plain control: C0 except CAN, SUB and ESC.

@@ -103,6 +103,7 @@ impl Collected {
     }
 
     /// Moves a number that was read into the parameters, or returns true if there are 32 already.
+    /// `joined` is the field: a caller that knows its value passes a constant, and needn't load it.
     #[inline(always)]
     fn settle_number(&mut self, joined: bool, number: u16) -> bool
         requires { self.old.joined ≡ joined }
@@ -265,7 +266,7 @@ impl Collected {
     }
 
     /// Moves the last number into the parameters, and returns whether there were too many numbers
-    /// or intermediates.
+    /// or intermediates. `joined` is the field, as in `settle_number`.
     #[inline(always)]
     pub(crate) fn end_head(&mut self, joined: bool) -> bool
         requires { self.old.joined ≡ joined }

@@ -77,6 +77,7 @@ impl Params {
         *self = Params::new();
     }
 
+    /// Returns whether there is no room for another number.
     // cargo: #[inline]
     pub(crate) fn is_full(&self) -> bool
         ensures { IsTrue result ↔ (most_numbers ≤ count_of self.now) }

@@ -196,9 +196,9 @@ fn take_run(bytes: &[u8], range: RunRange) -> Run<'_>
 {
     let taken = match range.kind {
         // SAFETY: this is what the caller promises.
-        RunKind::OfText => Taken::Text(text(bytes, range.start, range.end)),
-        RunKind::OfData => Taken::Data(data(bytes, range.start, range.end)),
-        RunKind::Empty => Taken::Nothing,
+        RunKind::Text => Taken::Text(text(bytes, range.start, range.end)),
+        RunKind::Data => Taken::Data(data(bytes, range.start, range.end)),
+        RunKind::Nothing => Taken::Nothing,
     };
     Run {
         start: range.start,

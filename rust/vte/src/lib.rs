@@ -142,7 +142,10 @@ pub use proved::vte_core::{
 pub use proved::vte_core::{LongParser, Refused};
 #[cfg(feature = "__own")]
 #[doc(hidden)]
-pub use {adapter::own::Own, proved::vte_core::Saved};
+pub use {
+    adapter::own::{skip_to_command, Own},
+    proved::vte_core::Saved,
+};
 
 /// A processor that calls a handler for what the events of a stream ask of a terminal.
 #[cfg(feature = "ansi")]

@@ -11,7 +11,7 @@ use crate::memory;
 use crate::proved::vte_c::{event, Events, VteCounts, VteEvent, LEAST_EVENTS, NO_ROOM};
 use alloc::boxed::Box;
 use alloc::vec::Vec;
-use vte::{LongParser, Own as _, Refused};
+use vte::{skip_to_command, LongParser, Own as _, Refused};
 
 /// What a call returns if memory was refused before it read a byte.
 const REFUSED: usize = usize::MAX - 1;
@@ -39,23 +39,6 @@ fn reserve(data: &mut Vec<u8>, size: usize) -> Result<(), Refused> {
     Ok(())
 }
 
-/// Returns how many bytes at the beginning can be skipped, if nothing is open and only commands are
-/// wanted: those before an ESC that may begin one, or else before the last ESC. A command begins
-/// with ESC, controls if any, and `]`, and each ESC ends what is open.
-fn skipped(bytes: &[u8]) -> usize {
-    // without an ESC, all but an unfinished character
-    let (mut from, mut last) = (0, bytes.len().saturating_sub(3));
-    while let Some(found) = memchr::memchr(0x1B, &bytes[from..]) {
-        last = from + found;
-        from = last + 1;
-        match bytes.get(from) {
-            Some(b' '..=b'~') if bytes[from] != b']' => {}
-            _ => break,
-        }
-    }
-    last
-}
-
 /// Reads up to a run, and writes the run, or skips what is before the next command.
 fn read_more(
     parser: &mut LongParser,
@@ -66,7 +49,7 @@ fn read_more(
 ) -> Result<usize, Refused> {
     let unread = &bytes[from..];
     if kinds == 1 << event::OSC && !parser.is_open() {
-        let count = skipped(unread);
+        let count = skip_to_command(unread);
         if count > 0 {
             return Ok(count);
         }

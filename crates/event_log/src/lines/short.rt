@@ -95,6 +95,7 @@ pub(super) fn hex_pair(byte: u8) -> [u8; 2]
     [HEX_PAIRS[place], HEX_PAIRS[place + 1]]
 }
 
+/// How many hex digits a number has, at least one and at most six.
 #[tactic(auto, unfolding(crate::specs::Lines::hex_length))]
 pub(super) fn hex_length(number: u32) -> usize
     ensures value { result ≡ hex_length_of number }
@@ -110,6 +111,7 @@ pub(super) fn hex_length(number: u32) -> usize
     }
 }
 
+/// The last six hex digits of a number.
 #[tactic(auto, unfolding(crate::specs::Lines::six_hex_digits, crate::specs::Lines::hex_byte))]
 pub(super) fn six_hex_digits(number: u32) -> [u8; 6]
     ensures { result ≡ six_hex_digits_of number }

@@ -1,13 +1,13 @@
 -- A byte between characters: it is one (`performs-printed`), a control or malformed (`performs-single`), or the first
 -- of one (`performs-opened`). What the code does is what `places/PlaceLeads` says of the byte, and the parser is at the
--- next place. A single byte reports nothing that a run would (`advances-single`).
+-- next place. A single byte reports nothing that a run would, after a stretch (`advances-single`).
 use Rattle.vte_core.proofs.Common.{◌≡◌, ◌≢◌, ℕ, ◌+◌, ◌<◌, ◌≤◌, inl, inr, true, false, Option, List, [], ◌∷◌, length, refl, ap, sym, subst, ◌∙◌, arith, cases_lt, nat_tests, slice_index, Advances, Machine, Text, Nothing, Event, Print, replacement, StandsAtPlace, TakesBytes, Place, InText, IsSettledPlace, Carries, escape, character_event, malformed_event, from_to, is_in, is_truncated, is_well_formed, Unfinished, All-cons, All-nil, IsOutsideRuns, Execute, is_control_character, AddsOutsideRuns, IsAfter, resumed_stream, BytesLead, All, cases_Bool, ChunkCall}
 use Rattle.vte_core.specs.declared.utf8.Carried.TheVariants.{Unfinished as StillUnfinished}
 use Rattle.vte_core.proofs.bytes.CarriedLemmas.{begins_none}
 use Rattle.vte_core.proofs.bytes.FirstBytes.{ascii-alone}
 use Rattle.vte_core.proofs.fields.PlaceOfState.{stands-by}
 use Rattle.vte_core.proofs.calls.CallEnds.{settled-by}
-use Rattle.vte_core.proofs.calls.Stretches.{advances-byte, advances-reporting, not_escape, performs-begun}
+use Rattle.vte_core.proofs.calls.Stretches.{advances-byte, advances-reporting, advances-then, not_escape, performs-begun}
 use Rattle.vte_core.specs.machine.Prelude.{MayReadByte}
 use Rattle.vte_core.proofs.calls.States.{place-settled_text}
 use Rattle.vte_core.proofs.places.PlaceLeads.{text-lone, text-unfinished, text-whole}
@@ -136,13 +136,14 @@ adds-single {limit} {stream} {bytes} {i} {b} {place} parser e n other no_lead wi
     (subst (IsAfter limit (resumed_stream stream bytes i)) (place-settled_text e s) after)
     one.reads refl one.events_are
 
-pub advances-single : {outside V B : Type 0} {call : ChunkCall V} {old new : V} {i b : ℕ} {parser : Machine B}
-    → MayReadByte call old (Text Nothing) parser i b → b ≢ escape → is_in (from_to 0x20 0x7f) b ≡ false
-    → is_in (from_to 0xc2 0xf4) b ≡ false → (b < 0x80 → new ≡ call.step old (character_event b))
-    → (0x80 ≤ b → new ≡ call.step old (malformed_event (b ∷ [])))
-    → Advances outside call old new i (i + 1) parser parser
-advances-single r n other no_lead control malformed =
-    advances-reporting
+pub advances-single : {outside V B : Type 0} {call : ChunkCall V} {old mid new : V} {i j b : ℕ}
+    {parser next : Machine B} → Advances outside call old mid i j parser next
+    → MayReadByte call mid (Text Nothing) next j b → b ≢ escape → is_in (from_to 0x20 0x7f) b ≡ false
+    → is_in (from_to 0xc2 0xf4) b ≡ false → (b < 0x80 → new ≡ call.step mid (character_event b))
+    → (0x80 ≤ b → new ≡ call.step mid (malformed_event (b ∷ [])))
+    → Advances outside call old new i (j + 1) parser next
+advances-single before r n other no_lead control malformed =
+    advances-then before (advances-reporting
     (advances-byte r.within r.looked_at r.may_go_on (performs-single r.begun n no_lead control malformed)
     (settled-by r.begun tt))
-    (λ stream place s. adds-single _ r.begun n other no_lead r.within r.looked_at s)
+    (λ stream place s. adds-single _ r.begun n other no_lead r.within r.looked_at s))

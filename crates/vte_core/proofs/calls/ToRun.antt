@@ -6,7 +6,7 @@ use Rattle.vte_core.specs.machine.ToRun.{HasRun, IsWholeAt, bytes_at, kind_event
 use Rattle.vte_core.specs.AdvanceToRun.{IsRunIn, IsLongestRun, ReturnsRun, run_bytes, taken_bytes, taken_events}
 use Rattle.vte_core.specs.declared.reader.run.Run.{Run}
 use Rattle.vte_core.specs.declared.reader.run.RunKind.{RunKind}
-use Rattle.vte_core.specs.declared.reader.run.RunKind.TheVariants.{OfText, OfData, Empty}
+use Rattle.vte_core.specs.declared.reader.run.RunKind.TheVariants.{Text as TextKind, Data as DataKind, Nothing as NoKind}
 use Rattle.vte_core.specs.declared.reader.run.RunRange.{RunRange}
 use Rattle.vte_core.specs.declared.reader.run.Taken.{Taken}
 use Rattle.vte_core.specs.declared.reader.run.Taken.TheVariants.{Text as TakenText, Data, Nothing as TakenNothing}
@@ -24,7 +24,7 @@ use Rattle.vte_core.proofs.places.StreamLemmas.{no_escape, reads-append, reads-b
 
 has-nowhere : {B : Type 0} {limit : Option ℕ} {bytes : List ℕ} {from : ℕ} {place : RunRange} {parser : Machine B}
     → from ≤ length bytes → place.start ≡ from → place.end ≡ from
-    → place.kind ≡ Empty → HasRun limit bytes place parser
+    → place.kind ≡ NoKind → HasRun limit bytes place parser
 has-nowhere {limit} {bytes} {from} {place} {parser} within starts ends kind =
     let none : bytes_at bytes place ≡ [] =
     ap (λ n. take n (drop place.start bytes))
@@ -86,7 +86,7 @@ has-run {limit} {bytes} {place} {parser} {here} is only reads range kind whole =
 pub has-text : {B : Type 0} {limit : Option ℕ} {bytes : List ℕ} {from end : ℕ} {parser : Machine B}
     → parser.state ≡ Text Nothing → from < end → end ≤ length bytes
     → IsRun false bytes from end → HasNoRunAt false bytes end
-    → HasRun limit bytes (record { start = from; end = end; kind = OfText }) parser
+    → HasRun limit bytes (record { start = from; end = end; kind = TextKind }) parser
 has-text {limit} {bytes} {from} {end} {parser} between low high are ended =
     has-run refl (λ place s. place-settled_text between s)
     (reads-text are)
@@ -118,7 +118,7 @@ reads-data {limit} bytes (suc n) i within are =
 pub has-data : {B : Type 0} {limit : Option ℕ} {bytes : List ℕ} {from end : ℕ} {parser : Machine B}
     → parser.state ≡ DeviceData → from < end → end ≤ length bytes
     → ArePut bytes from end → (end < length bytes → IsDeviceData (slice_index bytes end) → ⊥)
-    → HasRun limit bytes (record { start = from; end = end; kind = OfData }) parser
+    → HasRun limit bytes (record { start = from; end = end; kind = DataKind }) parser
 has-data {limit} {bytes} {from} {end} {parser} begun low high are ended =
     has-run tt (λ place s. data-by_place limit parser place (stands-in begun s))
     (reads-data bytes (end - from) from (omega (arith, low, high))
@@ -153,7 +153,8 @@ module _ {V B : Type 0} {call : ChunkCall V} {old new : V} {place : RunRange} {b
   }
 
   -- the call ends without a run
-  pub comes-nowhere : {from : ℕ} → from ≤ length call.bytes → place.start ≡ from → place.end ≡ from → place.kind ≡ Empty
+  pub comes-nowhere : {from : ℕ} → from ≤ length call.bytes → place.start ≡ from → place.end ≡ from
+      → place.kind ≡ NoKind
       → ((stream : List ℕ) → HasReadWithLimit call.limit before stream → StandsAt call old new stream from parser)
       → (from < length call.bytes → call.is_terminated new ≡ true) → ComesToRun call old new place before parser
   comes-nowhere within starts ends kind stands stops = record {
@@ -178,17 +179,17 @@ takes-by_kind : (bytes : List ℕ) (place : RunRange) (kind : RunKind) (taken : 
     → AreOfKind kind (bytes_at bytes place)
     → length (bytes_at bytes place) ≡ place.end - place.start → IsWholeAt bytes place kind
     → TakesRun bytes place.end (bytes_at bytes place) kind taken
-takes-by_kind bytes place OfText (TakenText text) same are size whole = record {
+takes-by_kind bytes place TextKind (TakenText text) same are size whole = record {
   are = same;
   events = ap (λ (x : List ℕ). map Print (chars x)) same;
   whole = (omega (arith, ap length same, size, whole.0), subst (IsRunText false) (sym same) are.plain, whole.1);
 }
-takes-by_kind bytes place OfData (Data those) same are size whole = record {
+takes-by_kind bytes place DataKind (Data those) same are size whole = record {
   are = same;
   events = ap (map Put) same;
   whole = (omega (arith, ap length same, size, whole.0), whole.1);
 }
-takes-by_kind bytes place Empty TakenNothing same are size whole =
+takes-by_kind bytes place NoKind TakenNothing same are size whole =
     let none : bytes_at bytes place ≡ [] =
     ap (λ n. take n (drop place.start bytes)) (let e : place.end - place.start ≡ 0 = omega (arith, whole) in e) in
     record { are = sym none; events = refl; whole = tt }

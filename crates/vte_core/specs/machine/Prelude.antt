@@ -15,7 +15,6 @@ unfoldable pub use Rattle.vte_core.specs.SystemCommand.{loses_data}
 pub use Rattle.vte_core.specs.SystemCommand.{IsCommandData, has_room, most_pieces}
 pub use Rattle.vte_core.specs.Text.{HasNoRunAt, character_event, is_control_character, is_layout, malformed_event, run_event}
 pub use Rattle.vte_core.specs.Utf8.{is_in, is_truncated, scalar_of, from_to}
-pub use Rattle.vte_core.specs.declared.reader.run.RunKind.TheVariants.{Empty}
 pub use Rattle.vte_core.specs.declared.parser.State.TheVariants.{DeviceData, Escape, EscapeIntermediate, IgnoredString, SystemCommand, Text}
 pub use Rattle.vte_core.specs.declared.utf8.Unfinished.TheVariants.{Nothing, One}
 pub use Rattle.vte_core.specs.machine.Each.{Each}

@@ -2,7 +2,7 @@
 use Rattle.std.specs.Prelude.{◌≡◌, ℕ, ◌-◌, ◌<◌, true, false, List, [], ◌++◌, length, map, take, drop, Option, Result, Ok, Err, slice_index, ⊤}
 use Rattle.std.specs.Str.{chars}
 use Rattle.vte_core.specs.declared.reader.run.RunKind.{RunKind}
-use Rattle.vte_core.specs.declared.reader.run.RunKind.TheVariants.{OfText, OfData, Empty}
+use Rattle.vte_core.specs.declared.reader.run.RunKind.TheVariants.{Text as TextKind, Data as DataKind, Nothing as NoKind}
 use Rattle.vte_core.specs.declared.reader.run.RunRange.{RunRange}
 use Rattle.vte_core.specs.declared.reader.run.Taken.{Taken}
 use Rattle.vte_core.specs.declared.reader.run.Taken.TheVariants.{Text as TakenText, Data, Nothing}
@@ -37,29 +37,29 @@ bytes_at bytes range = take (range.end - range.start) (drop range.start bytes)
 
 -- Text consists of characters, none of which is a control.
 abbrev pub AreOfKind : RunKind → List ℕ → Type 0
-AreOfKind OfText bytes = IsUtf8Run false bytes
+AreOfKind TextKind bytes = IsUtf8Run false bytes
 AreOfKind _ bytes = ⊤
 
 -- What was taken is a run of this kind, with these bytes.
 abbrev pub IsTaken : RunKind → List ℕ → Taken → Type 0
-IsTaken OfText bytes (TakenText text) = text.now ≡ bytes
-IsTaken OfData bytes (Data those) = those.now ≡ bytes
-IsTaken Empty bytes Nothing = ⊤
+IsTaken TextKind bytes (TakenText text) = text.now ≡ bytes
+IsTaken DataKind bytes (Data those) = those.now ≡ bytes
+IsTaken NoKind bytes Nothing = ⊤
 IsTaken _ bytes _ = ⊥
 
 -- What the bytes of a run add to a stream.
 abbrev pub kind_events : RunKind → List ℕ → List Event
-kind_events OfText bytes = map Print (chars bytes)
-kind_events OfData bytes = map Put bytes
-kind_events Empty bytes = []
+kind_events TextKind bytes = map Print (chars bytes)
+kind_events DataKind bytes = map Put bytes
+kind_events NoKind bytes = []
 
 -- Nothing of the kind stands where the run ends. A run isn't empty.
 abbrev pub IsWholeAt : List ℕ → RunRange → RunKind → Type 0
-IsWholeAt bytes range OfText = (range.start < range.end) × HasNoRunAt false bytes range.end
-IsWholeAt bytes range OfData =
+IsWholeAt bytes range TextKind = (range.start < range.end) × HasNoRunAt false bytes range.end
+IsWholeAt bytes range DataKind =
     (range.start < range.end) × (range.end < length bytes
     → IsDeviceData (slice_index bytes range.end) → ⊥)
-IsWholeAt bytes range Empty = range.start ≡ range.end
+IsWholeAt bytes range NoKind = range.start ≡ range.end
 
 -- A run stands there, adds its events to what the parser has read, and leaves the parser as it is.
 pub record HasRun {B : Type 0} (limit : Option ℕ) (bytes : List ℕ) (range : RunRange)

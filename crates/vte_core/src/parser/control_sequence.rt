@@ -174,7 +174,7 @@ impl<B: Buffer> Machine<B> {
     }
 
     /// Ends a control sequence at its final byte: dispatches it, unless its head is ill-shaped.
-    /// Returns the next position.
+    /// Returns the next position. `joined` is the field: most callers know that it is false.
     #[inline(always)]
     fn end_control_sequence<P: CountedPerform<G>, G: Granularity>(
         &mut self,

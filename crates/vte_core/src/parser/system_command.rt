@@ -7,6 +7,7 @@ use crate::class::ends_body;
 use crate::parser::{Machine, Refused, State, Unfinished};
 use crate::reader::{CountedPerform, Granularity, Input, Reader};
 
+/// BEL: ends an operating system command.
 const BELL: u8 = 0x07;
 
 impl<B: Buffer> Machine<B> {

@@ -68,7 +68,7 @@ impl<B: Buffer> Machine<B> {
                         return Ok(RunRange {
                             start: position,
                             end,
-                            kind: RunKind::OfText,
+                            kind: RunKind::Text,
                         });
                     }
                     self.read_unprinted(reader, performer, input, position)
@@ -79,7 +79,7 @@ impl<B: Buffer> Machine<B> {
                         return Ok(RunRange {
                             start: position,
                             end,
-                            kind: RunKind::OfData,
+                            kind: RunKind::Data,
                         });
                     }
                     let byte = reader.byte_at(input, position);

@@ -24,57 +24,66 @@ pub(crate) trait CountedPerform<G: Granularity> {
     fn keeps_layout(&self) -> bool
         ensures { result ≡ layout };
 
+    /// Reports a character to print.
     fn print_char(&mut self, reader: &mut Reader, c: char)
         requires { is_control_character c ≡ false }
         ensures { Reports step (value_of self.old) (value_of self.new)
             (Print c) reader.old reader.new };
 
-    /// Counts a text's bytes, which are no fewer than its characters.
+    /// Reports a text to print, and counts its bytes, which are no fewer than its characters.
     fn print_text(&mut self, reader: &mut Reader, text: &str)
         requires in_runs { G.IN_RUNS ≡ true }
         requires run { IsNonEmptyRun layout text.now }
         ensures { ReportsAll step (value_of self.old) (value_of self.new)
             (map (run_event layout) (chars text.now)) (length text.now) reader.old reader.new };
 
+    /// Reports a control function of one byte.
     fn execute_control(&mut self, reader: &mut Reader, byte: u8)
         ensures { Reports step (value_of self.old) (value_of self.new)
             (Execute byte) reader.old reader.new };
 
+    /// Reports that a device control string begins, with the final byte of its head.
     fn hook(&mut self, reader: &mut Reader, collected: &Collected, ignore: bool, byte: u8)
         ensures { Reports step (value_of self.old) (value_of self.new)
             (Hook collected.now.params collected.now.intermediates.items ignore byte) reader.old
             reader.new };
 
+    /// Reports a data byte of the device control string.
     fn put_byte(&mut self, reader: &mut Reader, byte: u8)
         ensures { Reports step (value_of self.old) (value_of self.new)
             (Put byte) reader.old reader.new };
 
-    /// Counts each byte.
+    /// Reports data bytes of the device control string, and counts each.
     fn put_slice(&mut self, reader: &mut Reader, bytes: &[u8])
         requires in_runs { G.IN_RUNS ≡ true }
         requires some { 0 < length bytes.now }
         ensures { ReportsAll step (value_of self.old) (value_of self.new) (map Put bytes.now)
             (length bytes.now) reader.old reader.new };
 
+    /// Reports that the device control string ends.
     fn unhook(&mut self, reader: &mut Reader)
         ensures { Reports step (value_of self.old) (value_of self.new) Unhook
             reader.old reader.new };
 
+    /// Reports an operating system command.
     fn osc_dispatch(&mut self, reader: &mut Reader, pieces: &[&[u8]], bell: bool)
         ensures { Reports step (value_of self.old) (value_of self.new)
             (OscDispatch (map (λ piece. piece.now) pieces.now) bell) reader.old reader.new };
 
+    /// Reports a control sequence with this final byte.
     fn csi_dispatch(&mut self, reader: &mut Reader, collected: &Collected, ignore: bool, byte: u8)
         ensures { Reports step (value_of self.old) (value_of self.new)
             (CsiDispatch collected.now.params collected.now.intermediates.items ignore byte)
             reader.old reader.new };
 
+    /// Reports an escape sequence with this final byte.
     fn esc_dispatch(&mut self, reader: &mut Reader, collected: &Collected, byte: u8)
         ensures { Reports step (value_of self.old) (value_of self.new)
             (EscDispatch collected.now.intermediates.items collected.now.too_many_intermediates
             byte)
             reader.old reader.new };
 
+    /// Returns whether a call that may stop ends here. No look.
     fn terminated(&self) -> bool
         ensures { result ≡ is_terminated (value_of self.now) };
 }

@@ -1,6 +1,5 @@
 //! Runs of text and data, which a caller takes from its own input.
 ghost use Rattle.std.specs.Prelude.{◌≡◌};
-ghost use Rattle.vte_core.specs.machine.Prelude.{Empty};
 
 /// What a call of [`advance_to_run`](crate::Parser::advance_to_run) read: bytes whose events it
 /// performed, and the run after them, if there is one.
@@ -29,11 +28,11 @@ pub enum Taken<'a> {
 #[derive(Clone, Copy)]
 pub(crate) enum RunKind {
     /// Text to print.
-    OfText,
+    Text,
     /// Data of a device control string.
-    OfData,
+    Data,
     /// No run, where a call ends.
-    Empty,
+    Nothing,
 }
 
 /// The position of a run in the bytes of a call.
@@ -49,12 +48,12 @@ impl RunRange {
     pub(crate) fn empty(end: usize) -> Self
         ensures start { result.start ≡ end }
         ensures end { result.end ≡ end }
-        ensures kind { result.kind ≡ Empty }
+        ensures kind { result.kind ≡ RunKind.Nothing }
     {
         RunRange {
             start: end,
             end,
-            kind: RunKind::Empty,
+            kind: RunKind::Nothing,
         }
     }
 }

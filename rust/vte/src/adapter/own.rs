@@ -1,7 +1,27 @@
 //! What only other crates of this repository need.
+use crate::prelude::memchr;
 #[cfg(any(feature = "std", feature = "ansi"))]
 use crate::proved::vte_core::{LongParser, Refused};
 use crate::proved::vte_core::{Parser, PerformText};
+
+/// Returns how many bytes at the beginning a parser needn't read if nothing is open and only
+/// operating system commands are wanted: those before the first ESC that may begin one, or else
+/// before the last ESC, or if there is none all but the last three.
+///
+/// A command begins with ESC, controls if any, and `]`, so none is lost. Nor is what is open at the
+/// end: each ESC ends what was open before it, and an unfinished character has at most three bytes.
+pub fn skip_to_command(bytes: &[u8]) -> usize {
+    let (mut from, mut last) = (0, bytes.len().saturating_sub(3));
+    while let Some(found) = memchr(0x1b, &bytes[from..]) {
+        last = from + found;
+        from = last + 1;
+        match bytes.get(from) {
+            Some(b' '..=b'~') if bytes[from] != b']' => {}
+            _ => break,
+        }
+    }
+    last
+}
 
 /// Calls of parsers that ask more of their callers than others do.
 pub trait Own {

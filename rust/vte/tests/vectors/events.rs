@@ -189,6 +189,44 @@ fn commands_are_kept_up_to_a_limit() {
     }
 }
 
+/// What is skipped has no command, and doesn't change what is open. As in C and Python, the parser
+/// is asked after some events.
+#[cfg(feature = "__own")]
+#[test]
+fn commands_are_found_by_skipping() {
+    fn commands(lines: &EventLines) -> Vec<&str> {
+        let all = lines.text.lines();
+        all.filter(|line| line.starts_with("osc")).collect()
+    }
+    let by_hand = b"a\x1b[m\x1b\n]0;b\x07\x1b\x7f]0;c\x07d\xf0\x9f\x8e".to_vec();
+    let of_vectors = streams_for_all().into_iter();
+    let of_vectors = of_vectors.map(|vector| vector.pieces().concat());
+    let mut skipped = 0;
+    for stream in of_vectors.chain([by_hand]) {
+        for pieces in cuttings(&stream) {
+            let mut all: EventLines = EventLines::new(Stop::Never);
+            let mut found: EventLines = EventLines::new(Stop::Never);
+            let (mut whole, mut parser) = (Parser::new(), Parser::new());
+            for mut bytes in pieces {
+                whole.advance(&mut all, bytes);
+                while !bytes.is_empty() {
+                    if !parser.is_open() {
+                        let count = vte::skip_to_command(bytes);
+                        (skipped, bytes) = (skipped + count, &bytes[count..]);
+                    }
+                    let next = bytes[1..].iter().position(|byte| *byte == 0x1b);
+                    let (front, rest) = bytes.split_at(next.map_or(bytes.len(), |at| at + 1));
+                    parser.advance(&mut found, front);
+                    bytes = rest;
+                }
+                assert_eq!(parser.open(), whole.open(), "{stream:02x?}");
+            }
+            assert_eq!(commands(&found), commands(&all), "{stream:02x?}");
+        }
+    }
+    assert!(skipped > 0);
+}
+
 /// Each part of a stream is read by a parser of its own.
 #[test]
 fn parts_give_the_events_of_their_stream() {

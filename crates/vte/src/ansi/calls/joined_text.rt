@@ -5,7 +5,8 @@ ghost use Rattle.vte.specs.machine.Texts.{FitsRoom, text_to_join};
 
 use crate::ansi::calls::text_buffer::TextBuffer;
 
-/// A joined text may have a separator after each of 16 pieces.
+/// How much longer than its pieces a joined text may be: by a `;` for each of 16. It has at most
+/// 15, but `push_part` asks for the room of one for each piece.
 pub(crate) const SEPARATORS: usize = 16;
 
 /// The size of the buffer for a joined text of 1,024 bytes.

@@ -13,14 +13,12 @@ use crate::ansi::calls::escape::{perform_escape, perform_execute};
 use crate::ansi::calls::input::InputAs;
 use crate::ansi::calls::numbers::first_number;
 use crate::ansi::calls::text_buffer::TextBuffer;
+use crate::ansi::updates::UPDATE_TIMEOUT_MILLIS;
 use std::marker::PhantomData;
 use std::time::Duration;
 use vte_core::{InRuns, Params, Perform, PerformText, PerformThroughText};
 use vte_handler::{Handler, HandlerText, Timeout};
 use vte_types::NamedPrivateMode;
-
-/// How long an update may take.
-pub(crate) const UPDATE_TIMEOUT_MILLIS: u64 = 150;
 
 /// What a processor keeps between events.
 #[derive(Clone, Drop)]

@@ -9,8 +9,9 @@ ghost use Rattle.vte.specs.machine.Engine.{EngineIsAtKeeping, EndsParsingTurn, E
 ghost use Rattle.vte.specs.LongProcessor.{EngineReads, EngineStops, LacksMemoryForSome, Reserves};
 ghost use Rattle.vte_handler.specs.Timeout.{timeout_meaning};
 
-use crate::ansi::calls::performer::{ProcessorState, UPDATE_TIMEOUT_MILLIS};
+use crate::ansi::calls::performer::ProcessorState;
 use crate::ansi::calls::text_buffer::TextBuffer;
+use crate::ansi::updates::UPDATE_TIMEOUT_MILLIS;
 use crate::ansi::updates::hold::{MOST_HELD, SyncState};
 use crate::ansi::updates::parsing::{EventParser, ParseAs, parse_all, parse_until_begin};
 use std::alloc::Allocator;

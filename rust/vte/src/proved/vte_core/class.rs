@@ -1,10 +1,13 @@
 // Written by tools/erase from crates/vte_core/src/class.rt: edit that one.
 //! The classes of bytes.
 
+/// CAN: ends whatever is open.
 const CANCEL: u8 = 0x18;
 
+/// SUB: ends whatever is open.
 const SUBSTITUTE: u8 = 0x1a;
 
+/// ESC: ends whatever is open, and begins a sequence.
 pub(crate) const ESCAPE: u8 = 0x1b;
 
 /// Returns whether a byte is a plain control: C0 except CAN, SUB and ESC.

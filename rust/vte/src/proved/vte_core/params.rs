@@ -40,6 +40,7 @@ impl Params {
         self.lengths.clear();
     }
 
+    /// Returns whether there is no room for another number.
     #[inline]
     pub(crate) fn is_full(&self) -> bool {
         self.numbers.is_full()

@@ -74,9 +74,9 @@ fn data(bytes: &[u8], from: usize, to: usize) -> &[u8] {
 unsafe fn take_run(bytes: &[u8], range: RunRange) -> Run<'_> {
     let taken = match range.kind {
         // SAFETY: this is what the caller promises.
-        RunKind::OfText => Taken::Text(unsafe { text(bytes, range.start, range.end) }),
-        RunKind::OfData => Taken::Data(data(bytes, range.start, range.end)),
-        RunKind::Empty => Taken::Nothing,
+        RunKind::Text => Taken::Text(unsafe { text(bytes, range.start, range.end) }),
+        RunKind::Data => Taken::Data(data(bytes, range.start, range.end)),
+        RunKind::Nothing => Taken::Nothing,
     };
     Run {
         start: range.start,

@@ -100,14 +100,17 @@ pub(crate) fn is_continuation(byte: u8) -> bool {
 // A remainder takes off the bits that only mark a byte as the first or a further one; what is left
 // are the digits of the character's number, six bits per further byte.
 
+/// Returns the number of the character of two bytes.
 fn number_of_two(first: u8, second: u8) -> u32 {
     (first % 32) as u32 * 0x40 + (second % 64) as u32
 }
 
+/// Returns the number of the character of three bytes.
 fn number_of_three(first: u8, second: u8, third: u8) -> u32 {
     (first % 16) as u32 * 0x1000 + (second % 64) as u32 * 0x40 + (third % 64) as u32
 }
 
+/// Returns the number of the character of four bytes.
 fn number_of_four(first: u8, second: u8, third: u8, fourth: u8) -> u32 {
     (first % 8) as u32 * 0x40000
         + (second % 64) as u32 * 0x1000

@@ -43,6 +43,7 @@ pub(crate) struct Events<'a> {
 }
 
 impl<'a> Events<'a> {
+    /// Creates a performer that has written nothing, and writes into these buffers.
     pub(crate) fn new(
         events: &'a mut [VteEvent],
         area: &'a mut [u8],
@@ -77,10 +78,12 @@ impl<'a> Events<'a> {
         self.count >= self.full_count
     }
 
+    /// Returns how many events were written.
     pub(crate) fn count(&self) -> usize {
         self.count
     }
 
+    /// Returns how many data bytes were written.
     pub(crate) fn used(&self) -> usize {
         self.used
     }

@@ -4,6 +4,7 @@
 use crate::proved::vte_c::feed::NO_ROOM;
 use vte::{Params, Parser, Perform, PerformText, Saved};
 
+/// For how many bytes of text there must be room: what two bytes of a stream add.
 pub(crate) const LEAST_TEXT: usize = 16;
 
 /// The most bytes of text that one byte of a stream adds: one byte adds at most two characters.
@@ -46,6 +47,7 @@ impl Perform for Text<'_> {
     fn execute(&mut self, byte: u8) {
         match byte {
             b'\t' | b'\n' | b'\r' => self.add(&[byte]),
+            // What has no text adds an empty one, as `with_text_of` does, so this needs no proof.
             _ => self.add(b""),
         }
     }

@@ -67,6 +67,7 @@ impl Lines {
         self.fits = true;
     }
 
+    /// Adds a text to the line, if what came before it and the text fit.
     pub(crate) fn push(&mut self, text: &[u8]) {
         if self.fits {
             self.fits = self.bytes.try_extend_from_slice(text).is_ok();

@@ -6,3 +6,6 @@ pub(crate) mod hold;
 pub(crate) mod long_parsing;
 pub(crate) mod parsing;
 pub(crate) mod release;
+
+/// How long an update may take.
+pub(crate) const UPDATE_TIMEOUT_MILLIS: u64 = 150;

@@ -6,6 +6,7 @@ use crate::proved::vte_core::class::ends_body;
 use crate::proved::vte_core::parser::{Machine, Refused, State, Unfinished};
 use crate::proved::vte_core::reader::{CountedPerform, Granularity, Reader};
 
+/// BEL: ends an operating system command.
 const BELL: u8 = 0x07;
 
 impl<B: Buffer> Machine<B> {

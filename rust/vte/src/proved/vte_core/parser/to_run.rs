@@ -42,7 +42,7 @@ impl<B: Buffer> Machine<B> {
                         return Ok(RunRange {
                             start: position,
                             end,
-                            kind: RunKind::OfText,
+                            kind: RunKind::Text,
                         });
                     }
                     self.read_unprinted(reader, performer, input, position)
@@ -53,7 +53,7 @@ impl<B: Buffer> Machine<B> {
                         return Ok(RunRange {
                             start: position,
                             end,
-                            kind: RunKind::OfData,
+                            kind: RunKind::Data,
                         });
                     }
                     let byte = reader.byte_at(input, position);

@@ -11,28 +11,37 @@ pub(crate) trait CountedPerform<G: Granularity> {
     /// Returns whether HT, LF and CR come as text.
     fn keeps_layout(&self) -> bool;
 
+    /// Reports a character to print.
     fn print_char(&mut self, reader: Reader, c: char);
 
-    /// Counts a text's bytes, which are no fewer than its characters.
+    /// Reports a text to print, and counts its bytes, which are no fewer than its characters.
     fn print_text(&mut self, reader: Reader, text: &str);
 
+    /// Reports a control function of one byte.
     fn execute_control(&mut self, reader: Reader, byte: u8);
 
+    /// Reports that a device control string begins, with the final byte of its head.
     fn hook(&mut self, reader: Reader, collected: &Collected, ignore: bool, byte: u8);
 
+    /// Reports a data byte of the device control string.
     fn put_byte(&mut self, reader: Reader, byte: u8);
 
-    /// Counts each byte.
+    /// Reports data bytes of the device control string, and counts each.
     fn put_slice(&mut self, reader: Reader, bytes: &[u8]);
 
+    /// Reports that the device control string ends.
     fn unhook(&mut self, reader: Reader);
 
+    /// Reports an operating system command.
     fn osc_dispatch(&mut self, reader: Reader, pieces: &[&[u8]], bell: bool);
 
+    /// Reports a control sequence with this final byte.
     fn csi_dispatch(&mut self, reader: Reader, collected: &Collected, ignore: bool, byte: u8);
 
+    /// Reports an escape sequence with this final byte.
     fn esc_dispatch(&mut self, reader: Reader, collected: &Collected, byte: u8);
 
+    /// Returns whether a call that may stop ends here. No look.
     fn terminated(&self) -> bool;
 }
 

@@ -28,11 +28,11 @@ pub enum Taken<'a> {
 #[derive(Clone, Copy)]
 pub(crate) enum RunKind {
     /// Text to print.
-    OfText,
+    Text,
     /// Data of a device control string.
-    OfData,
+    Data,
     /// No run, where a call ends.
-    Empty,
+    Nothing,
 }
 
 /// The position of a run in the bytes of a call.
@@ -49,7 +49,7 @@ impl RunRange {
         RunRange {
             start: end,
             end,
-            kind: RunKind::Empty,
+            kind: RunKind::Nothing,
         }
     }
 }

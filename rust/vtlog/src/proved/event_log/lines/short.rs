@@ -77,6 +77,7 @@ pub(super) fn hex_pair(byte: u8) -> [u8; 2] {
     [HEX_PAIRS[place], HEX_PAIRS[place + 1]]
 }
 
+/// How many hex digits a number has, at least one and at most six.
 pub(super) fn hex_length(number: u32) -> usize {
     match number {
         0..=0xf => 1,
@@ -88,6 +89,7 @@ pub(super) fn hex_length(number: u32) -> usize {
     }
 }
 
+/// The last six hex digits of a number.
 pub(super) fn six_hex_digits(number: u32) -> [u8; 6] {
     let [first, second] = hex_pair((number / 0x10000 % 0x100) as u8);
     let [third, fourth] = hex_pair((number / 0x100 % 0x100) as u8);

@@ -3,7 +3,7 @@
 use Rattle.vte_core.proofs.Common.{◌≡◌, ◌<◌, length, [], ◌∷◌, ◌++◌, refl, sym, subst, ◌∙◌, arith, ne_eqb, Machine, HoldsItems, IsCommandData}
 use Rattle.vte_core.proofs.bytes.ClassCases.{left_is_control}
 use Rattle.vte_core.proofs.calls.Arms.{advances-in, takes-in_system_command, takes-byte}
-use Rattle.vte_core.proofs.fields.PlaceOfState.{keeps-same, stands-by}
+use Rattle.vte_core.proofs.fields.PlaceOfState.{stands-by}
 use Rattle.vte_core.proofs.fields.StoreLemmas.{pieces_held}
 use Rattle.vte_core.proofs.calls.CallEnds.{settled-by}
 use Rattle.vte_core.proofs.calls.Stretches.{advances-items, advances-when, advances-then}
@@ -14,22 +14,15 @@ use Rattle.vte_core.proofs.parser.machine.Machine.read_system_command.Goals as g
 -- Only data is left.
 pub returns-in-None-clause-advances : goal.returns-in-None-clause-advances
 returns-in-None-clause-advances g c =
-    let r = c.requires in
-    let found = c.find_command_data_end-end.ensures in
-    advances-items r.begun refl found.low found.high
-    (λ k low high. (found.are k low high).0) r.may_go_on r.begun
-    (λ items k. c.push_data.ensures.holds items (keeps-same c.take_memory.ensures.same k))
+    advances-items c.requires c.find_command_data_end-end.ensures c.requires.begun c.take_memory.ensures.same
+    c.push_data.ensures.holds
 
 -- CAN, SUB or ESC after the data ends the command.
 pub returns-then-ends_body-clause-advances : goal.returns-then-ends_body-clause-advances
 returns-then-ends_body-clause-advances g c =
-    let r = c.requires in
-    let found = c.find_command_data_end-end.ensures in
     advances-then
-    (advances-items r.begun refl found.low found.high
-    (λ k low high. (found.are k low high).0) r.may_go_on r.begun
-    (λ items k. c.push_data.ensures.holds items (keeps-same c.take_memory.ensures.same k)))
-    c.read_end.ensures.advances
+    (advances-items c.requires c.find_command_data_end-end.ensures c.requires.begun c.take_memory.ensures.same
+    c.push_data.ensures.holds) c.read_end.ensures.advances
 
 -- Another byte after the data: `;` ends the piece, BEL the command, and a control is dropped.
 pub returns-clause-advances : goal.returns-clause-advances
@@ -46,9 +39,7 @@ returns-clause-advances g c =
     let ordinary = sym c.ends_body.ensures ∙ c.if-ends_body.false in
     let no_data : IsCommandData byte → ⊥ = λ d. found.ended within (rw here.1 at d) in
     advances-then
-    (advances-items {next = after_data} begun refl found.low found.high
-    (λ k low high. (found.are k low high).0) r.may_go_on begun
-    (λ items k. c.push_data.ensures.holds items (keeps-same c.take_memory.ensures.same k)))
+    (advances-items {next = after_data} r found begun c.take_memory.ensures.same c.push_data.ensures.holds)
     (elim c.if-byte-eq59.branch [
       -- `;`: the next piece begins.
       | then-byte-eq59 w ↦

@@ -37,8 +37,8 @@ loop-byte-preserved g c =
     let reported = c.report_lone_byte.ensures in
     record {
       advances =
-          advances-then v.advances
-          (advances-single v.may_read c.loop-byte-test.true v.other v.lone reported.control reported.malformed);
+          advances-single v.advances v.may_read c.loop-byte-test.true v.other v.lone reported.control
+          reported.malformed;
       may_read = record {
         begun = v.may_read.begun;
         may_go_on = λ _. sym c.terminated.ensures ∙ c.if-terminated.false;
@@ -56,16 +56,14 @@ pub returns-then-position-len-clause-advances : goal.returns-then-position-len-c
 returns-then-position-len-clause-advances g c =
     let v = c.loop-byte.invariant in
     let reported = c.report_lone_byte.ensures in
-    advances-then v.advances
-    (advances-single v.may_read c.loop-byte-test.true v.other v.lone reported.control reported.malformed)
+    advances-single v.advances v.may_read c.loop-byte-test.true v.other v.lone reported.control reported.malformed
 
 -- The next byte may begin a run or a character.
 pub returns-then-is_printed_ascii-clause-advances : goal.returns-then-is_printed_ascii-clause-advances
 returns-then-is_printed_ascii-clause-advances g c =
     let v = c.loop-byte.invariant in
     let reported = c.report_lone_byte.ensures in
-    advances-then v.advances
-    (advances-single v.may_read c.loop-byte-test.true v.other v.lone reported.control reported.malformed)
+    advances-single v.advances v.may_read c.loop-byte-test.true v.other v.lone reported.control reported.malformed
 
 -- ESC: the looks at the bytes before it and at the sequence add up.
 pub returns-clause-moves : goal.returns-clause-moves

@@ -7,14 +7,12 @@ use crate::proved::vte::ansi::calls::escape::{perform_escape, perform_execute};
 use crate::proved::vte::ansi::calls::input::InputAs;
 use crate::proved::vte::ansi::calls::numbers::first_number;
 use crate::proved::vte::ansi::calls::text_buffer::TextBuffer;
+use crate::proved::vte::ansi::updates::UPDATE_TIMEOUT_MILLIS;
 use crate::proved::vte_core::{InRuns, Params, Perform, PerformText};
 use crate::proved::vte_handler::{Handler, HandlerText, Timeout};
 use crate::proved::vte_types::NamedPrivateMode;
 use core::marker::PhantomData;
 use core::time::Duration;
-
-/// How long an update may take.
-pub(crate) const UPDATE_TIMEOUT_MILLIS: u64 = 150;
 
 /// What a processor keeps between events.
 #[derive(Clone)]

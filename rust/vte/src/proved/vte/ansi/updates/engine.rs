@@ -2,12 +2,13 @@
 //! What a processor is, whatever its limit. It takes turns: each parses bytes of a call, or holds
 //! them back.
 
-use crate::proved::vte::ansi::calls::performer::{ProcessorState, UPDATE_TIMEOUT_MILLIS};
+use crate::proved::vte::ansi::calls::performer::ProcessorState;
 use crate::proved::vte::ansi::calls::text_buffer::TextBuffer;
 use crate::proved::vte::ansi::updates::hold::{SyncState, MOST_HELD};
 use crate::proved::vte::ansi::updates::parsing::{
     parse_all, parse_until_begin, EventParser, ParseAs,
 };
+use crate::proved::vte::ansi::updates::UPDATE_TIMEOUT_MILLIS;
 use crate::proved::vte_core::Refused;
 use crate::proved::vte_handler::{Handler, Timeout};
 use crate::proved::vte_types::{NamedPrivateMode, PrivateMode};

@@ -183,7 +183,7 @@ def test_commands_are_run_if_that_is_asked():
 @pytest.mark.parametrize("needs, crates, lacking", [
     ("kit", "", "kit"), ("crates", "no", "crates"), ("here crates", "yes", ""),
     ("here kit gone", "", "kit, gone"), ("python3-json here", "", ""),
-    ("python3-json python3-no_module", "", "python3-no_module")])
+    ("python3-json python3-no_module", "", "python3-no_module"), ("here /tmp /gone", "", "/gone")])
 def test_commands_that_lack_something_are_missing(needs, crates, lacking, monkeypatch, capsys):
     monkeypatch.setattr(shutil, "which", {"here": "/bin/here"}.get)
     monkeypatch.setenv("HAS_CRATES", crates)

@@ -1,5 +1,5 @@
 //! The performer that writes events into the caller's buffers.
-ghost use Rattle.std.specs.Prelude.{◌≡◌, ◌≤◌, ◌<◌, ◌+◌, ◌-◌, ◌^◌, ◌||◌, ◌++◌, ℕ, List, false, [], if◌then◌else◌, length, map, min, nat_lt};
+ghost use Rattle.std.specs.Prelude.{◌≡◌, ◌≤◌, ◌<◌, ◌+◌, ◌-◌, ◌^◌, ◌||◌, ◌++◌, ℕ, List, false, [], ◌∷◌, if◌then◌else◌, length, map, min, nat_lt};
 ghost use Rattle.std.specs.List.{concat, flat_map};
 ghost use Rattle.vte_core.specs.Event.{OscDispatch, Print};
 ghost use Rattle.vte_core.specs.AdvanceToRun.{run_bytes};
@@ -21,6 +21,13 @@ fn has_most(pieces: usize, size: usize) -> bool
     ensures { result ≡ has_most pieces size }
 {
     pieces >= 16 || size >= 1024
+}
+
+/// Returns the bytes of a group with one number.
+fn bytes_of_one(number: u16) -> [u8; 3]
+    ensures { result ≡ group_bytes (number ∷ []) }
+{
+    [1, (number % 256) as u8, (number / 256) as u8]
 }
 
 /// Writes events of some kinds into the caller's buffers, each as a whole or not at all.
@@ -195,8 +202,47 @@ impl<'a> Events<'a> {
         }
     }
 
-    /// Writes a sequence with parameters.
+    /// Writes a sequence with parameters. Most have one number.
+    #[inline(always)]
     fn add_sequence(
+        &mut self,
+        kind: u8,
+        params: &Params,
+        intermediates: &[u8],
+        ignore: bool,
+        action: char,
+    )
+        ensures { room_of self.new ≡ with_reported (room_of self.old)
+            (sequence_record kind params.now intermediates.now ignore action)
+            (flat_map group_bytes params.now) }
+    {
+        let mut groups = params.iter();
+        match (groups.next(), groups.next(), intermediates) {
+            (Some([number]), None, []) => {
+                self.add_sequence_with_one(kind, *number, ignore, action);
+            }
+            _ => self.add_any_sequence(kind, params, intermediates, ignore, action),
+        }
+    }
+
+    /// Writes a sequence with one number.
+    #[inline(always)]
+    fn add_sequence_with_one(&mut self, kind: u8, number: u16, ignore: bool, action: char)
+        ensures { room_of self.new ≡ with_reported (room_of self.old)
+            (sequence_record kind ((number ∷ []) ∷ []) [] ignore action)
+            (group_bytes (number ∷ [])) }
+    {
+        if self.writes(kind) {
+            let event = VteEvent::new(kind, action as u32)
+                .with_flag(ignore)
+                .with_count(1);
+            self.add(event, &bytes_of_one(number));
+        }
+    }
+
+    /// Writes any sequence with parameters.
+    #[inline(never)]
+    fn add_any_sequence(
         &mut self,
         kind: u8,
         params: &Params,
@@ -292,7 +338,7 @@ impl<'a> Events<'a> {
     {
         // most groups have one number
         if let [number] = group {
-            return self.write(place, &[1, (*number % 256) as u8, (*number / 256) as u8]);
+            return self.write(place, &bytes_of_one(*number));
         }
         let mut end = self.write(place, &[count_byte(group.len())]);
         for number in group {
@@ -408,6 +454,7 @@ impl Perform for Events<'_> {
         self.add_command(params, bell_terminated);
     }
 
+    // cargo: #[inline(always)]
     fn csi_dispatch(&mut self, params: &Params, intermediates: &[u8], ignore: bool, action: char) {
         self.add_sequence(event::CSI, params, intermediates, ignore, action);
     }

@@ -31,11 +31,13 @@ pub struct VteLongParser {
 
 /// Makes room for the data of a step, each place of which has 32 bits.
 fn reserve(data: &mut Vec<u8>, size: usize) -> Result<(), Refused> {
-    let more = size.saturating_sub(data.len());
-    if size > u32::MAX as usize || data.try_reserve(more).is_err() {
+    if size <= data.len() {
+        return Ok(());
+    }
+    if size > u32::MAX as usize || data.try_reserve(size - data.len()).is_err() {
         return Err(Refused { read: 0 });
     }
-    data.resize(data.len() + more, 0);
+    data.resize(size, 0);
     Ok(())
 }
 

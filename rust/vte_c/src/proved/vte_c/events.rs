@@ -17,6 +17,11 @@ fn has_most(pieces: usize, size: usize) -> bool {
     pieces >= 16 || size >= 1024
 }
 
+/// Returns the bytes of a group with one number.
+fn bytes_of_one(number: u16) -> [u8; 3] {
+    [1, (number % 256) as u8, (number / 256) as u8]
+}
+
 /// Writes events of some kinds into the caller's buffers, each as a whole or not at all.
 ///
 /// It is terminated if there is no room for what one byte may add: two events, and the data of one
@@ -151,8 +156,39 @@ impl<'a> Events<'a> {
         }
     }
 
-    /// Writes a sequence with parameters.
+    /// Writes a sequence with parameters. Most have one number.
+    #[inline(always)]
     fn add_sequence(
+        &mut self,
+        kind: u8,
+        params: &Params,
+        intermediates: &[u8],
+        ignore: bool,
+        action: char,
+    ) {
+        let mut groups = params.iter();
+        match (groups.next(), groups.next(), intermediates) {
+            (Some([number]), None, []) => {
+                self.add_sequence_with_one(kind, *number, ignore, action);
+            }
+            _ => self.add_any_sequence(kind, params, intermediates, ignore, action),
+        }
+    }
+
+    /// Writes a sequence with one number.
+    #[inline(always)]
+    fn add_sequence_with_one(&mut self, kind: u8, number: u16, ignore: bool, action: char) {
+        if self.writes(kind) {
+            let event = VteEvent::new(kind, action as u32)
+                .with_flag(ignore)
+                .with_count(1);
+            self.add(event, &bytes_of_one(number));
+        }
+    }
+
+    /// Writes any sequence with parameters.
+    #[inline(never)]
+    fn add_any_sequence(
         &mut self,
         kind: u8,
         params: &Params,
@@ -227,7 +263,7 @@ impl<'a> Events<'a> {
     fn write_group(&mut self, place: usize, group: &[u16]) -> usize {
         // most groups have one number
         if let [number] = group {
-            return self.write(place, &[1, (*number % 256) as u8, (*number / 256) as u8]);
+            return self.write(place, &bytes_of_one(*number));
         }
         let mut end = self.write(place, &[count_byte(group.len())]);
         for number in group {
@@ -318,6 +354,7 @@ impl Perform for Events<'_> {
         self.add_command(params, bell_terminated);
     }
 
+    #[inline(always)]
     fn csi_dispatch(&mut self, params: &Params, intermediates: &[u8], ignore: bool, action: char) {
         self.add_sequence(event::CSI, params, intermediates, ignore, action);
     }

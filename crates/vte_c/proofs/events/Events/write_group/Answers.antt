@@ -8,7 +8,9 @@ one_number (number ∷ []) one = refl
 one_number (number ∷ next ∷ more) one = absurd (omega (arith, one))
 
 pub returns-in-len1 : goal.returns-in-len1
-returns-in-len1 c = λ room text h. rw (one_number c.args.group.now (omega arith)) (c.write.ensures.holds room text h)
+returns-in-len1 c = λ room text h.
+    rw (one_number c.args.group.now (omega arith))
+    (rw c.bytes_of_one.ensures at (c.write.ensures.holds room text h))
 
 pub loop-number-preserved : goal.loop-number-preserved
 loop-number-preserved c = λ room text h.

@@ -1,6 +1,6 @@
 -- The iterator's size is the number of groups, and the record is written after their data.
 use Rattle.vte_c.proofs.Common.{ap, length, sym, ◌∙◌, ◌≡◌}
-use Rattle.vte_c.proofs.events.Events.add_sequence.Goals as goal
+use Rattle.vte_c.proofs.events.Events.add_any_sequence.Goals as goal
 
 pub returns-then-writes : goal.returns-then-writes
 returns-then-writes c =

@@ -1,7 +1,6 @@
 -- In a round the call may first print a run of ASCII (`reached`), and then stands before a byte (`at`), which it reads
 -- by one of five branches (`read`). Goals after such joins take these three; the others are one branch alone.
 use Rattle.vte_core.proofs.Common.{◌≡◌, ◌+◌, ◌<◌, true, length, sym, ◌∙◌, arith, rules, false≢true, Advances, Text, Nothing}
-use Rattle.std.proofs.Math.Nat.{le_trans}
 use Rattle.vte_core.specs.machine.Prelude.{MayReadByte}
 use Rattle.vte_core.proofs.calls.CallEnds.{settled-by}
 use Rattle.vte_core.proofs.calls.Stretches.{advances-byte, advances-moved, advances-part, advances-then}
@@ -12,10 +11,6 @@ use Rattle.vte_core.proofs.parser.machine.Machine.read_text.Invariants.{call_at}
 use Rattle.vte_core.proofs.parser.machine.Machine.read_text.Goals.{Joined-IN_RUNS-2, then-IN_RUNS-2+then-is_printed_ascii+in-Some, else-IN_RUNS-2, Joined-is_printed_ascii-2, then-is_printed_ascii-2, else-is_printed_ascii-2+else-IN_RUNS-3+then-is_lead-2+else-this-ne0-2, then-is_lead+else-this-ne0, else-is_lead, else-is_printed_ascii-2+else-IN_RUNS-3+else-is_lead-2+else-byte-eq-ESCAPE}
 use Rattle.vte_core.proofs.parser.machine.Machine.read_text.Goals as goal
 
--- In a round a byte is left.
-within : (g : Over) (c : Joined-IN_RUNS-2 g) → c.loop-position-2.position < length c.args.input.bytes.now
-within g c = le_trans c.loop-position-2-test.true c.loop-position.invariant.prefix
-
 -- the call has come past the run of ASCII, if there was one
 reached : (g : Over) (c : Joined-IN_RUNS-2 g)
     → Advances ⊥ (call_at g c.args.input.bytes.now) (g.P.CountedPerform.value_of c.args.performer.now)
@@ -23,6 +18,8 @@ reached : (g : Over) (c : Joined-IN_RUNS-2 g)
     c.loop-position-2.self
 reached g c =
     let v = c.loop-position-2.invariant.stands in
+    let within : c.loop-position-2.position < length c.args.input.bytes.now =
+    omega (arith, c.loop-position.invariant.prefix, c.loop-position-2-test.true) in
     elim c.if-IN_RUNS-2.branch [
       -- A run of ASCII came first.
       | then-IN_RUNS-2+then-is_printed_ascii+in-Some w ↦
@@ -30,7 +27,7 @@ reached g c =
           rw (w.performer-is, w.position-is) (advances-then v.advances
           (advances-text
           (c.requires.no_stop (sym c.IN_RUNS-in-loop-position-2.ensures ∙ w.if-IN_RUNS-2.true)) v.may_go_on
-          (v.settled (within g c)) run.progress run.high run.prints))
+          (v.settled within) run.progress run.high run.prints))
       -- None did.
       | else-IN_RUNS-2 w ↦ rw (w.performer-is, w.position-is) v.advances
     ]
@@ -41,12 +38,14 @@ at : (g : Over) (c : Joined-IN_RUNS-2 g) → MayReadByte (call_at g c.args.input
     c.if-IN_RUNS-2.byte
 at g c =
     let v = c.loop-position-2.invariant.stands in
+    let within : c.loop-position-2.position < length c.args.input.bytes.now =
+    omega (arith, c.loop-position.invariant.prefix, c.loop-position-2-test.true) in
     elim c.if-IN_RUNS-2.branch [
       | then-IN_RUNS-2+then-is_printed_ascii+in-Some w ↦
           let run = w.print_ascii-run.ensures in
           let next = rw w.in-Some.is at run.next in
           rw (w.performer-is, w.position-is, w.byte-is) (record {
-            begun = v.settled (within g c);
+            begun = v.settled within;
             may_go_on =
                 may_go_on-text (call_at g c.args.input.bytes.now)
                 (c.requires.no_stop (sym c.IN_RUNS-in-loop-position-2.ensures ∙ w.if-IN_RUNS-2.true))
@@ -55,9 +54,9 @@ at g c =
             looked_at = next.1;
           })
       | else-IN_RUNS-2 w ↦ rw (w.performer-is, w.position-is, w.byte-is) (record {
-        begun = v.settled (within g c);
+        begun = v.settled within;
         may_go_on = v.may_go_on;
-        within = within g c;
+        within = within;
         looked_at = c.byte_at-byte.ensures.value
             ∙ c.loop-position.invariant.same _ (omega (arith, c.loop-position-2-test.true));
       })
@@ -67,16 +66,17 @@ at g c =
 pub loop-position-2-preserved-in-None : goal.loop-position-2-preserved-in-None
 loop-position-2-preserved-in-None g c =
     let v = c.loop-position-2.invariant.stands in
-    let begun = v.settled (le_trans c.loop-position-2-test.true c.loop-position.invariant.prefix) in
+    let within : c.loop-position-2.position < length c.args.input.bytes.now =
+    omega (arith, c.loop-position.invariant.prefix, c.loop-position-2-test.true) in
     let runs : g.G.Granularity.IN_RUNS ≡ true = sym c.IN_RUNS-in-loop-position-2.ensures ∙ c.if-IN_RUNS-2.true in
     let run = c.print_ascii-run.ensures in
     record {
       stands = record {
         advances =
             advances-then v.advances
-            (advances-text (c.requires.no_stop runs) v.may_go_on begun run.progress run.high run.prints);
+            (advances-text (c.requires.no_stop runs) v.may_go_on (v.settled within) run.progress run.high run.prints);
         may_go_on = may_go_on-text (call_at g c.args.input.bytes.now) (c.requires.no_stop runs) v.may_go_on run.prints;
-        settled = λ _. begun;
+        settled = λ _. v.settled within;
       };
       spends = search rules;
       moves = search rules;

@@ -29,6 +29,7 @@ class Parser:
 
     def __init__(self, library):
         self.library = CDLL(library.shared)
+        self.library.vte_is_open.restype = c_uint8
         self.memory = (c_uint64 * 164)()
         self.room = (c_uint64 * 8)(), c_size_t(4), (c_uint8 * 2112)(), c_size_t(2112)
 

@@ -11,7 +11,7 @@ const STEP: usize = 1 << 12;
 /// How many values are recorded before objects are made of them: few, because their memory is then
 /// at hand, but not if the lock is taken again each time.
 const MOST: usize = 1 << 11;
-const MOST_OF_LONG: usize = 1 << 15;
+const MAX_OF_LONG: usize = 1 << 15;
 
 /// Records what a stream adds.
 pub trait Reader: Send {
@@ -60,7 +60,7 @@ where
 /// Reads until objects are to be made. Returns how much was read, and whether memory was refused.
 fn read_some(reader: &mut impl Reader, source: &[u8]) -> (usize, bool) {
     let mut at = 0;
-    let most = [MOST, MOST_OF_LONG][usize::from(source.len() >= LONG)];
+    let most = [MOST, MAX_OF_LONG][usize::from(source.len() >= LONG)];
     while at < source.len() && !reader.tape().is_full(most) && !reader.has_stopped() {
         match reader.read(&source[at..]) {
             Ok(read) => at += read,

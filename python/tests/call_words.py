@@ -10,8 +10,7 @@ NUMBERS = {
     "ReportMouseClicks": 1000, "ReportCellMouseMotion": 1002, "ReportAllMouseMotion": 1003,
     "ReportFocusInOut": 1004, "Utf8Mouse": 1005, "SgrMouse": 1006, "AlternateScroll": 1007,
     "UrgencyHints": 1042, "SwapScreenAndSetRestoreCursor": 1049, "BracketedPaste": 2004,
-    "SyncUpdate": 2026,
-}
+    "SyncUpdate": 2026}
 # words around values
 AROUND = {"Some", "Named", "Unknown", "Spec", "Indexed", "Rgb", "r", "g", "b", "CursorStyle",
           "shape", "blinking", "Hyperlink", "id", "uri"}

@@ -1,15 +1,13 @@
 """Tests of examples/strip_on_dask.py: a scheduler and three workers, each a process of its own."""
-import contextlib
 import json
-import os
+import re
 import resource
 import subprocess
 import sys
 import time
 
 import pytest
-from common import EXAMPLES
-from hostile import STREAMS
+from common import EXAMPLES, STREAMS, VTLOG, by_vtlog
 
 import vte
 
@@ -21,13 +19,12 @@ import strip_on_dask  # noqa: E402
 # workers can't import it, as they couldn't what is run as a program
 cloudpickle.register_pickle_by_value(strip_on_dask)
 pytestmark = pytest.mark.filterwarnings("ignore::DeprecationWarning")
-VTLOG = os.environ.get("VTLOG")
 MANY = b"".join(b"text %d \x1b[%dm\xc3" % (it, it) for it in range(10_000))
 
 
-def until(is_true, seconds=60):
+def until(is_true):
     """Waits until something is true."""
-    end = time.monotonic() + seconds
+    end = time.monotonic() + 60
     while not is_true():
         assert time.monotonic() < end
         time.sleep(0.01)
@@ -37,7 +34,7 @@ class Cluster:
     """A scheduler and three workers, which aren't started again."""
 
     def __init__(self, folder):
-        self.processes, self.folder, self.file = [], folder, folder / "scheduler.json"
+        self.processes, self.file = [], folder / "scheduler.json"
         self.start("scheduler", "--port", "0")
         until(lambda: self.file.is_file() and self.file.read_text().endswith("}"))
         self.address = json.loads(self.file.read_text())["address"]
@@ -53,40 +50,22 @@ class Cluster:
     def strip(self, *words):
         strip_on_dask.main(["--scheduler", self.address, *map(str, words)])
 
-    def started(self, *words):
-        """The program as a process of its own."""
+    def begin(self, out, *words):
+        """Starts the program as a process of its own, and returns it when there are 20 pieces."""
         command = [sys.executable, EXAMPLES / "strip_on_dask.py", "--scheduler", self.address]
-        return subprocess.Popen([*command, *words], stdout=subprocess.DEVNULL,
-                                stderr=subprocess.PIPE, text=True)
-
-    def end(self):
-        for process in self.processes:
-            process.kill()
-            process.wait()
+        begun = subprocess.Popen([*command, *words], stdout=subprocess.DEVNULL,
+                                 stderr=subprocess.PIPE, text=True)
+        until(lambda: len(pieces_of(out)) > 20)
+        return begun
 
 
 @pytest.fixture(scope="module")
 def cluster(tmp_path_factory):
     made = Cluster(tmp_path_factory.mktemp("cluster"))
     yield made
-    made.end()
-
-
-def pieces_of(folder):
-    return sorted(folder.iterdir()) if folder.is_dir() else []
-
-
-def joined(folder):
-    """The joined pieces. Nothing else is there, not even what is hidden."""
-    pieces = pieces_of(folder)
-    assert [int(piece.name[:8]) for piece in pieces] == [*range(len(pieces))]
-    return b"".join(piece.read_bytes() for piece in pieces)
-
-
-def text_of(stream):
-    if not VTLOG:
-        return vte.strip(stream)
-    return subprocess.check_output([VTLOG, "text"], input=stream)
+    for process in made.processes:
+        process.kill()
+        process.wait()
 
 
 @pytest.fixture
@@ -96,6 +75,24 @@ def file(tmp_path):
     return path
 
 
+@pytest.fixture
+def out(tmp_path):
+    """The folder of the pieces of this file."""
+    return tmp_path / "out" / "many"
+
+
+def pieces_of(folder):
+    return sorted(folder.iterdir()) if folder.is_dir() else []
+
+
+def assert_joined(folder, stream):
+    """The pieces are the text, and nothing else is there, not even what is hidden."""
+    pieces = pieces_of(folder)
+    assert [int(piece.name[:8]) for piece in pieces] == [*range(len(pieces))]
+    text = by_vtlog(stream, "text") if VTLOG else vte.strip(stream)
+    assert b"".join(piece.read_bytes() for piece in pieces) == text
+
+
 @pytest.mark.parametrize("size", [1, 100, 1 << 30])
 def test_pieces_are_the_text(cluster, tmp_path, size):
     files = [tmp_path / name for name in STREAMS]
@@ -103,90 +100,78 @@ def test_pieces_are_the_text(cluster, tmp_path, size):
         path.write_bytes(STREAMS[path.name])
     cluster.strip(*files, "--out", tmp_path / "out", "--size", size)
     for path in files:
-        assert joined(tmp_path / "out" / path.name) == text_of(STREAMS[path.name])
+        assert_joined(tmp_path / "out" / path.name, STREAMS[path.name])
 
 
-def test_a_worker_that_is_killed_costs_nothing(cluster, tmp_path, file):
-    folder = tmp_path / "out" / "many"
-    run = cluster.started(file, "--out", tmp_path / "out", "--size", "500")
-    until(lambda: len(pieces_of(folder)) > 20)
+def test_a_worker_that_is_killed_costs_nothing(cluster, file, out):
+    begun = cluster.begin(out, file, "--out", out.parent, "--size", "500")
     cluster.processes[1].kill()
-    there = len(pieces_of(folder))
-    said = run.communicate(timeout=60)[1]
-    assert run.returncode == 0, said
-    assert 20 < there < len(pieces_of(folder))
-    assert joined(folder) == text_of(MANY)
+    there, said = len(pieces_of(out)), begun.communicate(timeout=60)[1]
+    assert begun.returncode == 0, said
+    assert there < len(pieces_of(out))
+    assert_joined(out, MANY)
 
 
-def test_a_second_run_does_what_is_missing(cluster, tmp_path, file, capsys):
-    folder = tmp_path / "out" / "many"
-    words = [file, "--out", tmp_path / "out", "--size", "500"]
-    run = cluster.started(*words)
-    until(lambda: len(pieces_of(folder)) > 20)
-    run.kill()
-    run.communicate()
+def test_a_second_run_does_what_is_missing(cluster, file, out, capsys):
+    words = [file, "--out", out.parent, "--size", "500"]
+    begun = cluster.begin(out, *words)
+    begun.kill()
+    begun.communicate()
     # what a worker has begun it may end
-    until(lambda: [count := len(pieces_of(folder)), time.sleep(0.5)]
-          and count == len(pieces_of(folder)))
-    before = {piece: piece.stat().st_mtime_ns for piece in pieces_of(folder)}
-    (folder / ".unfinished").write_bytes(b"of a worker that has died")
+    until(lambda: [count := len(pieces_of(out)), time.sleep(0.5)]
+          and count == len(pieces_of(out)))
+    before = {piece: piece.stat().st_mtime_ns for piece in pieces_of(out)}
+    (out / ".unfinished").write_bytes(b"of a worker that has died")
     total = len(list(vte.parts(MANY, 500)))
-    cluster.strip(*words)
-    assert capsys.readouterr().out.startswith(f"missing pieces: {total - len(before)}\n")
-    assert joined(folder) == text_of(MANY) and len(pieces_of(folder)) == total > len(before)
-    assert before == {piece: piece.stat().st_mtime_ns for piece in before}
-    cluster.strip(*words)
-    assert capsys.readouterr().out == "missing pieces: 0\n"
-
-
-@contextlib.contextmanager
-def full_disk(cluster):
-    """Workers whose files may have 4,096 bytes."""
-    pids = [process.pid for process in cluster.processes[1:] if process.poll() is None]
-    for pid in pids:
-        resource.prlimit(pid, resource.RLIMIT_FSIZE, (4096, -1))
-    yield
-    for pid in pids:
-        resource.prlimit(pid, resource.RLIMIT_FSIZE, (-1, -1))
-
-
-def test_no_half_piece_is_written(cluster, tmp_path, file):
-    folder = tmp_path / "out" / "many"
-    words = [file, "--out", tmp_path / "out", "--size", "50000"]
-    with full_disk(cluster), pytest.raises(SystemExit) as ended:
+    for missing in total - len(before), 0:
         cluster.strip(*words)
-    named = f"[Errno 27] File too large: '{folder}/0000000"
-    assert ended.value.code.startswith(f"strip_on_dask: {named}")
-    assert not pieces_of(folder)
+        assert capsys.readouterr().out.splitlines()[0] == f"missing pieces: {missing}"
+        assert_joined(out, MANY)
+    assert before.keys() < {*pieces_of(out)} and len(pieces_of(out)) == total
+    assert before == {piece: piece.stat().st_mtime_ns for piece in before}
+
+
+def limit_files(cluster, size):
+    for process in cluster.processes[1:]:
+        if process.poll() is None:
+            resource.prlimit(process.pid, resource.RLIMIT_FSIZE, (size, -1))
+
+
+def assert_says(cluster, words, said):
+    with pytest.raises(SystemExit, match=re.escape(f"strip_on_dask: {said}")):
+        cluster.strip(*words)
+
+
+def test_no_half_piece_is_written(cluster, file, out):
+    words = [file, "--out", out.parent, "--size", "50000"]
+    limit_files(cluster, 4096)
+    assert_says(cluster, words, f"[Errno 27] File too large: '{out}/0000000")
+    limit_files(cluster, -1)
+    assert not pieces_of(out)
     # where there is room, the same command goes on
     cluster.strip(*words)
-    assert joined(folder) == text_of(MANY)
+    assert_joined(out, MANY)
 
 
-def test_what_can_not_be_read_or_written_is_named(cluster, tmp_path, file):
-    folder, small = tmp_path / "out" / "many", ["--size", "500"]
-    folder.mkdir(parents=True)
-    (folder / "other").touch()
-    for words, wanted in [
+def test_what_can_not_be_read_or_written_is_named(cluster, tmp_path, file, out):
+    out.mkdir(parents=True)
+    (out / "other").touch()
+    for words, said in [
             ([file, "--out", file], f"[Errno 20] Not a directory: '{file}/many'"),
             ([file, "--out", "/proc"], "[Errno 2] No such file or directory: '/proc/many'"),
-            ([folder / "none", "--out", tmp_path], f"[Errno 2] No such file or directory: "
-             f"'{folder}/none'"),
+            ([out / "none", "--out", tmp_path],
+             f"[Errno 2] No such file or directory: '{out}/none'"),
             ([file, file, "--out", tmp_path], "two files have the same name"),
             ([file, "--out", tmp_path, "--size", "0"], "size must be at least 1, not 0"),
-            ([file, "--out", folder.parent, *small],
-             f"{folder}: other is no piece of {file} with --size 500")]:
-        with pytest.raises(SystemExit) as ended:
-            cluster.strip(*words)
-        assert ended.value.code == f"strip_on_dask: {wanted}"
-    assert pieces_of(folder) == [folder / "other"]
+            ([file, "--out", out.parent, "--size", "500"],
+             f"{out}: other is no piece of {file} with --size 500")]:
+        assert_says(cluster, words, said)
+    assert pieces_of(out) == [out / "other"]
 
 
-def test_a_lost_scheduler_is_named(cluster, tmp_path, file):
+def test_a_lost_scheduler_is_named(cluster, file, out):
     # the last of these tests, since the others need it
-    folder = tmp_path / "out" / "many"
-    run = cluster.started(file, "--out", tmp_path / "out", "--size", "100")
-    until(lambda: len(pieces_of(folder)) > 20)
+    begun = cluster.begin(out, file, "--out", out.parent, "--size", "100")
     cluster.processes[0].kill()
-    assert run.communicate(timeout=60)[1].endswith("strip_on_dask: the scheduler was lost\n")
-    assert run.returncode == 1
+    assert begun.communicate(timeout=60)[1].endswith("strip_on_dask: the scheduler was lost\n")
+    assert begun.returncode == 1

@@ -1,38 +1,28 @@
 """Tests of parsers and of their events."""
 import array
 import copy
-import doctest
-import itertools
 import mmap
 import pickle
-import subprocess
-import sys
 import typing
 
 import pytest
-from common import EVENTS, STREAM, cut, feed, joined, parsers, text_of
+from common import EVENTS, READERS, STREAM, cut, feed, joined, parsers, text_of
 
 import vte
 from vte import Csi, Data, Esc, Execute, Hook, Osc, Put, Text, calls
 
 TITLE = b"\x1b]0;" + b"t" * 1000 + b"\x07"
-MOST = b"a" * 1024
-
-
+MOST, SIXTEEN = b"a" * 1024, b"a;" * 15 + b"a"
 # classes made from others
 Bytes = type("Bytes", (bytes,), {})
 OwnParser = type("OwnParser", (vte.Parser,), {})
-OwnStripper = type("OwnStripper", (vte.Stripper,), {})
+Slots = type("Slots", (vte.Stripper,), {"__slots__": ("more", "__dict__")})
 
 
 @pytest.fixture(params=[None, 1024], ids="limit={}".format)
 def make(request):
     """Makes parsers without a limit, and with one."""
     return lambda: vte.Parser(limit=request.param)
-
-
-def test_documentation():
-    assert doctest.testmod(vte).failed == 0
 
 
 @pytest.mark.parametrize("stream, wanted", [
@@ -46,8 +36,7 @@ def test_documentation():
     (b"".join(b"\x1b[%d;%dH" % (it, it // 7) for it in range(5000)) * 2,
      [Csi(((it,), (it // 7,)), b"", False, "H") for it in range(5000)] * 2),
     (b"\xc3\xa9" * 600_000 + b"\x1b[1m" * 300_000 + b"end",
-     [Text("é" * 600_000), *[Csi(((1,),), b"", False, "m")] * 300_000, Text("end")]),
-])
+     [Text("é" * 600_000), *[Csi(((1,),), b"", False, "m")] * 300_000, Text("end")])])
 def test_many_events(make, stream, wanted):
     # what differs in long lists takes minutes to show
     assert (make().feed(stream) == wanted) is True
@@ -55,21 +44,18 @@ def test_many_events(make, stream, wanted):
 
 @pytest.mark.parametrize("end, bell, after", [
     (b"\x07", True, []), (b"\x1b", False, []), (b"\x18", False, [Execute(0x18)])])
-@pytest.mark.parametrize("limits, data, pieces, truncated", [
-    ([1024], MOST, [MOST], False), ([1024], MOST + b"a", [MOST], True),
-    ([1024], MOST + b";;", [MOST], False), ([1024], MOST + b";;b", [MOST], True),
-    ([1024], MOST[1:] + b";b", [MOST[1:], b"b"], False),
-    ([1024], MOST[1:] + b";bc", [MOST[1:], b"b"], True),
-    ([1024], b";" + MOST, [b"", MOST], False),
+@pytest.mark.parametrize("kept, more, truncated", [
+    (MOST, b"", False), (MOST, b"a", True), (MOST, b";;", False), (MOST, b";;b", True),
+    (MOST[1:] + b";b", b"", False), (MOST[1:] + b";b", b"c", True), (b";" + MOST, b"", False),
     # pieces after the sixteenth are dropped
-    *(([None, 1024], b"a;" * 15 + b"b" + more, [b"a"] * 15 + [b"b"], truncated)
-      for more, truncated in [
-          (b"", False), (b";", False), (b";;;", False), (b";x", True), (b";;x", True)])])
-def test_commands_that_lost_data_say_so(limits, data, pieces, truncated, end, bell, after):
-    stream, wanted = b"\x1b]" + data + end, [Osc(tuple(pieces), bell, truncated), *after]
-    for limit in limits:
-        several = stream + b"\x1b]c\x07" + stream
+    (SIXTEEN, b"", False), (SIXTEEN, b";", False), (SIXTEEN, b";;;", False), (SIXTEEN, b";x", True),
+    (SIXTEEN, b";;x", True)])
+def test_commands_that_lost_data_say_so(kept, more, truncated, end, bell, after):
+    stream = b"\x1b]" + kept + more + end
+    wanted = [Osc(tuple(kept.split(b";")), bell, truncated), *after]
+    for limit in (1024, None) if kept == SIXTEEN else (1024,):
         parser, x = vte.Parser(limit), Esc(b"", False, "x") if end == b"\x1b" else Text("x")
+        several = stream + b"\x1b]c\x07" + stream
         assert parser.feed(several) == [*wanted, Osc((b"c",), True), *wanted]
         assert parser.feed(b"x") == [x]
         assert feed(parser, cut(b"\x18" + stream, 1))[1:] == wanted
@@ -127,10 +113,6 @@ def test_equality_and_copies(kind):
         assert hash(again) == hash(one)
 
 
-def test_made_events_hash_as_others():
-    assert {*vte.Parser().feed(STREAM)} == {*EVENTS}
-
-
 def mapped(data):
     made = mmap.mmap(-1, len(data))
     made[:] = data
@@ -144,31 +126,21 @@ def mapped(data):
     (b"", []), (bytearray(), [])])
 def test_any_object_with_a_buffer(data, wanted):
     for parser in parsers():
-        assert parser.feed(data) == wanted
+        made = parser.feed(data)
+        assert made == wanted and {*made} == {*wanted}
     texts = [vte.strip(data), vte.Stripper().strip(data), *vte.strip_lines([data])]
     assert [(type(text), text) for text in texts] == [(bytes, text_of(wanted))] * 3
     assert vte.Processor().feed(data) == vte.Processor().feed(bytes(data))
 
 
-@pytest.mark.parametrize("wrong", [{int}, [Text, None], int, 5, "Osc", [[]], [Text("a")]])
-def test_wrong_kinds_leave_the_stream(make, wrong):
-    parser = make()
-    parser.feed(b"\x1b[1")
-    for function, *words in (parser.feed, wrong), (parser.feed_until, wrong), (
-            parser.feed_until, {Csi}, wrong):
-        with pytest.raises(TypeError, match="kinds must be types of events|is not iterable"):
-            function(b"ma", *words)
-    assert parser.feed(b"ma") == [Csi(((1,),), b"", False, "m"), Text("a")]
+WRONG_KINDS = [{int}, [Text, None], int, 5, "Osc", [[]], [Text("a")], [1]]
+WRONG = [("feed", 1), ("feed", "a"), ("feed", b"x", Osc, Osc), ("feed_until", b"x", {Text}),
+         ("strip", 1), ("strip", b"x", True, 1), ("strip", "\ud800"),
+         *((*call, wrong) for wrong in WRONG_KINDS
+           for call in [("feed", b"x"), ("feed_until", b"x"), ("feed_until", b"x", {Csi})])]
 
 
-WRONG = [("feed", 1), ("feed", "a"), ("feed", b"x", [1]), ("feed", b"x", Osc, Osc),
-         ("feed_until", b"x", {Text}), ("feed_until", b"x", [1]), ("feed_until", b"x", Osc, 5),
-         ("strip", 1), ("strip", b"x", True, 1), ("strip", "\ud800")]
-
-
-@pytest.mark.parametrize("make_any, read", [
-    (vte.Parser, "feed"), (lambda: vte.Parser(limit=1024), "feed"), (vte.Processor, "feed"),
-    (lambda: vte.Stripper("surrogateescape"), "strip")])
+@pytest.mark.parametrize("make_any, read", READERS)
 @pytest.mark.parametrize("at", range(0, len(STREAM), 3))
 def test_errors_leave_the_stream(make_any, read, at):
     read, other = getattr(make_any(), read), getattr(make_any(), read)
@@ -182,103 +154,40 @@ def test_errors_leave_the_stream(make_any, read, at):
     assert made + read(STREAM[at:]) == wanted
 
 
-# ---- copies
-
-def pickled(reader):
-    return pickle.loads(pickle.dumps(reader))
-
-
-@pytest.mark.parametrize("copied", [copy.copy, copy.deepcopy, pickled])
+@pytest.mark.parametrize("copied", [
+    copy.copy, copy.deepcopy, lambda reader: pickle.loads(pickle.dumps(reader))])
 def test_copies(copied):
     for at in range(len(STREAM) + 1):
-        parser, stripper = OwnParser(limit=1024), OwnStripper()
+        parser, stripper = OwnParser(limit=1024), Slots("surrogateescape")
+        parser.name, stripper.name, stripper.more = ["a"], "b", 5
         events, text = parser.feed(STREAM[:at]), stripper.strip(STREAM[:at])
         parser, stripper = copied(parser), copied(stripper)
-        assert (type(parser), parser.limit, type(stripper)) == (OwnParser, 1024, OwnStripper)
+        assert (type(parser), parser.limit, vars(parser)) == (OwnParser, 1024, {"name": ["a"]})
+        assert (type(stripper), stripper.more, vars(stripper)) == (Slots, 5, {"name": "b"})
         assert joined(events + parser.feed(STREAM[at:])) == EVENTS
-        assert text + stripper.strip(STREAM[at:]) == text_of(EVENTS)
-    class Slots(vte.Stripper):
-        __slots__ = "more",
-
-    parser.name, stripper.name, slots = ["a"], "b", Slots("surrogateescape")
-    slots.more = 5
-    slots.strip(b"\xe2\x82")
-    for attributes, reader in ({"name": ["a"]}, parser), ({"name": "b"}, stripper):
-        assert vars(copied(reader)) == attributes
-    if copied is not pickled:
-        assert (copied(slots).more, copied(slots).strip(b"a")) == (5, b"\xe2\x82a")
+        assert text + stripper.strip(STREAM[at:]) == "aü\r\U0001f600".encode() + b"\xff"
     with pytest.raises(TypeError, match="only parsers with a limit can be copied"):
         copied(vte.Parser())
     with pytest.raises(TypeError, match="cannot pickle '.*Processor' object"):
         copied(vte.Processor())
 
 
-def test_states_of_other_versions():
-    version, content = vte.Parser(limit=1024).__getnewargs__()[1]
-    wrong = (0, b""), ("0.0.0", content), (version, content[1:]), (version, content, 1)
-    for state, (make, word) in itertools.product(
-            wrong, [(OwnParser, 1024), (OwnStripper, "replace")]):
-        class Other(make):
-            def __getnewargs__(self):
-                return word, state
-
+@pytest.mark.parametrize("make, word, read", [
+    (vte.Parser, 1024, "feed"), (vte.Stripper, "replace", "strip")])
+def test_states_of_other_versions(make, word, read):
+    _, (version, content), *_ = make(word).__getnewargs__()
+    for state in (0, b""), ("0.0.0", content), (version, content[1:]), (version, content, 1):
         with pytest.raises(ValueError, match="pickled with another version of the package"):
-            copy.copy(Other(word))
+            make.__new__(make, word, state)
     # any content of this length is some parser
     for byte in range(256):
-        made = vte.Parser.__new__(vte.Parser, 1024, (version, bytes([byte]) * len(content)))
-        made.feed(STREAM)
-
-
-# ---- memory
-
-# a parser that is refused memory goes on, and more parsers and processors are made than there is
-# memory for
-LITTLE_MEMORY = """
-import resource, vte
-def leave(room):
-    with open("/proc/self/statm") as file:
-        used = int(file.read().split()[0]) * resource.getpagesize()
-    resource.setrlimit(resource.RLIMIT_AS, (used + room, resource.RLIM_INFINITY))
-text, parser = b"Q" * (32 << 20), vte.Parser()
-stream = b"\\x1b]2;t\\x07\\x1b]52;c;" + text + b"\\x07"
-leave(24 << 20)
-try:
-    parser.feed(stream, {vte.Osc})
-    raise SystemExit("it isn't refused")
-except vte.Refused as error:
-    read = error.read
-    assert str(error) == f"no memory, after {read} bytes"
-    assert error.events == [vte.Osc((b"2", b"t"), True)]
-leave(1 << 30)
-assert 6 < read < len(stream) and parser.feed(stream[read:]) == [vte.Osc((b"52", b"c", text), True)]
-del parser
-# what a processor loses, it says; the next bytes mean what they should
-many, processor = b"a\\x1b[65535b" * 400, vte.Processor()
-leave(16 << 20)
-try:
-    processor.feed(many)
-    raise SystemExit("it isn't refused")
-except vte.Refused as error:
-    assert error.lost and 0 < error.read <= len(many)
-leave(1 << 30)
-assert processor.feed(b"\\x18x") == [vte.calls.Input("x")]
-del processor
-leave(96 << 20)
-for _ in range(64):
-    vte.Processor().feed(b"a")
-    vte.Parser().feed(stream[:4 << 20])
-"""
-
-
-@pytest.mark.skipif(sys.platform != "linux", reason="Linux limits the memory of a process")
-def test_little_memory():
-    done = subprocess.run([sys.executable, "-c", LITTLE_MEMORY], capture_output=True, text=True)
-    assert (done.returncode, done.stderr) == (0, "")
+        made = make.__new__(make, word, (version, bytes([byte]) * len(content)))
+        getattr(made, read)(STREAM)
 
 
 def test_refused():
     for lost in [], [True]:
         refused = pickle.loads(pickle.dumps(vte.Refused(3, [Text("a")], *lost)))
         assert isinstance(refused, MemoryError) and type(refused) is vte.Refused
+        assert str(refused) == "no memory, after 3 bytes"
         assert (refused.read, refused.events, refused.lost) == (3, [Text("a")], bool(lost))

@@ -4,12 +4,16 @@ Two ways: limits of a process' memory, each in a child; and each of Python's all
 which are also Rust's in a build by the feature python-memory.
 """
 import copy
+import json
 import os
 import pickle
 import resource
 import subprocess
 import sys
 import zlib
+from contextlib import suppress
+from functools import partial
+from types import SimpleNamespace
 
 import pytest
 from common import cut, joined
@@ -30,13 +34,13 @@ class Limited:
     """Calls with little memory, of which each refusal leaves more for the next try."""
 
     def __init__(self, room):
-        self.room, self.refused = room, 0
-        self._leave()
+        self.refused = 0
+        self._leave(room)
 
-    def _leave(self):
+    def _leave(self, room):
         with open("/proc/self/statm") as file:
             used = int(file.read().split()[0]) * resource.getpagesize()
-        self._limit = used + self.room, resource.RLIM_INFINITY
+        self.room, self._limit = room, (used + room, resource.RLIM_INFINITY)
 
     def call(self, function, *words):
         """An answer, or the MemoryError."""
@@ -44,12 +48,12 @@ class Limited:
         try:
             return function(*words)
         except MemoryError as error:
-            resource.setrlimit(resource.RLIMIT_AS, NO_LIMIT)
-            self.refused, self.room = self.refused + 1, self.room * 5 // 4
-            self._leave()
-            return error
+            refused = error
         finally:
             resource.setrlimit(resource.RLIMIT_AS, NO_LIMIT)
+        self.refused += 1
+        self._leave(self.room * 5 // 4)
+        return refused
 
 
 class Refusing:
@@ -64,29 +68,35 @@ class Refusing:
         try:
             return function(*words)
         except (MemoryError, SystemError) as error:
-            _testcapi.remove_mem_hooks()
-            self.refused = 1
-            # Python 3.11 loses an error if it has no memory for a frame
-            return error if isinstance(error, MemoryError) else MemoryError()
+            refused = error
         finally:
             _testcapi.remove_mem_hooks()
+        self.refused = 1
+        # Python 3.11 loses an error if it has no memory for a frame
+        return refused if isinstance(refused, MemoryError) else MemoryError()
+
+
+def again(memory, function, *words):
+    """What is repeated until it isn't refused."""
+    while isinstance(answer := memory.call(function, *words), MemoryError):
+        pass
+    return answer
 
 
 def read_all(memory, read, data):
     """All that is added, and how many bytes were read, as a call may stop."""
     made, at = [], 0
-    while True:
-        answer = memory.call(read, data[at:])
+    while isinstance(answer := memory.call(read, data[at:]), MemoryError):
         if isinstance(answer, vte.Refused):
             assert not answer.lost
             made, at = made + answer.events, at + answer.read
-        elif not isinstance(answer, MemoryError):
-            more, count = answer if isinstance(answer, tuple) else (answer, len(data) - at)
-            return made + more, at + count
+    more, count = answer if isinstance(answer, tuple) else (answer, len(data) - at)
+    return made + more, at + count
 
 
-def feed(memory, reader, data, *kinds):
-    made, _ = read_all(memory, lambda data: reader.feed(data, *kinds), data)
+def feed(memory, stream, make, *kinds):
+    reader = make()
+    made, _ = read_all(memory, lambda data: reader.feed(data, *kinds), stream)
     # a byte after that means what it should
     return joined(made + reader.feed(b"\x18\x1b[1mx"))
 
@@ -101,73 +111,45 @@ def feed_until(memory, stream, stops, *kinds):
     return found
 
 
-def update(stream):
-    return b"\x1b[?2026h" + stream + b"\x1b[?2026l" + stream[:900]
-
-
 def stop_sync(memory, stream):
     processor = vte.Processor()
-    made = processor.feed(b"\x1b[?2026h" + stream[:60_000] * 3)
+    made = processor.feed(b"\x1b[?2026h" + stream[:60_000] * 12)
+    if not processor.sync_bytes_count:
+        raise TimeoutError
     while isinstance(answer := memory.call(processor.stop_sync), MemoryError):
         made += answer.events if isinstance(answer, vte.Refused) else []
     return joined(made + answer + processor.feed(b"end"))
 
 
-class Pieces:
-    """A file that loses nothing if memory is refused, as others do."""
-
-    def __init__(self, stream):
-        self._pieces = iter(cut(stream, 70_000))
-
-    def read(self, _):
-        return next(self._pieces, b"")
-
-
 def open_file(memory, stream, *kinds):
-    file, made, end = Pieces(stream), [], object()
-    events = vte.open(file, 70_000, *kinds)
+    # a file that loses nothing if memory is refused, as others do
+    pieces, made, end = iter(cut(stream, 70_000)), [], object()
+    events = vte.open(SimpleNamespace(read=lambda _: next(pieces, b"")), 70_000, *kinds)
     while (event := memory.call(next, events, end)) is not end:
         made += [] if isinstance(event, MemoryError) else [event]
     return joined(made)
 
 
-def again(memory, function, *words):
-    """What is repeated until it isn't refused."""
-    while isinstance(answer := memory.call(function, *words), MemoryError):
-        pass
-    return answer
-
-
 def strip_pieces(memory, stream, errors):
-    stripper, texts = vte.Stripper(errors), []
-    stream, size = (stream + b"\xe2\xff\xf0\x9f") * 6, len(stream) * 2 + 1
-    for at in range(0, len(stream), size):
-        texts.append(again(memory, stripper.strip, bytearray(stream[at:at + size])))
+    stripper, stream = vte.Stripper(errors), (stream + b"\xe2\xff\xf0\x9f") * 6
+    pieces = map(bytearray, cut(stream, len(stream) // 3 + 1))
+    texts = [again(memory, stripper.strip, piece) for piece in pieces]
     return b"".join(texts) + stripper.strip(b"", final=True)
 
 
-READS = {
-    "a parser": lambda memory, stream: feed(memory, vte.Parser(), stream),
-    "a limit": lambda memory, stream: feed(memory, vte.Parser(1024), bytearray(stream)),
-    "commands": lambda memory, stream: feed(memory, vte.Parser(), stream, Osc),
-    "data": lambda memory, stream: feed(memory, vte.Parser(), stream, [Data, Csi]),
-    "until": lambda memory, stream: feed_until(memory, stream, {Osc, Execute}, {Osc, Csi}),
-    "until a command": lambda memory, stream: feed_until(memory, stream, Osc, Osc),
-    "a processor": lambda memory, stream: feed(memory, vte.Processor(), stream),
-    "held bytes": lambda memory, stream: feed(memory, vte.Processor(), update(stream)),
-    "a stop": stop_sync,
-    "a file": open_file,
-    "commands of a file": lambda memory, stream: open_file(memory, stream, Osc),
-    "a stripper": lambda memory, stream: strip_pieces(memory, stream, "replace"),
-    "one that keeps bytes": lambda memory, stream: strip_pieces(memory, stream, "surrogateescape"),
-}
+def say_what_is_lost(memory, _):
+    processor, many = vte.Processor(), b"a\x1b[65535b" * (100 if type(memory) is Limited else 4)
+    answer = memory.call(processor.feed, many)
+    if isinstance(memory, Limited) and memory.refused and memory.room > 1 << 20:
+        assert answer.lost and 0 < answer.read <= len(many)
+    return processor.feed(b"\x18x")[-1:]
 
 
-def pickled(memory, reader):
-    return pickle.loads(again(memory, pickle.dumps, reader))
+def strip(memory, stream, of, *errors):
+    return again(memory, vte.strip, of(stream), *errors)
 
 
-def timeout(memory):
+def timeout(memory, _):
     processor = vte.Processor()
     processor.feed(b"\x1b[?2026h")
     # Python keeps the memory of some numbers
@@ -175,84 +157,80 @@ def timeout(memory):
     return again(memory, lambda: processor.sync_timeout) > 0
 
 
-TEXT = SHORT.decode(errors="replace")
+# functions, and what they get after the memory and a stream
+READS = {
+    "a parser": (feed, vte.Parser), "a processor": (feed, vte.Processor),
+    "a limit": (lambda memory, stream: feed(memory, bytearray(stream), partial(vte.Parser, 1024)),),
+    "commands": (feed, vte.Parser, Osc), "data": (feed, vte.Parser, [Data, Csi]),
+    "until": (feed_until, {Osc, Execute}, {Osc, Csi}), "until a command": (feed_until, Osc, Osc),
+    "held bytes": (lambda memory, stream: feed(
+        memory, b"\x1b[?2026h" + stream + b"\x1b[?2026l" + stream[:900], vte.Processor),),
+    "a stop": (stop_sync,), "a file": (open_file,), "commands of a file": (open_file, Osc),
+    "a stripper": (strip_pieces, "replace"), "kept bytes": (strip_pieces, "surrogateescape"),
+    "what is lost": (say_what_is_lost,)}
 OTHERS = {
-    "strip": lambda memory, stream: again(memory, vte.strip, stream),
-    "strip of str": lambda memory, _: again(memory, vte.strip, TEXT),
-    "strip of surrogates": lambda memory, _: again(memory, vte.strip, "a\ud800" + TEXT),
-    "strip of a bytearray": lambda memory, stream: again(memory, vte.strip, bytearray(stream)),
-    "strip that keeps bytes": lambda memory, stream: again(
-        memory, vte.strip, stream, "surrogateescape"),
-    "a pickle": lambda memory, stream: pickled(memory, vte.Parser(1024)).feed(stream),
-    "a copy": lambda memory, stream: again(memory, copy.copy, vte.Stripper()).strip(stream),
-    "a timeout": lambda memory, _: timeout(memory),
-}
+    "strip": (strip, bytes), "strip of a bytearray": (strip, bytearray),
+    "strip of str": (strip, lambda stream: stream.decode(errors="replace")),
+    "strip of surrogates": (strip, lambda stream: "a\ud800" + stream.decode(errors="replace")),
+    "strip that keeps bytes": (strip, bytes, "surrogateescape"),
+    "a pickle": (lambda memory, stream: pickle.loads(
+        again(memory, pickle.dumps, vte.Parser(1024))).feed(stream),),
+    "a copy": (lambda memory, stream: again(memory, copy.copy, vte.Stripper()).strip(stream),),
+    "a timeout": (timeout,)}
 
 
-def run(way, act):
+@pytest.mark.parametrize("way, act", [
+    *(("limit", act) for act in READS), *(("refuse", act) for act in [*READS, *OTHERS])])
+def test_what_is_refused_memory_goes_on(way, act):
+    if way == "limit" and sys.platform != "linux":
+        pytest.skip("Linux limits the memory of a process")
+    if way == "refuse":
+        pytest.importorskip("_testcapi")
     done = subprocess.run([sys.executable, __file__, way, act], capture_output=True, text=True)
     assert (done.returncode, done.stderr) == (0, "")
-    return map(int, done.stdout.split())
-
-
-@pytest.mark.skipif(sys.platform != "linux", reason="Linux limits the memory of a process")
-@pytest.mark.parametrize("act", READS)
-def test_limits_of_memory(act):
-    count, refused = run("limit", act)
-    assert refused > count // 4
-
-
-@pytest.mark.parametrize("act", [*READS, *OTHERS])
-def test_each_allocation_refused(act):
-    pytest.importorskip("_testcapi")
-    count, refused = run("refuse", act)
-    assert count > 0 and refused > 0
 
 
 def in_child(act, room):
-    """How often memory was refused, and what came, by a number."""
+    """How often memory was refused, and what came, by numbers."""
     reading, writing = os.pipe()
     if os.fork() == 0:
         memory = Limited(room)
-        made = repr(act(memory, LONG)).encode()
-        os.write(writing, f"{memory.refused} {zlib.crc32(made)} {len(made)}".encode())
+        # on a busy machine an update may expire before all of it is read: then a new child tries
+        with suppress(TimeoutError):
+            made = repr(act(memory, LONG)).encode()
+            os.write(writing, json.dumps([memory.refused, zlib.crc32(made), len(made)]).encode())
         os._exit(0)
-    os.close(writing)
-    with open(reading) as said:
-        refused, *made = said.read().split()
     os.wait()
-    return int(refused), made
+    os.close(writing)
+    return json.loads(os.read(reading, 99) or "null") or in_child(act, room)
 
 
 def limit(act):
-    """At how many of some limits memory was refused."""
-    (_, wanted), refused = in_child(act, 1 << 40), 0
-    for room in ROOMS:
-        count, made = in_child(act, room)
-        if made != wanted:
-            sys.exit(f"with {room} bytes: {made}, not {wanted}")
-        refused += count > 0
-    return len(ROOMS), refused
+    """Memory is refused at a quarter of some limits, at least."""
+    (_, *wanted), found = in_child(act, 1 << 40), [in_child(act, room) for room in ROOMS]
+    assert [made for _, *made in found] == [wanted] * len(ROOMS)
+    assert sum(refused > 0 for refused, *_ in found) > len(ROOMS) // 4
 
 
 def refuse(act):
-    """How many allocations there are: all from each one on are refused, or that one alone."""
+    """All allocations from each one on are refused, or that one alone."""
     wanted = act(Refusing(1 << 30, 0), SHORT)
 
     def is_refused(first, end):
         memory = Refusing(first, end)
         made = act(memory, SHORT)
         # without memory for a traceback Python raises another error than Refused
-        if made != wanted and not (end == 0 and act in READS.values()):
-            sys.exit(f"with allocation {first} refused: {made}, not {wanted}")
+        assert made == wanted or end == 0 and name in READS, first
         return memory.refused
 
     count = next(first for first in range(100_000) if not is_refused(first, 0))
-    return count, sum(is_refused(first, first + 1) for first in range(count))
+    assert sum(is_refused(first, first + 1) for first in range(count)) > 0
 
 
 if __name__ == "__main__":
     way, name = sys.argv[1:]
     if way == "refuse":
         import _testcapi
-    print(*{"limit": limit, "refuse": refuse}[way]({**READS, **OTHERS}[name]))
+    function, *words = {**READS, **OTHERS}[name]
+    ways = {"limit": limit, "refuse": refuse}
+    ways[way](lambda memory, stream: function(memory, stream, *words))

@@ -1,16 +1,21 @@
 """Tests of the package as a whole: names, wrong arguments, threads, signals, leaks."""
+import doctest
 import gc
 import importlib.metadata
 import io
+import itertools
+import operator
 import pickle
-import resource
 import signal
 import sys
 import threading
 import time
+from concurrent.futures import ThreadPoolExecutor
+from pathlib import Path
+from resource import RUSAGE_SELF, getrusage
 
 import pytest
-from common import parsers
+from common import READERS, parsers
 
 import vte
 from vte import Csi, Osc, Text, calls
@@ -26,23 +31,18 @@ NAMES |= {f"{name}.{of}": part for name, value in NAMES.items()
 def test_names():
     modules = {name for name, value in vars(vte).items() if isinstance(value, type(vte))}
     assert set(vte.__all__) == {name for name in vars(vte) if name[0] != "_"} - modules | {"calls"}
-    for name in set(vte.__all__) - {"calls", "Event"}:
-        assert getattr(vte, name).__module__.removeprefix("vte.") in (
-            "vte", "_parts", "_reader", "_vte")
+    of = {getattr(vte, name).__module__ for name in set(vte.__all__) - {"calls", "Event"}}
+    assert of <= {"vte", "vte._parts", "vte._reader", "vte._vte"}
+    assert doctest.testmod(vte).failed == 0
     assert importlib.metadata.version("naqshuve-vte") == vte.__version__
     assert [made.limit for made in (*parsers(), vte.Parser(1024))] == [None, 1024, 1024]
+    for name, value in NAMES.items():
+        # a named tuple without a text of its own has its fields there
+        has_fields = isinstance(value, type) and value.__doc__.startswith(f"{value.__name__}(")
+        assert value.__doc__ and not has_fields, name
 
 
-@pytest.mark.parametrize("name", NAMES)
-def test_each_name_is_documented(name):
-    # a named tuple without a text of its own has its fields there
-    value = NAMES[name]
-    assert value.__doc__
-    assert not (isinstance(value, type) and value.__doc__.startswith(f"{value.__name__}("))
-
-
-READERS = [(vte.Parser, "feed"), (lambda: vte.Parser(limit=1024), "feed"), (vte.Processor, "feed"),
-           (vte.Stripper, "strip")]
+parser = vte.Parser()
 
 
 @pytest.mark.parametrize("error, message, function, words", [
@@ -52,13 +52,21 @@ READERS = [(vte.Parser, "feed"), (lambda: vte.Parser(limit=1024), "feed"), (vte.
       if wrong != "a" or function.__name__ == "feed"),
     *((ValueError, f"limit must be None or 1024, not {limit!r}", vte.Parser, [limit])
       for limit in (0, 1, 5, 1023, 1025, -1024, False, "1024")),
-    (ValueError, "stops can't have vte.Text or vte.Data", vte.Parser().feed_until, [b"", [Text]]),
+    (ValueError, "stops can't have vte.Text or vte.Data", parser.feed_until, [b"", [Text]]),
     *((TypeError, "open takes a path, a file descriptor or a binary file, not "
        + type(wrong).__name__, vte.open, [wrong])
       for wrong in (None, b"path", io.StringIO("a"), sys.__stdout__)),
-    (TypeError, "kinds must be types of events", vte.open, [io.BytesIO(), 9, {int}]),
-    *((ValueError, f"size must be at least 1, not {size!r}", vte.open, [io.BytesIO(), size])
-      for size in (0, -1, 1.5, None, "9")),
+    *((TypeError, f"parts takes .* or a bytes-like object, not {type(wrong).__name__}", vte.parts,
+       [wrong, 9])
+      for wrong in (None, ["a"], object(), io.StringIO("a"), sys.__stdout__,
+                    memoryview(b"abcd")[::2])),
+    *((TypeError, "kinds must be types of events|is not iterable", function, [*words, wrong])
+      for wrong in ({int}, [Text, None], int, 5, "Osc", [[]], [Text("a")])
+      for function, *words in [(parser.feed, b""), (parser.feed_until, b""),
+                               (parser.feed_until, b"", Osc), (vte.open, io.BytesIO(), 9)]),
+    *((ValueError, f"size must be at least 1, not {size!r}", function, [source, size])
+      for size in (0, -1, 1.5, None, "9")
+      for function, source in [(vte.open, io.BytesIO()), (vte.parts, b"")]),
     *((TypeError, f"iterable over lines, not {type(wrong).__name__}", vte.strip_lines, [wrong])
       for wrong in (b"a", "a", bytearray(b"a"))),
     (UnicodeEncodeError, "surrogates not allowed", vte.strip, ["\ud800", "surrogateescape"]),
@@ -72,41 +80,34 @@ def test_wrong_arguments(error, message, function, words):
 
 @pytest.mark.parametrize("make, read", READERS)
 def test_a_shared_object_raises(make, read):
-    data, shared, answers = b"a\x1b[1m" * 40_000, make(), []
+    data, shared = b"a\x1b[1m" * 40_000, make()
     wanted = getattr(make(), read)(data)
 
-    def use():
-        for _ in range(4):
-            try:
-                answers.append(getattr(shared, read)(data))
-            except RuntimeError as error:
-                answers.append(str(error))
+    def use(_):
+        try:
+            return getattr(shared, read)(data)
+        except RuntimeError as error:
+            return str(error)
 
-    threads = [threading.Thread(target=use) for _ in range(8)]
-    [thread.start() for thread in threads]
-    [thread.join() for thread in threads]
+    with ThreadPoolExecutor(8) as pool:
+        answers = list(pool.map(use, range(32)))
     assert all(answer in (wanted, "another thread uses this object") for answer in answers)
-    assert (len(answers), wanted in answers) == (32, True)
+    assert wanted in answers
 
 
 @pytest.mark.parametrize("read", [vte.strip, lambda data: vte.Parser().feed(data, {Osc})])
 def test_other_threads_run_meanwhile(read):
-    data, passes, ends = b"plain text \x1b[1m" * 2_000_000, [0], threading.Event()
-
-    def count():
-        while not ends.is_set():
-            passes[0] += 1
-
-    counter = threading.Thread(target=count)
+    data, passes, ends = b"plain text \x1b[1m" * 2_000_000, itertools.count(), threading.Event()
+    counter = threading.Thread(
+        target=lambda: all(next(passes) >= 0 for _ in iter(ends.is_set, True)), daemon=True)
     counter.start()
-    try:
-        time.sleep(0.05)
-        before = passes[0]
-        read(data)
-        assert passes[0] - before > 1000
-    finally:
-        ends.set()
-        counter.join()
+    time.sleep(0.05)
+    before = next(passes)
+    read(data)
+    made = next(passes) - before
+    ends.set()
+    counter.join()
+    assert made > 1000
 
 
 # each makes another object, and none is made by code in Python, where a signal would come
@@ -119,17 +120,11 @@ COLOURS = b"".join(b"\x1b[38;2;%d;%d;9m" % (it & 255, it >> 8) for it in range(3
                      TerminalAttribute(Attribute.Underline, None)])])
 @pytest.mark.parametrize("data", [b"a\x1b[m" * 100_000, COLOURS])
 def test_a_signal_comes_out_and_the_next_call_goes_on(make, end, data):
-    class Alarm(Exception):
-        pass
-
-    def alarm(*_):
-        raise Alarm
-
-    shared, before = make(), signal.signal(signal.SIGALRM, alarm)
+    shared, before = make(), signal.signal(signal.SIGALRM, signal.default_int_handler)
     # what is raised in a callback of the collector, such as that of hypothesis, is lost
     gc.disable()
     try:
-        with pytest.raises(Alarm):
+        with pytest.raises(KeyboardInterrupt):
             signal.setitimer(signal.ITIMER_REAL, 0.005)
             for _ in range(1000):
                 shared.feed(data + b"\x1b[1")
@@ -148,9 +143,7 @@ LEAKED = b"".join(b"\x1b[%dm\x1b]0;%d\x07text \xff\n\x1bP%dqdata\x1b\\" % (it, i
 
 def use_everything():
     for parser in parsers():
-        parser.feed(LEAKED)
-        parser.feed(LEAKED, {vte.Data})
-        parser.feed_until(LEAKED, {Osc})
+        parser.feed(LEAKED), parser.feed(LEAKED, {vte.Data}), parser.feed_until(LEAKED, {Osc})
     pickle.loads(pickle.dumps(parser))
     vte.Processor().feed(LEAKED + b"\x1b[?2026h")
     for data in LEAKED, LEAKED.decode(errors="replace"), bytearray(LEAKED):
@@ -167,7 +160,9 @@ def test_nothing_leaks():
         for _ in range(times):
             use_everything()
         gc.collect()
-        used.append((sys.getallocatedblocks(), resource.getrusage(resource.RUSAGE_SELF).ru_maxrss))
-    (blocks, memory), (more_blocks, more_memory) = used
+        # what a processor has for updates isn't resident
+        pages = int(Path("/proc/self/statm").read_text().split()[0])
+        used.append((sys.getallocatedblocks(), getrusage(RUSAGE_SELF).ru_maxrss, pages))
+    blocks, memory, pages = map(operator.sub, *reversed(used))
     # one object for each call would be 300
-    assert more_blocks - blocks < 250 and more_memory - memory < 8000
+    assert blocks < 250 and memory < 8000 and pages < 8000

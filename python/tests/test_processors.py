@@ -19,15 +19,13 @@ CALLS = [
     calls.SetTitle(title="t;i"), Input("\ufffd"), calls.SetHyperlink(id="abc", uri="y"),
     calls.SetScrollingRegion(top=3, bottom=None), TerminalAttribute(Attribute.CancelItalic, None),
     calls.ClipboardStore(clipboard="c", data=b"YQ=="),
-    calls.DynamicColorSequence(prefix="4;9", index=9, terminator="\x07"),
-]
+    calls.DynamicColorSequence(prefix="4;9", index=9, terminator="\x07")]
 
 
 def test_calls():
     processor = vte.Processor()
-    assert processor.feed(STREAM) == CALLS
+    assert (processor.feed(STREAM), processor.feed(b"")) == (CALLS, [])
     assert repr(CALLS[2]) == "TerminalAttribute(attribute=Bold, color=None)"
-    assert processor.feed(b"") == []
 
 
 def test_updates():
@@ -53,11 +51,6 @@ def test_many_calls_of_few_bytes():
 screen, processor = Screen(), vte.Processor()
 
 
-def show(stream):
-    for call in processor.feed(stream):
-        screen.take(call)
-
-
 @pytest.mark.parametrize("stream, row, column, character", [
     (b"ab", 0, 1, "b"), (b"\x1b[5;10Hab\x08c", 4, 10, "c"), (b"\x1b[2Ad", 2, 11, "d"),
     (b"\x1b[3Be", 5, 12, "e"), (b"\x1b[4Df", 5, 9, "f"), (b"\x1b[3Cg", 5, 13, "g"),
@@ -66,13 +59,13 @@ def show(stream):
     (b"\x1b[99B\x1b[99Co", 23, 79, "o"), (b"\x1b[3;1Hpqr\x1b[1D\x1b[1K", 2, 1, " "),
     (b"\x1b[3;1Hpqr\x08\x1b[K", 2, 1, "q"), (b"\x1b[2J", 23, 79, " ")])
 def test_cells(stream, row, column, character):
-    show(stream)
+    for call in processor.feed(stream):
+        screen.take(call)
     assert screen.lines[row][column] == character
 
 
 def test_screen():
-    words = [sys.executable, EXAMPLES / "screen.py"]
     # an update that doesn't end is shown, too
     stream = b"\x1b[2;3Ha\x1b[?2026h\r\nb"
-    said = subprocess.run(words, input=stream, stdout=subprocess.PIPE, check=True).stdout
+    said = subprocess.check_output([sys.executable, EXAMPLES / "screen.py"], input=stream)
     assert said.decode().split("\n") == ["", "  a", "b", *[""] * 22]

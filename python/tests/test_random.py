@@ -1,10 +1,8 @@
 """Random streams in random pieces: all ways to read them agree, also with `vtlog`, by $VTLOG."""
-import os
 import re
-import subprocess
 
 import pytest
-from common import feed, joined, parsers, text_of
+from common import WORDS, by_vtlog, feed, joined, needs_vtlog, parsers, text_of
 from test_vectors import event_lines
 
 import vte
@@ -13,14 +11,11 @@ from vte import Csi, Data, Esc, Execute, Hook, Osc, Put, Text, Unhook
 pytest.importorskip("hypothesis")
 from hypothesis import given, settings, strategies  # noqa: E402
 
-VTLOG = os.environ.get("VTLOG")
 PARTS = [
-    b"\x1b", b"[", b"]", b"P", b"X", b"\\", b"\x07", b"\x18", b";", b":", b"0", b"38", b"99999",
-    b"m", b"H", b"?", b"$", b" ", b"(", b"\n", b"\t", b"\r", b"a", b"text", "ü€😀".encode(),
-    b"\xc3", b"\xe2\x82", b"\xac", b"\xf0\x9f\x98", b"\x85", b"\x9b", b"\x9c", b"\xff",
-    b"\x1b[1;31m", b"\x1b]0;title\x07", b"\x1bP1$qdata\x1b\\", b"\x1b[?2026h", b"\x1b[?2026l",
-    b"\x1b]52;c;", b"x" * 600, b"\x7f", b"\x0b", b"\xc2\x9f", "\u2028\U0010ffff".encode(),
-]
+    *WORDS, b"]", b"P", b"X", b"\\", b";", b":", b"0", b"38", b"99999", b"H", b"?", b"$", b" ",
+    b"(", b"\n", b"\t", b"\r", b"a", b"text", b"\xac", b"\xf0\x9f\x98", b"\x85", b"\x9b",
+    b"\x1b[?2026h", b"\x1b[?2026l", b"\x1b]52;c;", b"x" * 600, b"\x7f", b"\x0b", b"\xc2\x9f",
+    "\u2028\U0010ffff".encode()]
 ENDS = [Execute, Hook, Put, Unhook, Osc, Csi, Esc]
 pieces = strategies.lists(
     strategies.sampled_from(PARTS) | strategies.binary(max_size=4), max_size=60).map(b"".join)
@@ -90,13 +85,10 @@ def test_texts_and_calls(stream):
         assert joined(feed(vte.Processor(), stream)) == vte.Processor().feed(whole)
 
 
-@pytest.mark.skipif(not VTLOG, reason="no $VTLOG")
+@needs_vtlog
 @often
 @given(streams)
 def test_as_vtlog(stream):
-    def vtlog(*words):
-        return subprocess.check_output([VTLOG, *words], input=b"".join(stream))
-
-    found = event_lines(feed(vte.Parser(limit=1024), stream))
-    assert found == vtlog().decode().splitlines()
-    assert vte.Stripper().strip(b"".join(stream)) == vtlog("text")
+    whole, found = b"".join(stream), event_lines(feed(vte.Parser(limit=1024), stream))
+    assert found == by_vtlog(whole).decode().splitlines()
+    assert vte.Stripper().strip(whole) == by_vtlog(whole, "text")

@@ -1,14 +1,15 @@
 """Tests of files and terminals."""
 import errno
 import io
+import itertools
 import os
 import pty
 import subprocess
 import sys
-import threading
+from unittest import mock
 
 import pytest
-from common import EVENTS, EXAMPLES, STREAM, joined, parsers
+from common import EVENTS, EXAMPLES, STREAM, cut, joined, parsers
 
 import vte
 from vte import Csi, Esc, Execute, Hook, Osc, Put, Text
@@ -52,17 +53,15 @@ def test_kinds(source, kinds, given):
 
 
 def test_who_closes_a_file(path):
-    for leave in lambda events: events.__exit__(), lambda events: events.close():
-        with vte.open(path) as events:
-            leave(events)
-            with pytest.raises(ValueError):
-                next(events)
     # an error isn't kept, and closes the file, too
-    with pytest.raises(KeyError), vte.open(path, 1) as events:
-        assert (type(events), next(events)) == (vte.Reader, Text("a"))
+    with pytest.raises(KeyError), vte.open(path, 1) as left:
+        assert (type(left), next(left)) == (vte.Reader, Text("a"))
         raise KeyError
-    with pytest.raises(ValueError):
-        next(events)
+    closed = vte.open(path)
+    closed.close()
+    for events in left, closed:
+        with pytest.raises(ValueError):
+            next(events)
     with open(path, "rb") as file:
         for given in file, file.fileno():
             with vte.open(given):
@@ -71,17 +70,14 @@ def test_who_closes_a_file(path):
 
 
 def test_files_that_cannot_be_read(path):
-    with pytest.raises(FileNotFoundError):
-        vte.open(f"{path}.none")
-    with open(path, "rb") as file:
-        descriptor = file.fileno()
-    with pytest.raises(OSError):
-        next(vte.open(descriptor))
-    with pytest.raises(ValueError, match="closed file"):
-        next(vte.open(file))
     folder = os.open("/", os.O_RDONLY)
-    with pytest.raises(IsADirectoryError):
-        next(vte.open(folder))
+    with open(path, "rb") as file:
+        closed = file.fileno()
+    for error, message, source in [
+            (FileNotFoundError, "No such file", f"{path}.none"), (OSError, "Bad file", closed),
+            (ValueError, "closed file", file), (IsADirectoryError, "", folder)]:
+        with pytest.raises(error, match=message):
+            next(vte.open(source))
     os.close(folder)
 
 
@@ -100,14 +96,11 @@ def test_files_that_have_nothing_yet():
         assert list(vte.open(file)) == []
 
 
-def test_an_end_in_the_middle(tmp_path):
-    path = tmp_path / "stream"
-    for end in range(len(STREAM) + 1):
+def test_an_end_in_the_middle(path):
+    for end, size in itertools.product(range(len(STREAM) + 1), [1, 7, 65536]):
         path.write_bytes(STREAM[:end])
-        wanted = joined(vte.Parser().feed(STREAM[:end]))
-        for size in 1, 7, 65536:
-            with vte.open(path, size) as events:
-                assert joined(events) == wanted
+        with vte.open(path, size) as events:
+            assert joined(events) == joined(vte.Parser().feed(STREAM[:end]))
     assert list(vte.open(io.BytesIO(b"caf\xe9"))) == [Text("caf")]
 
 
@@ -121,25 +114,14 @@ def test_errors_of_files():
                     with pytest.raises(OSError, match="Input/output error"):
                         next(events)
     master, slave = pty.openpty()
-    os.write(slave, b"a\x1b[1")
-    events = vte.open(master)
-    assert next(events) == Text("a")
-    # only one error is the end of a terminal
+    os.write(slave, b"a\x1b[1mb\x1b[1")
     os.close(slave)
-    assert next(events, "end") == "end"
+    # only one error is the end of a terminal
+    events = vte.open(master)
+    assert joined(events) == [Text("a"), Csi(((1,),), b"", False, "m"), Text("b")]
     os.close(master)
     with pytest.raises(OSError, match="Bad file descriptor"):
         next(events)
-
-
-class Failing(io.BytesIO):
-    """Its second read is an error."""
-
-    def read1(self, size):
-        self.count = getattr(self, "count", 0) + 1
-        if self.count == 2:
-            raise OSError(errno.EIO, "no luck")
-        return super().read(size)
 
 
 class Refusing(vte.Parser):
@@ -158,8 +140,12 @@ class Refusing(vte.Parser):
 @pytest.mark.parametrize("size", [1, 7, 20])
 def test_reading_goes_on_after_an_error(monkeypatch, size):
     monkeypatch.setattr("vte._reader.Parser", Refusing)
-    events, made, errors, end = vte.open(Failing(STREAM), size), [], set(), object()
-    while not made or made[-1] is not end:
+    # the second read is an error
+    reads = [*cut(STREAM, size), b""]
+    reads.insert(1, OSError(errno.EIO, "no luck"))
+    file = mock.Mock(spec=["read1"], read1=mock.Mock(side_effect=reads))
+    events, made, errors, end = vte.open(file, size), [], set(), object()
+    while end not in made:
         try:
             made.append(next(events, end))
         except (OSError, MemoryError) as error:
@@ -168,8 +154,7 @@ def test_reading_goes_on_after_an_error(monkeypatch, size):
 
 
 def test_standard_input():
-    words = [sys.executable, EXAMPLES / "events.py"]
-    said = subprocess.run(words, input=b"a\n", stdout=subprocess.PIPE, check=True).stdout
+    said = subprocess.check_output([sys.executable, EXAMPLES / "events.py"], input=b"a\n")
     assert said == b"print 0061\nexecute 0a\n"
 
 
@@ -183,32 +168,19 @@ def test_a_piece_is_read_when_it_is_wanted():
 
 
 def test_a_piece_is_what_is_there():
-    class Live(io.BytesIO):
-        def read(self, size=-1):
-            raise AssertionError("it waits for more")
-
-    assert next(vte.open(Live(b"a"))) == Text("a")
-
-
-def test_pty():
-    master, slave = pty.openpty()
-    with subprocess.Popen(["printf", r"a\033[1mb"], stdout=slave):
-        os.close(slave)
-        wanted = [Text("a"), Csi(((1,),), b"", False, "m"), Text("b")]
-        assert joined(vte.open(master)) == wanted
-    os.close(master)
+    file = mock.Mock(spec=["read", "read1"], read1=lambda size: b"a")
+    assert next(vte.open(file)) == Text("a")
+    # which waits for more
+    file.read.assert_not_called()
 
 
 def test_title_watcher():
-    # the program waits until the first title was seen; a watcher that is late is killed
+    # the program waits until the first title was seen; a watcher that is late is ended
     program = r"printf 'a\033]2;hi;you\007'; read line; printf '\033]1;x\007\033]0;b\033\\'; exit 3"
-    words = [sys.executable, EXAMPLES / "title_watcher.py", "sh", "-c", program]
-    with subprocess.Popen(words, stdin=subprocess.PIPE, stdout=subprocess.PIPE,
-                          stderr=subprocess.PIPE) as watcher:
-        late = threading.Timer(300, watcher.kill)
-        late.start()
+    words = ["timeout", "300", sys.executable, EXAMPLES / "title_watcher.py", "sh", "-c", program]
+    pipes = dict.fromkeys(("stdin", "stdout", "stderr"), subprocess.PIPE)
+    with subprocess.Popen(words, **pipes) as watcher:
         assert watcher.stderr.readline() == b"title: hi;you\n"
         said, titles = watcher.communicate(b"\n")
-        late.cancel()
     assert (titles, watcher.returncode) == (b"title: b\n", 3)
     assert said == b"a\x1b]2;hi;you\x07\r\n\x1b]1;x\x07\x1b]0;b\x1b\\"

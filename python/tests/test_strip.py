@@ -7,7 +7,6 @@ from common import STREAM, cut, text_of
 
 import vte
 
-
 Letters = type("Letters", (str,), {})
 
 
@@ -26,18 +25,13 @@ def test_lines():
 
 
 def test_each_line_comes_as_it_is_taken():
-    def lines():
-        yield b"\x1b[ma"
-        raise AssertionError("the second line was asked for")
-
-    assert next(vte.strip_lines(lines())) == b"a"
+    lines = iter([b"\x1b[ma", b"b"])
+    assert (next(vte.strip_lines(lines)), next(lines)) == (b"a", b"b")
 
 
 def test_bytes_and_str():
     assert vte.strip(STREAM) == "aü\r\U0001f600\ufffd".encode()
-    for surrogate in "\ud800", "\udbff", "\udc00", "\udfff":
-        assert vte.strip(f"ü\x1b[1mß{surrogate}") == "üß\ufffd"
-    assert vte.strip("a\ud800\udc00\ud801b") == "a\ufffd\ufffd\ufffdb"
+    assert vte.strip("ü\x1b[1mß\ud800\udbff\udc00\udfffb") == "üß\ufffd\ufffd\ufffd\ufffdb"
     assert vte.strip("ü\x1b[m" * 400_000) == "ü" * 400_000
     for lines in [Letters("a\x1b[1mb"), Letters("plain")], [Letters("a\x1b[1mb"), "plain"]:
         ways = map(vte.strip, lines), map(vte.Stripper().strip, lines), vte.strip_lines(lines)
@@ -54,8 +48,7 @@ KEPT = [
     (b"a\xff\x1b[1mb\xe2\x82c\xc0\xaf\n", b"a\xffb\xe2\x82c\xc0\xaf\n"),
     (b"\x1b]0;t\xe2\x07\xa2\x1bP\xff\x1b\\z", b"\xa2z"), (b"\xe2\x82\x1b[m\xacz", b"\xe2\x82\xacz"),
     (b"\xff\x85\x01\xc2\x85\xfe", b"\xff\xfe"),
-    (b"\xef\xbf\xbd\xef\xbf", b"\xef\xbf\xbd\xef\xbf"),
-]
+    (b"\xef\xbf\xbd\xef\xbf", b"\xef\xbf\xbd\xef\xbf")]
 
 
 def test_bytes_that_are_not_utf8_stay():
@@ -64,9 +57,8 @@ def test_bytes_that_are_not_utf8_stay():
     whole = (bytes(part) for part in parts)
     stripper = vte.Stripper("surrogateescape")
     for data, wanted in [*KEPT, *((data, data) for data in whole)]:
-        assert vte.strip(data, errors="surrogateescape") == wanted
         texts = [*map(stripper.strip, cut(data, 1)), stripper.strip(b"", final=True)]
-        assert b"".join(texts) == wanted
+        assert vte.strip(data, errors="surrogateescape") == b"".join(texts) == wanted
     for data, wanted in KEPT:
         text, wanted_text = (it.decode(errors="surrogateescape") for it in (data, wanted))
         found = vte.strip_lines([data, text], errors="surrogateescape")
@@ -94,7 +86,7 @@ def test_a_stream_ends(front, end, shown, kept):
             # another stream begins
             assert stripper.strip(b"\xa9x", final=True) == vte.strip(b"\xa9x", errors)
         assert stripper.strip(front) + stripper.strip(end, final=True) == text + wanted
-        data = (front + end).decode(errors="surrogateescape")
         if errors == "surrogateescape":
-            assert vte.strip(data, errors).encode(errors=errors) == text + wanted
-            assert stripper.strip(data, True).encode(errors=errors) == text + wanted
+            data = (front + end).decode(errors=errors)
+            for stripped in vte.strip(data, errors), stripper.strip(data, True):
+                assert stripped.encode(errors=errors) == text + wanted

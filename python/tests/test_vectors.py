@@ -1,14 +1,16 @@
 """Compares events, texts and calls with the test vectors, which an sdist doesn't have."""
 import copy
+import itertools
 
 import pytest
-from call_words import lines_of, name_of, words_of_line
-from common import cut, feed
+from call_words import lines_of, words_of_line
+from common import FOLDER, cut, feed, parsers, stream_of, vectors
 from events import line
-from hostile import FOLDER, vectors
 
 import vte
 from vte import calls
+
+OPEN = [None, "character", "esc", "csi", "dcs", "osc", "ignored"]
 
 
 def each(file, kind):
@@ -17,9 +19,8 @@ def each(file, kind):
 
 def cuttings(vector):
     """The pieces, the whole, and single bytes."""
-    pieces = [bytes.fromhex(piece) for piece in vector["pieces"]]
-    stream = b"".join(pieces)
-    return pieces, [stream], cut(stream, 1)
+    stream = stream_of(vector)
+    return [*map(bytes.fromhex, vector["pieces"])], [stream], cut(stream, 1)
 
 
 def event_lines(events):
@@ -31,42 +32,52 @@ def call_lines(made):
 
 
 def wanted_words(lines):
-    return [words_of_line(line) for line in lines
-            if not line.startswith(("set_timeout", "clear_timeout"))]
+    return [words_of_line(line) for line in lines if "_timeout" not in line]
 
 
 @each("events.json", "events")
 def test_events(vector):
     if vector["limit"] not in (None, 1024):
         pytest.skip("no parser has this limit")
-    for pieces in cuttings(vector):
-        for limit in None, 1024:
-            if limit == vector["limit"] or limit is None and len(b"".join(pieces)) <= 1024:
-                parser = vte.Parser(limit)
-                assert event_lines(feed(parser, pieces)) == vector["events"]
-                # the next byte means what it should
-                assert parser.feed(b"\x18x")[-2:] == [vte.Execute(0x18), vte.Text("x")]
-                assert parser.feed(b"x") == [vte.Text("x")]
+    limits = {None, vector["limit"]} if len(stream_of(vector)) <= 1024 else {vector["limit"]}
+    for pieces, limit in itertools.product(cuttings(vector), limits):
+        parser = vte.Parser(limit)
+        assert event_lines(feed(parser, pieces)) == vector["events"]
+        # the next byte means what it should
+        assert parser.feed(b"\x18x")[-2:] == [vte.Execute(0x18), vte.Text("x")]
+        assert parser.feed(b"x") == [vte.Text("x")]
+
+
+@each("events.json", "events")
+def test_open(monkeypatch, vector):
+    monkeypatch.syspath_prepend(FOLDER.parent / "tools")
+    from judging.open_ends import open_at_end
+    stream, by_bytes = stream_of(vector)[:300], parsers()
+    for end in range(len(stream) + 1):
+        others = parsers()
+        # what is no command is skipped
+        [parser.feed(stream[:end], vte.Osc) for parser in others]
+        [parser.feed(stream[end - 1:end]) for parser in by_bytes if end]
+        assert {it.open for it in by_bytes + others} == {OPEN[open_at_end(stream[:end])]}
 
 
 @each("calls.json", "text")
 def test_text(vector):
-    for pieces in cuttings(vector):
-        for errors in "replace", "surrogateescape":
-            stripper = vte.Stripper(errors)
-            texts = [*map(stripper.strip, pieces)]
-            # the text of a vector ends before an unfinished character
-            end = copy.copy(stripper).strip(b"", final=True)
-            assert b"".join([*texts, end]) == vte.strip(b"".join(pieces), errors)
-            assert (stripper.strip(b"\x18x")[-1:], stripper.strip(b"x")) == (b"x", b"x")
-            if errors == "replace":
-                assert b"".join(texts).hex() == vector["text"]
-                assert end in (b"", "\ufffd".encode())
+    for pieces, errors in itertools.product(cuttings(vector), ["replace", "surrogateescape"]):
+        stripper = vte.Stripper(errors)
+        texts = [*map(stripper.strip, pieces)]
+        # the text of a vector ends before an unfinished character
+        end = copy.copy(stripper).strip(b"", final=True)
+        assert b"".join([*texts, end]) == vte.strip(stream_of(vector), errors)
+        assert (stripper.strip(b"\x18x")[-1:], stripper.strip(b"x")) == (b"x", b"x")
+        if errors == "replace":
+            assert b"".join(texts).hex() == vector["text"]
+            assert end in (b"", "\ufffd".encode())
 
 
 @each("calls.json", "calls")
 def test_calls(vector):
-    wanted, (_, [stream], _) = wanted_words(vector["calls"]), cuttings(vector)
+    wanted, stream = wanted_words(vector["calls"]), stream_of(vector)
     if len(stream) > 1024:
         pytest.skip("a processor has no limit")
     for pieces in cuttings(vector):
@@ -90,11 +101,3 @@ def test_updates(vector):
                 else processor.stop_sync())
         assert call_lines(made) == wanted_words(step["calls"])
         assert processor.sync_bytes_count == step.get("held", processor.sync_bytes_count)
-
-
-@pytest.mark.skipif(not FOLDER.is_dir(), reason="no vectors")
-def test_each_call_has_vectors():
-    # but for those that no sequence makes
-    made = {text.split()[0] for vector in vectors("calls.json", "calls")
-            for text in vector["calls"]}
-    assert len(made & set(map(name_of, calls.KINDS))) >= 69

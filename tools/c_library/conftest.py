@@ -1,7 +1,6 @@
 from functools import cache
 
 import pytest
-from building import builder
 from tests.missing import need
 
 from c_library.library import Library
@@ -42,9 +41,3 @@ def library(request, built):
 def whole(built):
     """The build that has what takes memory."""
     return built("cargo")
-
-
-@pytest.fixture(scope="session")
-def vtlog(request):
-    """The proved program, or None with --short."""
-    return None if request.config.option.short else builder.proved_program("vtlog")

@@ -41,11 +41,9 @@ int main(void) {
     length = fread(stream, 1, sizeof stream, stdin);
     size_t whole_size, size;
     char *whole = passed_on(&whole_size);
-    step = 1;
-    for (cut = 0; cut < length; cut++, step = 0) {
+    for (step = 1; cut < length; cut++, step = 0) {
         char *passed = passed_on(&size);
-        if (size != whole_size || memcmp(passed, whole, size) != 0)
-            printf("cut at %zu, by %zu:\n", cut, step);
+        if (size != whole_size || memcmp(passed, whole, size) != 0) printf("cut at %zu:\n", cut);
         free(passed);
     }
     fwrite(whole, 1, whole_size, stdout);

@@ -1,6 +1,7 @@
 """A build of the C library, and the C programs over it."""
 import os
 import subprocess
+from ctypes import CDLL, c_size_t
 from concurrent.futures import ThreadPoolExecutor
 from functools import cached_property
 from pathlib import Path
@@ -14,9 +15,6 @@ EXAMPLES = CRATE / "examples"
 INCLUDES = [f"-I{CRATE / 'include'}", f"-I{BESIDE / 'include'}"]
 WARNINGS = ["-O2", "-Wall", "-Wextra", "-Werror", *INCLUDES]
 SANITIZERS = ["-g", "-fsanitize=address,undefined", "-fno-sanitize-recover=all"]
-# a program over an earlier table of functions, and the calls of that
-OLD_PROGRAM = HERE / "old_program.c"
-OLD_CALLS = b"input a\nbell\nbackspace\ninput b\ninput c\n"
 
 
 def output_of(words, stream=b"", **environment):
@@ -60,6 +58,15 @@ class Library:
         is_built, said = compiles(command)
         assert is_built or optional, said
         return program if is_built else None
+
+    @cached_property
+    def functions(self):
+        """The shared library for ctypes."""
+        functions = CDLL(self.shared)
+        of_64_bits = "feed strip long_feed long_parser_new processor_new".split()
+        for name in of_64_bits[:None if self.is_whole else 2]:
+            getattr(functions, f"vte_{name}").restype = c_size_t
+        return functions
 
     @cached_property
     def events(self):

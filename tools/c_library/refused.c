@@ -1,11 +1,13 @@
-/* Refuses memory at each allocation in turn: the parser without a limit and the processor say so,
- * and go on with the rest. It is linked with --wrap for malloc, realloc and free. The status is 0
- * if each run gives what one with all its memory does, and gives that back. */
+/* Refuses memory at each allocation in turn, linked with --wrap for malloc, realloc and free: the
+ * parser without a limit and the processor say so, and go on with standard input, some bytes at a
+ * time. Writes how many were refused, if each run passes on the same, and gives all memory back. */
 #include "vte_handler.h"
 #include "vte_long.h"
 #include <stdio.h>
 #include <stdlib.h>
 #include <string.h>
+
+_Static_assert(VTE_KIND(1 ? VTE_OSC : VTE_CSI) == 1 << VTE_OSC, "a kind may be an expression");
 
 void *__real_malloc(size_t size);
 void *__real_realloc(void *place, size_t size);
@@ -29,41 +31,17 @@ void *__wrap_realloc(void *place, size_t size) {
 }
 void __wrap_free(void *place) { used -= place != NULL, __real_free(place); }
 
-enum { COMMAND = 100000, MOST = 4 * COMMAND };
-
-static uint8_t stream[MOST];
-static size_t stream_length;
+static uint8_t stream[400000], written[2 * sizeof stream], wanted[sizeof written];
+static size_t stream_length, written_length;
 /* the most bytes of a call */
 static size_t most;
 /* the events of the parser; without texts, many are read at once */
 static uint32_t kinds;
-/* what a run wrote */
-static uint8_t written[2 * MOST];
-static size_t written_length;
 
 static void put(const void *bytes, size_t length) {
     if (written_length + length > sizeof written) abort();
     memcpy(written + written_length, bytes, length);
     written_length += length;
-}
-
-static void put_stream(const char *text) {
-    memcpy(stream + stream_length, text, strlen(text));
-    stream_length += strlen(text);
-}
-
-static void make_stream(void) {
-    /* what has much data for its bytes: pieces without a byte take eight each */
-    put_stream("\033];;;;;;;;;;;;;;;\007\033[1;2;3;4;5;6;7;8;9;10;11;12;13;14;15;16;17;"
-               "18;19;20;21;22;23;24;25;26;27;28;29;30;31;32m");
-    for (int i = 0; i < 5000; i++) put_stream("\033];;;;;;;;;;;;;;;\007");
-    put_stream("text\033]52;c;");
-    memset(stream + stream_length, 'Q', COMMAND);
-    stream_length += COMMAND;
-    put_stream("\033\\more\033]2;");
-    memset(stream + stream_length, 't', 2 * COMMAND);
-    stream_length += 2 * COMMAND;
-    put_stream("\007\033[1mend");
 }
 
 static void show(const vte_event *event, const uint8_t *bytes, const uint8_t *data) {
@@ -72,6 +50,7 @@ static void show(const vte_event *event, const uint8_t *bytes, const uint8_t *da
     else if (event->kind == VTE_OSC)
         while (vte_next_piece(&pieces)) put("[", 1), put(pieces.at, pieces.length);
     else put("!", 1);
+    if (event->kind == VTE_OSC && vte_next_piece(&pieces)) abort();
 }
 
 /* Returns 0 if memory was refused for the parser itself. */
@@ -89,7 +68,7 @@ static int read_long(void) {
         for (size_t i = 0; i < counts.events; i++) show(&events[i], stream + at, data);
         if (read != VTE_REFUSED) at += read;
     }
-    size_t least = vte_long_feed(parser, stream, 1, VTE_ALL_KINDS, 0, events, 3, &data, &counts);
+    size_t least = vte_long_feed(parser, stream, 1, kinds, 0, events, 3, &data, &counts);
     if (least != VTE_NO_ROOM) abort();
     vte_long_parser_free(parser);
     return 1;
@@ -102,18 +81,11 @@ static void title(void *user, const uint8_t *text, size_t length) {
 static void store(void *user, uint8_t clipboard, const uint8_t *text, size_t length) {
     title(user, text, length), put(&clipboard, 1);
 }
-static void attribute(void *user, uint8_t number, vte_color color) {
-    (void)user, (void)color, put(&number, 1);
-}
-
 static void unset(void *user, uint16_t mode) { (void)user, put(&mode, sizeof mode); }
 
 static int process(void) {
-    vte_handler calls = {.input = input,
-                         .set_title = title,
-                         .clipboard_store = store,
-                         .terminal_attribute = attribute,
-                         .unset_private_mode = unset};
+    vte_handler calls = {
+        .input = input, .set_title = title, .clipboard_store = store, .unset_private_mode = unset};
     vte_processor *processor = vte_processor_new(&calls, sizeof calls, NULL);
     if (processor == NULL) return 0;
     /* a stop takes no memory, and makes a call */
@@ -131,7 +103,6 @@ static int process(void) {
 /* Tries a way to read, and refuses the first allocation, the second and so on. Returns how many
  * were refused. */
 static int try_all(int (*way)(void)) {
-    static uint8_t wanted[sizeof written];
     int count = 0;
     left = -1, written_length = 0;
     if (!way()) abort();
@@ -148,17 +119,10 @@ static int try_all(int (*way)(void)) {
     return count - 1;
 }
 
-static void try_ways(size_t bytes, uint32_t wanted, int least) {
-    most = bytes, kinds = wanted;
-    printf("%d %d\n", try_all(read_long) > least, try_all(process) > least);
-}
-
-int main(void) {
-    make_stream();
-    try_ways(999, VTE_ALL_KINDS, 5);
-    try_ways(MOST, VTE_ALL_KINDS, 5);
-    try_ways(MOST, VTE_KIND(VTE_OSC) | VTE_KIND(VTE_CSI), 5);
-    stream_length = 300;
-    try_ways(1, VTE_ALL_KINDS, 1);
+int main(int argc, char **argv) {
+    if (argc != 3) return 2;
+    most = strtoul(argv[1], NULL, 10), kinds = (uint32_t)strtoul(argv[2], NULL, 10);
+    stream_length = fread(stream, 1, sizeof stream, stdin);
+    printf("%d %d\n", try_all(read_long), try_all(process));
     return 0;
 }

@@ -1,12 +1,10 @@
-"""The symbols of the library, and programs that try its edges, under sanitizers."""
+"""The symbols of the library, and programs that refuse memory and use threads."""
 import re
 
-import pytest
 from tests.missing import miss, need
 
 from c_library.library import (
-    BESIDE, CRATE, EXAMPLES, HERE, INCLUDES, OLD_CALLS, OLD_PROGRAM, SANITIZERS, TOOLS,
-    compiles, output_of)
+    BESIDE, CRATE, EXAMPLES, HERE, INCLUDES, SANITIZERS, TOOLS, compiles, output_of)
 
 # the only functions that the library of each build may need
 NEEDED = {"rt": {"memcpy", "memmove", "memset"},
@@ -47,40 +45,28 @@ def test_symbols(library):
     assert [name for name in panics if library.build == "rt" or not OF_INDICES.search(name)] == []
 
 
-def sanitizers(library):
+def test_random_bytes_as_a_parser(library):
     if library.sanitized is None:
         miss("the address and undefined-behaviour sanitizers of cc")
-    return SANITIZERS
-
-
-def test_edges(library):
-    """Random bytes as a parser, and the edges of what vte.h allows."""
-    words = sanitizers(library)
-    assert output_of([library.program(EXAMPLES / "any_parser.c", *words)]) == b""
-    assert output_of([library.program(HERE / "border.c", *library.of_events, *words)]) == b""
-
-
-@pytest.mark.parametrize("source, wanted", [
-    (OLD_PROGRAM, OLD_CALLS), (HERE / "second_parser.c", b"")], ids=["old", "second"])
-def test_processors(whole, source, wanted):
-    """An old program, and a second parser for what a processor doesn't pass on."""
-    assert output_of([whole.program(source, *sanitizers(whole))]) == wanted
+    assert output_of([library.program(EXAMPLES / "any_parser.c", *SANITIZERS)]) == b""
 
 
 def test_refused_memory(whole):
-    """Memory is refused to the parser without a limit and to the processor, at each allocation in
-    turn."""
     words = [f"-Wl,--wrap={name}" for name in ("malloc", "realloc", "free")]
-    assert output_of([whole.program(HERE / "refused.c", *words)]) == b"1 1\n" * 4
+    program = whole.program(HERE / "refused.c", *words)
+    # pieces without a byte take eight each
+    empty, groups = b"\x1b]" + b";" * 15 + b"\a", b"\x1b[" + b"1;" * 31 + b"1m"
+    stream = empty + groups + empty * 5000 + b"text\x1b]52;c;" + b"Q" * 100_000 + b"\x1b\\more"
+    stream += b"\x1b]2;" + b"t" * 200_000 + b"\a\x1b[1mend"
+    for most, kinds, size, least in [
+            (999, 255, None, 5), (400_000, 255, None, 5), (400_000, 96, None, 5), (1, 255, 300, 1)]:
+        counts = output_of([program, str(most), str(kinds)], stream[:size])
+        assert min(map(int, counts.split())) > least
 
 
 def test_threads(whole):
-    """Two parsers in two threads, and one processor in two."""
+    """Also with the library and the program under the thread sanitizer."""
     assert output_of([whole.program(HERE / "threads.c", "-pthread")]) == b"busy\n"
-
-
-def test_threads_sanitized(whole):
-    """The same, with the library and the program under the thread sanitizer."""
     folder = whole.folder / "for_threads"
     environment = {"RUSTC_BOOTSTRAP": "1",
                    "CARGO_TARGET_DIR": f"{TOOLS.parent}/rust/target/for_threads",

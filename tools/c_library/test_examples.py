@@ -6,7 +6,7 @@ import subprocess
 import pytest
 from tests.missing import need
 
-from c_library.library import CRATE, EXAMPLES, SANITIZERS, TOOLS, output_of
+from c_library.library import CRATE, EXAMPLES, output_of
 
 # before glibc 2.34 pseudo-terminals were in a library of their own
 OF_PTY = "-lutil"
@@ -43,6 +43,13 @@ def status_of(*words, **given):
     return subprocess.run(words, **given).returncode
 
 
+def assert_ends_by_errors(program):
+    """Its status says that its output is full, or that its input is a folder."""
+    with open("/dev/full", "w") as full:
+        assert status_of(program, input=STREAM, stdout=full) == 1
+    assert status_of(program, stdin=os.open("/", os.O_RDONLY), stdout=subprocess.DEVNULL) == 1
+
+
 def assert_slow(words, pieces):
     """Writes pieces: what one has comes out before the next one is written."""
     pipes = dict.fromkeys(("stdin", "stdout", "stderr"), subprocess.PIPE)
@@ -58,11 +65,9 @@ def assert_slow(words, pieces):
 def read_soon(stream, count):
     """Reads so many bytes, or fewer if they don't come within minutes: beside a gate that takes all
     cores, a start takes long."""
-    read = b""
-    while len(read) < count and select.select([stream], [], [], 300)[0]:
+    read, more = b"", True
+    while more and len(read) < count and select.select([stream], [], [], 300)[0]:
         more = os.read(stream.fileno(), count - len(read))
-        if not more:
-            break
         read += more
     return read
 
@@ -72,9 +77,7 @@ def test_stripper(library):
     assert output_of([stripper], STREAM) == TEXT
     # more text than there is room for
     assert output_of([stripper], b"\xff" * 9000) == "\ufffd".encode() * 9000
-    with open("/dev/full", "w") as full:
-        assert status_of(stripper, input=STREAM, stdout=full) == 1
-    assert status_of(stripper, stdin=os.open("/", os.O_RDONLY)) == 1
+    assert_ends_by_errors(stripper)
     assert_slow([stripper], LINES)
 
 

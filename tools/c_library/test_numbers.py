@@ -1,21 +1,32 @@
-"""The numbers that cross the border, which Rust's types and vte_handler.h each name."""
+"""The numbers that cross the border, which Rust's types and the headers each name."""
 import re
 from functools import cache
 
-import pytest
 from tests.missing import need
 
-from c_library.library import BESIDE, HERE, TOOLS, output_of
+from c_library.library import BESIDE, CRATE, HERE, TOOLS, output_of
 
 TYPES = TOOLS.parent / "rust/vte/src/proved/vte_types"
-# Rust's type, and how the names of C begin, but for those that C names otherwise, which handler.cpp
-# tries
+# Rust's type, and how the names of C begin, or those that C has
 ENUMS = {
-    "Attr": "VTE_", "NamedColor": None, "LineClearMode": "VTE_LINE_", "ClearMode": "VTE_SCREEN_",
-    "TabulationClearMode": "VTE_TAB_", "CursorShape": "VTE_SHAPE_", "StandardCharset": None,
-    "ScpCharPath": None, "ScpUpdateMode": None, "KeyboardModesApplyBehavior": None,
-    "ModifyOtherKeys": None, "NamedMode": None, "NamedPrivateMode": None,
-}
+    "Attr": "VTE_", "NamedColor": {}, "LineClearMode": "VTE_LINE_", "ClearMode": "VTE_SCREEN_",
+    "TabulationClearMode": "VTE_TAB_", "CursorShape": "VTE_SHAPE_",
+    "StandardCharset": {"Ascii": "VTE_CHARSET_ASCII",
+                        "SpecialCharacterAndLineDrawing": "VTE_CHARSET_LINE_DRAWING"},
+    "ScpCharPath": {"Default": "VTE_PATH_DEFAULT", "LTR": "VTE_PATH_LEFT_TO_RIGHT",
+                    "RTL": "VTE_PATH_RIGHT_TO_LEFT"},
+    "ScpUpdateMode": {"ImplementationDependant": "VTE_UPDATE_DEFAULT",
+                      "DataToPresentation": "VTE_UPDATE_DATA_TO_PRESENTATION",
+                      "PresentationToData": "VTE_UPDATE_PRESENTATION_TO_DATA"},
+    "KeyboardModesApplyBehavior": {"Replace": "VTE_KEYBOARD_REPLACE", "Union": "VTE_KEYBOARD_ADD",
+                                   "Difference": "VTE_KEYBOARD_REMOVE"},
+    "ModifyOtherKeys": {"Reset": "VTE_OTHER_KEYS_RESET", "EnableAll": "VTE_OTHER_KEYS_ALL",
+                        "EnableExceptWellDefined": "VTE_OTHER_KEYS_EXCEPT_WELL_DEFINED"},
+    "NamedMode": {}, "NamedPrivateMode": {}}
+# what only C has, each from 0 on
+OF_C = ["TEXT EXECUTE HOOK DATA UNHOOK OSC CSI ESC", "OK NO_MEMORY BUSY",
+        "COLOR_NONE COLOR_NAMED COLOR_RGB COLOR_INDEXED",
+        "OPEN_NOTHING OPEN_CHARACTER OPEN_ESC OPEN_CSI OPEN_DCS OPEN_OSC OPEN_IGNORED"]
 # an enum of the declarations of C or Rust, and its names
 LIST = r"\benum{} {{([^}}]*)}}"
 NAME = re.compile(r"^\s*(\w+)(?:\([^)]*\))?(?: = (-?\d+))?,?\s*$", re.M)
@@ -36,21 +47,21 @@ def of_rust():
     return {name: numbered(re.search(LIST.format(f" {name}"), text)[1]) for name in ENUMS}
 
 
-def of_c():
-    lists = re.findall(LIST.format(""), (BESIDE / "include/vte_handler.h").read_text())
-    items = (re.sub(r"/\*.*?\*/", "", text).replace(",", "\n") for text in lists)
-    return {name: number for text in items for name, number in numbered(text).items()}
-
-
-@pytest.mark.parametrize("name", [name for name in ENUMS if ENUMS[name]])
-def test_names(name):
-    wanted = {ENUMS[name] + re.sub("(?<!^)(?=[A-Z])", "_", one).upper(): number
-              for one, number in of_rust()[name].items()}
-    assert {one: of_c().get(one) for one in wanted} == wanted
+def test_names():
+    wanted = {"VTE_SHAPE_OWN": -1, "VTE_BELL": 1, "VTE_TRUNCATED": 2}
+    wanted |= {f"VTE_{name}": at for names in OF_C for at, name in enumerate(names.split())}
+    for kind, names in ENUMS.items():
+        for one, number in of_rust()[kind].items():
+            snake = re.sub("(?<!^)(?=[A-Z])", "_", one).upper()
+            wanted[names + snake if isinstance(names, str) else names.get(one)] = number
+    headers = CRATE / "include/vte.h", BESIDE / "include/vte_handler.h"
+    text = re.sub(r"/\*.*?\*/", "", "".join(it.read_text() for it in headers), flags=re.S)
+    found = [numbered(listed.replace(",", "\n")) for listed in re.findall(LIST.format(""), text)]
+    assert {name: number for one in found for name, number in one.items()} == {
+        name: number for name, number in wanted.items() if name}
 
 
 def test_handler(whole):
-    """The other names, and refused memory in C++."""
     need("c++", "c++, so vte.hpp was not tested")
     words = ["-std=c++17", "-Wl,--wrap=malloc", "-Wl,--wrap=realloc"]
     assert output_of([whole.program(HERE / "handler.cpp", *words, compiler="c++")]) == b""

@@ -1,11 +1,10 @@
 """What is open, at each byte of vectors and of hostile streams."""
-from ctypes import CDLL, byref, c_size_t, c_uint8, c_uint64
-
 import pytest
 from generating.hostile_streams import hostile_stream
 from generating.vectors import bytes_of, vectors
 from judging.open_ends import open_at_end
 
+from c_library.calling import OSC, parsers
 from c_library.library import at_once
 
 # streams, and what is open after each of their bytes, worked out by hand
@@ -24,33 +23,16 @@ BY_HAND = [
     (b"\x1bXa\x07\x9c\xe4\x18\x1b^\x1a\x1b_\x1b\\", "26666602602620")]
 
 
-class Parser:
-    """A parser that is fed in pieces."""
-
-    def __init__(self, library):
-        self.library = CDLL(library.shared)
-        self.library.vte_is_open.restype = c_uint8
-        self.memory = (c_uint64 * 164)()
-        self.room = (c_uint64 * 8)(), c_size_t(4), (c_uint8 * 2112)(), c_size_t(2112)
-
-    def feed(self, piece):
-        counts = (c_size_t * 2)()
-        length = c_size_t(len(piece))
-        fed = self.library.vte_feed(byref(self.memory), piece, length, 0, 0, *self.room, counts)
-        assert fed == len(piece)
-
-    def open(self):
-        return self.library.vte_is_open(byref(self.memory))
-
-
 def assert_open(library, stream, wanted):
-    """Checks each prefix, byte by byte and whole."""
-    parser = Parser(library)
-    for end in range(len(stream) + 1):
-        whole = Parser(library)
-        whole.feed(stream[:end])
-        assert parser.open() == whole.open() == wanted[end], stream[:end]
-        parser.feed(stream[end:end + 1])
+    """Checks each prefix: byte by byte, and whole, if what is no command may be skipped."""
+    slow_parsers = parsers(library)
+    for end, code in enumerate(wanted):
+        for slow, fast in zip(slow_parsers, parsers(library)):
+            rest = stream[:end]
+            while rest:
+                rest = rest[fast.feed(rest, kinds=1 << OSC)[0]:]
+            assert slow.open() == fast.open() == code, stream[:end]
+            slow.feed(stream[end:end + 1], kinds=0)
 
 
 @pytest.mark.parametrize("stream, codes", BY_HAND)

@@ -1,9 +1,11 @@
 """Vectors and streams, by the C programs: however a stream is cut, they write the same."""
-from c_library.library import at_once, output_of
+from building import builder
 from generating.hostile_streams import OF_TEXT, hostile_stream
 from generating.streams import recorded
 from generating.vectors import bytes_of, lines_of, vectors
 from judging import definition, house
+
+from c_library.library import at_once, output_of
 
 # arguments of the C program: pieces of one byte, of 4,096, and of random sizes in random room
 WAYS = [["1"], ["4096"], ["0"], ["7", "4", "2112"]]
@@ -14,6 +16,14 @@ LONG_WAYS = [["long", *way[:2]] for way in WAYS]
 KINDS = {"32": ("osc",), "96": ("osc", "csi"), "86": ("execute", "hook", "unhook", "csi"),
          "1": ("print",), "28": ("hook", "put", "unhook")}
 LIMIT = 1024
+VECTORS = [(vector, bytes_of(vector["pieces"])) for vector in vectors()
+           if vector["kind"] in ("events", "text") and vector["limit"] == LIMIT]
+# commands around their limits: the 17th piece isn't reported, but dropped if it has data
+SIXTEEN, MOST = b"a;" * 15 + b"b", b"a" * LIMIT
+COMMANDS = [
+    MOST[1:], MOST, MOST + b"a", MOST[1:] + b";b", MOST[1:] + b";bc", MOST + b";;", MOST + b";;b",
+    b";" + MOST, b"52;c;" + MOST * 3, SIXTEEN, SIXTEEN + b";", SIXTEEN + b";c",
+    SIXTEEN + b";;" + MOST + b"a", b"aa"]
 
 
 def compare(library, name, stream, wanted, ways):
@@ -56,49 +66,62 @@ def losses(stream, limit):
                     for has, wanted in zip(kept, all_data))
 
 
+def joined(lines):
+    return "".join(f"{line}\n" for line in lines).encode()
+
+
 def test_vectors(library):
     """Events and text are those that were worked out by hand, for a parser that keeps 1,024
     bytes."""
-    def test_vector(vector):
-        stream, name = bytes_of(vector["pieces"]), f"vector: {vector['name']}"
-        compare_losses(library, name, stream)
-        if vector["kind"] == "events":
-            lines = "".join(f"{line}\n" for line in lines_of(vector["events"])).encode()
-            compare_lines(library, name, stream, lines, [WAYS[0], WAYS[2]])
-        else:
-            compare(library, name, stream, bytes_of(vector["text"]), [STRIP_WAYS[0], STRIP_WAYS[2]])
+    def test_vector(case):
+        vector, stream = case
+        is_text = vector["kind"] == "text"
+        wanted = bytes_of(vector["text"]) if is_text else joined(lines_of(vector["events"]))
+        ways = STRIP_WAYS if is_text else WAYS
+        compare(library, f"vector: {vector['name']}", stream, wanted, [ways[0], ways[2]])
 
-    at_once(test_vector, [vector for vector in vectors() if vector["kind"] in ("events", "text")
-                          and vector["limit"] == LIMIT])
+    at_once(test_vector, VECTORS)
+
+
+def test_commands(library):
+    ends = b"\a", b"\x18", b"\x1b"
+    stream = b"".join(b"\x1b]" + data + end for data in COMMANDS for end in ends)
+    stream += b"\x1b]2;" + MOST * 60 + b"\a"
+    for parser, limit in ([], LIMIT), (["long"], None):
+        lines = joined(definition.lines_of(stream, house.House(limit=limit)))
+        compare(library, "commands", stream, lines, [[*parser, *way[:2]] for way in WAYS])
+    compare_losses(library, "commands", stream)
 
 
 def all_streams(given):
-    """Recorded streams and groups of random ones, with their names. With --short no recorded one is
-    longer than 10,000 bytes."""
+    """Vectors joined, recorded streams and groups of random ones, with their names. With --short no
+    recorded one is longer than 10,000 bytes."""
+    # CAN is between them, after which a stream starts afresh
+    for name, is_long in ("vectors", False), ("long vectors", True):
+        each = [stream for _, stream in VECTORS if (len(stream) > LIMIT) == is_long]
+        yield name, b"\x18".join(each)
     for name, pieces in recorded():
         yield name, b"".join(pieces)[:10_000 if given.short else None]
     count = given.streams or (400 if given.short else 20_000)
     for at in range(0, count, 200):
         group = (b"".join(hostile_stream(given.seed, number, OF_TEXT))
                  for number in range(at, min(at + 200, count)))
-        # CAN is between them, after which a stream starts afresh
         yield f"random streams {at // 200}", b"\x18".join(group)
 
 
-def test_streams(library, vtlog, request):
+def test_streams(library, request):
     """All programs write, in all ways, what vtlog does. With --short, what the C program does in
     pieces of 65,536 bytes, with stops after one kind of event."""
-    by = [vtlog] if vtlog else [library.events]
-    piece = [] if vtlog else ["65536"]
+    given = request.config.option
+    program, text, *piece = ((library.events, "strip", "65536") if given.short else
+                             (builder.proved_program("vtlog"), "text"))
 
     def test_stream(numbered):
         number, (name, stream) = numbered
-        lines = output_of([*by, *piece], stream)
-        text = output_of([*by, "text" if vtlog else "strip", *piece], stream)
         stops = STOPS_WAYS[:2] if name.startswith("random") else STOPS_WAYS
-        stops = stops if vtlog else [STOPS_WAYS[number % 9]]
-        compare_lines(library, name, stream, lines, WAYS + stops)
-        compare(library, name, stream, text, STRIP_WAYS)
+        stops = [STOPS_WAYS[number % 9]] if given.short else stops
+        compare_lines(library, name, stream, output_of([program, *piece], stream), WAYS + stops)
+        compare(library, name, stream, output_of([program, text, *piece], stream), STRIP_WAYS)
         compare_losses(library, name, stream)
 
-    at_once(test_stream, enumerate(all_streams(request.config.option)))
+    at_once(test_stream, enumerate(all_streams(given)))

@@ -1,6 +1,7 @@
 """The test vectors of vectors/, and private ones of the same form. docs/TESTING.md says how one is
 added."""
 import json
+import re
 from pathlib import Path
 
 from generating.files import TOP
@@ -52,16 +53,13 @@ def split_repeated(text):
     """(front, unit, times, back): the text about its longest run of one short unit."""
     best = (text, text[:0], 0, text[:0])
     for width in range(1, 61):
-        at = 0
-        while at + 2 * width <= len(text):
-            unit = text[at:at + width]
-            end = at + width
-            while text[end:end + width] == unit:
-                end += width
-            times = (end - at) // width
-            if times > 1 and times * width > best[2] * len(best[1]):
-                best = (text[:at], unit, times, text[end:])
-            at = end - width + 1 if times > 1 else at + 1
+        run = rf"(.{{{width}}})\1+"
+        run, at = re.compile(run if isinstance(text, str) else run.encode(), re.S), 0
+        while found := run.search(text, at):
+            start, end = found.span()
+            if end - start > best[2] * len(best[1]):
+                best = (text[:start], found[1], (end - start) // width, text[end:])
+            at = end - width + 1
         if 2 * best[2] * len(best[1]) > len(text):
             break
     return best

@@ -27,7 +27,7 @@ HANG = "(hang: no answer in time)"
 EXIT = "(protocol: it ended without a line `end`)"
 NO_LINE_FEED = "(protocol: no line feed after `end`)"
 # the most bytes of an answer, and how many are kept of a longer one
-MOST_OUTPUT, KEPT_OUTPUT = 1 << 25, 1 << 14
+MAX_OUTPUT, KEPT_OUTPUT = 1 << 25, 1 << 14
 # a process that ends all groups of processes that it was told of, once the judge is gone
 GUARD = """
 import contextlib, os, signal, sys
@@ -60,7 +60,7 @@ def plain(text):
 
 def answer_of(output, mark=""):
     """The lines of an output and a mark. If there is no mark, each must be the line of an event."""
-    kept = bytes(output[:KEPT_OUTPUT] if len(output) > MOST_OUTPUT else output)
+    kept = bytes(output[:KEPT_OUTPUT] if mark.startswith("(output") else output)
     lines = kept.decode("ascii", "backslashreplace").removesuffix("\n").split("\n") if kept else []
     wrong = None if mark else next((line for line in lines if not LINE.fullmatch(line)), None)
     if wrong is not None:
@@ -207,8 +207,8 @@ class Program:
                 raise Broken(HANG)
             if used_memory(process) > self.memory << 20:
                 raise Broken(f"(memory: more than {self.memory} MiB)")
-            if len(output) > MOST_OUTPUT:
-                raise Broken(f"(output: more than {MOST_OUTPUT >> 20} MiB)")
+            if len(output) > MAX_OUTPUT:
+                raise Broken(f"(output: more than {MAX_OUTPUT >> 20} MiB)")
             has_ended = process.poll() is not None
             if select.select([pipe], [], [], 0 if has_ended else 0.1)[0]:
                 read = os.read(pipe, 1 << 20)

@@ -5,8 +5,8 @@ lines.
 rules of another house; the judge checks it against `vtlog` on every stream for which it asks it.
 """
 import re
+from collections import namedtuple
 from itertools import accumulate
-from typing import NamedTuple
 
 from judging.house import DEFAULT
 
@@ -28,14 +28,8 @@ NEAR = "near:"
 LOOKAHEAD = 3
 
 
-class Step(NamedTuple):
-    """What some bytes of a stream mean: the rules at work, the place of the bytes, and the lines of
-    their events."""
-
-    rules: tuple
-    start: int
-    end: int
-    lines: tuple = ()
+# what some bytes of a stream mean: the rules at work, the place of the bytes, the lines of events
+Step = namedtuple("Step", "rules start end lines", defaults=[()])
 
 
 def lines_of(stream, house=DEFAULT):

@@ -16,9 +16,9 @@ from judging.shrinking import shrunk
 
 # how many differences are shrunk that turn out to be of a class that was found before, and for one
 # rule and kind
-MOST_AGAIN, MOST_TRIES = 20, 3
+MAX_AGAIN, MAX_TRIES = 20, 3
 # how many cases are tried to shrink one, and one at which the program passes a limit
-MOST_CASES, MOST_OVER_LIMIT = 2000, 200
+MAX_CASES, MAX_OVER_LIMIT = 2000, 200
 # how often a case is tried again before it is told
 MORE_TRIES = 6
 NOT_DETERMINISTIC, KEPT_STATE, PROTOCOL = ALONE
@@ -226,7 +226,7 @@ class Judge:
             return
         before, excluded = self.result.unexplained, self.excluded()
         left = not is_explained and self.left(difference, excluded)
-        if left and self.again < MOST_AGAIN:
+        if left and self.again < MAX_AGAIN:
             self.find(case, left, excluded)
         places = differences_of(*difference[1:3]) if self.rules() else []
         signatures = [(*nearest(difference.pieces, place, self.rules(), self.house), kind)
@@ -236,7 +236,7 @@ class Judge:
                 return
             # where several differences meet there is often another event, which says little
             is_known = kind == "other" or f"{rule}/{kind}" in self.result.findings
-            if is_known or self.tries[rule, kind] >= MOST_TRIES:
+            if is_known or self.tries[rule, kind] >= MAX_TRIES:
                 continue
             excluded = self.excluded(of_step)
             if left := self.left(difference, excluded, kind):
@@ -249,8 +249,8 @@ class Judge:
 
     def find(self, case, left, excluded, kind=None):
         """Shrinks a difference without some rules, and reports its class if it is new."""
-        most = (MOST_OVER_LIMIT if mark_of(left.candidate) in LIMITS else
-                MOST_CASES // 4 if kind else MOST_CASES)
+        most = (MAX_OVER_LIMIT if mark_of(left.candidate) in LIMITS else
+                MAX_CASES // 4 if kind else MAX_CASES)
         tries = iter(range(most))
 
         def asked(streams):
@@ -358,7 +358,7 @@ class Judge:
         def wrong(streams):
             return self.in_time(tries, changed, streams)
 
-        tries, streams = iter(range(MOST_CASES // 10)), [*difference.before, difference.pieces]
+        tries, streams = iter(range(MAX_CASES // 10)), [*difference.before, difference.pieces]
         found = wrong(streams) and wrong(streams) and shrunk(streams, wrong)
         if self.is_over and not found:
             raise OutOfTime

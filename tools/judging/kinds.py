@@ -20,7 +20,7 @@ KINDS = {
     "leaked": "text is printed that is no text", "other": "there is another event",
     "replacement": "there are more or fewer U+FFFD, and nothing else differs", **FIELDS, **FAILURES}
 # answers with more lines between their common ends are compared at their first difference alone
-MOST_LINES = 600
+MAX_LINES = 600
 REPLACEMENT = "print fffd"
 
 
@@ -38,7 +38,7 @@ def differences_of(reference, candidate):
     start = first_difference(reference, candidate)
     same = first_difference(reference[start:][::-1], candidate[start:][::-1])
     one, other = reference[start:len(reference) - same], candidate[start:len(candidate) - same]
-    if max(len(one), len(other)) > MOST_LINES:
+    if max(len(one), len(other)) > MAX_LINES:
         return [(start, kind_of(one[:1], other[:1]))]
     codes = SequenceMatcher(None, one, other, autojunk=False).get_opcodes()
     return [(start + first, kind_of(one[first:last], other[begin:end]))

@@ -5,7 +5,7 @@ from judging.candidate import mark_of
 from judging.classes import level_of, rule_of
 from judging.kinds import KINDS, first_difference
 
-MOST_LINES, LONGEST = 6, 120
+MAX_LINES, LONGEST = 6, 120
 
 
 def shown_bytes(pieces):
@@ -42,8 +42,8 @@ def shown_text(pieces):
 def shown_lines(lines, at=0):
     """Some lines in a row, the first of them around a place, or that there are none."""
     more = [f".. ({len(lines)} lines)", *lines[-1:] * bool(mark_of(lines))]
-    shown = [shown_line(line, 0 if index else at) for index, line in enumerate(lines[:MOST_LINES])]
-    return " / ".join(shown + more * (len(lines) > MOST_LINES)) or "(no event)"
+    shown = [shown_line(line, 0 if index else at) for index, line in enumerate(lines[:MAX_LINES])]
+    return " / ".join(shown + more * (len(lines) > MAX_LINES)) or "(no event)"
 
 
 def shown_line(line, at=0):
@@ -58,7 +58,7 @@ def shown_answers(one, other):
     """
     same = first_difference(one, other)
     longest = max([len(line) for line in one[same:same + 1] + other[same:same + 1]], default=0)
-    if max(len(one), len(other)) > MOST_LINES or longest > LONGEST:
+    if max(len(one), len(other)) > MAX_LINES or longest > LONGEST:
         one, other = one[same:], other[same:]
     at = first_difference(one[0], other[0]) if one and other else 0
     shown = shown_lines(one, at), shown_lines(other, at)

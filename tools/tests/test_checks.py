@@ -18,125 +18,97 @@ from tests.support import TOOLS, Tool, run_here, write
 
 # ---- check_trust
 
-@pytest.mark.parametrize("place, text, told, allowed", [
-    ("crates/x/src/lib.rt", "fn f() { unsafe { g() } } // unsafe, as unsafe_code is", "1 f", "0"),
-    ("old/crates/vte_core/src/reader.rt", "fn text() { unsafe { g() } }", "1 text", "0"),
-    ("crates/vte_core/src/reader.rt", "fn text() { unsafe { g() } }", "1 text", "1 text"),
-    ("crates/vte_core/src/reader.rt", "fn text() {} fn g() { unsafe { h() } }", "1 g",
-     "1 text"),
-    ("crates/vte_core/src/reader.rt", "fn text() { unsafe { unsafe } }", "2 text", "1 text"),
-    ("crates/vte_core/src/reader.rt", "", "0", "1 text"),
-    # a call of `text` says why it is right, so `text` isn't safe to call
-    ("rust/vte/src/proved/vte_core/reader.rs", "fn text() { unsafe {} } unsafe fn take_run() { "
-     "unsafe { text() } }", "3 text take_run", "4 text take_run"),
-    ("rust/vte/src/proved/vte_core/reader/calls.rs",
-     "fn advance_to_run() { take_run(bytes, range) }", "0", "1 advance_to_run"),
-    ("a.rs", "unsafe #[unsafe(no_mangle)]\npub extern \"C\" fn f() {} unsafe impl T for U {} "
-     "pub unsafe extern \"C\" fn g(h: unsafe fn()) { unsafe {} } macro_rules! m { unsafe }",
-     "7 - f T g m", "0"),
-    # what stands behind strings and characters is seen, and what stands in them isn't code
-    ("a.rs", 'fn f() { g("//"); unsafe { h("unsafe", r#"unsafe"#) } }', "1 f", "0"),
-    ("a.rs", "fn f() { g('\"'); unsafe {} } // \" unsafe", "1 f", "0"),
-    ("rust/vtlog/src/main.rs", "#![forbid(unsafe_code)]", "0", "0"),
-])
-def test_places_of_unsafe(place, text, told, allowed):
-    write(place, text)
-    told = [f"{place}: `unsafe` stands here {told}; allowed is {allowed}"] * (told != allowed)
-    assert [*Tool("check_trust").parts["faults"](place)] == told
+CORE, CARGO = "crates/vte_core/src/", "rust/vte/src/proved/vte_core/"
+# what `reader` of vte_core has, and what is refused there
+TEXT = "fn text() { unsafe { g() } }"
+MADE, USED, UNCOUNTED = (f":1: {it}" for it in (
+    "other modules can make a reader", "the bytes of a call are used", "bytes are read uncounted"))
 
 
+def stands(told, allowed):
+    return f": `unsafe` stands here {told}; allowed is {allowed}"
+
+
+# a file, its text, and what is told of it
 @pytest.mark.parametrize("place, text, told", [
+    ("crates/x/src/lib.rt", f"{TEXT} // unsafe, as unsafe_code is", stands("1 text", "0")),
+    (f"old/{CORE}reader.rt", TEXT, stands("1 text", "0")), (f"{CORE}reader.rt", TEXT, ""),
+    (f"{CORE}reader.rt", "fn text() {} fn g() { unsafe { h() } }", stands("1 g", "1 text")),
+    (f"{CORE}reader.rt", "fn text() { unsafe { unsafe } }", stands("2 text", "1 text")),
+    (f"{CORE}reader.rt", "", stands("0", "1 text")),
+    # a call of `text` says why it is right, so `text` isn't safe to call
+    (f"{CARGO}reader.rs", "fn text() { unsafe {} } unsafe fn take_run() { unsafe { text() } }",
+     stands("3 text take_run", "4 text take_run")),
+    (f"{CARGO}reader/calls.rs", "fn advance_to_run() { take_run(bytes, range) }",
+     stands("0", "1 advance_to_run")),
+    ("a.rs", "unsafe #[unsafe(no_mangle)]\npub extern \"C\" fn f() {} unsafe impl T for U {} "
+     "\npub unsafe extern \"C\" fn g(h: unsafe fn()) { unsafe {} } macro_rules! m { unsafe }",
+     stands("7 - f T g m", "0")),
+    # what stands behind strings and characters is seen, and what stands in them isn't code
+    ("a.rs", 'fn f() { g("//"); unsafe { h("unsafe", r#"unsafe"#) } }', stands("1 f", "0")),
+    ("a.rs", "fn f() { g('\"'); unsafe {} } // \" unsafe", stands("1 f", "0")),
     ("a.rs", '\nfn f() { unsafe { " } }', ":2: unclosed quote: \""),
+    ("rust/vtlog/src/main.rs", "#![forbid(unsafe_code)]", ""),
     *((place, f"{text}\nfn f() {{}}", ": it doesn't deny `unsafe_code`")
       for place in ("python/rust/lib.rs", "rust/vte/src/lib.rs")
-      for text in ("// #![deny(unsafe_code)]", "#![deny(unsafe_code_of_others)]"))])
-def test_files_that_are_not_trusted(place, text, told):
+      for text in ("// #![deny(unsafe_code)]", "#![deny(unsafe_code_of_others)]")),
+    (f"{CORE}reader.rt", f"fn new(bytes: &'a [u8]) -> Self {TEXT}", ""),
+    (f"{CORE}reader.rt", f"pub(crate) fn new(bytes: &'a [u8]) {TEXT}", MADE),
+    (f"{CORE}reader.rt", f"pub trail: Snapshot<Trail>, {TEXT}", MADE),
+    (f"{CORE}parser.rt", "pub(crate) fn new(bytes: B) -> Self", ""),
+    *((f"{CORE}reader/{name}.rt", line, told) for name, line, told in (
+        ("calls", "self.drive::<P, InRuns, true>(performer, Chunk::new(bytes)) // bytes", ""),
+        ("calls", "for byte in bytes {}", USED), ("long_calls", "Ok(take_run(bytes, range))", ""),
+        ("long_calls", "f(bytes); Chunk::new(bytes)", USED),
+        ("calls", "let (reader, input) = Chunk::new(bytes).open();", USED),
+        ("calls", "let run = take_run(bytes, range);", USED),
+        ("calls", "    pub fn advance(&mut self, data: &[u8])", USED),
+        ("run_end", "if input.bytes[at] == 0 {", UNCOUNTED),
+        ("run_blocks", "self.add(0);", UNCOUNTED),
+        ("run_end", "requires in { to ≤ length input.bytes.now }", ""))),
+    *((place, f"{line[:most]}\n{line[:most]}y\n", f":2: a line of {most + 1} characters")
+      for place, line, most in (
+          ("b/run", "#!/bin/sh" + " x" * 60, 100), ("x.py", "use a" + " x" * 60, 100),
+          ("crates/x/src/lib.rt", "fn f" + " x" * 60, 100),
+          ("crates/x/specs/A.antt", "a" + " x" * 60, 100),
+          ("crates/x/proofs/A.antt", "a" + " x" * 60, 120),
+          ("rust/x/src/lib.rs", "use a" + " x" * 60, 100))),
+    *((place, f"{front}{' x' * 60};", "") for place, front in (
+        ("crates/x/src/lib.rt", "ghost use a"), ("crates/x/src/lib.rt", "    #[tactic(auto, u(a"),
+        ("crates/x/proofs/A.antt", "unfoldable pub use a"), ("c/stdin", ""), ("d.md", ""),
+        ("e.edit", ""), ("rust/x/src/proved/f.rs", ""))),
+    ("crates/x/specs/A.antt", "a " + "x" * 120, "")])
+def test_what_is_refused_in_a_file(place, text, told):
     write(place, text)
-    assert [*Tool("check_trust").parts["faults"](place)] == [place + told]
+    write("HANDLES", "Handles allowed: none.\n")
+    status, said = Tool("check_trust", listed=lambda: [place]).run()
+    files, faults = place.endswith((".rt", ".rs")), bool(told)
+    wanted = [*[place + told] * faults, f"{files:d} files, {faults:d} places that are refused"]
+    assert (status, said.splitlines()) == (faults, wanted)
 
 
-@pytest.mark.parametrize("place, line, told", [
-    ("reader.rt", "    fn new(bytes: &'a [u8]) -> Self", ""),
-    ("reader.rt", "    pub(crate) fn new(bytes: &'a [u8])", "other modules can make a reader"),
-    ("reader.rt", "    pub trail: Snapshot<Trail>,", "other modules can make a reader"),
-    ("parser.rt", "    pub(crate) fn new(bytes: B) -> Self", ""),
-    ("reader/calls.rt", "self.drive::<P, InRuns, true>(performer, Chunk::new(bytes)) // bytes", ""),
-    ("reader/long_calls.rt", "Ok(take_run(bytes, range))", ""),
-    ("reader/calls.rt", "for byte in bytes {}", "the bytes of a call are used"),
-    ("reader/long_calls.rt", "f(bytes); Chunk::new(bytes)", "the bytes of a call are used"),
-    ("reader/calls.rt", "let (reader, input) = Chunk::new(bytes).open();",
-     "the bytes of a call are used"),
-    ("reader/calls.rt", "let run = take_run(bytes, range);", "the bytes of a call are used"),
-    ("reader/calls.rt", "    pub fn advance(&mut self, data: &[u8])",
-     "the bytes of a call are used"),
-    ("reader/run_end.rt", "if input.bytes[at] == 0 {", "bytes are read uncounted"),
-    ("reader/run_blocks.rt", "self.add(0);", "bytes are read uncounted"),
-    ("reader/run_end.rt", "requires in { to ≤ length input.bytes.now }", ""),
-])
-def test_reading_uncounted(place, line, told):
-    place = f"crates/vte_core/src/{place}"
-    write(place, f"{line}\n")
-    said = [f"{place}:1: {told}"] * bool(told)
-    assert [*Tool("check_trust").parts["reads_uncounted"](place)] == said
-
-
-@pytest.mark.parametrize("place, line, most", [
-    ("crates/x/src/lib.rt", "fn f" + " x" * 60, 100),
-    ("crates/x/specs/A.antt", "a" + " x" * 60, 100),
-    ("crates/x/proofs/A.antt", "a" + " x" * 60, 120),
-    ("rust/x/src/lib.rs", "use a" + " x" * 60, 100),
-    ("tools/x.py", "use a" + " x" * 60, 100),
-    ("crates/x/src/lib.rt", "ghost use a" + " x" * 60, None),
-    ("crates/x/src/lib.rt", "    #[tactic(auto, using(a" + " x" * 60, None),
-    ("crates/x/proofs/A.antt", "unfoldable pub use a" + " x" * 60, None),
-    ("crates/x/specs/A.antt", "a " + "x" * 120, None),
-])
-def test_long_lines(place, line, most):
-    write(place, f"{line[:most]}\n{line[:most]}y\n" if most else line)
-    told = [f"{place}:2: a line of {most + 1} characters"] if most else []
-    assert [*Tool("check_trust").parts["long_lines"](place)] == told
-
-
-@pytest.mark.parametrize("place, text, answer", [
-    ("a.py", "", True), ("b/run", "#!/bin/sh", True), ("c/stdin", "", False), ("d.md", "", False),
-    ("e.edit", "", False), ("rust/x/src/proved/f.rs", "", False)])
-def test_code_is_known_by_its_ending_or_its_first_line(place, text, answer):
-    write(place, text)
-    assert Tool("check_trust").parts["is_code"](place) == answer
-
-
-def test_trust_in_all_files_and_handles(folder):
+def test_all_files_and_handles():
     subprocess.run(["git", "init", "-q"], check=True)
     write(".gitignore", "out/\n")
     for place in "crates/x/specs/A.antt", "crates/x/out/A.rt", "bench/b.rs", "c/d.rt", "e.md":
         write(place, "unsafe one\n")
-    long = {"f.py": 101, "crates/x/src/g.rt": 101, "crates/x/proofs/G.antt": 121, "h.md": 151}
-    for place, length in long.items():
-        write(place, ("ab " * 60)[:length] + "\n")
-    handles = write("HANDLES", "Handles allowed: none.\n")
+    write("f.py", "ab " * 60)
+    write("HANDLES", "Handles allowed: some.\n")
     status, said = Tool("check_trust").run()
-    lines = said.splitlines()
-    assert (status, lines[-1]) == (1, "3 files, 5 places that are refused")
-    assert sorted(line.partition(":")[0] for line in lines[:-1]) == [
-        "bench/b.rs", "c/d.rt", "crates/x/proofs/G.antt", "crates/x/src/g.rt", "f.py"]
-    for place in "c/d.rt", *long:
-        write(place, "")
-    tool = Tool("check_trust", files=lambda: ["c/d.rt"])
-    assert tool.run() == (0, "1 files, 0 places that are refused\n")
-    handles.write_text("Handles allowed: some.\n")
-    told = "HANDLES: it doesn't hold its one line\n1 files, 1 places that are refused\n"
-    assert tool.run() == (1, told)
+    assert status == 1 and sorted(line.partition(":")[0] for line in said.splitlines()) == [
+        "2 files, 4 places that are refused", "HANDLES", "bench/b.rs", "c/d.rt", "f.py"]
 
 
 # ---- check_docs
 
-def failures(text, run=True):
-    tool = Tool("check_docs", tracked=lambda: [Path("a/src/known.rt")],
+def failures(text, run=True, name="page.md"):
+    files = "a/src/known.rt", *(f"crates/{it}/specs/Two.antt" for it in ("a", "examples", "a/b"))
+    tool = Tool("check_docs", tracked=lambda: list(map(Path, files)),
                 words=lambda: {"one", "two", "three", "rt"},
                 words_by_file=lambda: [{"one", "two", "rt"}, {"three"}],
                 source_lines=lambda: {"f();", "g(1);"},
                 is_in_history=lambda commit: commit == "abc1234")
-    page = tool.parts["Page"](write("page.md", text))
+    page = tool.parts["Page"](write(name, text))
     return [it for _, it in tool.parts["failures"](page, run)]
 
 
@@ -152,8 +124,7 @@ def failures(text, run=True):
     ("`src/known.rt`, `./a/src/known`, `src/*.rt`, `out/gone.rt`", None),
     ("`a/target/gone`, `src/NAME.rt`, `/gone/file`", None),
     ("`src/gone.rt`", "no such file or folder: src/gone.rt"),
-    ("`known.rt`, `*.rt`, `one.two`", None),
-    ("`one.rt`", "no such file or folder: one.rt"),
+    ("`known.rt`, `*.rt`, `one.two`", None), ("`one.rt`", "no such file or folder: one.rt"),
     ("`one`, `one::two()`, `three!`, `ansi2txt`, `1b5d`", None),
     ("`four`", "no source file contains four"),
     ("`one::four`", "no source file contains four of one::four"),
@@ -161,23 +132,25 @@ def failures(text, run=True):
     ("```rust\nf();\n    g(1); // why\n// known.rt\n// ..\n```", None),
     *((f"```{kind}\nh();\n```", "no source file contains this line: h();")
       for kind in ("rust", "c", "python", "antt")),
-    ("```rust sketch\nh();\n```\n```sh\nh\n```", None),
-    ("Since abc1234.", None),
+    ("```rust sketch\nh();\n```\n```sh\nh\n```", None), ("Since abc1234.", None),
     ("Since abc1235.", "the history has no commit abc1235"),
     ("```sh run\ntrue\n```\n```sh\nfalse\n```", None),
     ("```sh run\nfalse\ntrue\n```", "these commands failed with status 1"),
     ("```sh run\nexit 7\n```", "these commands failed with status 7"),
     ("```sh run\nexec 2>&-\necho $NO_SUCH_NAME\ntrue\n```", "these commands failed with status"),
     ("```sh run kit\nexit 7\n```", "these commands failed with status 7"),
-    ("```sh run\ntest -e page.md\n```", None),
-])
+    ("```sh run\ntest -e page.md\n```", None)])
 def test_pages(page, failure, monkeypatch):
     monkeypatch.setattr(shutil, "which", lambda _: "/bin/rt")
-    assert [it[: len(failure or "")] for it in failures(page)] == [failure] * bool(failure)
+    found = failures(page)
+    assert [it[: len(failure or "")] for it in found] == [failure] * bool(failure)
+    assert failures(page, run=False) == [it for it in found if "commands failed" not in it]
 
 
-def test_commands_are_run_if_that_is_asked():
-    assert failures("```sh run\nfalse\n```", run=False) == []
+def test_each_module_is_named():
+    said = ["this module has no name here: crates/a/specs/Two.antt"]
+    assert failures("`one`", name="REVIEWING.md") == said
+    assert failures("# `Two`", name="REVIEWING.md") == ["no source file contains Two"]
 
 
 @pytest.mark.parametrize("needs, crates, lacking", [
@@ -196,18 +169,22 @@ def test_commands_that_lack_something_are_missing(needs, crates, lacking, monkey
 @pytest.mark.parametrize("status, said, wanted", [
     (0, "false\n", True), (1, "false\n", False), (1, "true\n", True)])
 def test_the_history(status, said, wanted):
-    told = SimpleNamespace(returncode=status, stdout=said)
-    tool = Tool("check_docs", git=lambda *_: told)
+    tool = Tool("check_docs", git=lambda *_: SimpleNamespace(returncode=status, stdout=said))
     assert tool.parts["is_in_history"]("abc1234") == wanted
 
 
-@pytest.mark.parametrize("given", [[], [(3, "wrong")]])
-def test_the_status_of_pages(given):
-    pages = write("README.md", ""), write("docs/A.md", "")
-    told = [f"{name}:3: wrong" for name in ("README.md", "docs/A.md") if given]
-    said = "\n".join([*told, f"{len(pages)} pages, {len(told)} failures\n"])
-    tool = Tool("check_docs", failures=lambda *_: given)
-    assert tool.run() == (1 if told else 0, said)
+# words, the pages that have a fault, and what is told: whether commands are run
+@pytest.mark.parametrize("words, faulty, status, told", [
+    ("", "", 0, ["3 pages, 0 failures"]), ("docs/B.md", "", 2, []),
+    ("", "A.md", 1, ["docs/A.md:5: False", "3 pages, 1 failures"]),
+    ("docs/A.md", "A.md README.md", 1, ["docs/A.md:5: False", "1 pages, 1 failures"]),
+    ("--run", "A.md README.md", 1, ["README.md:5: True", "docs/A.md:5: True",
+                                    "tools/README.md:5: True", "3 pages, 3 failures"])])
+def test_which_pages_are_checked(words, faulty, status, told):
+    for place in "README.md", "docs/A.md", "tools/README.md":
+        write(place, "")
+    tool = Tool("check_docs", failures=lambda page, run: [(5, run)] * (page.path.name in faulty))
+    assert tool.run(*words.split()) == (status, "".join(f"{line}\n" for line in told))
 
 
 def test_documents_are_no_sources():
@@ -221,8 +198,8 @@ def test_documents_are_no_sources():
 def differences(source, written, place="c/mod.rs"):
     """What differs in a file, in whose place something else is written."""
     write("crates/c/src/lib.rt", source)
-    plan = Plan(folder="w", modules={"c": "crate::c"})
     write(f"w/{place}", written)
+    plan = Plan(folder="w", modules={"c": "crate::c"})
     status, said = Tool("check_erased", PLANS=(plan,)).run()
     *found, last = said.splitlines()
     assert status == (1 if found else 0)
@@ -230,66 +207,45 @@ def differences(source, written, place="c/mod.rs"):
     return found
 
 
-# the text of a crate, what is written of it, and the items that differ
+# the text of a crate, what is written of it, and the items that aren't in one of them: -A isn't
+# written, and +A isn't in the source so. More that doesn't differ is in test_erasing
 @pytest.mark.parametrize("source, written, wanted", [
-    ("/// F.\npub fn f() { laws::x(); g(alloc, c::X); }", "/// F. More.\npub fn f() { g(X); }", []),
-    ("trait T { fn f(); fn g() -> bool; }", "trait T { fn f() {} fn g() -> bool { false } }", []),
-    ("fn f() -> bool;", "fn f() -> bool { true }", ["fn f: { true }", "fn f"]),
-    ("fn f() { g(); }", "", ["fn f"]), ("trait T { fn f(); }", "trait T {}", ["fn f"]),
-    ("", "fn f() { g(); }", ["fn f: { g ( ) ; }"]),
-    ("fn f() { g(1); }", "fn f() { g(2); }", ["fn f: { g ( 2 ) ; }", "fn f"]),
-    ("fn f() { g(); }", "fn f() {}", ["fn f: { }", "fn f"]),
+    ("/// F.\npub fn f() { laws::x(); g(alloc, c::X); }", "/// F. More.\npub fn f() { g(X); }", ""),
+    ("fn f() -> bool;", "fn f() -> bool { true }", "+fn f, -fn f"),
+    ("fn f() { g(); }", "", "-fn f"), ("trait T { fn f(); }", "trait T {}", "-fn f"),
+    ("", "fn f() { g(); }", "+fn f"), ("fn f() { g(1); }", "fn f() { g(2); }", "+fn f, -fn f"),
+    ("fn f() { g(); }", "fn f() {}", "+fn f, -fn f"),
     ("impl S { fn f() { g(); } } impl T { fn f() { h(); } }",
-     "impl S { fn f() { h(); } } impl T { fn f() { g(); } }", ["fn f: { g ( ) ; }", "fn f"]),
-    ("pub static N: u8 = 1;", "pub static N: u8 = 2;", ["static N: : u8 = 2 ;", "static N"]),
-    ("impl S { const N: u8 = 1; }", "impl S {}", ["const N"]),
-    ("fn f<const N: u8>() -> *const u8 { N }", "fn f<const N: u8>() -> *const u8 { N }", []),
+     "impl S { fn f() { h(); } } impl T { fn f() { g(); } }", "+fn f, -fn f"),
+    ("pub static N: u8 = 1;", "pub static N: u8 = 2;", "+static N, -static N"),
+    ("impl S { const N: u8 = 1; }", "impl S {}", "-const N"),
+    ("fn f<const N: u8>() -> *const u8 { N }", "fn f<const N: u8>() -> *const u8 { N }", ""),
     ("fn f() { g(&mut reader, Chunk::new(a), input.up_to(b)); }",
-     "fn f() { g(reader, a, up_to(input, b)); }", []),
+     "fn f() { g(reader, a, up_to(input, b)); }", ""),
     ("fn f() { let (mut reader, input) = chunk.open(); self.looks.add(reader); g(); }",
-     "fn f() { let reader = Reader {}; g(); }", []),
+     "fn f() { let reader = Reader {}; g(); }", ""),
     ("fn f() { g(text(a, b.c)); take_run(a); }",
-     "fn f() { g(unsafe { text(a, b.c) }); unsafe { take_run(a) }; }", []),
-    ("fn f() { text(a); }", "fn f() { unsafe { text(b) }; }", ["fn f: { text ( b ) ; }", "fn f"]),
-    *(("fn f() { g(a); }", f"fn f() {{ unsafe {{ {made} }} }}", [f"fn f: {{ unsafe {{ {made} }} }}",
-                                                                 "fn f"])
-      for made in ("g ( a ) ;", "text ( a ) ; g ( a ) ;", "h ( text ( a ) )")),
-    ("fn f() { match a { A => b(1), _ => c } }",
-     "fn f() { match a { A => { b(1) } _ => c, } }", []),
-    ("fn f() { input.up_to(a); }", "fn f() { up_to(input, b); }",
-     ["fn f: { up_to ( input , b ) ; }", "fn f"]),
-    # contracts, ghosts and tests
+     "fn f() { g(unsafe { text(a, b.c) }); unsafe { take_run(a) }; }", ""),
+    ("fn f() { text(a); }", "fn f() { unsafe { text(b) }; }", "+fn f, -fn f"),
+    *(("fn f() { g(a); }", f"fn f() {{ unsafe {{ {made} }} }}", "+fn f, -fn f")
+      for made in ("g(a);", "text(a); g(a);", "h(text(a))")),
+    ("fn f() { match a { A => 1, _ => c } }", "fn f() { match a { A => { 1 } _ => c, } }", ""),
+    ("fn f() { input.up_to(a); }", "fn f() { up_to(input, b); }", "+fn f, -fn f"),
+    # contracts and ghosts
     ("fn f() // requires { }\n ghost a: { ℕ }\n requires b { { \"}\" } ≡ '}' } "
-     "ensures* { c } { g(); }", "fn f() { g(); }", []),
-    ("#[tactic(auto, using(a))]\nfn f()\n    ensures { a }\n{ b }", "fn f() { c }",
-     ["fn f: { c }", "fn f"]),
+     "ensures* { c } { g(); }", "fn f() { g(); }", ""),
+    ("#[tactic(auto, u(a))]\nfn f()\n    ensures { a }\n{ b }", "fn f() { c }", "+fn f, -fn f"),
     ("impl A for B { ghost use c.{D}; ghost e = { λ f. g }; fn h() { 1 } }",
-     "impl A for B { fn h() { 2 } }", ["fn h: { 2 }", "fn h"]),
-    ("#[cfg(test)]\nmod t { fn g() {} }\nfn f() { 1 }", "fn f() { 1 }", []),
-    # clones are derived
-    ("impl Clone for A { fn clone(&self) -> Self { B } }", "", []),
+     "impl A for B { fn h() { 2 } }", "+fn h, -fn h"),
     # marks
-    ("fn f() {\n// cargo: a();\n// cargo instead: b();\n// cargo instead: c();\nd();\ne(); }",
-     "fn f() { a(); b(); c(); e(); }", []),
-    ("fn f() {\n// cargo instead: a();\nb(); }", "fn f() { b(); }", ["fn f: { b ( ) ; }", "fn f"]),
-    ("// cargo lacks: why\npub fn f(a: [u8; 2])\n    ensures { b }\n{ c }\nfn g() {}",
-     "fn g() {}", []),
-    ("// cargo lacks: why\nfn f() {}\nfn g() {}", "fn f() {}", ["fn f: { }", "fn g"]),
-    # what the oldest Rust lacks
-    ("fn f() { a.is_sorted(); b[c..].first_chunk::<2>(); match d { 0..0x10 => 1, 2..20 => e } }",
-     "fn f() { a.windows(2).all(|pair| pair[0] <= pair[1]); first_chunk::<2>(&b[c..]); "
-     "match d { 0..=0xf => 1, 2..=19 => e } }", []),
-    ("fn f() { match a { 0..16 => 1 } }", "fn f() { match a { 0..=16 => 1 } }",
-     ["fn f: { match a { 0 . . = 16 = > 1 } }", "fn f"]),
-    ("fn f() { let A(b) = c else { return d; }; let E(g) = h else { i(); j }; }",
-     "fn f() { let b = match c { A(b) => b, _ => return d, }; "
-     "let g = match h { E(g) => g, _ => { i(); j } }; }", []),
-])
+    ("fn f() {\n// cargo instead: a();\nb(); }", "fn f() { b(); }", "+fn f, -fn f"),
+    ("// cargo lacks: why\nfn f() {}\nfn g() {}", "fn f() {}", "+fn f, -fn g"),
+    ("fn f() { match a { 0..16 => 1 } }", "fn f() { match a { 0..=16 => 1 } }", "+fn f, -fn f")])
 def test_what_differs_is_told(source, written, wanted):
-    told = [f"c/mod.rs {item}: it isn't " + ("in the source as it is written: " + said if said
-                                          else "written")
-            for item, _, said in (line.partition(": ") for line in wanted)]
-    assert differences(source, written) == told
+    shown = re.compile("c/mod.rs (.*?): it isn't (?:written|in the source as it is written: (.*))")
+    found = [shown.fullmatch(line) for line in differences(source, written)]
+    assert ", ".join("+-"[it[2] is None] + it[1] for it in found) == wanted
+    assert all(word in written for it in found for word in (it[2] or "").split())
 
 
 def test_all_files_are_compared():
@@ -304,45 +260,43 @@ def test_all_files_are_compared():
 
 # ---- mutate
 
+PLACE = "tools/mutants/c/m.edit"
 MUTANT = "# A rule.\nfile: src/lib.rt\nold: one\nnew: two\n# refused at abc1234 by goal\n"
 
 
 @pytest.fixture
-def crate():
+def copy(tmp_path_factory):
+    """A folder for a copy, beside that of a crate with a mutant."""
+    for file in "crates.txt", "HANDLES", "crates/c/must-fail/other.edit", PLACE:
+        write(file, MUTANT)
     write("crates/c/src/lib.rt", "f(one); f(two);")
-    for file in "crates.txt", "HANDLES", "crates/c/must-fail/other.edit":
-        write(file, "# A rule.\nfile: src/lib.rt\n")
+    return tmp_path_factory.mktemp("copy")
 
 
-# what stands in a mutant in the place of something, and what is wrong with it
-@pytest.mark.parametrize("old, new, fault", [
-    ("", "", None),
-    ("old: one", "old: f(", "crates/c/src/lib.rt hasn't exactly one 'f('"),
-    ("lib.rt", "gone.rt", "crates/c/src/gone.rt hasn't exactly one 'one'"),
-    ("# A rule.\n", "", "it names no rule"),
-    ("# refused at abc1234 by goal\n", "", "it wasn't refused: run tools/mutate"),
-    ("by goal", "by returns-then-x of a::B+C::d", None),
-    ("by goal", "by a goal of src/a/b.rt:1", None),
-    ("by goal", "by a goal", "its verdict names no goal"),
-    (" by goal", ": `goal`: why", "its verdict names no goal"),
-])
-def test_faults_of_mutants(crate, old, new, fault):
-    write("tools/mutants/c/m.edit", MUTANT.replace(old, new))
-    told = [f"tools/mutants/c/m.edit: {fault}"] * bool(fault)
+# what stands in an edit in the place of something, and what is wrong with it
+@pytest.mark.parametrize("place, old, new, fault", [
+    (PLACE, "", "", None),
+    (PLACE, "old: one", "old: f(", "crates/c/src/lib.rt hasn't exactly one 'f('"),
+    (PLACE, "lib.rt", "gone.rt", "crates/c/src/gone.rt hasn't exactly one 'one'"),
+    (PLACE, "# A rule.\n", "", "it names no rule"),
+    (PLACE, "# refused at abc1234 by goal\n", "", "it wasn't refused: run tools/mutate"),
+    *((PLACE, "by goal", f"by {verdict}", None)
+      for verdict in ("returns-then-x of a::B+C::d", "a goal of src/a/b.rt:1")),
+    *((PLACE, " by goal", verdict, "its verdict names no goal")
+      for verdict in (" by a goal", ": `goal`: why")),
+    ("crates/c/must-fail/other.edit", "# A rule.\n", "", "it names no rule"),
+    ("crates/c/must-fail/m.edit", "", "", "it stands twice")])
+def test_faults_of_mutants(copy, place, old, new, fault):
+    write(place, MUTANT.replace(old, new))
+    told = [f"{PLACE if 'twice' in fault else place}: {fault}"] if fault else []
     said = "\n".join([*told, f"1 mutants, {len(told)} faults\n"])
     assert Tool("mutate").run("--check") == (len(told), said)
 
 
-def test_must_fail_edits_name_their_rule(crate):
-    write("crates/c/must-fail/other.edit", "file: src/lib.rt\n")
-    told = "crates/c/must-fail/other.edit: it names no rule\n0 mutants, 1 faults\n"
-    assert Tool("mutate").run("--check") == (1, told)
-
-
-def test_mutants_stand_once(crate):
-    write("crates/c/must-fail/m.edit", "")
-    mutant = write("tools/mutants/c/m.edit", MUTANT)
-    assert [*Tool("mutate").parts["faults"](mutant)] == ["it stands twice"]
+def mutate(said, *words):
+    ran = SimpleNamespace(run=lambda *_, **__: SimpleNamespace(stdout=said), DEVNULL=None,
+                          check_output=lambda *_, **__: "abc1234\n", PIPE=None)
+    return Tool("mutate", subprocess=ran).run(*map(str, words))[0]
 
 
 # what `rt must-fail` says in the end, and the last line of the mutant then
@@ -354,38 +308,27 @@ def test_mutants_stand_once(crate):
         "x of src/a/b.rt:2": "note: src/a/b.rt:2:1: what `q` requires isn't proved (`x`); `y`",
         "x of a::b": "./proofs/a/b/Answers.antt:1:2: error: `x`: `y`",
         "x of a": "answers in ./proofs/a/Answers.antt; `search` did not prove `x`, `y`",
-        "a goal of a": "answers in ./proofs/a/Answers.antt"}.items()),
-])
-def test_verdicts(crate, tmp_path_factory, said, status, line):
-    mutant = write("tools/mutants/c/m.edit", MUTANT.replace("abc1234 by goal", "abc1200 by old"))
-    copy = tmp_path_factory.mktemp("copy")
-    assert mutate(f"rt: must-fail c/m.edit: {said}\n", str(copy)) == status
+        "a goal of a": "answers in ./proofs/a/Answers.antt"}.items())])
+def test_verdicts(copy, said, status, line):
+    """Of two mutants one is chosen, by its name."""
+    text = MUTANT.replace("abc1234 by goal", "abc1200 by old")
+    mutant, other = write(PLACE, text), write("tools/mutants/c/n.edit", text)
+    assert mutate(f"rt: must-fail c/m.edit: {said}\n", copy, "c/m", "c/m") == status
     assert [file.name for file in copy.rglob("*.edit")] == ["m.edit"]
-    assert mutant.read_text().splitlines()[-1] == line
+    assert (mutant.read_text().splitlines()[-1], other.read_text()) == (line, text)
 
 
-def mutate(said, *words):
-    told = SimpleNamespace(stdout=said)
-    ran = SimpleNamespace(run=lambda *_, **__: told, check_output=lambda *_, **__: "abc1234\n",
-                          DEVNULL=None, PIPE=None)
-    return Tool("mutate", subprocess=ran).run(*words)[0]
-
-
-def test_mutants_are_chosen_by_name(crate, tmp_path_factory):
-    for name in "mn":
-        write(f"tools/mutants/c/{name}.edit", MUTANT)
-    copy = tmp_path_factory.mktemp("copy")
-    said = "rt: must-fail c/n.edit: refused, as it must be: `x-y`: why (`x`)\n"
-    assert mutate(said, str(copy), "c/n", "c/n") == 0
-    assert [file.name for file in copy.rglob("*.edit")] == ["n.edit"]
+def test_all_mutants_are_tried(copy):
+    write("tools/mutants/c/n.edit", MUTANT)
+    assert mutate("rt: must-fail c/n.edit: refused, as it must be: `x-y`: why\n", copy) == 1
+    assert sorted(file.name for file in copy.rglob("*.edit")) == ["m.edit", "n.edit"]
 
 
 @pytest.mark.parametrize("words, said", [
     (["folder", "c/gone"], "there is no mutant c/gone"),
     (["--check", "c/m"], "--check takes no words"),
-    ([], "a folder outside the repository is needed, for a copy")])
-def test_words_that_mutate_refuses(crate, capsys, words, said):
-    write("tools/mutants/c/m.edit", MUTANT)
+    *((words, "a folder outside the repository is needed, for a copy") for words in ([], ["in"]))])
+def test_words_that_mutate_refuses(copy, capsys, words, said):
     assert mutate("", *words) == 2
     assert capsys.readouterr().err.endswith(f"error: {said}\n")
 
@@ -460,20 +403,25 @@ def calls():
     return tool, texts
 
 
-def test_a_call_is_added_to_all_lists_and_removed(calls):
-    tool, texts = calls
-    trait, *files = texts
-    method = "/// Rings.\n    /// Says so.\n    fn ring_bells(&mut self, top: u16, text: &str)"
-    write(trait, texts[trait].replace("/// BEL", f"{method}\n\n    /// BEL", 1))
+def update(tool, *files):
+    """Sees that files are told as out of date, and then written."""
     stale = "".join(f"\n  {file}" for file in sorted(files))
     told = f"these files aren't up to date; run tools/make_calls:{stale}"
     assert tool.run("--check") == (told, "")
     assert tool.run() == (None, f"{len(files)} files are written\n")
     assert tool.run("--check") == (None, "")
+
+
+def test_a_call_is_added_to_all_lists_and_removed(calls):
+    tool, texts = calls
+    trait, *files = texts
+    method = "/// Rings.\n    /// Says so.\n    fn ring_bells(&mut self, top: u16, text: &str)"
+    write(trait, texts[trait].replace("/// BEL", f"{method}\n\n    /// BEL", 1))
+    update(tool, *files)
     added = "".join(Path(file).read_text() for file in files)
     assert [end for end in ENDS if end not in added] == []
     write(trait, texts[trait])
-    assert tool.run() == (None, f"{len(files)} files are written\n")
+    update(tool, *files)
     assert {file: Path(file).read_text() for file in texts} == texts
 
 
@@ -486,19 +434,18 @@ def test_a_wrong_entry_is_told_and_written_again(calls, place, old, new):
     tool, texts = calls
     assert old in texts[place]
     write(place, texts[place].replace(old, new))
-    told = f"these files aren't up to date; run tools/make_calls:\n  {place}"
-    assert tool.run("--check") == (told, "")
-    assert tool.run() == (None, "1 files are written\n")
-    assert old in Path(place).read_text() and tool.run("--check") == (None, "")
+    update(tool, place)
+    assert old in Path(place).read_text()
 
 
 def test_the_table_of_c_has_one_order(calls):
     tool, texts = calls
     bell = "    void (*bell)(void *user);\n"
-    text = texts[HEADER].replace(bell, "").replace("} vte_handler;", f"{bell}}} vte_handler;")
-    write(HEADER, text)
+    without = texts[HEADER].replace(bell, "")
+    write(HEADER, without.replace("} vte_handler;", f"{bell}}} vte_handler;"))
     told = tool.run("--check")[0]
     assert told.startswith(HEADER) and told.endswith("the functions don't have one order")
+
 
 # ---- make_vectors
 
@@ -506,14 +453,12 @@ PLAIN, MARK = "crates/conformance/src/log_tests/plain.rt", "// Written by tools/
 
 
 @pytest.mark.parametrize("old, new, told", [
-    ("", "", None),
+    (None, None, "crates/conformance has no table of PlainVector"),
     ('text: b"\\x0a"', 'text: b"\\x0d"',
      f"these files aren't up to date; run tools/make_vectors:\n  {PLAIN}"),
-    ("plain text of nothing", "nothing",
-     f'{PLAIN}: no vector of text has the name "nothing"'),
+    ("plain text of nothing", "nothing", f'{PLAIN}: no vector of text has the name "nothing"'),
     ("[PlainVector;", "[Plain;", f"{PLAIN}: 0 tables, and 1 times `{MARK}`"),
-    ("// Written by", "// By", f"{PLAIN}: 1 tables, and 0 times `{MARK}`"),
-    (None, None, "crates/conformance has no table of PlainVector")])
+    ("// Written by", "// By", f"{PLAIN}: 1 tables, and 0 times `{MARK}`")])
 def test_a_wrong_table_is_refused(folder, old, new, told):
     for name in "conformance/src", "call_vectors":
         shutil.copytree(TOOLS.parent / "crates" / name, folder / "crates" / name)
@@ -551,9 +496,8 @@ def test_which_public_items_differ(folder):
     if " 1.95." not in version:
         miss("rustdoc 1.95, whose pages tools/check_public_items reads")
     texts = [ITEMS, *(ITEMS.replace(old, new) for old, new, _ in EDITS)]
-    modules = (f"pub mod m{at} {{ {text} }}\n" for at, text in enumerate(texts))
-    lines = write("lib.rs", "".join(modules))
-    subprocess.run(["rustdoc", lines, "--crate-name", "vte", "-o", "doc"], check=True)
+    write("lib.rs", "\n".join(f"pub mod m{at} {{ {text} }}" for at, text in enumerate(texts)))
+    subprocess.run(["rustdoc", "lib.rs", "--crate-name", "vte", "-o", "doc"], check=True)
     found = Tool("check_public_items").parts["items_of_pages"](folder / "doc" / "vte")
     sides = [{path.partition("::")[2]: text for path, text in found.items()
               if path.startswith(f"m{at}::")} for at in range(len(texts))]
@@ -571,9 +515,8 @@ def test_which_public_items_differ(folder):
     ("<vte::ParamsIter as Iterator>::next", True), ("vte::Params::next", False),
     ("vte::Engine<P>::stop", True), ("vte::Engine<P>::stops", False), ("other::f", True)])
 def test_functions_that_may_panic(function, is_known):
-    shown = (f"0000 <{function}::h0123456789abcdef>:\n 1:\tcall 2 <core::panicking::panic>\n"
-             "0001 <vte::quiet>:\n 2:\tcall 3 <core::slice::len>\n")
-    write("shown", shown)
+    write("shown", f"0000 <{function}::h0123456789abcdef>:\n 1:\tcall 2 <core::panicking::panic>\n"
+          "0001 <vte::quiet>:\n 2:\tcall 3 <core::slice::len>\n")
     status, lines = run_here("check_builds", "panics", cargo="", objdump="cat shown")
     told = [it for it in lines if "::" in it]
     assert (status, told) == ((0, []) if is_known else (1, [function] * 3))
@@ -611,9 +554,8 @@ def test_versions_of_a_release(place, old, new, told):
     for name, text in RELEASE.items():
         write(name, (text.replace(old, new) if name == place else text) + "\n")
     # with all versions right, the release would be made
-    status, lines = run_here("release", "--check", git="exit 1")
     wanted = f"versions: {told}" if told else "release: it was not made"
-    assert (status, lines) == (1, [wanted, "1 faults"])
+    assert run_here("release", "--check", git="exit 1") == (1, [wanted, "1 faults"])
 
 
 def test_contents_of_a_release(monkeypatch):
@@ -625,20 +567,21 @@ def test_contents_of_a_release(monkeypatch):
                  "source": name != "ours" or None} for name in edges]
     nodes = [{"id": name, "deps": [{"pkg": it, "dep_kinds": [{"kind": kind} for kind in kinds]}
                                    for it, kinds in its.items()]} for name, its in edges.items()]
-    described = {"packages": packages, "resolve": {"root": "ours", "nodes": nodes}}
-    write("described", json.dumps(described))
+    write("described", json.dumps({"packages": packages,
+                                   "resolve": {"root": "ours", "nodes": nodes}}))
     for name in "a.crate", "b.deb", "c.whl":
         write(f"out/{name}", "")
     assert run_here("releasing/contents", "out", "1.2.3", "manifest", cargo="cat described",
                     rustc="echo rustc 1.99.0; echo host: here") == (0, [])
     told = json.loads(Path("out/naqshuve-1.2.3.spdx.json").read_text())
     assert told["creationInfo"]["created"] == "1970-01-02T00:00:00Z"
-    assert [(it["name"], it["versionInfo"], it["licenseDeclared"]) for it in told["packages"]] == [
-        ("naqshuve-vte", "1.2.3", "Apache-2.0 OR MIT"),
-        ("rust-standard-library", "1.99.0", "MIT OR Apache-2.0"),
-        ("both", "1.0", "MIT OR X"), ("in_both", "1.0", "MIT OR X"),
-        *((f"file-{number}", "1.2.3", "Apache-2.0 OR MIT") for number in range(3))]
-    assert [it["packageFileName"] for it in told["packages"][4:]] == ["a.crate", "b.deb", "c.whl"]
+    ours = "Apache-2.0 OR MIT"
+    assert [(it["name"], it["versionInfo"], it["licenseDeclared"], it.get("packageFileName"))
+            for it in told["packages"]] == [
+        ("naqshuve-vte", "1.2.3", ours, None),
+        ("rust-standard-library", "1.99.0", "MIT OR Apache-2.0", None),
+        ("both", "1.0", "MIT OR X", None), ("in_both", "1.0", "MIT OR X", None),
+        *((f"file-{at}", "1.2.3", ours, it) for at, it in enumerate(("a.crate", "b.deb", "c.whl")))]
     held = [it["spdxElementId"][-1] + it["relatedSpdxElement"][7:] for it in told["relationships"]]
     assert held == ["0-naqshuve-vte", "1-naqshuve-vte", "1-rust-standard-library", "2-naqshuve-vte",
                     "2-rust-standard-library", "2-both", "2-in-both"]
@@ -656,11 +599,23 @@ def test_a_difference_is_found(does, is_found):
     assert fuzz.parts["finds"]("target", program) == is_found
 
 
-@pytest.mark.parametrize("is_clean, finds", [(True, True), (True, False), (False, True)])
-def test_status_of_fuzz(is_clean, finds):
-    fuzz = Tool("fuzz", missing=lambda: (), build=print, build_different=print,
-                fuzz=lambda *_: is_clean, finds=lambda *_: finds)
-    assert fuzz.run()[0] == (not (is_clean and finds))
+# words, the targets and the seconds for each, whether all is well, and the status
+@pytest.mark.parametrize("words, targets, seconds, is_clean, finds, covers, status", [
+    ("", "readings beside_vte c_library", 5, True, True, False, 0),
+    ("--seconds 7", "readings beside_vte c_library", 7, True, True, False, 0),
+    ("c_library", "c_library", 5, True, True, False, 0),
+    ("readings beside_vte", "readings beside_vte", 5, True, True, False, 0),
+    ("readings", "readings", 5, True, False, True, 1),
+    ("readings", "readings", 5, False, True, True, 1), ("--coverage", "", 0, False, False, True, 0),
+    ("--coverage", "", 0, True, True, False, 1), ("gone", "", 0, True, True, True, 2)])
+def test_what_is_fuzzed(words, targets, seconds, is_clean, finds, covers, status):
+    fuzz = Tool("fuzz", missing=lambda: (), build=lambda *given: given, build_different=str,
+                fuzz=lambda target, *given: print(target, *given) or is_clean,
+                finds=lambda *given: print(*given) or finds, coverage=lambda: covers)
+    told = [line for it in targets.split()
+            for line in (f"{it} {(it, seconds)} {seconds}", f"{it} {it}")]
+    found, said = fuzz.run(*words.split())
+    assert (found, sorted(said.splitlines())) == (status, sorted(told))
 
 
 def test_lines_that_are_not_run_are_there():
@@ -703,48 +658,45 @@ vte_feed ascii 64 - 1.000 -
 """
 
 
-def count(patch, *words, kit="", allowed="1", **cells):
+OLD = ["missing: old: the release and best builds were not counted"]
+
+
+@pytest.fixture
+def count(monkeypatch):
     """What bench/count says to a table, or writes, where each count is 4 or 1."""
-    place = write("instructions.txt", LIMITS.format(cells.get("rustc", "new"),
-                                                    cells.get("cell", "4.000")))
-    patch.syspath_prepend(str(TOOLS.parent / "bench"))
-    patch.setenv("NAQSHUVE_ALLOW_MISSING", allowed)
-    tool = Tool("../bench/count", counted=lambda _, __, asked: {
-        (row, column): {"parser": 4.0, "vte_feed": 1.0}[row[0]] for row, column in asked})
-    patch.setattr(tool.parts["limits"], "TABLE", place)
-    patch.setattr(tool.parts["limits"], "conditions",
-                  lambda: {"release": "new", "best": "new", "rattle": kit})
-    status, said = tool.run("limits", *words)
-    return status, said.splitlines(), place.read_text()
+    def counted(*words, kit="kit", allowed="1", rustc="new", cell="4.000"):
+        place = write("instructions.txt", LIMITS.format(rustc, cell))
+        monkeypatch.syspath_prepend(str(TOOLS.parent / "bench"))
+        monkeypatch.setenv("NAQSHUVE_ALLOW_MISSING", allowed)
+        tool = Tool("../bench/count", counted=lambda _, __, asked: {
+            (row, column): {"parser": 4.0, "vte_feed": 1.0}[row[0]] for row, column in asked})
+        monkeypatch.setattr(tool.parts["limits"], "TABLE", place)
+        monkeypatch.setattr(tool.parts["limits"], "conditions",
+                            lambda: {"release": "new", "best": "new", "rattle": kit})
+        status, said = tool.run("limits", *words)
+        return status, said.splitlines(), place.read_text()
+    return counted
 
 
-# a count of 4 beside the cell of a table
-@pytest.mark.parametrize("cell, is_fault, told", [
-    ("4.000", False, []), ("3.961", False, []), ("4.039", False, []),
-    ("3.960", True, [", release: 4.000, above 4.000"]),
-    ("3.900", True, [", release: 4.000, above 3.939"]),
-    ("4.100", False, [", release: 4.000, below 4.100"]),
-    ("?", True, [", release: 4.000, and the table has none"]), ("-", False, [])])
-def test_counts_above_their_limits(cell, is_fault, told, monkeypatch):
-    status, said, _ = count(monkeypatch, "--check", kit="kit", cell=cell)
-    last = f"{2 + (cell != '-')} counts, {int(is_fault)} above their limits"
-    assert (status, said) == (is_fault, [*(f"parser `ascii` in calls of 4,096 B{it}"
-                                           for it in told), last])
+# a table's cell for a count of 4, its compiler, what is told, and how many counts there are
+@pytest.mark.parametrize("given, status, told, counts", [
+    ({"cell": "-"}, 0, [], 2), *(({"cell": it}, 0, [], 3) for it in ("4.000", "3.961", "4.039")),
+    *(({"cell": cell}, status, [f"parser `ascii` in calls of 4,096 B, release: 4.000, {told}"], 3)
+      for cell, status, told in (
+          ("3.960", 1, "above 4.000"), ("3.900", 1, "above 3.939"), ("4.100", 0, "below 4.100"),
+          ("?", 1, "and the table has none"))),
+    ({"cell": "3.000", "rustc": "old"}, 0, OLD, 0), ({"rustc": "old", "allowed": ""}, 1, OLD, 0)])
+def test_counts_above_their_limits(count, given, status, told, counts):
+    last = f"{counts} counts, {status * (counts > 0)} above their limits"
+    assert count("--check", **given)[:2] == (status, [*told, last])
 
 
-def test_another_compiler_is_not_tested(monkeypatch):
-    told = ["missing: old: the release and best builds were not counted",
-            "0 counts, 0 above their limits"]
-    given = {"rustc": "old", "cell": "3.000", "kit": "kit"}
-    assert count(monkeypatch, "--check", **given)[:2] == (0, told)
-    assert count(monkeypatch, "--check", **given, allowed="")[:2] == (1, told)
-
-
-def test_limits_are_written(monkeypatch):
-    status, said, text = count(monkeypatch, rustc="old", cell="?")
+def test_limits_are_written(count):
+    status, said, text = count(rustc="old", cell="?", kit="")
     assert (status, said[1:]) == (0, ["3 counts are written"])
-    rows = [line.split() for line in text.splitlines()[1:]]
-    assert rows == [line.split() for line in LIMITS.format("new", "4.000").splitlines()[1:]]
+    found, wanted = ([line.split() for line in it.splitlines()[1:]]
+                     for it in (text, LIMITS.format("new", "4.000")))
+    assert found == wanted
 
 
 # ---- test
@@ -767,46 +719,41 @@ PROGRAMS = {
     "bin/rustc": "#!/bin/sh\necho rustc 1.63.0\n",
 }
 FAR, LACKING = "far: it needs rustc 1.0, no-such-program", "lacking: it needs no-such-command"
-THING, WAITS = "a thing: not tried", "{}: it needs all parts before it to pass"
+LEFT, WAITS = ["a thing: not tried", FAR, LACKING], "{}: it needs all parts before it to pass"
+ALL, BOTH = "first second proofs", "no-such-command no-such-tool"
 
 
 # words for it, what fails, what runs, what isn't tested, the packages that it needs, how it ends
 @pytest.mark.parametrize("words, fails, ran, left, packages, status, counts", [
-    ("", "", "first second proofs", [THING, FAR, LACKING], "no-such-command no-such-tool", 0,
-     ["3 passed, 0 failed", "8 passed, 0 failed"]),
+    ("", "", ALL, LEFT, BOTH, 0, ["3 passed, 0 failed", "8 passed, 0 failed"]),
     ("", "first", "first", [FAR, LACKING, WAITS.format("proofs"), WAITS.format("second")],
      "no-such-command", 1, ["0 passed, 1 failed"]),
-    ("", "second", "first second proofs", [THING, FAR, LACKING], "no-such-command no-such-tool", 1,
-     ["2 passed, 1 failed", "7 passed, 1 failed"]),
-    ("", "proofs", "first second proofs", [THING, FAR, LACKING], "no-such-command no-such-tool", 1,
-     ["2 passed, 1 failed", "6 passed, 2 failed"]),
-    ("--strict", "", "first second proofs", [THING, FAR, LACKING], "no-such-command no-such-tool",
-     1, ["3 passed, 0 failed", "8 passed, 0 failed"]),
+    ("", "second", ALL, LEFT, BOTH, 1, ["2 passed, 1 failed", "7 passed, 1 failed"]),
+    ("", "proofs", ALL, LEFT, BOTH, 1, ["2 passed, 1 failed", "6 passed, 2 failed"]),
+    ("--strict", "", ALL, LEFT, BOTH, 1, ["3 passed, 0 failed", "8 passed, 0 failed"]),
     ("first", "", "first", [], "", 0, ["1 passed, 0 failed"]),
     ("--strict first proofs", "", "first proofs", [], "", 0,
      ["2 passed, 0 failed", "7 passed, 0 failed"]),
-    ("second", "", "second", [THING], "no-such-tool", 0, ["1 passed, 0 failed"]),
-    ("--strict second", "", "second", [THING], "no-such-tool", 1, ["1 passed, 0 failed"]),
+    *((f"{front}second", "", "second", LEFT[:1], "no-such-tool", status, ["1 passed, 0 failed"])
+      for front, status in (("", 0), ("--strict ", 1))),
     ("second", "crates", "", ["second: it needs what cargo gets from a network"], "", 1,
      ["0 passed, 0 failed"]),
     ("first lacking", "", "first", [LACKING], "no-such-command", 1, ["1 passed, 0 failed"]),
     ("far", "", "", [FAR], "", 1, ["0 passed, 0 failed"]),
     *((f"{front}{name}", "", "", name, "", 2, [])
-      for front, name in (("", "unknown"), ("first ", "unknown"), ("", "fir.t"), ("", "bash"))),
-])
+      for front, name in (("", "unknown"), ("first ", "unknown"), ("", "fir.t"), ("", "bash")))])
 def test_what_is_run_and_listed(folder, words, fails, ran, left, packages, status, counts):
     text = (TOOLS / "test").read_text()
     for name, parts in PARTS.items():
         text = re.sub(rf"^{name} = \[$.*?^\]$", f"{name} = {parts}", text, flags=re.M | re.S)
-    test = write("tools/test", text, 0o755)
-    for name, text in PROGRAMS.items():
-        write(name, text, 0o755)
+    for name, program in {**PROGRAMS, "tools/test": text}.items():
+        write(name, program, 0o755)
     (folder / "temporary").mkdir()
     asked = write("asked", "")
     given = {**os.environ, "PATH": f"{folder}/bin:{os.environ['PATH']}",
              "TMPDIR": f"{folder}/temporary", "FAILS": fails}
-    done = subprocess.run([sys.executable, test, *words.split()], env=given, capture_output=True,
-                          text=True)
+    done = subprocess.run([sys.executable, "tools/test", *words.split()], env=given,
+                          capture_output=True, text=True)
     # after a command that failed, the others of a part are run
     tried = [*ran.split(), *["again"] * ("first" in ran)]
     assert (done.returncode, sorted(asked.read_text().split())) == (status, sorted(tried))
@@ -824,13 +771,3 @@ def test_what_is_run_and_listed(folder, words, fails, ran, left, packages, statu
     for name in ran.split():
         assert f"test: {name} begins" in lines
         assert (f"said by {name}" in lines) == (name in (fails, "proofs"))
-
-
-# ---- peer
-
-@pytest.mark.skipif(os.environ.get("HAS_CRATES") != "yes", reason="without the crates of rust/vte")
-def test_it_compiles(tmp_path):
-    version = subprocess.check_output(["cargo", "--version"], text=True).split()[1]
-    if [*map(int, version.split(".")[:2])] < [1, 85]:
-        pytest.skip("cargo 1.85 or later")
-    builder.placed_peers(True, tmp_path, "checked", 1)

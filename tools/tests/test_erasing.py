@@ -1,4 +1,4 @@
-"""Tests of tools/erase."""
+"""Tests of tools/erase, and of tools/check_erased beside it."""
 import re
 
 import pytest
@@ -7,6 +7,8 @@ from erasing.patterns import rewrite
 from erasing.plan import Plan
 from erasing.source import Source
 from erasing.tokens import Refused, split
+
+from tests.support import Tool, write
 
 
 def plan(**given):
@@ -78,10 +80,6 @@ def told(marked):
     return re.sub("[‹›]|«[^»]*»", "", marked), re.sub("[«»]|‹[^›]*›", "", marked)
 
 
-def erased(text, given):
-    return erase(text, "a", "a/x", given)[0]
-
-
 def words(text):
     """The words, comments and blank lines of a text: the rest of its layout is rustfmt's."""
     texts = [token.text.strip(" ") for token in split(text)]
@@ -90,7 +88,7 @@ def words(text):
 
 # what is told of a file, and a text with marks, as crates/ have no such case
 TEXTS = [
-    ({}, "use c::Kept; use c::Gone; fn f(k: u8) {} ‹#[cfg(test)] mod tests { fn g() { Gone } }›"),
+    ({}, "use c::Kept; use c::Gone; fn f(k: u8) {}\n‹#[cfg(test)]\nmod tests { fn g() { Gone } }›"),
     ({}, "‹use b::laws; pub use laws::Step; mod laws;› use ‹std›«core»::cmp::Ordering; mod c;"),
     ({}, "fn f() { match a { ‹1..0x10›«1..=0xf» => 2, ‹20..30›«20..=29» => 3, A..B => 4 } }"),
     # marks: comments, lines, and what isn't there, each up to its end and not more
@@ -139,11 +137,13 @@ TEXTS = [
     ({}, "‹//! ```rattle\n//! f();\n//! ```\n\n›"
      "/// F.\n‹///\n/// ```rattle\n/// f();\n/// ```\n›/// G.\nfn f() {}"),
     (dict(rules=[("$x.b", "k($x)")]), "fn f() { ‹g\n.b›«k(g)»; }"),
-    ({}, "fn f() { ‹a[b..].first_chunk::<2>()›«first_chunk::<2>(&a[b..])» }"),
-    ({}, "fn f() { ‹a.first_chunk::<2>()›«first_chunk::<2>(a)» }"),
+    ({}, "fn f() { ‹a[b..].first_chunk::<2>()›«first_chunk::<2>(&a[b..])»; "
+     "‹a.first_chunk::<2>()›«first_chunk::<2>(a)»; "
+     "a.‹is_sorted()›«windows(2).all(|pair| pair[0] <= pair[1])»; }"),
     ({}, "fn f() { ‹let A(x) = g(1) else {\n// why\nreturn };›"
      "«let x = match g(1) { A(x) => x, _ => {\n// why\nreturn } };»"
-     "‹let B(y) = h else { break; };›«let y = match h { B(y) => y, _ => break, };» }"),
+     "‹let B(y) = h else { break; };›«let y = match h { B(y) => y, _ => break, };» "
+     "‹let C(z) = i else { j(); k };›«let z = match i { C(z) => z, _ => { j(); k } };» }"),
     # bodies that stay as they are
     *(({}, text) for text in (
         "fn f() -> Option<u8> { let x = *g(); h()?; Some(x) }", "fn f() { !x >= 1 && x <= 5 }",
@@ -151,11 +151,8 @@ TEXTS = [
 ]
 
 
-def test_tokens_are_the_file():
-    assert "".join(token.text for token in split(TRAPS)) == TRAPS
-
-
 def test_traps():
+    assert "".join(token.text for token in split(TRAPS)) == TRAPS
     before, after = told(TRAPS)
     text, tests, _ = erase(before, "a", "a/x", plan())
     assert words(text) == words(after)
@@ -164,8 +161,13 @@ def test_traps():
 
 @pytest.mark.parametrize("given, marked", TEXTS)
 def test_texts(given, marked):
-    before, after = told(marked)
-    assert words(erased(before, plan(**given))) == words(after)
+    """What the eraser writes has no difference for the tool that shares no rule with it."""
+    (before, after), of_test = told(marked), plan(**given)
+    assert words(erase(before, "a", "a/x", of_test)[0]) == words(after)
+    write("crates/a/src/x.rt", before)
+    write("o/a/x.rs", after)
+    status, said = Tool("check_erased", PLANS=(of_test,)).run()
+    assert status == ("rules" in given), said
 
 
 @pytest.mark.parametrize("text, line", [
@@ -179,7 +181,7 @@ def test_texts(given, marked):
 ])
 def test_what_is_refused(text, line):
     with pytest.raises(Refused) as caught:
-        erased(text, plan())
+        erase(text, "a", "a/x", plan())
     assert (caught.value.line or 1) == line, caught.value
 
 
@@ -201,11 +203,6 @@ def test_which_files_are_written(is_reversed):
     assert "#![allow(y, z)]\n" in files["mod.rs"]
     assert files["mod.rs"].splitlines()[-3:] == [
         "pub(crate) mod a;", "#[cfg(x)]", "pub(crate) mod b;"]
-
-
-def test_failures_name_file_and_line():
-    with pytest.raises(Failure, match=r"^crates/a/src/x\.rt:2: unknown attribute: test$"):
-        write_crate(plan(), lambda _crate: {"x.rt": "\n#[test]\nfn f() {}\n"})
 
 
 @pytest.mark.parametrize("given", [

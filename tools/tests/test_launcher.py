@@ -15,7 +15,7 @@ from tests.support import wait_until, write
 TOP = Path(__file__).resolve().parents[2]
 WHOLE_PATH = os.environ["PATH"]
 # what the launcher may use
-USED = ("bash cat chmod dirname env find grep iconv mkdir mktemp readlink rm sed sh sleep tail "
+USED = ("bash cat chmod dirname env find grep iconv mkdir mktemp readlink rm sed sh tail "
         "touch").split()
 BEGINS = "vtlog: proving and building the program, at first in 4 to 7 minutes on 4 quiet cores\n"
 BUILT = f"{BEGINS}vtlog: built in N s\n"
@@ -76,6 +76,7 @@ def checkout(folder, monkeypatch):
     write("crates.txt", "vte_core: std\nevent_log: std vte_core\nvtlog: std event_log\n")
     write("log", "")
     write("bin/rt", RT, 0o755)
+    write("bin/sleep", '#!/bin/sh\nexec /bin/sleep "$@"\n', 0o755)
     yield top
     # a build that was left ends
     (top / "hangs").unlink(missing_ok=True)
@@ -153,15 +154,10 @@ def test_where_cargo_puts_what_it_makes(checkout, monkeypatch, place, variables)
     assert subprocess.run([made[:-1]]).returncode == 0
 
 
-def replace_sleep(line):
-    Path("bin/sleep").unlink()
-    write("bin/sleep", f"#!/bin/sh\n{line}\n", 0o755)
-
-
 def test_builds():
     """It is built once after each of these, and not again. However long it takes, no progress is
     told: `sleep` fails."""
-    replace_sleep("exit 1")
+    write("bin/sleep", "#!/bin/sh\nexit 1\n", 0o755)
     for change in ("true", "touch crates/vte_core/src/lib.rt", "touch crates/vte_core/specs/A.antt",
                    "touch crates/event_log/src/lib.rt", "touch crates/vtlog/proofs/Lib.antt",
                    "touch crates/vtlog/src/main.rt", "sed -i 's/std$/std memchr/' crates.txt",
@@ -209,8 +205,8 @@ def test_progress():
     """20 seconds are over at once, once the build hangs, or has ended."""
     hangs = write("hangs", "")
     write("log", "begun\nso far: 3 of 12 functions\n")
-    replace_sleep('while [ -e "$TOP/hangs" ] && [ ! -s "$TOP/hangs" ]; do /bin/sleep 0.01; done; '
-                  "/bin/sleep 0.1")
+    write("bin/sleep", "#!/bin/sh\n/bin/sleep 0.1\n"
+          'while [ -e "$TOP/hangs" ] && [ ! -s "$TOP/hangs" ]; do /bin/sleep 0.01; done\n', 0o755)
     launcher = start()
     wait_until(lambda: " s: " in Path("errors").read_text())
     hangs.unlink()

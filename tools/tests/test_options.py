@@ -3,34 +3,17 @@ installs, and others are tried where their tools are tested."""
 import os
 import re
 import subprocess
+from argparse import ArgumentParser
+from concurrent.futures import ThreadPoolExecutor
+from importlib import import_module
 from pathlib import Path
 from types import SimpleNamespace
 
 import pytest
+from c_library import conftest
 from generating.streams import generate
 
 from tests.support import TOOLS, Tool, run_here, write
-
-
-# words, and the targets with the seconds for each
-@pytest.mark.parametrize("words, targets, seconds", [
-    ("", "readings beside_vte c_library", 5), ("--seconds 7", "readings beside_vte c_library", 7),
-    ("c_library", "c_library", 5), ("readings beside_vte", "readings beside_vte", 5)])
-def test_what_is_fuzzed(words, targets, seconds):
-    fuzz = Tool("fuzz", missing=lambda: (), build=lambda *given: given, build_different=str,
-                fuzz=lambda target, *given: print(target, *given) or True,
-                finds=lambda *given: print(*given) or True)
-    status, said = fuzz.run(*words.split())
-    told = [line for it in targets.split()
-            for line in (f"{it} {(it, seconds)} {seconds}", f"{it} {it}")]
-    assert (status, sorted(said.splitlines())) == (0, sorted(told))
-
-
-@pytest.mark.parametrize("words, covers, wanted", [
-    ("--coverage", True, (0, "")), ("--coverage", False, (1, "")), ("gone", True, (2, ""))])
-def test_other_words_of_fuzz(words, covers, wanted):
-    fuzz = Tool("fuzz", missing=lambda: (), build=None, coverage=lambda: covers)
-    assert fuzz.run(words) == wanted
 
 
 def test_streams():
@@ -39,79 +22,55 @@ def test_streams():
         assert written == generate(name, size) and len(written) == size
 
 
-# words, what the pages are, and whether their commands are run
-@pytest.mark.parametrize("words, pages, run", [
-    ("", "README.md docs/A.md", False), ("docs/A.md", "docs/A.md", False),
-    ("--run", "README.md docs/A.md", True)])
-def test_pages(words, pages, run):
-    for place in "README.md", "docs/A.md":
-        write(place, "")
-    tool = Tool("check_docs", failures=lambda page, run: [(1, str(run))])
-    told = [f"{page}:1: {run}" for page in pages.split()]
-    said = "\n".join([*told, f"{len(told)} pages, {len(told)} failures\n"])
-    assert tool.run(*words.split()) == (1, said)
-    assert tool.run("docs/B.md")[0] == 2
+# ---- tools of the shell
+
+# what these find in the place of programs: $THERE are the packages that are installed
+PROGRAMS = {
+    "cargo": '[ "$1" = --version ] && echo cargo 1.90.0 || '
+             'echo "$@" $CARGO_TARGET_X86_64_UNKNOWN_LINUX_GNU_RUNNER',
+    "git": "echo $1 >>$ASKED; [ $1 = log ] && echo 1",
+    "dpkg-query": 'case " $THERE " in *" $4 "*) echo install ok installed;; esac',
+    "apt-get": "for it; do case $it in update | install | [ab]) echo $it >>$ASKED;; esac; done; "
+               '[ "$GATE" = 1 ]',
+    "python3": '[ "$1" != -c ] || case $2 in *xdist) exit $NO_XDIST;; *) exit 0;; esac; echo "$@"'}
+MISSING, HOMES = "missing: gcc-multilib.*32 bits were not tested", r"export CARGO_HOME=\S+"
 
 
-@pytest.mark.parametrize("words, allowed, status, said", [
-    ("memory", "", 0, "test --manifest-path .* --tests .* valgrind .*--error-exitcode"),
-    ("widths", "1", 0, "missing: gcc-multilib.*32 bits were not tested"),
-    ("widths", "", 1, "missing: gcc-multilib.*32 bits were not tested"),
-    ("--help", "", 0, "Checks builds .*"), ("gone", "", 2, "Checks builds .*"),
-    ("", "", 2, "Checks builds .*")])
-def test_builds(monkeypatch, words, allowed, status, said):
-    write("tools/install_packages", "#!/bin/sh\n[ $1 = valgrind ]\n", 0o755)
-    monkeypatch.setenv("NAQSHUVE_ALLOW_MISSING", allowed)
-    cargo = 'echo "$@" $CARGO_TARGET_X86_64_UNKNOWN_LINUX_GNU_RUNNER'
-    found, lines = run_here("check_builds", *words.split(), cargo=cargo)
-    assert found == status and re.match(said, lines[0])
-
-
-@pytest.mark.parametrize("has_xdist, words", [("0", " -n 4 a.py -k b"), ("1", " a.py -k b")])
-def test_pytest_side_by_side(has_xdist, words):
-    python = f'[ "$1" != -c ] || case $2 in *xdist) exit {has_xdist};; *) exit 0;; esac; echo "$@"'
-    status, [line] = run_here("run_pytest", "-n", "4", "a.py", "-k", "b", python3=python)
-    assert status == 0 and line.endswith(f"tests.missing{words}")
-
-
-@pytest.mark.parametrize("gate, there, status, asked", [
-    ("1", "a b", 0, ""), ("", "a", 1, ""), ("1", "a", 0, "update install b")])
-def test_packages(monkeypatch, gate, there, status, asked):
-    monkeypatch.setenv("GATE", gate)
-    write("asked", "")
-    shown = f"case ' {there} ' in *\" $4 \"*) echo install ok installed;; esac"
-    get = 'for it; do case $it in update | install | [ab]) echo "$it" >>asked;; esac; done'
-    found, _ = run_here("install_packages", "a", "b", **{"dpkg-query": shown, "apt-get": get})
-    assert (found, Path("asked").read_text().split()) == (status, asked.split())
-
-
-@pytest.mark.parametrize("words, has_crates, status, said", [
-    ("", "", 2, "Puts crates .*"), ("-h", "", 0, "Puts .*"),
-    ("folder", "", 0, r"export CARGO_HOME=\S+/folder/cargo PYTHONPATH=\S+ .*"),
-    ("folder a", "", 0, "export CARGO_HOME=.*"), ("folder a b", "yes", 0, "export PYTHONPATH=.*"),
-    ("folder a b", "", 1, None), ("other", "", 1, None)])
-def test_next_release(monkeypatch, words, has_crates, status, said):
-    monkeypatch.setenv("HAS_CRATES", has_crates)
+# a tool, its words and variables, its status, and what it asked for and said
+@pytest.mark.parametrize("tool, words, variables, status, said", [
+    ("check_builds", "memory", {}, 0, "test --manifest-path .*--tests .* valgrind .*--error-exit"),
+    ("check_builds", "widths", {}, 1, MISSING),
+    ("check_builds", "widths", {"NAQSHUVE_ALLOW_MISSING": "1"}, 0, MISSING),
+    *(("check_builds", words, {}, status, "Checks builds ")
+      for words, status in (("--help", 0), ("gone", 2), ("", 2))),
+    ("run_pytest", "-n 4 a.py -k b", {"NO_XDIST": "0"}, 0, ".*tests.missing -n 4 a.py -k b$"),
+    ("run_pytest", "-n 4 a.py -k b", {"NO_XDIST": "1"}, 0, ".*tests.missing a.py -k b$"),
+    ("install_packages", "a b", {"GATE": "1", "THERE": "a b"}, 0, "$"),
+    ("install_packages", "a b", {"THERE": "a"}, 1, "$"),
+    ("install_packages", "a b", {"GATE": "1", "THERE": "a"}, 0, "update install b installing b$"),
+    ("next_release", "", {}, 2, "Puts crates "), ("next_release", "-h", {}, 0, "Puts crates "),
     # what was asked for before isn't fetched again
-    needed = re.findall(r"(python3|librust)-\{(.*?)\}(-dev)?",
-                        (TOOLS / "next_release").read_text())
-    write("folder/had", "a\n" + "".join(f"{begin}-{name}{end}\n" for begin, names, end in needed
-                                       for name in names.split(",")))
-    found, lines = run_here("next_release", *words.split(), **{"apt-get": "exit 1"})
-    assert (found, bool(lines)) == (status, said is not None)
-    assert said is None or re.match(said, lines[0])
-
-
-# what git is asked for: the files, if the folder isn't there
-@pytest.mark.parametrize("words, status, asked", [
-    ("", 2, ""), ("--help", 0, ""), ("--chek", 2, ""), ("a b", 2, ""), ("there", 1, "log"),
-    ("new", 2, "log archive")])
-def test_words_of_release(words, status, asked):
-    for place in "there/file", "asked", "rust/vte/Cargo.toml", "crates/vte_c/include/vte.h":
-        write(place, "")
-    git = f"echo $1 >>{Path.cwd()}/asked; [ $1 = log ] && echo 1"
-    found, _ = run_here("release", *words.split(), cargo="echo cargo 1.90.0", git=git)
-    assert (found, Path("asked").read_text().split()) == (status, asked.split())
+    ("next_release", "folder", {}, 0, rf"{HOMES}/folder/cargo PYTHONPATH=\S+ "),
+    ("next_release", "folder a", {}, 0, HOMES), ("next_release", "folder a b", {}, 1, "update$"),
+    ("next_release", "folder a b", {"HAS_CRATES": "yes"}, 0, "export PYTHONPATH="),
+    ("next_release", "other", {}, 1, "update$"),
+    *(("release", words, {}, status, "Makes a release ")
+      for words, status in (("", 2), ("--help", 0), ("--chek", 2), ("a b", 2))),
+    # it asks for the files if the folder isn't there
+    ("release", "there", {}, 1, "log$"), ("release", "new", {}, 2, "log archive$")])
+def test_words(folder, monkeypatch, tool, words, variables, status, said):
+    needed = re.findall(r"(python3|librust)-\{(.*?)\}(-dev)?", (TOOLS / "next_release").read_text())
+    had = [f"{begin}-{it}{end}" for begin, names, end in needed for it in names.split(",")]
+    for place, text in {"tools/install_packages": "#!/bin/sh\n[ $1 = valgrind ]\n", "asked": "",
+                        "folder/had": "\n".join(["a", *had]), "there/file": "",
+                        "rust/vte/Cargo.toml": "", "crates/vte_c/include/vte.h": ""}.items():
+        write(place, text, 0o755)
+    none = dict.fromkeys(("NAQSHUVE_ALLOW_MISSING", "GATE", "THERE", "HAS_CRATES"), "")
+    for name, value in {**none, "ASKED": f"{folder}/asked", **variables}.items():
+        monkeypatch.setenv(name, value)
+    found, lines = run_here(tool, *words.split(), **PROGRAMS)
+    told = " ".join([*Path("asked").read_text().split(), *lines])
+    assert found == status and re.match(said, told)
 
 
 # ---- bench
@@ -130,18 +89,14 @@ def test_speed(monkeypatch, words, changes):
     monkeypatch.syspath_prepend(str(TOOLS.parent / "bench"))
     run, found = Tool("../bench/run", conditions=lambda *_: []), {"cores": [], "streams": []}
     measuring, figures = run.parts["measuring"], run.parts["figures"]
-
-    def line(row):
-        found["streams"].append(row["stream"])
-        return found.update(kind=row["kind"], rounds=len(row["nanoseconds"]["ours"]))
-
     monkeypatch.setattr(measuring, "Programs", lambda _, placements: found.update(
         placements=placements) or SimpleNamespace(
             build=lambda _: None, commands=lambda _: {"ours": [["ours"]]},
             stream=lambda _, size: size == measuring.CHECKED or found.update(bytes=size)))
     monkeypatch.setattr(measuring, "compare_checksums", lambda *_: None)
     monkeypatch.setattr(measuring, "in_passes", lambda *_: lambda: 1)
-    monkeypatch.setattr(figures, "line", line)
+    monkeypatch.setattr(figures, "line", lambda row: found["streams"].append(
+        row["stream"]) or found.update(kind=row["kind"], rounds=len(row["nanoseconds"]["ours"])))
     monkeypatch.setattr(figures, "tables", lambda _: [])
     monkeypatch.setattr(os, "sched_setaffinity", lambda _, cores: found["cores"].append(cores))
     run.run(*words.split())
@@ -156,20 +111,34 @@ def test_speed(monkeypatch, words, changes):
     ("calls", "vte_feed", {"streams": ["ascii", "ls_color", "coloured"] * 3})])
 def test_counts(monkeypatch, words, kinds, changes):
     monkeypatch.syspath_prepend(str(TOOLS.parent / "bench"))
-    pool, found = Tool("../bench/count").parts["ThreadPoolExecutor"], {"streams": []}
-
-    def stream(name, size):
-        found["streams"].append(name)
-        return SimpleNamespace(name=name, size=size)
-
+    found = {"streams": []}
     count = Tool("../bench/count", passed=lambda words, _, place: (place.size, "left"),
-                 ThreadPoolExecutor=lambda jobs: found.update(jobs=jobs) or pool(jobs))
+                 ThreadPoolExecutor=lambda it: found.update(jobs=it) or ThreadPoolExecutor(it))
     monkeypatch.setattr(count.parts["measuring"], "Programs", lambda _: SimpleNamespace(
         peers=lambda side: [side], proved="proved", commands=lambda _: {"vte_feed": [["in C"]]},
-        stream=lambda name, size: found.update(bytes=size) or stream(name, size)))
+        stream=lambda name, size: found.update(bytes=size) or found["streams"].append(
+            name) or SimpleNamespace(name=name, size=size)))
     _, said = count.run(*words.split())
     wanted = {"streams": STRIP["streams"], "bytes": 200_000, "jobs": os.cpu_count(), **changes}
     wanted["streams"] = wanted["streams"] * len(kinds.split())
     assert sorted(found["streams"]) == sorted(wanted["streams"])
     assert {**found, "streams": re.findall(r"^\| `(\w+)` .* 1\.00 \|$", said, re.M)} == wanted
     assert re.findall(r"^\| (?:stream \| call \| )?(\w+) \|", said, re.M) == kinds.split()
+
+
+# ---- the C library: words that pytest gets, and the random streams that they ask for
+
+
+@pytest.mark.parametrize("words, count, seed", [
+    ("", 20_000, 1), ("--short", 400, 1), ("--streams 250", 250, 1), ("--seed 7", 20_000, 7)])
+def test_streams_of_c(monkeypatch, words, count, seed):
+    write("tools/run_pytest", "#!/bin/sh\nshift; echo $*", 0o755)
+    assert run_here("test_c_library", *words.split()) == (0, [words])
+    parser, of_c = ArgumentParser(), import_module("c_library.test_streams")
+    conftest.pytest_addoption(SimpleNamespace(addoption=parser.add_argument))
+    monkeypatch.setattr(of_c, "hostile_stream", lambda *it: [b"%d %d" % it[:2]])
+    monkeypatch.setattr(of_c, "recorded", lambda: [("long", [b"a" * 20_000])])
+    streams = dict(of_c.all_streams(parser.parse_args(words.split())))
+    assert len(streams["long"]) == (10_000 if words == "--short" else 20_000)
+    found = b"\x18".join(streams[name] for name in streams if name.startswith("random"))
+    assert found.split(b"\x18") == [b"%d %d" % (seed, number) for number in range(count)]

@@ -5,7 +5,7 @@ use test_lines::TestTimeout;
 use vte::ansi::Processor;
 use vte::{Params, Parser, Perform};
 
-const MOST_HELD: usize = 2_097_150;
+const MAX_HELD: usize = 2_097_150;
 
 const BEGIN_UPDATE: &[u8] = b"\x1b[?2026h";
 
@@ -22,7 +22,7 @@ pub(crate) fn is_within_limits<A: Allocator>(
         return false;
     };
     let (_, held) = given.split_at(parsed);
-    count <= MOST_HELD && !held.windows(8).any(|window| window == END_UPDATE)
+    count <= MAX_HELD && !held.windows(8).any(|window| window == END_UPDATE)
 }
 
 /// Returns whether bytes are held only inside an update, for a timeout that is pending from

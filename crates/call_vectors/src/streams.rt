@@ -10,7 +10,7 @@ use test_lines::{Answers, CallLines, TestTimeout};
 use vte::ansi::{ByCall, Processor};
 
 /// Streams are cut at this many places at most, from their start.
-const MOST_CUT: usize = 2048;
+const MAX_CUT: usize = 2048;
 
 /// Returns whether the bytes of a vector make its calls: whole, byte by byte, and cut at every
 /// place; and whole and byte by byte without any memory beyond the processor's buffer.
@@ -30,7 +30,7 @@ pub(crate) fn is_shown(alloc: Global, vector: &Vector<'_>) -> io::Result<bool> {
         );
         same = same && memory.is_used_up() && makes(processor, lines, stream, length, calls)?;
     }
-    for place in 0..stream.len().min(MOST_CUT) {
+    for place in 0..stream.len().min(MAX_CUT) {
         let (front, back) = stream.split_at(place);
         same = same && makes_in_two(alloc, front, back, calls)?;
     }
@@ -42,7 +42,7 @@ pub(crate) fn is_shown(alloc: Global, vector: &Vector<'_>) -> io::Result<bool> {
 pub(crate) fn is_shown_with_stops(alloc: Global, vector: &Vector<'_>) -> io::Result<bool> {
     let (stream, calls) = (vector.bytes(alloc)?, vector.calls(alloc)?);
     let mut same = true;
-    for place in 0..=stream.len().min(MOST_CUT) {
+    for place in 0..=stream.len().min(MAX_CUT) {
         same = same && makes_with_stop(alloc, stream.as_slice(), place, calls.as_str())?;
     }
     Ok(same)

@@ -1,8 +1,6 @@
 -- Words from std, specs/ and `vte_core` for the files of proofs, so that a file imports one list from here instead of
 -- one line for each module.
-pub use Rattle.std.proofs.Common.{Bool, Bor, Err, IfSome, IsTrue, List, None, Ok, OnOk, Option, Result, Some, [], ap, append-nil, append_assoc, arith, codes, drop, false, get_or, if◌then◌else◌}
-pub use Rattle.std.proofs.Common.{inl, inr, is_err, length, length-append, map, max, refl, rules, subst, suc, sym, take, true, zero, ℕ, ◌%◌, ◌&&◌, ◌*◌, ◌++◌, ◌+◌, ◌-◌}
-pub use Rattle.std.proofs.Common.{◌/◌, ◌<◌, ◌^◌, ◌∙◌, ◌∷◌, ◌≡◌, ◌≤◌, ◌⊎◌}
+pub use Rattle.std.proofs.Common.{Bool, Bor, Err, IfSome, IsTrue, List, None, Ok, OnOk, Option, Result, Some, [], ap, append-nil, append_assoc, arith, codes, drop, false, get_or, if◌then◌else◌, inl, inr, is_err, length, length-append, map, max, refl, rules, subst, suc, sym, take, true, zero, ℕ, ◌%◌, ◌&&◌, ◌*◌, ◌++◌, ◌+◌, ◌-◌, ◌/◌, ◌<◌, ◌^◌, ◌∙◌, ◌∷◌, ◌≡◌, ◌≤◌, ◌⊎◌}
 pub use Rattle.std.proofs.Math.Seq.{take-append_seam}
 pub use Rattle.std.proofs.lemmas.Bool.{cases_Bool, le-leb}
 pub use Rattle.std.proofs.lemmas.Bool.Decides.{Decides-below_and, nat_tests}
@@ -14,15 +12,14 @@ pub use Rattle.std.proofs.lemmas.Str.{encode_ascii, encodes-chars, len_utf8_boun
 pub use Rattle.std.specs.Fmt.{decimal}
 pub use Rattle.std.specs.List.{All, concat, flat_map, join_with_byte}
 pub use Rattle.std.specs.Str.{IsUtf8, bytes_eq, chars}
-pub use Rattle.vte_core.proofs.showing.Shown.{after_colon, after_semicolon, group_text, group_written, groups_written, shown-nil}
+pub use Rattle.vte_core.proofs.Showing.{after_colon, after_semicolon, group_text, group_written, groups_written, shown-nil}
 pub use Rattle.vte_core.specs.EventBounds.{IsBounded, AreFromOneByte}
 pub use Rattle.vte_core.specs.EarlyStop.{IsStart, StopsExactly, breaks_at, resumed_stream}
 unfoldable pub use Rattle.vte_core.specs.EarlyStop.{reported_before}
-pub use Rattle.vte_core.specs.Event.{CsiDispatch, EscDispatch, Event, Execute, Hook, OscDispatch, Print, replacement}
+pub use Rattle.vte_core.specs.Event.{CsiDispatch, EscDispatch, Event, Execute, Hook, OscDispatch, Print, replacement, after}
 pub use Rattle.vte_core.specs.Parameters.{AreGroups, count_of, greatest_number, semicolon}
 unfoldable pub use Rattle.vte_core.specs.Parameters.{shown}
 pub use Rattle.vte_core.specs.Parser.{HasRead}
-pub use Rattle.vte_core.specs.Perform.{after}
 pub use Rattle.vte_core.specs.EarlyStopLaws.{GoesOnFromPositions, ReportsUnits}
 pub use Rattle.vte_core.specs.Stream.{added, events, usual_limit}
 pub use Rattle.vte_core.specs.Text.{is_layout, run_event}

@@ -1,9 +1,9 @@
--- Parts of a line that are pushed one after another extend it by all of them (`extends_then`). The digits of a number
--- and the fields of pieces are such parts.
-use Rattle.event_log.proofs.Common.{◌≡◌, ℕ, ◌+◌, ◌/◌, ◌%◌, ◌^◌, ◌<◌, ◌≤◌, Bool, true, false, ◌&&◌, List, [], ◌∷◌, ◌++◌, length, IsTrue, refl, sym, ap}
-use Rattle.event_log.proofs.Common.{◌∙◌, append_assoc, map, length-append, arith, length-map, nat_tests, decimal_digit, decimal_step, decimal, flat_map, blank, hex_field, pieces_fields}
-use Rattle.event_log.proofs.Common.{has_room_after, ExtendsLine, Lines}
+-- The parts of a line. Those that are pushed one after another extend it by all of them (`extends_then`); the digits of
+-- a number and the fields of pieces are such parts.
+use Rattle.event_log.proofs.Common.{◌≡◌, ℕ, ◌+◌, ◌/◌, ◌%◌, ◌^◌, ◌<◌, ◌≤◌, Bool, true, false, ◌&&◌, List, [], ◌∷◌, ◌++◌, length, IsTrue, refl, sym, ap, ◌∙◌, append_assoc, map, length-append, arith, length-map, nat_tests, decimal_digit, decimal_step, decimal, flat_map, blank, hex_field, pieces_fields, has_room_after, ExtendsLine, Lines, zero, suc, ◌*◌, get_or, bytes_eq, Decides-below_and, hex_byte, hex_digit, codes, ◌-◌, max, drop, Print, line_of, hex_character, hex_length, six_hex_digits, line_feed}
 use Rattle.std.proofs.lemmas.List.Folds.{flat_map-map}
+use Rattle.std.proofs.lemmas.Slice.Eq.{bytes_eq-Decides}
+use Rattle.event_log.specs.declared.lines.short.TheConstants.{HEX_PAIRS}
 
 -- If both texts had room, they have it together.
 fit_together : (f fb fc : Bool) (a s b t : List ℕ) → fb ≡ (f && has_room_after a s) → fc ≡ (fb && has_room_after b t)
@@ -53,3 +53,49 @@ pub pieces_as_pushed : {P : Type 0} (f : P → List ℕ) (pieces : List P)
     → pieces_fields (map f pieces) ≡ blank ++ decimal (length pieces) ++ flat_map (λ piece. hex_field (f piece)) pieces
 unfolding pieces_fields
 pieces_as_pushed f pieces = rw (length-map, flat_map-map hex_field f pieces) refl
+
+-- ---- the two hex digits of each byte
+
+-- The table has them: a test of all 256 entries computes to true.
+
+abbrev entry : ℕ → List ℕ
+entry b = get_or HEX_PAIRS.now (2 * b) 0 ∷ get_or HEX_PAIRS.now (2 * b + 1) 0 ∷ []
+
+abbrev entries_match : ℕ → Bool
+entries_match zero = true
+entries_match (suc n) = bytes_eq (entry n) (hex_byte n) && entries_match n
+
+entries_checked : entries_match 256 ≡ true
+unfolding hex_byte hex_digit
+entries_checked = refl
+
+pub table_entry : (b : ℕ) → b < 256
+    → get_or HEX_PAIRS.now (2 * b) 0 ∷ get_or HEX_PAIRS.now (2 * b + 1) 0 ∷ [] ≡ hex_byte b
+table_entry =
+    (Decides-below_and (λ b. bytes_eq (entry b) (hex_byte b)) (λ b. entry b ≡ hex_byte b) entries_match
+    (λ b. bytes_eq-Decides _ _) refl (λ _. refl) 256).0 entries_checked
+
+-- ---- the line of a character
+
+-- It has the last four, five or six of its six hex digits: by the size of its number.
+
+pub line_of_four : (n : ℕ) → n < 0x10000
+    → line_of (Print n) ≡ codes "print " ++ (hex_byte (n / 0x100) ++ hex_byte (n % 0x100)) ++ line_feed
+unfolding line_of hex_character hex_length six_hex_digits hex_byte
+line_of_four n below =
+    let start : 6 - max 4 (hex_length n) ≡ 2 = grind (arith, nat_tests) in
+    let high : n / 0x100 % 0x100 ≡ n / 0x100 = omega arith in
+    rw (start, high) refl
+
+pub line_of_five : (n : ℕ) → 0x10000 ≤ n → n < 0x100000
+    → line_of (Print n) ≡ codes "print " ++ drop 1 (six_hex_digits n) ++ line_feed
+unfolding line_of hex_character hex_length
+line_of_five n above below =
+    let start : 6 - max 4 (hex_length n) ≡ 1 = grind (arith, nat_tests) in
+    rw start refl
+
+pub line_of_six : (n : ℕ) → 0x100000 ≤ n → line_of (Print n) ≡ codes "print " ++ six_hex_digits n ++ line_feed
+unfolding line_of hex_character hex_length
+line_of_six n above =
+    let start : 6 - max 4 (hex_length n) ≡ 0 = grind (arith, nat_tests) in
+    rw start refl

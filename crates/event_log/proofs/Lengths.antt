@@ -1,14 +1,14 @@
 -- How long the text of an event is, part by part, and how many events bytes add: at most two each. So the text of bytes
--- is at most eight times as long as they are.
-use Rattle.event_log.proofs.Common.{◌≡◌, ℕ, ◌+◌, ◌-◌, ◌*◌, ◌<◌, ◌≤◌, max, Bool, true, false, if◌then◌else◌, List, [], ◌∷◌, ◌++◌, length, map, refl, usual_limit}
-use Rattle.event_log.proofs.Common.{length-append, arith, All, flat_map, concat, join_with_byte, decimal, length-decimal-le, All-head, All-tail, length-encode, len_utf8_bounds, IsBounded, AreFromOneByte}
-use Rattle.event_log.proofs.Common.{Event, Print, Execute, Hook, OscDispatch, CsiDispatch, EscDispatch, AreGroups, semicolon, count_of, greatest_number, shown, added, is_layout, group_text}
-use Rattle.event_log.proofs.Common.{hex_byte, hex_character, six_hex_digits, hex_length, hex_field, flag_field, pieces_fields, sequence_fields, line_of, plain_text_of}
+-- is at most eight times as long as they are, and fits where it is collected.
+use Rattle.event_log.proofs.Common.{◌≡◌, ℕ, ◌+◌, ◌-◌, ◌*◌, ◌<◌, ◌≤◌, max, Bool, true, false, if◌then◌else◌, List, [], ◌∷◌, ◌++◌, length, map, refl, usual_limit, length-append, arith, All, flat_map, concat, join_with_byte, decimal, length-decimal-le, All-head, All-tail, length-encode, len_utf8_bounds, IsBounded, AreFromOneByte, Event, Print, Execute, Hook, OscDispatch, CsiDispatch, EscDispatch, AreGroups, semicolon, count_of, greatest_number, shown, added, is_layout, group_text, hex_byte, hex_character, six_hex_digits, hex_length, hex_field, flag_field, pieces_fields, sequence_fields, line_of, plain_text_of, inl, inr, zero, suc, drop, ap, ◌∙◌, cases_Bool, StopsExactly, breaks_at, reported_before, resumed_stream, replacement, HasRead, after, GoesOnFromPositions, ReportsUnits, Parser, hex_digit, AddsUpTo, HasKept, Record, empty_record, is_to_be_written, with_event, with_text, sym, append_assoc, encode_ascii, encodes-chars, IsUtf8, chars, run_event, most_bytes}
 use Rattle.std.proofs.Common.{length-drop}
 use Rattle.std.proofs.lemmas.List.Sums.{sum_by-cons}
-use Rattle.vte_core.proofs.stops.Units.{added-append}
+use Rattle.vte_core.proofs.EarlyStops.{added-append}
 use Rattle.vte_core.proofs.streams.After.{added-nothing}
-use Rattle.event_log.proofs.Records.{IsSmall}
+use Rattle.event_log.proofs.Records.{IsSmall, kept_by, half_has_room, takes_told, all_taken, record_of, takes_all}
+use Rattle.std.proofs.Math.Utf8.{encodes}
+use Rattle.std.specs.Char.{encode_utf8}
+use Rattle.vte_core.proofs.bytes.Runs.{layout-is_ascii}
 
 -- ---- fields
 
@@ -104,7 +104,7 @@ length_line (EscDispatch intermediates ignore byte) h =
 length_line _ h = omega arith
 
 -- At most two lines are reported up to the next start, the second for a character or a control.
-pub lines_are_small : IsSmall line_of
+lines_are_small : IsSmall line_of
 unfolding line_of hex_byte
 lines_are_small [] h = omega arith
 lines_are_small (event ∷ []) h = simp length-append (omega (arith, length_line event h))
@@ -132,7 +132,7 @@ length_texts (event ∷ events) = simp length-append (omega (arith, length_text 
 
 -- ---- what bytes add
 
-abbrev pub AreBrief : Type 0
+abbrev AreBrief : Type 0
 AreBrief = (stream : List ℕ) (byte : ℕ) → AreFromOneByte usual_limit (added usual_limit stream (byte ∷ []))
 
 at_most_two : (events : List Event) → AreFromOneByte usual_limit events → length events ≤ 2
@@ -156,3 +156,98 @@ pub text_grows_slowly : AreBrief → (stream bytes : List ℕ)
     → length (flat_map plain_text_of (added usual_limit stream bytes)) ≤ 8 * length bytes
 text_grows_slowly brief stream bytes =
     omega (arith, length_texts (added usual_limit stream bytes), events_grow_slowly brief stream bytes)
+
+-- ---- a recorder that is asked at each start loses no line
+
+-- Unless it is terminated, at most half of its room is in use, and the lines up to the next start fit into the rest.
+
+-- The line of a replacement character is short.
+short_replacement : is_to_be_written (with_event line_of empty_record (Print replacement)) ≡ false
+unfolding line_of hex_character hex_length six_hex_digits hex_byte hex_digit with_text
+short_replacement = refl
+
+-- A call reads a byte: neither an empty recorder nor the line of a replacement character stops it at once.
+pub reads_some : {old new : Record} {stream bytes : List ℕ} {n : ℕ} → old ≡ empty_record
+    → StopsExactly (with_event line_of) is_to_be_written old usual_limit stream bytes new n → 0 < length bytes → 0 < n
+unfolding reported_before
+reads_some {stream} {bytes} {n = zero} empty s some =
+    absurd (elim (cases_Bool (breaks_at stream bytes 0)) [
+      | inl broken ↦ let e = rw (broken, added-nothing, empty) at s.comes.performed in let h = short_replacement in
+          let f : ⊥ = cc (s.stops some) in f
+      | inr whole ↦ let e = rw (whole, added-nothing, empty) at s.comes.performed in let f : ⊥ = cc (s.stops some) in f
+    ])
+reads_some {n = suc n} empty s some = omega arith
+
+-- At a start where the recorder isn't terminated, at most half of the room is in use.
+pub kept_lines : {whole : List ℕ → List ℕ} {n : ℕ} {parser parser_then : Parser 1024} {old new : Record}
+    (unread : List ℕ)
+    → GoesOnFromPositions usual_limit → ReportsUnits usual_limit → old ≡ empty_record
+    → (before : AddsUpTo line_of whole [] parser unread)
+    → StopsExactly (with_event line_of) is_to_be_written old usual_limit before.since unread new n
+    → HasRead parser_then (resumed_stream before.since unread n)
+    → HasKept line_of whole new parser_then (drop n unread)
+kept_lines {whole} {n} {parser} {old} unread goes_on units empty before s parsed =
+    let since = before.since in
+    let h : HasKept line_of whole old parser unread = record {
+      adds_up = record { since = since; parsed = before.parsed; goes_on = λ more. rw empty (before.goes_on more) };
+      kept = ap (λ (r : Record). r.lost) empty;
+    } in
+    kept_by (reported_before usual_limit since unread n) (resumed_stream since unread n) h
+    (λ more. goes_on since unread more n)
+    parsed
+    (s.comes.performed
+    ∙ takes_told line_of lines_are_small units since unread old h.kept
+    (half_has_room old (ap is_to_be_written empty)) n s.comes.within
+    (λ j earlier start. half_has_room (after (with_event line_of) old (reported_before usual_limit since unread j))
+    (s.comes.earlier j earlier start)))
+
+-- ---- the text of a run is its bytes
+
+-- So a run is taken as its characters are, one after another. A chunk is so short that all of its text fits.
+
+-- A character of a run adds its bytes, whether it is printed or executed.
+pub text_of_one : (c : ℕ) → plain_text_of (run_event true c) ≡ encode_utf8 c
+unfolding plain_text_of
+text_of_one c = by_layout (is_layout c) refl
+  where
+    by_layout : (layout : Bool) → is_layout c ≡ layout → plain_text_of (run_event true c) ≡ encode_utf8 c
+    by_layout true e = rw (e, e) (sym (encode_ascii c (layout-is_ascii c e)))
+    by_layout false e = rw e refl
+
+pub text_of_run : (cs : List ℕ) → flat_map plain_text_of (map (run_event true) cs) ≡ encodes cs
+text_of_run [] = refl
+text_of_run (c ∷ cs) =
+    ap (λ (t : List ℕ). t ++ flat_map plain_text_of (map (run_event true) cs)) (text_of_one c)
+    ∙ ap (λ (t : List ℕ). encode_utf8 c ++ t) (text_of_run cs)
+
+-- One more character of a run takes one more step.
+pub after-more : {V : Type 0} (step : V → Event → V) (event_of : ℕ → Event) (cs : List ℕ) (c : ℕ) (old new : V)
+    → new ≡ after step old (map event_of cs) → step new (event_of c) ≡ after step old (map event_of (cs ++ c ∷ []))
+after-more step event_of [] c old new e = ap (λ v. step v (event_of c)) e
+after-more step event_of (x ∷ cs) c old new e = after-more step event_of cs c (step old (event_of x)) new e
+
+-- If a run has room, it is taken as its characters are, one after another.
+pub takes_run : (held : Record) (text : List ℕ) → IsUtf8 text → length held.bytes + length text ≤ most_bytes
+    → with_text held text ≡ after (with_event plain_text_of) held (map (run_event true) (chars text))
+takes_run held text utf8 room =
+    takes_all plain_text_of held text (map (run_event true) (chars text))
+    (sym (text_of_run (chars text) ∙ encodes-chars text utf8)) room
+
+-- If all bytes of a chunk were read, its text is taken.
+pub kept_text : {whole : List ℕ → List ℕ} {unread : List ℕ} {parser parser_then : Parser 1024} {held held_then : Record}
+    (chunk rest : List ℕ)
+    → AreBrief → (h : HasKept plain_text_of whole held parser unread) → chunk ++ rest ≡ unread
+    → length held.bytes + 8 * length chunk ≤ most_bytes
+    → held_then ≡ after (with_event plain_text_of) held (added usual_limit h.adds_up.since chunk)
+    → HasRead parser_then (h.adds_up.since ++ chunk)
+    → HasKept plain_text_of whole held_then parser_then rest
+kept_text {held} chunk rest brief h parts room performed parsed =
+    let since = h.adds_up.since in
+    let reported = added usual_limit since chunk in
+    let taken =
+    all_taken plain_text_of held.bytes held.lost reported
+    (omega (arith, room, text_grows_slowly brief since chunk)) in
+    kept_by reported (since ++ chunk) h
+    (λ more. rw (← parts, append_assoc chunk rest more) (added-append usual_limit since chunk (rest ++ more)))
+    parsed
+    (performed ∙ taken ∙ ap (record_of (held.bytes ++ flat_map plain_text_of reported)) h.kept)

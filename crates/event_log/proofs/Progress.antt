@@ -1,12 +1,11 @@
 -- From what a collector holds to what a run has written: what was collected is appended, and each read that gives
 -- something takes a piece off the input (`HasReadPart`), until one fails or gives nothing.
-use Rattle.event_log.proofs.Common.{◌≡◌, ℕ, ◌+◌, ◌<◌, ◌≤◌, ◌⊎◌, Bool, true, List, [], ◌++◌, length, Option, Some, None, IfSome, inl, inr, refl, sym, ap, ◌∙◌, usual_limit}
-use Rattle.event_log.proofs.Common.{append_assoc, append-nil, length-append, arith, flat_map, Event, HasRead, events, Parser, AddsUpTo, HasWritten}
+use Rattle.event_log.proofs.Common.{◌≡◌, ℕ, ◌+◌, ◌<◌, ◌≤◌, ◌⊎◌, Bool, true, List, [], ◌++◌, length, Option, Some, None, IfSome, inl, inr, refl, sym, ap, ◌∙◌, usual_limit, append_assoc, append-nil, length-append, arith, flat_map, Event, HasRead, events, Parser, AddsUpTo, HasWritten}
 use Rattle.std.specs.Io.KnownBytes.{Appends, Consumes, IsAtEnd, Keeps}
 use Rattle.event_log.specs.Device.{KeepsWhereTold}
 use Rattle.event_log.specs.Run.{WritesAll, WritesPrefix, most_reads}
 use Rattle.vte_core.proofs.streams.After.{added-nothing}
-use Rattle.event_log.proofs.Collected.{adds_up_at_first}
+use Rattle.event_log.proofs.Records.{adds_up_at_first}
 
 -- ---- devices whose bytes are known
 
@@ -80,7 +79,7 @@ written_kept {taken_then} h keeps =
 
 -- ---- a run
 
-abbrev pub means : (Event → List ℕ) → List ℕ → List ℕ
+abbrev means : (Event → List ℕ) → List ℕ → List ℕ
 means text_of stream = flat_map text_of (events usual_limit stream)
 
 -- A run has made this many reads, and each gave something.

@@ -1,9 +1,7 @@
--- What a record holds after texts. It holds the texts of all events if there is room at each start: by induction over
--- the places, from one start to the next.
-use Rattle.event_log.proofs.Common.{◌≡◌, ℕ, zero, suc, ◌+◌, ◌<◌, ◌≤◌, Bool, false, List, [], ◌∷◌, ◌++◌, length, inl, inr, refl, sym, ap, subst, ◌∙◌, usual_limit}
-use Rattle.event_log.proofs.Common.{append_assoc, append-nil, length-append, arith, take-append_seam, cases_Bool, le-leb, nat_tests, flat_map-append, flat_map, AreFromOneByte, IsStart, reported_before, Event, after}
-use Rattle.event_log.proofs.Common.{ReportsUnits, Record, BeginsLine, ExtendsLine, EndsLine, has_room_after, record_in, is_to_be_written, most_bytes, with_event, with_text, Lines}
-use Rattle.vte_core.proofs.streams.Performing.{after_events-append}
+-- What a record holds after texts, and a collector from call to call. A record holds the texts of all events if there
+-- is room at each start: by induction over the places, from one start to the next.
+use Rattle.event_log.proofs.Common.{◌≡◌, ℕ, zero, suc, ◌+◌, ◌<◌, ◌≤◌, Bool, false, List, [], ◌∷◌, ◌++◌, length, inl, inr, refl, sym, ap, subst, ◌∙◌, usual_limit, append_assoc, append-nil, length-append, arith, take-append_seam, cases_Bool, le-leb, nat_tests, flat_map-append, flat_map, AreFromOneByte, IsStart, reported_before, Event, after, ReportsUnits, Record, BeginsLine, ExtendsLine, EndsLine, has_room_after, record_in, is_to_be_written, most_bytes, with_event, with_text, Lines, ◌-◌, take, drop, length-drop, take_all, HasRead, added, Parser, AddsUpTo, HasKept, HasReadSome}
+use Rattle.vte_core.proofs.streams.After.{after_events-append}
 
 -- ---- one text
 
@@ -64,7 +62,7 @@ takes_all text_of held text events spelt fits =
 -- ---- a collector that has room at each start
 
 -- The texts of what is reported from one start to the next have at most the bytes of a line and of a character's line.
-abbrev pub most_of_unit : ℕ
+abbrev most_of_unit : ℕ
 most_of_unit = 2213
 
 abbrev pub IsSmall : (Event → List ℕ) → Type 0
@@ -72,7 +70,7 @@ IsSmall text_of = (events : List Event) → AreFromOneByte usual_limit events
     → length (flat_map text_of events) ≤ most_of_unit
 
 -- There is room for what is reported up to the next start.
-abbrev pub HasRoomForUnit : Record → Type 0
+abbrev HasRoomForUnit : Record → Type 0
 HasRoomForUnit held = length held.bytes + most_of_unit ≤ most_bytes
 
 pub half_has_room : (held : Record) → is_to_be_written held ≡ false → HasRoomForUnit held
@@ -119,3 +117,44 @@ module _ (text_of : Event → List ℕ) (small : IsSmall text_of) (units : Repor
       → after (with_event text_of) old (reported_before usual_limit stream bytes i)
       ≡ record_of (old.bytes ++ flat_map text_of (reported_before usual_limit stream bytes i)) false
   takes_told i within rooms = takes_below (i + 1) i (omega arith) within rooms
+
+-- ---- what a collector holds
+
+-- With the text of what is unread, it adds up to the whole text from call to call: the events that a call reported are
+-- taken, and the parser goes on from another stream.
+
+-- Before a call nothing is held, and the whole is the text of what the unread bytes and more add.
+pub adds_up_at_first : {text_of : Event → List ℕ} {parser : Parser 1024} (h : HasReadSome parser) (unread : List ℕ)
+    → AddsUpTo text_of (λ more. flat_map text_of (added usual_limit h.since (unread ++ more))) [] parser unread
+adds_up_at_first h unread = record {
+  since = h.since;
+  parsed = h.parsed;
+  goes_on = λ more. refl;
+}
+
+-- A slice from n on is what follows n bytes.
+pub cut_from : (n : ℕ) (bytes : List ℕ) → take (length bytes - n) (drop n bytes) ≡ drop n bytes
+cut_from n bytes = take_all (length bytes - n) (drop n bytes) (omega (arith, length-drop n bytes))
+
+-- A call reported events, whose texts were all taken, and the parser goes on from another stream.
+pub kept_by : {text_of : Event → List ℕ} {whole : List ℕ → List ℕ} {unread unread_then : List ℕ}
+    {parser parser_then : Parser 1024} {held held_then : Record}
+    (events : List Event) (since : List ℕ) → (h : HasKept text_of whole held parser unread)
+    → ((more : List ℕ)
+    → added usual_limit h.adds_up.since (unread ++ more) ≡ events ++ added usual_limit since (unread_then ++ more))
+    → HasRead parser_then since → held_then ≡ record_of (held.bytes ++ flat_map text_of events) false
+    → HasKept text_of whole held_then parser_then unread_then
+kept_by {text_of} {unread_then} {held} events since h goes_on parsed holds = record {
+  adds_up = record {
+    since = since;
+    parsed = parsed;
+    goes_on = λ more.
+        let later = flat_map text_of (added usual_limit since (unread_then ++ more)) in
+        ap (λ (r : Record). r.bytes ++ later) holds
+        ∙ append_assoc held.bytes (flat_map text_of events) later
+        ∙ ap (λ (t : List ℕ). held.bytes ++ t)
+        (sym (flat_map-append text_of events _) ∙ ap (flat_map text_of) (sym (goes_on more)))
+        ∙ h.adds_up.goes_on more;
+  };
+  kept = ap (λ (r : Record). r.lost) holds;
+}

@@ -1,5 +1,5 @@
 -- What is known of the bytes of a device, before and after a call.
-use Rattle.std.specs.Prelude.{◌≡◌, ℕ, Bool, List, Option, Some, None, ⊤, if◌then◌else◌}
+use Rattle.std.specs.Prelude.{◌≡◌, ℕ, Bool, List, Option, Some, None, ⊤, if◌then◌else◌, is_some}
 use Rattle.event_log.specs.declared.device.Device.{Device}
 
 -- If the bytes are known before and after, they are the same.
@@ -12,7 +12,7 @@ abbrev pub device_inner : {D : Type 0} → Device D → D
 device_inner device = device.inner
 
 abbrev pub device_failed : {D : Type 0} → Device D → Bool
-device_failed device = device.failed
+device_failed device = is_some device.error
 
 -- What is known of the bytes inside, as long as the device hasn't failed.
 abbrev pub told_unless : Bool → Option (List ℕ) → Option (List ℕ)

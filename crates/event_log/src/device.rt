@@ -1,9 +1,9 @@
 //! Readers and writers.
-ghost use Rattle.std.specs.Prelude.{◌≡◌, ◌<◌, ◌≤◌, ℕ, Bool, List, Option, IsTrue, IfOk, OnOk, OnErr, is_err, length, take, false};
+ghost use Rattle.std.specs.Prelude.{◌≡◌, ◌<◌, ◌≤◌, ℕ, Bool, List, Option, IsTrue, IfOk, OnOk, OnErr, is_err, is_some, length, take, false};
 ghost use Rattle.std.specs.Io.KnownBytes.{Consumes, Appends, Keeps, IsAtEnd};
-ghost use Rattle.event_log.specs.Device.{KeepsWhereTold, device_inner, device_failed};
+ghost use Rattle.event_log.specs.Device.{KeepsWhereTold, device_inner, device_failed, told_unless};
 
-use std::io::{Read, Write};
+use std::io::{self, Read, Write};
 
 /// A source of bytes.
 ///
@@ -67,67 +67,75 @@ pub trait Sink {
 /// After the first error of the reader or writer inside, it has failed: every further call is an
 /// error, and nothing is known of its bytes.
 #[derive(Drop)]
-// cargo lacks: not used
 pub struct Device<D> {
     inner: D,
-    failed: bool,
+    error: Option<io::Error>,
 }
 
-// cargo lacks: not used
 impl<D> Device<D> {
     /// Wraps a reader or writer.
     pub fn new(inner: D) -> Self
         ensures same { device_inner result ≡ inner }
         ensures works { device_failed result ≡ false }
     {
-        Device {
-            inner,
-            failed: false,
-        }
+        Device { inner, error: None }
+    }
+
+    /// Returns the error by which it has failed.
+    pub fn error(&self) -> Option<&io::Error>
+        ensures fails { is_some result ≡ device_failed self.now }
+    {
+        self.error.as_ref()
     }
 }
 
-// cargo lacks: not used
 impl<D: Read> Source for Device<D> {
-    ghost use Rattle.event_log.specs.Device.{told_unless};
+    ghost to_come = { λ device. told_unless (device_failed device) (D.remaining device.inner) };
 
-    ghost to_come = { λ device. told_unless device.failed (D.remaining device.inner) };
-
-    ghost has_failed = { λ device. device.failed };
+    ghost has_failed = { λ device. device_failed device };
 
     fn read(&mut self, room: &mut [u8]) -> Result<usize, ()> {
-        if self.failed {
+        if self.error.is_some() {
             return Err(());
         }
-        let answer = self.inner.read(room);
-        self.failed = answer.is_err();
-        answer.map_err(|_| ())
+        match self.inner.read(room) {
+            Ok(count) => Ok(count),
+            Err(error) => {
+                self.error = Some(error);
+                Err(())
+            }
+        }
     }
 }
 
-// cargo lacks: not used
 impl<D: Write> Sink for Device<D> {
-    ghost use Rattle.event_log.specs.Device.{told_unless};
+    ghost taken = { λ device. told_unless (device_failed device) (D.contents device.inner) };
 
-    ghost taken = { λ device. told_unless device.failed (D.contents device.inner) };
-
-    ghost has_failed = { λ device. device.failed };
+    ghost has_failed = { λ device. device_failed device };
 
     fn write_all(&mut self, bytes: &[u8]) -> Result<(), ()> {
-        if self.failed {
+        if self.error.is_some() {
             return Err(());
         }
-        let answer = self.inner.write_all(bytes);
-        self.failed = answer.is_err();
-        answer.map_err(|_| ())
+        match self.inner.write_all(bytes) {
+            Ok(()) => Ok(()),
+            Err(error) => {
+                self.error = Some(error);
+                Err(())
+            }
+        }
     }
 
     fn flush(&mut self) -> Result<(), ()> {
-        if self.failed {
+        if self.error.is_some() {
             return Err(());
         }
-        let answer = self.inner.flush();
-        self.failed = answer.is_err();
-        answer.map_err(|_| ())
+        match self.inner.flush() {
+            Ok(()) => Ok(()),
+            Err(error) => {
+                self.error = Some(error);
+                Err(())
+            }
+        }
     }
 }

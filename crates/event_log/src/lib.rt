@@ -16,7 +16,6 @@ mod pipeline;
 mod plain;
 mod recorder;
 
-// cargo instead: pub use device::{Sink, Source};
 pub use device::{Device, Sink, Source};
 pub use fault::Fault;
 // cargo lacks: not used

@@ -1,7 +1,7 @@
 //! A performer that asks for an early stop where the bell rings.
 ghost use Rattle.examples.specs.Bell.{rung_after};
 ghost use Rattle.std.specs.Prelude.{◌≡◌, false};
-ghost use Rattle.vte_core.specs.Perform.{after};
+ghost use Rattle.vte_core.specs.Event.{after};
 ghost use Rattle.vte_core.specs.Stream.{events, usual_limit};
 
 use vte_core::{Params, Parser, Perform, laws};

@@ -1,7 +1,7 @@
 //! A struct that keeps a parser, and knows over several calls which character was printed last.
 ghost use Rattle.examples.specs.LastPrinted.{Watches, last_after};
 ghost use Rattle.std.specs.Prelude.{◌≡◌, ◌++◌, ℕ, List, [], None};
-ghost use Rattle.vte_core.specs.Perform.{after};
+ghost use Rattle.vte_core.specs.Event.{after};
 ghost use Rattle.vte_core.specs.Stream.{events, usual_limit};
 
 use vte_core::{Params, Parser, Perform, laws};

@@ -2,7 +2,7 @@
 ghost use Rattle.examples.specs.Printed.{seen_after};
 ghost use Rattle.std.specs.List.{flat_map};
 ghost use Rattle.std.specs.Prelude.{◌≡◌, false};
-ghost use Rattle.vte_core.specs.Perform.{after};
+ghost use Rattle.vte_core.specs.Event.{after};
 ghost use Rattle.vte_core.specs.Stream.{events, usual_limit};
 
 use vte_core::{Params, Perform, laws};

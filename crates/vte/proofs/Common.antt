@@ -1,14 +1,11 @@
 -- Words from std, specs/ and the crates below for the files of proofs, so that a file imports one list from here
 -- instead of one line for each module.
-pub use Rattle.std.proofs.Common.{All, Bool, Bor, Err, List, MatchResult, None, Ok, Option, Result, Some, [], add-zero, ap, append_assoc, arith, codes, drop, eqb, false, get_or, inl, inr}
-pub use Rattle.std.proofs.Common.{length, length-append, length-drop, length-take, map, nat_le, nat_lt, refl, rules, subst, suc, suc-add, sym, take, true, zero, zero-add, ℕ, ◌%◌, ◌++◌}
-pub use Rattle.std.proofs.Common.{◌+◌, ◌-◌, ◌/◌, ◌<◌, ◌==◌, ◌^◌, ◌||◌, ◌∙◌, ◌∷◌, ◌≡◌, ◌≤◌, ◌⊎◌}
+pub use Rattle.std.proofs.Common.{All, Bool, Bor, Err, List, MatchResult, None, Ok, Option, Result, Some, [], add-zero, ap, append_assoc, arith, codes, drop, eqb, false, get_or, inl, inr, length, length-append, length-drop, length-take, map, nat_le, nat_lt, refl, rules, subst, suc, suc-add, sym, take, true, zero, zero-add, ℕ, ◌%◌, ◌++◌, ◌+◌, ◌-◌, ◌/◌, ◌<◌, ◌==◌, ◌^◌, ◌||◌, ◌∙◌, ◌∷◌, ◌≡◌, ◌≤◌, ◌⊎◌}
 pub use Rattle.std.proofs.Math.Bool.{and-false, or-false}
 pub use Rattle.std.proofs.Math.Seq.{drop-append-add, drop-append_seam, take-add, take-append-add, take-append_seam}
 pub use Rattle.std.proofs.lemmas.Bool.{cases_Bool, cases_lt, false_from_ne_true, false≢true}
 pub use Rattle.std.proofs.lemmas.Bool.Decides.{Decides-eqb, nat_tests}
-pub use Rattle.std.proofs.lemmas.List.{append-nil, append_cancel_right, drop-drop, drop_all, drop_more, get_or-append-add, get_or-drop, get_or-take, length-take-le, map-id}
-pub use Rattle.std.proofs.lemmas.List.{take-append-drop, take_all, take_at, take_more, take_rest}
+pub use Rattle.std.proofs.lemmas.List.{append-nil, append_cancel_right, drop-drop, drop_all, drop_more, get_or-append-add, get_or-drop, get_or-take, length-take-le, map-id, take-append-drop, take_all, take_at, take_more, take_rest}
 pub use Rattle.std.proofs.lemmas.List.Elements.{All-cons, All-drop, All-head, All-nil, All-tail, All-take}
 pub use Rattle.std.proofs.lemmas.List.Splits.{length-slice_split, slice_split_first, slice_split_none}
 pub use Rattle.std.proofs.lemmas.List.Sums.{fails_before_first, position_or_len_is}
@@ -19,11 +16,10 @@ pub use Rattle.std.specs.Option.{ok_or, option_or}
 pub use Rattle.std.specs.Prelude.{replicate, slice_index_or}
 pub use Rattle.std.specs.Str.{IsCharBoundary, IsUtf8}
 unfoldable pub use Rattle.std.specs.Str.{chars, is_utf8, trim_end, trim_start}
-pub use Rattle.vte_core.proofs.shapes.Reported.{starts-settled, resumed_stream-settled, reported-settled}
-pub use Rattle.vte_core.proofs.stops.Units.{added-append}
+pub use Rattle.vte_core.proofs.Shapes.{starts-settled, resumed_stream-settled, reported-settled}
+pub use Rattle.vte_core.proofs.EarlyStops.{added-append}
 pub use Rattle.vte_core.proofs.streams.After.{added-nothing}
-pub use Rattle.vte_core.proofs.streams.CommandSizes.{counts_data}
-pub use Rattle.vte_core.proofs.streams.StreamSteps.{events_are_bounded, events_grow, opens_silently}
+pub use Rattle.vte_core.proofs.streams.StreamSteps.{counts_data, events_are_bounded, events_grow, opens_silently}
 pub use Rattle.vte_core.specs.EarlyStop.{StopsExactly, breaks_at, resumed_stream, reported_before}
 pub use Rattle.vte_core.specs.Event.{Event, OscDispatch, Print, replacement}
 pub use Rattle.vte_core.specs.Stream.{added, open_character, usual_limit}
@@ -35,13 +31,13 @@ pub use Rattle.vte_handler.specs.Handler.{after}
 pub use Rattle.vte_handler.specs.Timeout.{AllowsOnly, IsSteady, TimeoutMeaning, timeout_meaning}
 pub use Rattle.vte.specs.Processor.{EndsInBegin, HoldsWellAt, IsInsideUpdate, IsOutsideUpdate, Meaning, TakesSteps, State, TakesAllTurns, TakesTurns, all_bytes, prefix_to_begin, given_bytes, AreInOrder, added_calls, calls_between, calls_with_stops, done, extend, hold_turn, kind_of, ParsingTurn, ExpiredTurn, release, meaning_of, most_held, parsing_turn, parse, set_times, stop, turn, turns, update_nanos, with_held}
 pub use Rattle.vte.specs.Refusal.{ParsingTurnIsRefused, HasTaken, TakesTurnsUntilRefused, TurnIsRefused, between_turns, inside_turn}
-pub use Rattle.vte.specs.BeginUpdate.{begin_count, begins_in_event, is_update_group, update_group_count}
+pub use Rattle.vte.specs.Synchronized.{begin_count, begins_in_event, is_update_group, update_group_count, begin_update, begins_ending_in_last, begins_with, after_last_end, end_update, from_begin_update, part_after_last_end}
 pub use Rattle.vte.specs.Calls.{calls_after, calls, calls_from, calls_of, last_printed_after, last_printed, last_printed_from}
-pub use Rattle.vte.specs.ModeChange.{change_calls}
-pub use Rattle.vte.specs.ColorReading.{kind_reading}
-pub use Rattle.vte.specs.CommandCalls.{dynamic_calls, id_of, link_to, palette_entry_calls, palette_entries_calls}
+pub use Rattle.vte.specs.ControlCalls.{change_calls}
+pub use Rattle.vte.specs.Colors.{kind_reading}
+pub use Rattle.vte.specs.CommandCalls.{dynamic_calls, id_of, link_to, palette_entry_calls, palette_entries_calls, joined_texts, text_in}
 unfoldable pub use Rattle.vte.specs.CommandCalls.{all_reset}
-pub use Rattle.vte.specs.machine.ColorReader.{first_component}
+pub use Rattle.vte.specs.machine.Performer.{first_component, FitsText, PerformerValue, with_event, FitsRoom, fits_room, joined_size, parts_left, text_to_join}
 pub use Rattle.vte.specs.machine.Hold.{Adds, IsAdded, IsHeldTail, released_of, still_held}
 pub use Rattle.vte.specs.ProcessorCalls.{StopsSync, HasAdvanced, HasParsedAll, HasParsedAndHolds, IsAt, ReadsInTurns, HasReplayed, HasTold, Replays, StandingPredicate, held_of}
 pub use Rattle.vte.specs.machine.Performing.{AdvancesAll, AdvancesUntilStop, performer_value, with_private_mode, with_private_modes}
@@ -50,14 +46,10 @@ pub use Rattle.vte.specs.LongProcessor.{EngineReads, EngineStops, HasParsedAndHo
 pub use Rattle.vte.specs.Memory.{HasMemory, HasTextRoom, ParserHasMemory, KeepsMemory}
 pub use Rattle.vte.specs.Numbers.{decimal_number, first_number, first_numbers}
 pub use Rattle.vte.specs.Split.{first_after, split_by}
-pub use Rattle.vte.specs.machine.Performer.{FitsText, PerformerValue, with_event}
 pub use Rattle.vte.specs.machine.Engine.{EngineIsAt, EngineIsAtKeeping, EndsParsingTurn, EndsTurn, HasHalted, HasParsedPrefix, HasParsedWithoutBegin, ArePartsAt, ArePartsAtKeeping, ArePartsAtWithMemory, HasTakenParsingTurn, HasTurned}
 pub use Rattle.vte.specs.Views.{EngineHasMemory, EngineStandsAt, ParserView, EngineView, bounded_engine_view, long_parser_view, engine_view, limited_parser_view, long_engine_view}
 pub use Rattle.vte.specs.Rendition.{attribute_calls, attributes_from}
-pub use Rattle.vte.specs.Synchronized.{begin_update, begins_ending_in_last, begins_with, after_last_end, end_update, from_begin_update, part_after_last_end}
-pub use Rattle.vte.specs.machine.Texts.{FitsRoom, fits_room, joined_size, parts_left, text_to_join}
 pub use Rattle.vte_types.specs.Words.{after_word}
-pub use Rattle.vte.specs.Titles.{joined_texts, text_in}
 pub use Rattle.vte.specs.declared.ansi.laws.replays.Step.{Step}
 pub use Rattle.vte.specs.declared.ansi.laws.replays.Step.TheVariants.{Advance, StopSync}
 pub use Rattle.vte.specs.declared.ansi.calls.performer.ProcessorState.{ProcessorState}

@@ -2,9 +2,5 @@
 
 -- Lists of calls: what the handler receives, to which states they lead, and calls without an update.
 pub mod Tellings
-pub mod Replays
-pub mod PlainReplays
--- The public contracts of both processors, from those of their engine.
+-- The public contracts of the processors, from those of their engine.
 pub mod Standings
-pub mod BoundedStandings
-pub mod LongStandings

@@ -29,7 +29,7 @@ use Rattle.vte_types.specs.declared.screen.ScpCharPath.TheVariants as path
 use Rattle.vte_types.specs.declared.screen.ScpUpdateMode.TheVariants as update
 use Rattle.vte_types.specs.declared.screen.TabulationClearMode.TheVariants as tab
 use Rattle.vte.specs.Calls.{calls}
-use Rattle.vte.specs.ColorText.{xparse_color_of}
+use Rattle.vte.specs.Colors.{xparse_color_of}
 
 -- A stream and its calls.
 pub record CallExample : Type 0 where

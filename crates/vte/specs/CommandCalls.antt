@@ -1,23 +1,40 @@
 -- The calls of operating system commands.
-use Rattle.std.specs.Prelude.{ℕ, Bool, true, false, List, [], ◌∷◌, ◌++◌, map, length, if◌then◌else◌, ◌==◌, ◌+◌, ◌%◌, bytes_eq, codes, Option, Some, None, option_and_then}
+use Rattle.std.specs.Prelude.{ℕ, Bool, false, List, [], ◌∷◌, Option, Some, None, if◌then◌else◌, true, ◌++◌, map, length, ◌==◌, ◌+◌, ◌%◌, bytes_eq, codes, option_and_then}
+use Rattle.std.specs.List.{filter_map, join_with_byte, range_with_len}
+use Rattle.std.specs.Str.{is_utf8, trim}
+use Rattle.vte_handler.specs.Call.{Call, SetTitle}
 use Rattle.std.specs.Fmt.{decimal}
-use Rattle.std.specs.List.{filter_map, range_with_len}
-use Rattle.vte.specs.ColorText.{xparse_color_of}
+use Rattle.vte.specs.Colors.{xparse_color_of}
 use Rattle.vte.specs.OptionalCalls.{for_some}
 use Rattle.vte.specs.Numbers.{decimal_number}
 use Rattle.vte.specs.Split.{first_after, split_by}
-use Rattle.vte_types.specs.Rows.{Row, entry_of}
-use Rattle.vte.specs.Titles.{joined_texts, text_in, title_calls}
-use Rattle.vte_handler.specs.Call.{Call}
+use Rattle.vte_types.specs.Words.{Row, entry_of, after_word, entry_of_word}
 use Rattle.vte_handler.specs.Call as call
 use Rattle.vte_handler.specs.Link.{Link}
 use Rattle.vte_types.specs.CursorIcon.{icon_of}
 use Rattle.vte_types.specs.NamedColor.{number_of_color}
 use Rattle.vte_types.specs.declared.color.NamedColor.{NamedColor}
 use Rattle.vte_types.specs.declared.color.NamedColor.TheVariants.{Background, Cursor, Foreground}
-use Rattle.vte_types.specs.Words.{after_word, entry_of_word}
 use Rattle.vte_types.specs.declared.screen.CursorShape.{CursorShape}
 use Rattle.vte_types.specs.declared.screen.CursorShape.TheVariants as shape
+
+-- ---- titles of a window
+
+-- The text of a piece. One that isn't UTF-8 counts as empty if all are kept, as in a link, and is
+-- left out otherwise, as in a title.
+abbrev pub text_in : Bool → List ℕ → Option (List ℕ)
+text_in keeps_all piece = if is_utf8 piece then Some piece else if keeps_all then Some [] else None
+
+-- The texts of the pieces, with `;` between them.
+abbrev pub joined_texts : Bool → List (List ℕ) → List ℕ
+joined_texts keeps_all pieces = join_with_byte 0x3b (filter_map (text_in keeps_all) pieces)
+
+-- Without a piece there is no title.
+abbrev pub title_calls : List (List ℕ) → List Call
+title_calls [] = []
+title_calls (text ∷ texts) = SetTitle (Some (trim (joined_texts false (text ∷ texts)))) ∷ []
+
+-- ---- all calls
 
 -- The terminator that a reply to the command should have.
 abbrev pub terminator_of : Bool → List ℕ

@@ -1,15 +1,30 @@
 -- The calls of a control sequence, by its final byte and intermediates (ECMA-48, the VT500, xterm).
-use Rattle.std.specs.Prelude.{ℕ, pos, List, [], ◌∷◌, if◌then◌else◌, ◌==◌, ◌&&◌, ◌-◌, Option, Some, None, drop, replicate, unwrap_or}
+use Rattle.std.specs.Prelude.{ℕ, List, map, pos, [], ◌∷◌, if◌then◌else◌, ◌==◌, ◌&&◌, ◌-◌, Option, Some, None, drop, replicate, unwrap_or}
+use Rattle.vte.specs.declared.ansi.calls.control.ModeChange.{ModeChange}
 use Rattle.vte.specs.declared.ansi.calls.control.ModeChange.TheVariants as change
-use Rattle.vte.specs.ModeChange.{change_calls}
-use Rattle.vte.specs.Numbers.{first_of, first_nonzero_or, first_numbers, asks_for_modify_other_keys}
-use Rattle.vte.specs.Rendition.{attribute_calls}
-use Rattle.vte.specs.OptionalCalls.{for_both, for_some}
-use Rattle.vte_types.specs.Rows.{Row, entry_of}
-use Rattle.vte.specs.SelectedValues.{behavior_of, bottom_of, cursor_rows, keyboard_modes, keys_rows, line_rows, path_rows, screen_rows, tab_rows, scp_update_rows}
 use Rattle.vte_handler.specs.Call.{Call}
 use Rattle.vte_handler.specs.Call as call
 use Rattle.vte_types.specs.Mode.{mode_of, private_mode_of}
+use Rattle.vte.specs.Numbers.{first_of, first_nonzero_or, first_numbers, asks_for_modify_other_keys}
+use Rattle.vte.specs.Rendition.{attribute_calls}
+use Rattle.vte.specs.OptionalCalls.{for_both, for_some}
+use Rattle.vte_types.specs.Words.{Row, entry_of}
+use Rattle.vte.specs.SelectedValues.{behavior_of, bottom_of, cursor_rows, keyboard_modes, keys_rows, line_rows, path_rows, screen_rows, tab_rows, scp_update_rows}
+
+-- ---- changes of modes
+
+-- SM, RM, DECSET and DECRST.
+
+abbrev pub change_call : ModeChange → ℕ → Call
+change_call change.Set number = call.SetMode (mode_of number)
+change_call change.Reset number = call.UnsetMode (mode_of number)
+change_call change.SetPrivate number = call.SetPrivateMode (private_mode_of number)
+change_call change.ResetPrivate number = call.UnsetPrivateMode (private_mode_of number)
+
+abbrev pub change_calls : ModeChange → List ℕ → List Call
+change_calls which numbers = map (λ number. change_call which number) numbers
+
+-- ---- all calls
 
 -- The last printed character, this many times, or nothing if no character was printed (REP).
 abbrev pub repeat_calls : Option ℕ → ℕ → List Call

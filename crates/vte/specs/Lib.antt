@@ -6,19 +6,15 @@ pub mod Numbers
 pub mod EscapeCalls
 -- Those of control sequences.
 pub mod SelectedValues
-pub mod ModeChange
-pub mod ColorReading
+pub mod Colors
 pub mod Rendition
 pub mod ControlCalls
 -- Those of operating system commands.
 pub mod Split
-pub mod ColorText
-pub mod Titles
 pub mod CommandCalls
 -- Those of all events.
 pub mod Calls
 -- What begins and ends a synchronized update.
-pub mod BeginUpdate
 pub mod Synchronized
 -- What a processor does, and what its calls ensure.
 pub mod Processor
@@ -40,7 +36,6 @@ pub mod machine
 -- below.
 pub use Rattle.vte_core.specs.Advance
 pub use Rattle.vte_core.specs.AdvanceToRun
-pub use Rattle.vte_core.specs.AdvanceUntilTerminated
 pub use Rattle.vte_core.specs.Body
 pub use Rattle.vte_core.specs.Class
 pub use Rattle.vte_core.specs.ControlSequence
@@ -66,7 +61,6 @@ pub use Rattle.vte_core.specs.Outcome
 pub use Rattle.vte_core.specs.Parameters
 pub use Rattle.vte_core.specs.Parts
 pub use Rattle.vte_core.specs.Parser
-pub use Rattle.vte_core.specs.Perform
 pub use Rattle.vte_core.specs.OutsideRuns
 pub use Rattle.vte_core.specs.Saved
 pub use Rattle.vte_core.specs.Stream
@@ -78,16 +72,12 @@ pub use Rattle.vte_handler.specs.HandlerCall
 pub use Rattle.vte_handler.specs.Handler
 pub use Rattle.vte_handler.specs.Link
 pub use Rattle.vte_handler.specs.Timeout
-pub use Rattle.vte_types.specs.Bright
+pub use Rattle.vte_types.specs.NamedColor
 pub use Rattle.vte_types.specs.Charset
 pub use Rattle.vte_types.specs.CursorIcon
-pub use Rattle.vte_types.specs.Hex
+pub use Rattle.vte_types.specs.Rgb
 pub use Rattle.vte_types.specs.Keyboard
 pub use Rattle.vte_types.specs.Mode
-pub use Rattle.vte_types.specs.NamedColor
-pub use Rattle.vte_types.specs.Rgb
-pub use Rattle.vte_types.specs.RgbText
-pub use Rattle.vte_types.specs.Rows
 pub use Rattle.vte_types.specs.Words
 pub use Rattle.vte_types.specs.declared.charset
 pub use Rattle.vte_types.specs.declared.color

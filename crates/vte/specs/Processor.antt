@@ -6,9 +6,8 @@ use Rattle.vte_core.specs.Stream.{events, added}
 use Rattle.vte_handler.specs.Call.{Call}
 use Rattle.vte_handler.specs.Handler.{after}
 use Rattle.vte_handler.specs.Timeout.{TimeoutMeaning, timeout_meaning, AllowsOnly, IsSteady}
-use Rattle.vte.specs.BeginUpdate.{begin_count}
+use Rattle.vte.specs.Synchronized.{begin_count, begins_ending_in_last, part_after_last_end, update_ended_call, begin_update, begins_with, after_last_end, from_begin_update}
 use Rattle.vte.specs.Calls.{calls_after}
-use Rattle.vte.specs.Synchronized.{begins_ending_in_last, part_after_last_end, update_ended_call, begin_update, begins_with, after_last_end, from_begin_update}
 use Rattle.vte.specs.declared.ansi.laws.replays.Step.{Step}
 use Rattle.vte.specs.declared.ansi.laws.replays.Step.TheVariants.{Advance, StopSync}
 

@@ -2,7 +2,7 @@
 -- `LongProcessor`: some whole turns and, if the refusal came inside a turn, a part of that one.
 use Rattle.std.specs.Prelude.{◌≡◌, ℕ, ◌-◌, ◌<◌, ◌++◌, Bool, List, ◌∷◌, length, take, drop}
 use Rattle.vte_core.specs.Stream.{added}
-use Rattle.vte.specs.BeginUpdate.{begin_count}
+use Rattle.vte.specs.Synchronized.{begin_count}
 use Rattle.vte.specs.Processor.{HoldsWellAt, Meaning, State, TakesTurns, TurnKind, ParsingTurn, ExpiredTurn, HoldTurn, FullTurn, all_bytes, given_bytes, kind_of, parse, stop}
 use Rattle.vte.specs.ProcessorCalls.{HasReplayed}
 use Rattle.vte.specs.declared.ansi.laws.replays.RefusedStep.{RefusedStep}

@@ -19,7 +19,7 @@ use Rattle.vte_types.specs.declared.screen.ScpUpdateMode.{ScpUpdateMode}
 use Rattle.vte_types.specs.declared.screen.ScpUpdateMode.TheVariants as update
 use Rattle.vte_types.specs.declared.screen.TabulationClearMode.{TabulationClearMode}
 use Rattle.vte_types.specs.declared.screen.TabulationClearMode.TheVariants as tab
-use Rattle.vte_types.specs.Rows.{Row}
+use Rattle.vte_types.specs.Words.{Row}
 
 -- TBC
 abbrev pub tab_rows : List (Row TabulationClearMode)

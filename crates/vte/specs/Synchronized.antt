@@ -1,12 +1,49 @@
--- The sequences that begin and end a synchronized update, *begin-update* and *end-update*. In a
--- hold, only exactly these eight bytes are recognised. When bytes are parsed, `BeginUpdate` says
--- which events begin an update, those of `ESC [?1;2026h` too.
+-- What begins and ends a synchronized update: events where bytes are parsed, and in a hold, whose
+-- bytes aren't parsed yet, two sequences, *begin-update* and *end-update*.
+use Rattle.std.specs.Prelude.{ℕ, ◌+◌, Bool, false, ◌&&◌, ◌==◌, List, [], ◌∷◌, if◌then◌else◌, Option, None, length, is_some, nat_lt, unwrap_or, codes}
+use Rattle.vte.specs.Numbers.{first_number}
+use Rattle.vte_core.specs.Event.{Event, CsiDispatch}
 use Rattle.vte_handler.specs.Call.{Call, UnsetPrivateMode}
 use Rattle.vte_types.specs.declared.mode.NamedPrivateMode.TheVariants.{SyncUpdate}
 use Rattle.vte_types.specs.declared.mode.PrivateMode.TheVariants.{Named}
-use Rattle.std.specs.Prelude.{ℕ, ◌+◌, Bool, Option, None, List, [], ◌∷◌, length, if◌then◌else◌, is_some, nat_lt, unwrap_or, codes}
 use Rattle.std.specs.Option.{option_map_or, option_or}
 use Rattle.vte_types.specs.Words.{after_word}
+
+-- ---- events that begin an update, and how often
+
+abbrev pub update_mode : ℕ
+update_mode = 2026
+
+-- A group whose first number is that mode.
+abbrev pub is_update_group : List ℕ → Bool
+is_update_group group = first_number group == update_mode
+
+abbrev pub update_group_count : List (List ℕ) → ℕ
+update_group_count [] = 0
+update_group_count (group ∷ groups) =
+    (if is_update_group group then 1 else 0) + update_group_count groups
+
+-- The only intermediate is `?`.
+abbrev pub is_private : List ℕ → Bool
+is_private (byte ∷ []) = byte == 0x3f
+is_private _ = false
+
+-- How often an event begins an update: once per group of the mode, in a sequence `?h` that isn't
+-- ignored.
+abbrev pub begins_in_event : Event → ℕ
+begins_in_event (CsiDispatch groups intermediates ignore final) =
+    if ignore then 0
+    else if final == 0x68 && is_private intermediates then update_group_count groups
+    else 0
+begins_in_event _ = 0
+
+abbrev pub begin_count : List Event → ℕ
+begin_count [] = 0
+begin_count (event ∷ events) = begins_in_event event + begin_count events
+
+-- ---- in a hold
+
+-- Only exactly these eight bytes are recognised. Among the events are those of `ESC [?1;2026h` too.
 
 abbrev pub begin_update : List ℕ
 begin_update = codes "\u{1b}[?2026h"

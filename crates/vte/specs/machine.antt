@@ -1,7 +1,5 @@
 -- What private functions of a processor promise each other. Callers need none of it.
 -- In reading order.
-pub mod Texts
-pub mod ColorReader
 pub mod Performer
 pub mod Performing
 pub mod Hold

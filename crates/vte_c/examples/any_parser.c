@@ -34,7 +34,7 @@ int main(void) {
         other = parser;
         size_t read = vte_feed(&parser, (const uint8_t *)ends, sizeof ends - 1, VTE_ALL_KINDS, 0,
                                events, event_room, data, data_room, &counts);
-        int has_room = event_room >= VTE_LEAST_EVENTS && data_room >= VTE_LEAST_DATA;
+        int has_room = event_room >= VTE_MIN_EVENTS && data_room >= VTE_MIN_DATA;
         if (!has_answered(read, sizeof ends - 1, has_room)) return 1;
         for (size_t i = 0; i < counts.events; i++) {
             vte_items items = vte_items_of(&events[i], data);
@@ -50,7 +50,7 @@ int main(void) {
                     if (items.next > data + counts.data) return 1;
         }
         read = vte_strip(&other, (const uint8_t *)ends, sizeof ends - 1, text, text_room, &written);
-        if (!has_answered(read, sizeof ends - 1, text_room >= VTE_LEAST_TEXT)) return 1;
+        if (!has_answered(read, sizeof ends - 1, text_room >= VTE_MIN_TEXT)) return 1;
         if (counts.events > event_room || counts.data > data_room || written > text_room) return 1;
         free(events);
         free(data);

@@ -153,8 +153,8 @@ int main(int argc, char **argv) {
     size_t piece = number_at(argc - 1, argv + 1, 0);
     size_t first = number_at(argc - 1, argv + 1, 1), second = number_at(argc - 1, argv + 1, 2);
     if (vte_version() != VTE_VERSION || vte_parser_size() != sizeof(vte_parser)
-        || vte_event_size() != sizeof(vte_event) || vte_least_events() != VTE_LEAST_EVENTS
-        || vte_least_data() != VTE_LEAST_DATA || vte_least_text() != VTE_LEAST_TEXT) {
+        || vte_event_size() != sizeof(vte_event) || vte_least_events() != VTE_MIN_EVENTS
+        || vte_least_data() != VTE_MIN_DATA || vte_least_text() != VTE_MIN_TEXT) {
         fputs("events: the library is not the one that vte.h describes\n", stderr);
         return 1;
     }
@@ -171,14 +171,14 @@ int main(int argc, char **argv) {
 #ifdef WITH_LONG
             if (is_long)
                 at += feed_long(long_parser, bytes + at, length - at,
-                                size_of(first, VTE_LEAST_EVENTS, 100));
+                                size_of(first, VTE_MIN_EVENTS, 100));
             else
 #endif
                 at += strips ? strip(&parser, bytes + at, length - at,
-                                     size_of(first, VTE_LEAST_TEXT, 200))
+                                     size_of(first, VTE_MIN_TEXT, 200))
                              : feed(&parser, bytes + at, length - at,
-                                    size_of(first, VTE_LEAST_EVENTS, 100),
-                                    size_of(second, VTE_LEAST_DATA, 5000));
+                                    size_of(first, VTE_MIN_EVENTS, 100),
+                                    size_of(second, VTE_MIN_DATA, 5000));
         free(bytes);
         if (length == 0) break;
     }

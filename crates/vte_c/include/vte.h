@@ -97,9 +97,9 @@ typedef struct {
 
 /* With less room than this a call reads nothing, sets its counts to 0, and returns VTE_NO_ROOM,
  * even if there are no bytes to read. */
-#define VTE_LEAST_EVENTS 4
-#define VTE_LEAST_DATA 2112
-#define VTE_LEAST_TEXT 16
+#define VTE_MIN_EVENTS 4
+#define VTE_MIN_DATA 2112
+#define VTE_MIN_TEXT 16
 #define VTE_NO_ROOM ((size_t)-1)
 
 /* Reads bytes, and writes the events of some kinds that they add to the stream. Returns how many

@@ -1,15 +1,12 @@
 -- Words from std, specs/ and the crates below for the files of proofs, so that a file imports one list from here
 -- instead of one line for each module.
-pub use Rattle.std.proofs.Common.{Bool, List, Some, [], add-one, ap, append-nil, append_assoc, arith, drop, false, get_or, if◌then◌else◌, inl, inr, length, length-append}
-pub use Rattle.std.proofs.Common.{length-drop, length-take, map, min, nat_le, nat_lt, refl, rules, set, subst, suc, sym, take, true, zero, ℕ, ◌%◌, ◌&&◌, ◌*◌, ◌++◌, ◌+◌, ◌-◌, ◌/◌}
-pub use Rattle.std.proofs.Common.{◌<◌, ◌==◌, ◌∙◌, ◌∷◌, ◌≡◌, ◌≤◌}
+pub use Rattle.std.proofs.Common.{Bool, List, Some, [], add-one, ap, append-nil, append_assoc, arith, drop, false, get_or, if◌then◌else◌, inl, inr, length, length-append, length-drop, length-take, map, min, nat_le, nat_lt, refl, rules, set, subst, suc, sym, take, true, zero, ℕ, ◌%◌, ◌&&◌, ◌*◌, ◌++◌, ◌+◌, ◌-◌, ◌/◌, ◌<◌, ◌==◌, ◌∙◌, ◌∷◌, ◌≡◌, ◌≤◌}
 pub use Rattle.std.proofs.Math.Nat.{add-zero, add_assoc, zero-add}
 pub use Rattle.std.proofs.Math.Seq.{drop-append_seam, drop-drop, map-set_same, take-add, take-append_seam}
 pub use Rattle.std.proofs.lemmas.Bool.{cases_Bool, cases_lt, eqb-true, false≢true, le-leb, or_parts}
 pub use Rattle.std.proofs.lemmas.Bool.Decides.{nat_tests}
 pub use Rattle.std.proofs.lemmas.Grind.{flat_map-append}
-pub use Rattle.std.proofs.lemmas.List.{drop-append-le, flat_map_more, length-map, length-set, map-append, take-append-drop, take-append-le, take-map, take-take, take_all}
-pub use Rattle.std.proofs.lemmas.List.{take_more}
+pub use Rattle.std.proofs.lemmas.List.{drop-append-le, flat_map_more, length-map, length-set, map-append, take-append-drop, take-append-le, take-map, take-take, take_all, take_more}
 pub use Rattle.std.proofs.lemmas.List.Elements.{All-head, All-tail, filter-append}
 pub use Rattle.std.proofs.lemmas.List.Sums.{sum_by-cons}
 pub use Rattle.std.proofs.lemmas.Str.{encodes-chars, len_utf8_bounds, length-encode}
@@ -20,24 +17,20 @@ unfoldable pub use Rattle.event_log.specs.Plain.{plain_text_of}
 pub use Rattle.vte_core.specs.EventBounds.{IsBounded, AreFromOneByte, IsShort}
 pub use Rattle.vte_core.specs.EarlyStop.{ComesTo, IsStart, breaks}
 unfoldable pub use Rattle.vte_core.specs.EarlyStop.{breaks_at, resumed_stream, reported_before}
-pub use Rattle.vte_core.specs.Event.{CsiDispatch, EscDispatch, Event, Execute, Hook, OscDispatch, Print, Put, Unhook, replacement}
+pub use Rattle.vte_core.specs.Event.{CsiDispatch, EscDispatch, Event, Execute, Hook, OscDispatch, Print, Put, Unhook, replacement, after}
 pub use Rattle.vte_core.specs.Laws.{OpensSilently}
 pub use Rattle.vte_core.specs.Parameters.{AreGroups, count_of}
 pub use Rattle.vte_core.specs.Parser.{HasRead}
-pub use Rattle.vte_core.specs.Perform.{after}
 pub use Rattle.vte_core.specs.Saved.{HasReadSaved}
 pub use Rattle.vte_core.specs.EarlyStopLaws.{GoesOnFromPositions, ReportsUnits}
 pub use Rattle.vte_core.specs.Stream.{added, usual_limit}
 unfoldable pub use Rattle.vte_core.specs.Stream.{events, open_character}
 pub use Rattle.vte_core.specs.declared.parser.Parser.{Parser}
 pub use Rattle.vte_core.specs.declared.parser.saved.Saved.{Saved}
-pub use Rattle.vte_c.specs.Events.{AreCharacters, Holds, Room, Starts, has_room_for, is_full, paused_if, resumed, room_of, with_event, with_run, with_taken}
-pub use Rattle.vte_c.specs.Events.{with_wanted}
+pub use Rattle.vte_c.specs.Events.{AreCharacters, Holds, Room, Starts, has_room_for, is_full, paused_if, resumed, room_of, with_event, with_run, with_taken, with_wanted}
 unfoldable pub use Rattle.vte_c.specs.Events.{with_one, with_record}
 pub use Rattle.vte_c.specs.Feeding.{AreFirst, Continues, ReadsOn, HasReadOn, HasItems, HaveOtherRecords, StopsAtNone, has_kind, kinds_of, with_items}
-pub use Rattle.vte_c.specs.Record.{DataRun, InInput, Item, Run, Single, TextRun, count_byte, data_of, events_in, flag_byte, group_bytes, groups_in, has_most, intermediates_in, item_data}
-pub use Rattle.vte_c.specs.Record.{item_events, kind_of, may_have_lost, numbers_in, piece_bytes, pieces_in, record_at, records_from, reported, run_events, run_kind, run_record, two_bytes}
-pub use Rattle.vte_c.specs.Record.{most_added, with_intermediates, with_loss}
+pub use Rattle.vte_c.specs.Record.{DataRun, InInput, Item, Run, Single, TextRun, count_byte, data_of, events_in, flag_byte, group_bytes, groups_in, has_most, intermediates_in, item_data, item_events, kind_of, may_have_lost, numbers_in, piece_bytes, pieces_in, record_at, records_from, reported, run_events, run_kind, run_record, two_bytes, most_added, with_intermediates, with_loss}
 unfoldable pub use Rattle.vte_c.specs.Record.{event_in, events_of, has, without_loss}
 pub use Rattle.vte_c.specs.Text.{TextRoom, text_room_of, with_text_of}
 unfoldable pub use Rattle.vte_c.specs.Text.{with_text}

@@ -1,21 +1,69 @@
 -- What events leave in a room. One that isn't full has room for what one byte adds, so each event is written as one
 -- item, or isn't one of the kinds asked for.
-use Rattle.vte_c.proofs.Common.{AreReadable, Bool, CsiDispatch, DataRun, EscDispatch, Event, Events, Execute, HasItems, HaveOtherRecords, Holds, Hook, InInput, IsBounded, usual_limit}
-use Rattle.vte_c.proofs.Common.{AreFromOneByte, IsRunAt, Item, List, OscDispatch, Print, Put, Room, Run, Single, StopsAtKind, TextRun, Unhook, VteEvent, [], add-zero, after, ap}
-use Rattle.vte_c.proofs.Common.{append-nil, append_assoc, arith, cases_Bool, data_of, false, filter-append, flag_byte, flat_map, flat_map-append, has, has_kind, has_room_for}
-use Rattle.vte_c.proofs.Common.{if◌then◌else◌, inl, inr, may_have_lost, is_full, item_data, kind_of, kinds_of, length, length-append, length-map, map, map-append, most_added}
-use Rattle.vte_c.proofs.Common.{nat_lt, nat_tests, or_parts, record_at, records_from, refl, reported, resumed, room_of, run_kind, run_record, subst, sym, take, true, with_event}
-use Rattle.vte_c.proofs.Common.{with_items, with_one, with_record, without_loss, ℕ, ◌%◌, ◌++◌, ◌+◌, ◌∙◌, ◌∷◌, ◌≡◌, ◌≤◌}
+use Rattle.vte_c.proofs.Common.{All, All-head, All-tail, AreGroups, CsiDispatch, Event, Execute, Hook, IsBounded, IsShort, List, OscDispatch, Print, [], arith, concat, usual_limit, count_of, data_of, flat_map, group_bytes, len_utf8_bounds, length, length-append, length-encode, piece_bytes, refl, sum_by-cons, two_bytes, ℕ, ◌*◌, ◌+◌, ◌<◌, ◌∷◌, ◌≡◌, ◌≤◌, AreReadable, Bool, DataRun, EscDispatch, Events, HasItems, HaveOtherRecords, Holds, InInput, AreFromOneByte, IsRunAt, Item, Put, Room, Run, Single, StopsAtKind, TextRun, Unhook, VteEvent, add-zero, after, ap, append-nil, append_assoc, cases_Bool, false, filter-append, flag_byte, flat_map-append, has, has_kind, has_room_for, if◌then◌else◌, inl, inr, may_have_lost, is_full, item_data, kind_of, kinds_of, length-map, map, map-append, most_added, nat_lt, nat_tests, or_parts, record_at, records_from, reported, resumed, room_of, run_kind, run_record, subst, sym, take, true, with_event, with_items, with_one, with_record, without_loss, ◌%◌, ◌++◌, ◌∙◌}
 use Rattle.std.proofs.Math.Bool.{or-false, or_assoc}
 use Rattle.std.proofs.lemmas.List.Folds.{list_any-append}
-use Rattle.vte_core.proofs.places.BriefLemmas.{short_bounded}
-use Rattle.vte_core.proofs.streams.Performing.{after_events-append}
-use Rattle.vte_c.proofs.Sizes.{data_most, short_data}
-use Rattle.vte_c.proofs.OtherKinds.{kinds-append, kinds_of_none}
+use Rattle.vte_core.proofs.places.PlaceLeads.{short_bounded}
+use Rattle.vte_core.proofs.streams.After.{after_events-append}
+use Rattle.vte_c.proofs.Continuing.{kinds-append, kinds_of_none}
+
+-- ---- how long the data of an event are
+
+-- At most 1,088 bytes, and those of the second one that a byte adds at most four: by cases of the event.
+
+pub length_numbers : (numbers : List ℕ) → length (flat_map two_bytes numbers) ≡ 2 * length numbers
+length_numbers [] = refl
+length_numbers (n ∷ numbers) = omega (arith, length_numbers numbers)
+
+length_groups : (groups : List (List ℕ)) → length (flat_map group_bytes groups) ≡ length groups + 2 * count_of groups
+length_groups [] = refl
+length_groups (group ∷ groups) =
+    let parts = length-append (group_bytes group) (flat_map group_bytes groups) in
+    let all = sum_by-cons length group groups in
+    omega (arith, parts, all, length_numbers group, length_groups groups)
+
+length_pieces : (pieces : List (List ℕ))
+    → length (flat_map piece_bytes pieces) ≡ 4 * length pieces + length (concat pieces)
+length_pieces [] = refl
+length_pieces (piece ∷ pieces) =
+    let parts = length-append (piece_bytes piece) (flat_map piece_bytes pieces) in
+    omega (arith, parts, length-append piece (concat pieces), length_pieces pieces)
+
+abbrev HasNumber : List ℕ → Type 0
+HasNumber group = 0 < length group
+
+filled_length : (groups : List (List ℕ)) → All HasNumber groups → length groups ≤ count_of groups
+filled_length [] filled = omega arith
+filled_length (group ∷ groups) filled =
+    let some : 0 < length group = All-head HasNumber group groups filled in
+    omega (arith, sum_by-cons length group groups, filled_length groups (All-tail HasNumber group groups filled))
+
+pub few_groups : (groups : List (List ℕ)) → AreGroups groups → length groups ≤ 32
+few_groups groups h = omega (arith, filled_length groups h.filled, h.few)
+
+groups_size : (groups : List (List ℕ)) → AreGroups groups → length (flat_map group_bytes groups) ≤ 96
+groups_size groups h = omega (arith, length_groups groups, few_groups groups h, h.few)
+
+-- No event has more data bytes.
+abbrev most_data : ℕ
+most_data = 1088
+
+data_most : (event : Event) → IsBounded usual_limit event → length (data_of event) ≤ most_data
+data_most (Print c) h = omega (arith, length-encode c, (len_utf8_bounds c).1)
+data_most (Hook groups ints ignore final) h = omega (arith, groups_size groups h.0)
+data_most (OscDispatch pieces bell) h = omega (arith, length_pieces pieces, h.0, h.1)
+data_most (CsiDispatch groups ints ignore final) h = omega (arith, groups_size groups h.0)
+data_most _ h = omega arith
+
+-- The second event that a byte adds is short.
+short_data : (event : Event) → IsShort event → length (data_of event) ≤ 4
+short_data (Print c) h = omega (arith, length-encode c, (len_utf8_bounds c).1)
+short_data (Execute byte) h = omega arith
+short_data _ h = absurd h
 
 -- ---- items one after the other
 
-pub records-append : (place : ℕ) (front back : List Item)
+records-append : (place : ℕ) (front back : List Item)
     → records_from place (front ++ back)
     ≡ records_from place front ++ records_from (place + length (flat_map item_data front)) back
 records-append place [] back = rw add-zero refl
@@ -29,7 +77,7 @@ pub length-records : (place : ℕ) (items : List Item) → length (records_from 
 length-records place [] = refl
 length-records place (item ∷ items) = omega (arith, length-records (place + length (item_data item)) items)
 
-pub with_items-append : (room : Room) (front back : List Item)
+with_items-append : (room : Room) (front back : List Item)
     → with_items (with_items room front) back ≡ with_items room (front ++ back)
 with_items-append room front back =
     let size : room.used + length (flat_map item_data front) + length (flat_map item_data back)
@@ -56,7 +104,7 @@ readable-append input (Single event ∷ front) back f b = (f.0, readable-append 
 readable-append input (InInput run start size ∷ front) back f b = (f.0, readable-append input front back f.1 b)
 
 -- At most two records may all be the last ones: one that stops, and one after it.
-pub stops_soon : (stops place : ℕ) (items : List Item) → length items ≤ 2
+stops_soon : (stops place : ℕ) (items : List Item) → length items ≤ 2
     → StopsAtKind stops (kinds_of (records_from place items))
 stops_soon stops place items few =
     let count = length-map (records_from place items) (λ (event : VteEvent). event.kind) in

@@ -1,16 +1,14 @@
 -- Calls of the parser write the text of what they read: a run is written as its characters are, and a chunk that is
 -- short enough has room for its text.
-use Rattle.vte_c.proofs.Common.{Event, HasRead, IsUtf8, List, Parser, TextRoom, [], add-zero, add_assoc, added, after, ap, append-nil, append_assoc, arith, usual_limit}
-use Rattle.vte_c.proofs.Common.{cases_Bool, chars, encodes-chars, false, flat_map-append, inl, inr, le-leb, length, length-append, map, nat_le, nat_tests, plain_text}
-use Rattle.vte_c.proofs.Common.{plain_text_of, refl, sym, take, true, with_text, with_text_of, ℕ, ◌&&◌, ◌*◌, ◌++◌, ◌+◌, ◌<◌, ◌∙◌, ◌∷◌, ◌≡◌, ◌≤◌}
+use Rattle.vte_c.proofs.Common.{Event, HasRead, IsUtf8, List, Parser, TextRoom, [], add-zero, add_assoc, added, after, ap, append-nil, append_assoc, arith, usual_limit, cases_Bool, chars, encodes-chars, false, flat_map-append, inl, inr, le-leb, length, length-append, map, nat_le, nat_tests, plain_text, plain_text_of, refl, sym, take, true, with_text, with_text_of, ℕ, ◌&&◌, ◌*◌, ◌++◌, ◌+◌, ◌<◌, ◌∙◌, ◌∷◌, ◌≡◌, ◌≤◌}
 use Rattle.vte_core.specs.Text.{run_event}
-use Rattle.event_log.proofs.TextInRuns.{text_of_run}
-use Rattle.vte_core.proofs.stops.Units.{added-append}
+use Rattle.event_log.proofs.Lengths.{text_of_run}
+use Rattle.vte_core.proofs.EarlyStops.{added-append}
 use Rattle.vte_core.proofs.streams.After.{added-nothing}
 
 -- ---- texts that have room
 
-abbrev pub with_all : TextRoom → List ℕ → TextRoom
+abbrev with_all : TextRoom → List ℕ → TextRoom
 with_all room text = record room { text = room.text ++ text; used = room.used + length text }
 
 with_all-append : (room : TextRoom) (front back : List ℕ)

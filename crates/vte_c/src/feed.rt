@@ -14,12 +14,12 @@ use crate::events::Events;
 use vte_core::{Parser, Saved, laws};
 
 /// For how many events there must be room: what two bytes add.
-pub(crate) const LEAST_EVENTS: usize = 4;
+pub(crate) const MIN_EVENTS: usize = 4;
 
 /// For how many data bytes there must be room: more than two bytes add. A call then reads at least
 /// one, for which 3 events and 1,095 bytes would do: first comes U+FFFD for a character that this
 /// byte breaks, and then there must be room for what one byte may add.
-pub(crate) const LEAST_DATA: usize = 2112;
+pub(crate) const MIN_DATA: usize = 2112;
 
 /// What a call with less room returns, which is no count of bytes.
 pub(crate) const NO_ROOM: usize = usize::MAX;
@@ -50,7 +50,7 @@ pub(crate) fn feed(
         events: 0,
         bytes: 0,
     };
-    if events.len() < LEAST_EVENTS || area.len() < LEAST_DATA {
+    if events.len() < MIN_EVENTS || area.len() < MIN_DATA {
         return NO_ROOM;
     }
     let (most, size) = (events.len(), area.len());

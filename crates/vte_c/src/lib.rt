@@ -18,7 +18,7 @@ ghost use Rattle.vte_c.specs.Text.{least_text};
 // cargo instead: pub(crate) mod event;
 // cargo instead: pub(crate) use event::VteEvent;
 // cargo instead: pub(crate) use events::Events;
-// cargo instead: pub(crate) use feed::{VteCounts, LEAST_EVENTS, NO_ROOM};
+// cargo instead: pub(crate) use feed::{VteCounts, MIN_EVENTS, NO_ROOM};
 mod event;
 mod events;
 mod feed;
@@ -128,7 +128,7 @@ pub extern "C" fn vte_event_size() -> usize
 pub extern "C" fn vte_least_events() -> usize
     ensures { result ≡ least_events }
 {
-    feed::LEAST_EVENTS
+    feed::MIN_EVENTS
 }
 
 /// Returns for how many data bytes there has to be room.
@@ -136,7 +136,7 @@ pub extern "C" fn vte_least_events() -> usize
 pub extern "C" fn vte_least_data() -> usize
     ensures { result ≡ least_data }
 {
-    feed::LEAST_DATA
+    feed::MIN_DATA
 }
 
 /// Returns for how many bytes of text there has to be room.
@@ -144,5 +144,5 @@ pub extern "C" fn vte_least_data() -> usize
 pub extern "C" fn vte_least_text() -> usize
     ensures { result ≡ least_text }
 {
-    text::LEAST_TEXT
+    text::MIN_TEXT
 }

@@ -1,7 +1,6 @@
 -- Words from std and specs/ for the files of proofs, so that a file imports one list from here instead of one line for
 -- each module. Words that only proofs use stand at the end.
-pub use Rattle.std.proofs.Common.{Bool, Bor, Err, IfErr, IfOk, IsOk, List, None, Ok, Option, Result, Some, [], add-one, ap, append_assoc, arith, cond, drop, eqb, false, get_or, if◌then◌else◌, inl, inr, length, length-append, length-drop, length-take, length-take-le, lit<, map, min, nat_le, not, refl, rules, set, subst, suc, sum, sym, take, take_at, true, zero, ℕ, ◌%◌, ◌&&◌, ◌*◌, ◌++◌, ◌+◌, ◌-◌, ◌/◌, ◌<◌, ◌==◌, ◌||◌}
-pub use Rattle.std.proofs.Common.{◌∙◌, ◌∷◌, ◌≡◌, ◌≢◌, ◌≤◌, ◌⊎◌}
+pub use Rattle.std.proofs.Common.{Bool, Bor, Err, IfErr, IfOk, IsOk, List, None, Ok, Option, Result, Some, [], add-one, ap, append_assoc, arith, cond, drop, eqb, false, get_or, if◌then◌else◌, inl, inr, length, length-append, length-drop, length-take, length-take-le, lit<, map, min, nat_le, not, refl, rules, set, subst, suc, sum, sym, take, take_at, true, zero, ℕ, ◌%◌, ◌&&◌, ◌*◌, ◌++◌, ◌+◌, ◌-◌, ◌/◌, ◌<◌, ◌==◌, ◌||◌, ◌∙◌, ◌∷◌, ◌≡◌, ◌≢◌, ◌≤◌, ◌⊎◌}
 pub use Rattle.std.proofs.Math.Seq.{drop-append_seam, take-add, take-append_seam, take-nil}
 pub use Rattle.std.proofs.Math.Utf8.{encodes, low_scalar, scalar, scalar_cases, scalars}
 unfoldable pub use Rattle.std.proofs.Math.Utf8.{encode}
@@ -28,7 +27,7 @@ unfoldable pub use Rattle.vte_core.specs.DeviceControl.{device_data_outcome, dev
 pub use Rattle.vte_core.specs.EarlyStop.{ComesTo, IsStart, NoCharacterStops, StopsExactly, breaks}
 unfoldable pub use Rattle.vte_core.specs.EarlyStop.{breaks_at, resumed_stream, reported_before}
 unfoldable pub use Rattle.vte_core.specs.Escape.{escape_outcome}
-pub use Rattle.vte_core.specs.Event.{CsiDispatch, EscDispatch, Event, Execute, Hook, OscDispatch, Print, Put, Unhook, replacement}
+pub use Rattle.vte_core.specs.Event.{CsiDispatch, EscDispatch, Event, Execute, Hook, OscDispatch, Print, Put, Unhook, replacement, after}
 pub use Rattle.vte_core.specs.Head.{Head, head_after, reported_intermediates}
 unfoldable pub use Rattle.vte_core.specs.Head.{sequence_event, head_of, is_well_shaped}
 pub use Rattle.vte_core.specs.Intermediates.{are_too_many, first_two}
@@ -41,7 +40,6 @@ pub use Rattle.vte_core.specs.OutsideRuns.{AddsOutsideRuns, IsOutsideRuns, Print
 pub use Rattle.vte_core.specs.Outcome.{SaysLoss, NothingToClose, ToClose, CharacterToClose, CommandToClose, Outcome, events_before_escape, closing_events, leaves, report, open_bytes}
 pub use Rattle.vte_core.specs.Parameters.{AreGroups, Number, colon, count_of, greatest_number, grouped, is_colon, is_separator, most_numbers, number_of, numbers_of, semicolon, with_number}
 unfoldable pub use Rattle.vte_core.specs.Parameters.{groups_of, has_too_many_numbers, numbers, shown}
-pub use Rattle.vte_core.specs.Perform.{after}
 pub use Rattle.vte_core.specs.CutBefore.{from_first}
 pub use Rattle.vte_core.specs.Stream.{added, cut_at_escape, escape, with_bodies, usual_limit}
 unfoldable pub use Rattle.vte_core.specs.Stream.{events, open_character, outcome}
@@ -60,20 +58,14 @@ pub use Rattle.vte_core.specs.declared.parser.machine.Machine.{Machine}
 pub use Rattle.vte_core.specs.declared.parser.refused.Refused.{Refused}
 pub use Rattle.vte_core.specs.declared.utf8.Unfinished.{Unfinished}
 pub use Rattle.vte_core.specs.declared.utf8.Unfinished.TheVariants.{Nothing, One, Three, Two}
-pub use Rattle.vte_core.specs.machine.Data.{AreIgnored, ArePut, IsIgnored}
-pub use Rattle.vte_core.specs.machine.Leads.{Leads, BytesLead}
-pub use Rattle.vte_core.specs.machine.Moves.{SpendsWithin}
-pub use Rattle.vte_core.specs.machine.ParserFields.{CountsNumbers, HoldsIntermediates, HoldsHead, HasReadWithLimit, IsMarker, SameIntermediates, SameNumbers, numbers_from, HoldsNumbers, StandsAtPlace, StandsBy, StandsInHead, StaysIllShaped}
-pub use Rattle.vte_core.specs.machine.Place.{AtEscape, InControlSequence, InDeviceData, InDeviceControl, InEscape, InIgnoredString, InSystemCommand, InText, IsAfter, IsSettledPlace, Place, closing_events_at, left_at, rest_outcome}
+pub use Rattle.vte_core.specs.machine.Scans.{AreIgnored, ArePut, IsIgnored, ArePrintedAscii, IsUtf8Run, IsPrintedAscii, IsRun, PrintsRun, IsRange, Scans}
+pub use Rattle.vte_core.specs.machine.Place.{Leads, BytesLead, AtEscape, InControlSequence, InDeviceData, InDeviceControl, InEscape, InIgnoredString, InSystemCommand, InText, IsAfter, IsSettledPlace, Place, closing_events_at, left_at, rest_outcome}
+pub use Rattle.vte_core.specs.machine.Progress.{SpendsWithin, Advances, ChunkCall, chunk_call, ProgressAt, ProgressInside, IsRefusedInCommand, IsSettled, MayGoOn, ReadsUpTo, ReadsUntilRefused, StandsAt, StandsInside}
+pub use Rattle.vte_core.specs.machine.ParserFields.{CountsNumbers, HoldsIntermediates, HoldsHead, HasReadWithLimit, IsMarker, SameIntermediates, SameNumbers, numbers_from, HoldsNumbers, StandsAtPlace, StandsBy, StandsInHead, StaysIllShaped, ReadsHead, Carries, bytes_of, may_continue}
 unfoldable pub use Rattle.vte_core.specs.machine.Place.{outcome_from}
-pub use Rattle.vte_core.specs.machine.Progress.{Advances, ChunkCall, chunk_call, ProgressAt, ProgressInside, IsRefusedInCommand, IsSettled, MayGoOn, ReadsUpTo, ReadsUntilRefused, StandsAt, StandsInside}
-pub use Rattle.vte_core.specs.machine.Reading.{ReadsHead}
-pub use Rattle.vte_core.specs.machine.TextRun.{ArePrintedAscii, IsUtf8Run, IsPrintedAscii, IsRun, PrintsRun}
-pub use Rattle.vte_core.specs.machine.Scans.{IsRange, Scans}
 pub use Rattle.vte_core.specs.machine.Store.{Stored, HoldsItems, PiecesEnd, SameItems, cut_data, cut_pieces, ends_after, fitting, pieces_from}
 pub use Rattle.vte_core.specs.machine.Takes.{TakesBytes, TakesByte}
-pub use Rattle.vte_core.specs.machine.Unfinished.{Carries, bytes_of, may_continue}
-unfoldable pub use Rattle.vte_core.specs.machine.Unfinished.{second_range}
+unfoldable pub use Rattle.vte_core.specs.machine.ParserFields.{second_range}
 
 -- ---- words of proofs alone
 

@@ -1,6 +1,4 @@
 -- The automaton that reads printed text: what each of its states says of the bytes so far.
-pub mod Steps
-pub mod Begins
+
 pub mod Scanned
 pub mod Windows
-pub mod Readings

@@ -1,28 +1,18 @@
 -- How a call goes on, from one position to the next.
 
--- The place of a state, and what is reported from position to position.
-pub mod States
+-- From position to position, to a stop or the end, and what is reported there.
 pub mod Progress
 pub mod AddedEvents
--- Any stretch of a call: where it starts and ends, and how stretches and bytes compose.
-pub mod CallEnds
+-- Any stretch of a call: how stretches and bytes compose.
 pub mod Stretches
-pub mod Arms
 -- Text: a byte between characters, the bytes inside one, and runs.
-pub mod BetweenCharacters
-pub mod InsideCharacters
 pub mod Characters
-pub mod LeadBytes
+pub mod BetweenCharacters
 pub mod TextRuns
--- What is after ESC: sequences, heads and data.
-pub mod Sequences
+-- The head of a sequence.
 pub mod Heads
-pub mod Data
 -- Calls that return at a run.
-pub mod BeforeRun
 pub mod ToRun
--- What is open, refused memory, looks, and what the calls of both parsers ensure.
+-- What is open, refused memory, and what the calls of both parsers ensure.
 pub mod Open
-pub mod Refusals
-pub mod Counts
-pub mod Long
+pub mod Contracts

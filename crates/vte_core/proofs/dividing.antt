@@ -1,5 +1,4 @@
 -- How a text is divided, and that the standard library divides it so.
-pub mod DivisionLemmas
-pub mod MaximalSubparts
+
+pub mod Division
 pub mod Utf8Agrees
-pub mod PrintableCharacters

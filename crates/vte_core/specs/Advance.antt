@@ -1,9 +1,9 @@
--- What `advance` ensures.
-use Rattle.std.specs.Prelude.{◌≡◌, ℕ, ◌+◌, ◌*◌, ◌≤◌, List, ◌++◌, length}
-use Rattle.vte_core.specs.Event.{Event}
+-- What calls that read bytes ensure.
+use Rattle.std.specs.Prelude.{◌≡◌, ℕ, ◌+◌, ◌*◌, ◌≤◌, List, ◌++◌, length, Bool}
+use Rattle.vte_core.specs.Event.{Event, after}
 use Rattle.vte_core.specs.Parser.{Reading}
-use Rattle.vte_core.specs.Perform.{after}
 use Rattle.vte_core.specs.Stream.{added}
+use Rattle.vte_core.specs.EarlyStop.{StopsExactly, resumed_stream}
 
 -- `advance` and `advance_text`
 pub record ReadsBytes {V : Type 0} (step : V → Event → V) (old new : V) (bytes : List ℕ)
@@ -16,3 +16,17 @@ pub record ReadsBytes {V : Type 0} (step : V → Event → V) (old new : V) (byt
   -- At most 5 looks per byte and 8 more, and at least one per byte.
   pub count : next.looks ≤ parser.looks + 5 * length bytes + 8
   pub least : parser.looks + length bytes ≤ next.looks
+
+-- `advance_until_terminated` and `advance_text_until_terminated`, which read n of the bytes
+pub record ReadsUntilTerminated {V : Type 0} (step : V → Event → V) (is_terminated : V → Bool)
+    (n : ℕ) (old new : V) (bytes : List ℕ) (parser next : Reading) : Type 0 where
+  pub within : n ≤ length bytes
+  -- The call ends at the first start where the performer is terminated, or else after all bytes.
+  pub stops : (stream : List ℕ) → parser.has_read stream
+      → StopsExactly step is_terminated old parser.limit stream bytes new n
+  -- The parser goes on after the bytes read.
+  pub reads : (stream : List ℕ) → parser.has_read stream
+      → next.has_read (resumed_stream stream bytes n)
+  -- At most 5 looks per byte read and 8 more, and at least one per byte read.
+  pub count : next.looks ≤ parser.looks + 5 * n + 8
+  pub least : parser.looks + n ≤ next.looks

@@ -2,8 +2,7 @@
 -- performer is terminated. Its answer changes with events alone, so where nothing was reported it
 -- need not be asked again.
 use Rattle.std.specs.Prelude.{◌≡◌, ◌⊎◌, ℕ, ◌<◌, ◌≤◌, Bool, true, false, ◌&&◌, not, List, [], ◌∷◌, ◌++◌, length, take, drop, Option, if◌then◌else◌}
-use Rattle.vte_core.specs.Event.{Event, Print, replacement}
-use Rattle.vte_core.specs.Perform.{after}
+use Rattle.vte_core.specs.Event.{Event, Print, replacement, after}
 use Rattle.vte_core.specs.Stream.{added, open_character}
 use Rattle.vte_core.specs.Text.{run_event}
 use Rattle.vte_core.specs.Utf8.{is_truncated, is_well_formed}

@@ -1,5 +1,5 @@
--- Events: what a parser reports, one kind for each method of `Perform`.
-use Rattle.std.specs.Prelude.{ℕ, Bool, List}
+-- What a parser reports, and the value of a performer after it.
+use Rattle.std.specs.Prelude.{ℕ, Bool, List, [], ◌∷◌}
 
 pub data Event : Type 0 where
   -- a character of text
@@ -23,3 +23,9 @@ pub data Event : Type 0 where
 -- U+FFFD, which is printed for a malformed sequence
 abbrev pub replacement : ℕ
 replacement = 0xfffd
+
+-- The value of a performer after a list of events.
+
+abbrev pub after : {V : Type 0} → (V → Event → V) → V → List Event → V
+after step value [] = value
+after step value (event ∷ events) = after step (step value event) events

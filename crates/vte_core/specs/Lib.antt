@@ -2,7 +2,6 @@
 
 -- What is reported, and to whom.
 pub mod Event
-pub mod Perform
 pub mod Outcome
 -- Bytes and text.
 pub mod Class
@@ -29,7 +28,6 @@ pub mod Looks
 pub mod Advance
 pub mod Open
 pub mod EarlyStop
-pub mod AdvanceUntilTerminated
 pub mod OutsideRuns
 pub mod AdvanceToRun
 -- The same without a limit, where memory may be refused.

@@ -10,7 +10,7 @@ ghost use Rattle.vte_core.specs.Examples.{store_of_five_examples, store_of_two_e
 ghost use Rattle.vte_core.specs.Examples.{AreDivided, AreLeft, AreStops, LeavesTextToRun, open_command_examples, parts_examples, stop_examples};
 ghost use Rattle.vte_core.specs.Examples.{AreOpen, text_end_examples, sequence_end_examples, string_end_examples};
 ghost use Rattle.vte_core.specs.Laws.{AreParameters, AreWellFormed, Resyncs, CountsData, DispatchesShown, GivesCharacters, Grows, IsDecoded, IsEncoding, OpensLate, OpensSilently};
-ghost use Rattle.vte_core.specs.Perform.{after};
+ghost use Rattle.vte_core.specs.Event.{after};
 ghost use Rattle.vte_core.specs.EarlyStopLaws.{GoesOnFromPositions, ReportsUnits};
 ghost use Rattle.vte_core.specs.Parts.{AreCuts, EndsWithEscape, GiveEvents, parts_at};
 ghost use Rattle.vte_core.specs.Stream.{added, events, usual_limit};
@@ -35,7 +35,7 @@ pub fn replay<P: Perform, const OSC_RAW_BUF_SIZE: usize>(performer: &mut P, chun
 }
 
 /// Parameters come back if their debug text is sent, without its brackets, between `ESC [` and `m`.
-#[tactic(auto, using(crate::proofs::showing::ShownDispatch::shown_dispatched))]
+#[tactic(auto, using(crate::proofs::Showing::shown_dispatched))]
 pub fn debug_dispatch()
     ensures { (limit : Option ℕ) (groups : List (List ℕ)) → AreParameters groups
         → DispatchesShown limit groups }
@@ -90,7 +90,7 @@ pub fn opens_late()
 /// What a call that stops early has reported, followed by what the unread bytes add from there, is
 /// what all bytes add. From one start to the next it reports at most two events, and the second of
 /// them is a character or an executed byte.
-#[tactic(auto, using(crate::proofs::stops::Units::goes_on_from, crate::proofs::stops::Units::reports_units))]
+#[tactic(auto, using(crate::proofs::EarlyStops::goes_on_from, crate::proofs::EarlyStops::reports_units))]
 pub fn early_stops()
     ensures goes_on { (limit : Option ℕ) → GoesOnFromPositions limit }
     ensures units { (limit : Option ℕ) → ReportsUnits limit }
@@ -104,7 +104,7 @@ pub fn resync()
 /// The events of a stream are those of its parts, one part after another, if an ESC is the end of
 /// each part and the start of the next. That ESC closes what is open before it, and makes nothing
 /// else.
-#[tactic(auto, using(crate::proofs::streams::PartsLemmas::parts_give_events, crate::proofs::streams::PartsLemmas::ends_with_escape))]
+#[tactic(auto, using(crate::proofs::streams::Parts::parts_give_events, crate::proofs::streams::Parts::ends_with_escape))]
 pub fn events_of_parts()
     ensures parts { (limit : Option ℕ) (stream cuts : List ℕ) → AreCuts stream 0 cuts
         → GiveEvents limit (parts_at cuts stream) stream }
@@ -113,7 +113,7 @@ pub fn events_of_parts()
 
 /// A text is divided as Unicode recommends: each segment is the well-formed sequence that starts
 /// there, else the longest truncated one, else one byte. No other division has this property.
-#[tactic(auto, using(crate::proofs::dividing::DivisionLemmas::all_divided, crate::proofs::dividing::MaximalSubparts::are_right_segments, crate::proofs::dividing::MaximalSubparts::only_division))]
+#[tactic(auto, using(crate::proofs::dividing::Division::all_divided, crate::proofs::dividing::Division::are_right_segments, crate::proofs::dividing::Division::only_division))]
 pub fn maximal_subparts()
     ensures all { (text : List ℕ) → IsAllDivided text }
     ensures right { (text : List ℕ) → AreRightSegments (segments text) }

@@ -4,7 +4,7 @@ ghost use Rattle.std.specs.Fmt.{decimal, WritesOnOk};
 ghost use Rattle.std.specs.Iterator.{YieldsFirstRef, item_count, at_most, UpTo};
 ghost use Rattle.std.specs.Iterator.SizeHint.{IsWithinCount};
 ghost use Rattle.std.specs.List.{join_with_byte};
-ghost use Rattle.vte_core.specs.machine.Groups.{AreParts, AreFlatGroups, IsTakenOff};
+ghost use Rattle.vte_core.specs.machine.Store.{AreParts, AreFlatGroups, IsTakenOff};
 ghost use Rattle.vte_core.specs.Parameters.{with_number, count_of, colon, shown, AreGroups, most_numbers};
 
 use arrayvec::ArrayVec;
@@ -13,21 +13,21 @@ use std::iter::FusedIterator;
 use std::marker::Model;
 
 /// How many numbers of a sequence are kept.
-const MOST_NUMBERS: usize = 32;
+const MAX_NUMBERS: usize = 32;
 
 /// The numbers of a sequence, in groups that are never empty.
 #[derive(Clone, Drop)]
 // cargo: #[doc = include_str!("../../docs/params.md")]
 pub struct Params {
     // all numbers in a row
-    numbers: ArrayVec<u16, MOST_NUMBERS>,
+    numbers: ArrayVec<u16, MAX_NUMBERS>,
     // how many of them stand in each group
-    lengths: ArrayVec<u8, MOST_NUMBERS>,
+    lengths: ArrayVec<u8, MAX_NUMBERS>,
 }
 
 impl Model for Params {
     ghost use Rattle.std.specs.Prelude.{List, ℕ};
-    ghost use Rattle.vte_core.specs.machine.Groups.{cut_by_lengths, AreFlatGroups};
+    ghost use Rattle.vte_core.specs.machine.Store.{cut_by_lengths, AreFlatGroups};
 
     ghost Value = { List (List ℕ) };
 
@@ -46,7 +46,7 @@ pub struct ParamsIter<'a> {
 
 impl<'a> Model for ParamsIter<'a> {
     ghost use Rattle.std.specs.Prelude.{List, ℕ};
-    ghost use Rattle.vte_core.specs.machine.Groups.{cut_by_lengths, AreLengths};
+    ghost use Rattle.vte_core.specs.machine.Store.{cut_by_lengths, AreLengths};
 
     ghost Value = { List (List ℕ) };
 
@@ -107,8 +107,8 @@ impl Params {
     /// Returns the parameters with these parts, or none if the lengths don't cover all numbers.
     // cargo: #[cfg(feature = "__own")]
     pub(crate) fn from_parts(
-        lengths: ArrayVec<u8, MOST_NUMBERS>,
-        numbers: ArrayVec<u16, MOST_NUMBERS>,
+        lengths: ArrayVec<u8, MAX_NUMBERS>,
+        numbers: ArrayVec<u16, MAX_NUMBERS>,
     ) -> Self
         ensures { (groups : List (List ℕ)) → AreParts lengths.items numbers.items groups
             → result ≡ groups }
@@ -150,14 +150,14 @@ impl Params {
 
 /// Removes the length of the last group if the next number joins it.
 // cargo: #[inline]
-fn take_joined(lengths: &mut ArrayVec<u8, MOST_NUMBERS>, joined: bool) -> Option<u8>
+fn take_joined(lengths: &mut ArrayVec<u8, MAX_NUMBERS>, joined: bool) -> Option<u8>
     ensures { IsTakenOff joined lengths.old.items lengths.new.items result }
 {
     if joined { lengths.pop() } else { None }
 }
 
 /// Returns whether these are the lengths of groups with these numbers.
-#[tactic(auto, using(std::proofs::lemmas::Grind::elements, crate::proofs::fields::Groups::sum_take_more, crate::proofs::fields::Groups::sum_take_below, crate::proofs::fields::Groups::filled_take_more))]
+#[tactic(auto, using(std::proofs::lemmas::Grind::elements, crate::proofs::fields::Numbers::sum_take_more, crate::proofs::fields::Numbers::sum_take_below, crate::proofs::fields::Numbers::filled_take_more))]
 // cargo: #[cfg(feature = "__own")]
 fn are_lengths(lengths: &[u8], numbers: &[u16]) -> bool
     ensures { IsTrue result ↔ AreFlatGroups lengths.now numbers.now }

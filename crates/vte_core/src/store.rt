@@ -12,7 +12,7 @@ use std::alloc::{AllocError, Allocator};
 use std::marker::Model;
 
 /// The most pieces of a command.
-const MOST_PIECES: usize = 16;
+const MAX_PIECES: usize = 16;
 
 /// The items of a command, as far as they are kept.
 #[derive(Drop)]
@@ -20,7 +20,7 @@ pub(crate) struct Store<B: Buffer> {
     // the data bytes, without the `;` between the pieces
     bytes: B,
     // the ends of the first 16 pieces in them
-    ends: ArrayVec<usize, MOST_PIECES>,
+    ends: ArrayVec<usize, MAX_PIECES>,
     // whether data bytes were dropped
     lost: bool,
 }
@@ -168,14 +168,14 @@ impl<B: Buffer> Store<B> {
             }
             _ => {}
         }
-        let mut pieces: [&[u8]; MOST_PIECES] = [&[]; MOST_PIECES];
+        let mut pieces: [&[u8]; MAX_PIECES] = [&[]; MAX_PIECES];
         let mut start = 0;
         for (index, end) in ends.iter().enumerate() {
             pieces[index] = &bytes[start..*end];
             start = *end;
         }
         let mut count = ends.len();
-        if count < MOST_PIECES {
+        if count < MAX_PIECES {
             pieces[count] = &bytes[start..];
             count += 1;
         }

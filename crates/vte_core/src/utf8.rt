@@ -63,7 +63,7 @@ impl Unfinished {
 }
 
 /// Returns whether a sequence that begins with `first` may go on with `byte`.
-#[tactic(auto, unfolding(crate::specs::machine::Unfinished::second_range))]
+#[tactic(auto, unfolding(crate::specs::machine::ParserFields::second_range))]
 fn may_be_second(first: u8, byte: u8) -> bool
     ensures { result ≡ is_in (second_range first) byte }
 {
@@ -77,7 +77,7 @@ fn may_be_second(first: u8, byte: u8) -> bool
 /// Returns whether a sequence of three bytes may begin with these two: with a number that is no
 /// overlong form's and no surrogate's.
 #[inline(always)]
-#[tactic(auto, unfolding(crate::specs::machine::Unfinished::second_range))]
+#[tactic(auto, unfolding(crate::specs::machine::ParserFields::second_range))]
 pub(crate) fn may_begin_three(first: u8, second: u8) -> bool
     requires { BeginsThree first }
     ensures { result ≡ is_in (second_range first) second }
@@ -89,7 +89,7 @@ pub(crate) fn may_begin_three(first: u8, second: u8) -> bool
 /// Returns whether a sequence of four bytes may begin with these two: with a number that is no
 /// overlong form's, and not past the last character's.
 #[inline(always)]
-#[tactic(auto, unfolding(crate::specs::machine::Unfinished::second_range))]
+#[tactic(auto, unfolding(crate::specs::machine::ParserFields::second_range))]
 pub(crate) fn may_begin_four(first: u8, second: u8) -> bool
     requires { BeginsFour first }
     ensures { result ≡ is_in (second_range first) second }

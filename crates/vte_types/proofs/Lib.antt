@@ -1,6 +1,4 @@
--- Words and the tables of them (`Words`, `Keywords`), colours (`RgbTexts`, `Shades`) and flags (`Bits`).
+-- Words and the tables of them (`Words`), colours (`Colors`) and flags (`Bits`).
 pub mod Bits
-pub mod Keywords
-pub mod RgbTexts
-pub mod Shades
+pub mod Colors
 pub mod Words

@@ -1,13 +1,14 @@
 -- A text is a word, or begins with it, exactly if a comparison byte by byte says so. In a table, a text has the entry
 -- of this row if the row's word is the text, and otherwise that of the rows that follow.
-use Rattle.std.proofs.Common.{◌≡◌, ◌≢◌, ◌<◌, ◌+◌, ℕ, suc, Bool, true, false, cond, eqb, List, [], ◌∷◌, ◌++◌, length, drop, get_or}
-use Rattle.std.proofs.Common.{drop-cons, Option, None, Some, option_map, refl, sym, ◌∙◌, ap, arith, Bor, MatchOption}
-use Rattle.std.proofs.lemmas.Bool.{false_from_ne_true}
+use Rattle.std.proofs.Common.{◌≡◌, ◌≢◌, ◌<◌, ◌+◌, ℕ, suc, Bool, true, false, cond, eqb, List, [], ◌∷◌, ◌++◌, length, drop, get_or, drop-cons, Option, None, Some, option_map, refl, sym, ◌∙◌, ap, arith, Bor, MatchOption, zero}
+use Rattle.std.proofs.lemmas.Bool.{false_from_ne_true, and_parts, ltb-true}
 use Rattle.std.proofs.lemmas.Bool.Decides.{nat_tests}
 use Rattle.std.proofs.lemmas.Slice.Eq.{bytes_eq-Decides}
-use Rattle.std.specs.Prelude.{map}
-use Rattle.std.specs.Str.{bytes_eq}
+use Rattle.std.specs.Prelude.{map, bytes_eq, nat_lt, ◌&&◌}
+use Rattle.std.specs.Str.{is_utf8, IsAscii}
 use Rattle.vte_types.specs.Words.{after_word, entry_of_word}
+use Rattle.std.proofs.lemmas.Str.{IsUtf8-from_ascii, is_utf8-from_IsUtf8}
+use Rattle.vte_types.specs.CursorIcon.{icons, icon_of}
 
 pub other_word : (text word : List ℕ) → (text ≡ word → ⊥) → bytes_eq text word ≡ false
 other_word text word h = false_from_ne_true _ (λ e. h ((bytes_eq-Decides text word).0 e))
@@ -62,3 +63,39 @@ from_row rows i d text t within told =
     (drop-cons rows i d within ∙ ap (λ n. get_or rows i d ∷ drop n rows) next)
     ∙ ap (λ t. cond t (Some (get_or rows i d).1) (entry_of_word (rows_of (drop (i + 1) rows)) text))
     (sym told)
+
+-- ---- keywords
+
+-- They are ASCII, as a test of the whole table computes. So a text that isn't UTF-8 differs from each of them.
+
+row_by : {A : Type 0} (x : A) (others : Option A) (t : Bool) → t ≡ false → others ≡ None → cond t (Some x) others ≡ None
+row_by x others true e h = cc
+row_by x others false e h = h
+
+abbrev are_ascii : List ℕ → Bool
+are_ascii [] = true
+are_ascii (b ∷ bytes) = nat_lt b 128 && are_ascii bytes
+
+abbrev have_ascii_words : {A : Type 0} → List (List ℕ × A) → Bool
+have_ascii_words [] = true
+have_ascii_words (row ∷ rows) = are_ascii row.0 && have_ascii_words rows
+
+are_below : (bytes : List ℕ) → are_ascii bytes ≡ true → IsAscii bytes
+are_below [] e i = omega arith
+are_below (b ∷ bytes) e zero = ltb-true b 128 (and_parts _ _ e).0
+are_below (b ∷ bytes) e (suc i) = are_below bytes (and_parts _ _ e).1 i
+
+ascii_is_utf8 : (bytes : List ℕ) → are_ascii bytes ≡ true → is_utf8 bytes ≡ true
+ascii_is_utf8 bytes e = is_utf8-from_IsUtf8 bytes (IsUtf8-from_ascii bytes (are_below bytes e))
+
+other_bytes : {A : Type 0} (rows : List (List ℕ × A)) (text : List ℕ) → have_ascii_words rows ≡ true
+    → is_utf8 text ≡ false → entry_of_word rows text ≡ None
+other_bytes [] text are not = refl
+other_bytes (row ∷ rows) text are not =
+    row_by row.1 (entry_of_word rows text) (bytes_eq text row.0)
+    (other_word text row.0 (λ e. let same = ap is_utf8 e in let is = ascii_is_utf8 row.0 (and_parts _ _ are).0 in cc))
+    (other_bytes rows text (and_parts _ _ are).1 not)
+
+-- A text that isn't UTF-8 is no keyword.
+pub no_icon : (text : List ℕ) → is_utf8 text ≡ false → icon_of text ≡ None
+no_icon text not = other_bytes icons text refl not

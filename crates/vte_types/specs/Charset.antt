@@ -1,6 +1,6 @@
 -- The characters that a character set shows.
 use Rattle.std.specs.Prelude.{ℕ, List, [], ◌∷◌, unwrap_or}
-use Rattle.vte_types.specs.Rows.{Row, entry_of}
+use Rattle.vte_types.specs.Words.{Row, entry_of}
 use Rattle.vte_types.specs.declared.charset.StandardCharset.{StandardCharset}
 use Rattle.vte_types.specs.declared.charset.StandardCharset.TheVariants.{Ascii, SpecialCharacterAndLineDrawing}
 

@@ -1,11 +1,7 @@
-pub mod Bright
 pub mod Charset
 pub mod CursorIcon
-pub mod Hex
 pub mod Keyboard
 pub mod Mode
 pub mod NamedColor
 pub mod Rgb
-pub mod RgbText
-pub mod Rows
 pub mod Words

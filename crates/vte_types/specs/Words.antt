@@ -1,5 +1,14 @@
--- Words and what they stand for.
-use Rattle.std.specs.Prelude.{ℕ, List, [], ◌∷◌, if◌then◌else◌, ◌==◌, bytes_eq, Option, Some, None}
+-- Tables: rows that start with a number, and words with what they stand for.
+use Rattle.std.specs.Prelude.{ℕ, List, [], ◌∷◌, if◌then◌else◌, ◌==◌, Option, Some, None, bytes_eq}
+
+-- A number, and what it stands for.
+abbrev pub Row : Type 0 → Type 0
+Row A = ℕ × A
+
+-- The entry of a number in a table.
+abbrev pub entry_of : {A : Type 0} → List (Row A) → ℕ → Option A
+entry_of [] number = None
+entry_of (row ∷ rows) number = if number == row.0 then Some row.1 else entry_of rows number
 
 -- The entry of a word in a table.
 abbrev pub entry_of_word : {A : Type 0} → List (List ℕ × A) → List ℕ → Option A

@@ -2,17 +2,15 @@
 //! `text` only the text.
 #![tactic(auto)]
 
-mod stream;
-
 ghost use Rattle.std.specs.Prelude.{◌≡◌, OnOk, OnErr, is_err, map, option_map};
 ghost use Rattle.std.specs.Io.KnownBytes.{Appends};
 ghost use Rattle.vtlog.specs.Arguments.{chosen_mode, page_of};
 ghost use Rattle.vtlog.specs.End.{Ends, status_of, words_of};
 
-use crate::stream::Stream;
-use event_log::{Fault, Sink, Source, run, run_text};
+use event_log::{Device, Fault, Sink, Source, run, run_text};
+use std::env;
+use std::io::{self, ErrorKind};
 use std::process::ExitCode;
-use std::{env, io};
 
 const VERSION: &str = "vtlog 0.1.0\n";
 
@@ -62,20 +60,20 @@ fn main(rt: HostRuntime) -> ExitCode {
 fn log_streams(rt: &HostRuntime) -> io::Result<u8> {
     let words: Vec<String> = env::args(rt)?.skip(1).collect(rt.alloc())?;
     let args: Vec<&str> = words.iter().map(|word| word.as_str()).collect(rt.alloc())?;
-    let mut input = Stream::new(rt.stdin());
-    let mut output = Stream::new(rt.stdout());
+    let mut input = Device::new(rt.stdin());
+    let mut output = Device::new(rt.stdout());
     let (status, message) = log(&args, &mut input, &mut output);
-    if output.is_closed() {
+    if output.error().map(|error| error.kind()) == Some(ErrorKind::BrokenPipe) {
         // this ends the program silently, as it ends other filters
         return Ok(141);
     }
     if !message.is_empty() {
         let _ = eprintln!(rt; "{message}");
     }
-    if let Some(error) = input.trouble() {
+    if let Some(error) = input.error() {
         let _ = eprintln!(rt; "vtlog: standard input: {error}");
     }
-    if let Some(error) = output.trouble() {
+    if let Some(error) = output.error() {
         let _ = eprintln!(rt; "vtlog: standard output: {error}");
     }
     if let (2, Some(word)) = (status, unexpected(&args)) {

@@ -1,65 +1,31 @@
 //! What the adapter adds to the proved processor: owned texts, defaults, and what other crates
 //! define.
-#![cfg(feature = "ansi")]
 
-mod support;
-
-use std::str::FromStr;
-
-use support::Pending;
 use vte::ansi::cursor_icon::CursorIcon;
 use vte::ansi::lent::{self, LongProcessor};
 use vte::ansi::{
     Attr, BoundedProcessor, Color, Handler, HandlerText, KeyboardModes, Mode, NamedColor,
-    NamedMode, NamedPrivateMode, PrivateMode, Processor,
+    NamedMode, NamedPrivateMode, Processor,
 };
 
-/// Writes down some calls.
-#[derive(Default)]
-struct Calls(Vec<String>);
-
-impl Handler for Calls {
-    fn set_title(&mut self, title: Option<String>) {
-        self.0.push(format!("title {title:?}"));
-    }
-
-    fn input(&mut self, c: char) {
-        self.0.push(format!("input {c}"));
-    }
-
-    fn goto(&mut self, line: i32, column: usize) {
-        self.0.push(format!("goto {line} {column}"));
-    }
-
-    fn unset_private_mode(&mut self, mode: PrivateMode) {
-        self.0.push(format!("unset {}", mode.raw()));
-    }
-}
+use crate::support::Pending;
+use crate::vectors::call_lines::{CallLines, Lent};
 
 /// A copy goes on from where the processor was, whatever that one reads meanwhile.
 #[test]
 fn copies_read_on() {
     let stream = "é\x1b[b\x1b[3;4H\x1b]2;ab\x07\x1b[?2026hu\x1b[?2026l".as_bytes();
     for at in 0..=stream.len() {
-        let (mut processor, mut calls) = (Processor::<Pending>::new(), Calls::default());
-        processor.advance(&mut calls, &stream[..at]);
+        let (mut processor, mut lines) = (Processor::<Pending>::new(), CallLines::default());
+        processor.advance(&mut lines, &stream[..at]);
         let mut copy = processor.clone();
-        processor.stop_sync(&mut Calls::default());
-        processor.advance(&mut Calls::default(), b"\x18y\x1b]2;z");
-        copy.advance(&mut calls, &stream[at..]);
-        assert_eq!(
-            calls.0,
-            [
-                "input é",
-                "input é",
-                "goto 2 3",
-                "title Some(\"ab\")",
-                "input u",
-                "unset 2026",
-                "unset 2026"
-            ],
-            "copied at {at}"
-        );
+        processor.stop_sync(&mut CallLines::default());
+        processor.advance(&mut CallLines::default(), b"\x18y\x1b]2;z");
+        copy.advance(&mut lines, &stream[at..]);
+        let wanted = "input 00e9\ninput 00e9\ngoto 2 3\nset_title Some(\"ab\")\n\
+            set_private_mode Named(SyncUpdate)\ninput 0075\n\
+            unset_private_mode Named(SyncUpdate)\nunset_private_mode Named(SyncUpdate)\n";
+        assert_eq!(lines.take(), wanted, "copied at {at}");
     }
 }
 
@@ -67,33 +33,36 @@ fn copies_read_on() {
 #[test]
 fn the_default_timeout_is_pending_until_it_is_told() {
     use std::time::{Duration, Instant};
-    let mut calls = Calls::default();
-    let mut processor: Processor = Processor::new();
-    processor.advance(&mut calls, b"a");
-    assert_eq!((calls.0.len(), processor.sync_bytes_count()), (1, 0));
+    let (mut processor, mut lines) = (<Processor>::new(), CallLines::default());
+    processor.advance(&mut lines, b"a");
+    assert_eq!(lines.take(), "input 0061\n");
+    assert_eq!(processor.sync_bytes_count(), 0);
     assert_eq!(processor.sync_timeout().sync_timeout(), None);
     let before = Instant::now();
-    processor.advance(&mut calls, b"\x1b[?2026hb");
-    assert_eq!((calls.0.len(), processor.sync_bytes_count()), (1, 1));
+    processor.advance(&mut lines, b"\x1b[?2026hb");
+    assert_eq!(lines.take(), "set_private_mode Named(SyncUpdate)\n");
+    assert_eq!(processor.sync_bytes_count(), 1);
     let first = processor.sync_timeout().sync_timeout().unwrap();
     let pending = Duration::from_millis(150);
     assert!(before + pending <= first && first <= Instant::now() + pending);
     // past its expiry it still holds and says when that was, and another begin moves it
     std::thread::sleep(Duration::from_millis(151));
     assert_eq!(processor.sync_timeout().sync_timeout(), Some(first));
-    processor.advance(&mut calls, b"c");
-    assert_eq!((calls.0.len(), processor.sync_bytes_count()), (1, 2));
+    processor.advance(&mut lines, b"c");
+    assert_eq!((&*lines.take(), processor.sync_bytes_count()), ("", 2));
     assert_eq!(processor.sync_timeout().sync_timeout(), Some(first));
-    processor.advance(&mut calls, b"\x1b[?2026h");
+    processor.advance(&mut lines, b"\x1b[?2026h");
     let second = processor.sync_timeout().sync_timeout().unwrap();
     assert!(second - first >= Duration::from_millis(151));
     // once it is told, the next bytes are passed on at once
-    processor.stop_sync(&mut calls);
+    processor.stop_sync(&mut lines);
     assert_eq!(processor.sync_timeout().sync_timeout(), None);
-    processor.advance(&mut calls, b"d");
+    processor.advance(&mut lines, b"d");
     assert_eq!(processor.sync_bytes_count(), 0);
-    let wanted = ["input a", "input b", "input c", "unset 2026", "input d"];
-    assert_eq!(calls.0, wanted);
+    let calls = lines.take();
+    let inputs = calls.replace("\nset_private_mode Named(SyncUpdate)", "");
+    let wanted = "input 0062\ninput 0063\nunset_private_mode Named(SyncUpdate)\ninput 0064\n";
+    assert_eq!(inputs, wanted);
 }
 
 #[cfg(feature = "std")]
@@ -126,11 +95,8 @@ fn colours_have_arithmetic_of_floats() {
 
 #[test]
 fn what_other_crates_define() {
-    assert_eq!(
-        KeyboardModes::NO_MODE | KeyboardModes::REPORT_EVENT_TYPES,
-        KeyboardModes::from_bits_truncate(2)
-    );
     for (flag, bits) in [
+        (KeyboardModes::from_bits_truncate(34), 2),
         (KeyboardModes::NO_MODE, 0),
         (KeyboardModes::DISAMBIGUATE_ESC_CODES, 1),
         (KeyboardModes::REPORT_EVENT_TYPES, 2),
@@ -141,10 +107,7 @@ fn what_other_crates_define() {
     ] {
         assert_eq!(flag.bits(), bits);
     }
-    assert_eq!(
-        CursorIcon::from_str("zoom-in").ok(),
-        Some(CursorIcon::ZoomIn)
-    );
+    assert_eq!("zoom-in".parse(), Ok(CursorIcon::ZoomIn));
 }
 
 #[test]
@@ -156,18 +119,16 @@ fn names_can_be_patterns_and_have_numbers() {
     assert!(NamedColor::Black < NamedColor::Foreground);
     assert_eq!(NamedColor::DimBlack as usize, 259);
     assert_eq!(NamedPrivateMode::SyncUpdate as u16, 2026);
-    assert_eq!(
-        Attr::Foreground(Color::Named(RED)),
-        Attr::Foreground(Color::Named(NamedColor::Red))
-    );
+    let [red, constant] = [NamedColor::Red, RED].map(|it| Attr::Foreground(Color::Named(it)));
+    assert_eq!(red, constant);
 }
 
-/// A handler of lent texts around anything.
-struct Around<T>(T, String);
+/// Handlers of lent texts may be around anything, as those of owned texts.
+struct Around<T>(T);
 
-impl<T> vte::ansi::lent::Handler for Around<T> {
+impl<T: lent::Handler> lent::Handler for Around<T> {
     fn set_title(&mut self, title: Option<&str>) {
-        self.1.push_str(title.unwrap_or_default());
+        self.0.set_title(title);
     }
 }
 
@@ -177,37 +138,36 @@ fn advance_any<H: Handler>(processor: &mut Processor<Pending>, handler: &mut H, 
 
 #[test]
 fn one_processor_serves_both_kinds_of_handlers() {
-    let mut processor = Processor::<Pending>::new();
-    let (mut calls, mut around) = (Calls::default(), Around((), String::new()));
-    advance_any(&mut processor, &mut calls, b"\x1b]2;one");
-    processor.advance(&mut around, b" two\x07");
-    assert_eq!(around.1, "one two");
-    assert!(calls.0.is_empty());
+    let (mut processor, mut lines) = (Processor::<Pending>::new(), CallLines::default());
+    advance_any(&mut processor, &mut lines, b"\x1b]2;one");
+    assert_eq!(lines.take(), "");
+    processor.advance(&mut Around(Lent(&mut lines)), b" two\x07");
+    assert_eq!(lines.take(), "set_title Some(\"one two\")\n");
 }
 
 /// All calls of a processor take objects: it knows only the trait of such a handler.
 macro_rules! assert_takes_objects {
     ($new:expr) => {
-        let (mut processor, mut calls) = ($new, Calls::default());
-        let object: &mut dyn Handler = &mut calls;
-        let _ = processor.advance(object, b"a\x1b[?2026hb");
+        let (mut processor, mut lines) = ($new, CallLines::default());
+        let stream = b"a\x1b]2;b\x07\x1b[?2026hc\x1b]2;d\x07";
+        let object: &mut dyn Handler = &mut lines;
+        let _ = processor.advance(object, stream);
         processor.stop_sync(object);
-        assert_eq!(calls.0, ["input a", "input b", "unset 2026"]);
-        let mut around = Around((), String::new());
-        let object: &mut dyn lent::Handler = &mut around;
-        let _ = processor.advance(object, b"\x1b]2;title\x07\x1b[?2026h\x1b]2;s\x07");
+        let calls = lines.take();
+        let wanted = "input 0061\nset_title Some(\"b\")\nset_private_mode Named(SyncUpdate)\n\
+            input 0063\nset_title Some(\"d\")\nunset_private_mode Named(SyncUpdate)\n";
+        assert_eq!(calls, wanted);
+        let object: &mut dyn lent::Handler = &mut Lent(&mut lines);
+        let _ = processor.advance(object, stream);
         processor.stop_sync(object);
-        let object: &mut dyn HandlerText = &mut around;
-        let _ = processor.advance_text(object, b"a\x1b[?2026hb");
+        assert_eq!(lines.take(), wanted);
+        assert!(lines.runs.is_empty());
+        let object: &mut dyn HandlerText = &mut Lent(&mut lines);
+        let _ = processor.advance_text(object, stream);
         processor.stop_sync_text(object);
-        assert_eq!(around.1, "titlesab");
+        assert_eq!(lines.take(), wanted);
+        assert_eq!(lines.runs, ["a", "c"]);
     };
-}
-
-impl<T> HandlerText for Around<T> {
-    fn input_text(&mut self, text: &str) {
-        self.1.push_str(text);
-    }
 }
 
 #[test]
@@ -235,23 +195,23 @@ macro_rules! assert_keeps {
     ($limit:expr, $new:expr, $loses:expr) => {
         for (index, (command, lost)) in limited_commands($limit).into_iter().enumerate() {
             // the last one has too many pieces
-            let (lost, mut calls) = (lost && (index == 4 || $loses), Calls::default());
+            let (lost, mut lines) = (lost && (index == 4 || $loses), CallLines::default());
             let mut processor = $new;
-            let _ = processor.advance(&mut calls, format!("\x1b]{command}").as_bytes());
+            let _ = processor.advance(&mut lines, format!("\x1b]{command}").as_bytes());
             assert_eq!(processor.command_lost_data(), lost, "{command}");
             assert_eq!(processor.clone().command_lost_data(), lost, "{command}");
-            let _ = processor.advance(&mut calls, b"\x07");
+            let _ = processor.advance(&mut lines, b"\x07");
             // a further call, which may take memory, doesn't forget it
-            let _ = processor.advance(&mut calls, b"\x00");
+            let _ = processor.advance(&mut lines, b"\x00");
             assert_eq!(processor.command_lost_data(), lost, "{command}");
             // the last one loses a `;` too
             let cut = usize::from(lost) + usize::from(index == 4);
             let kept = &command["2;".len()..command.len() - cut];
-            assert_eq!(calls.0, [format!("title Some({kept:?})")]);
-            let _ = processor.advance(&mut calls, b"\x1b]2;a\x07\x1b[?2026h");
-            let _ = processor.advance(&mut calls, format!("\x1b]{command}").as_bytes());
+            assert_eq!(lines.take(), format!("set_title Some({kept:?})\n"));
+            let _ = processor.advance(&mut lines, b"\x1b]2;a\x07\x1b[?2026h");
+            let _ = processor.advance(&mut lines, format!("\x1b]{command}").as_bytes());
             assert!(!processor.command_lost_data(), "{command}");
-            processor.stop_sync(&mut calls);
+            processor.stop_sync(&mut lines);
             assert_eq!(processor.command_lost_data(), lost, "{command}");
         }
     };
@@ -275,12 +235,13 @@ fn processors_keep_what_their_limit_says() {
 #[cfg(feature = "std")]
 #[test]
 fn processors_have_defaults() {
-    let mut calls = Calls::default();
-    let mut usual: BoundedProcessor = BoundedProcessor::new();
-    usual.advance(&mut calls, b"\x1b]2;");
-    usual.advance(&mut calls, &[b'a'; 2000]);
-    usual.advance(&mut calls, b"\x07");
-    assert_eq!(calls.0, [format!("title Some({:?})", "a".repeat(1023))]);
+    let (mut usual, mut lines) = (<BoundedProcessor>::new(), CallLines::default());
+    usual.advance(
+        &mut lines,
+        &[b"\x1b]2;", &[b'a'; 2000][..], b"\x07"].concat(),
+    );
+    let title = "a".repeat(1023);
+    assert_eq!(lines.take(), format!("set_title Some({title:?})\n"));
     let long: LongProcessor = LongProcessor::new(Default::default()).unwrap();
     assert_eq!(long.sync_timeout().sync_timeout(), None);
 }

@@ -1,5 +1,4 @@
 //! What the examples write.
-#![cfg(all(feature = "ansi", feature = "std"))]
 
 #[allow(dead_code)]
 #[path = "../examples/parallel_strip.rs"]
@@ -93,21 +92,11 @@ impl Read for Singly<'_> {
     }
 }
 
-/// Fails whenever it is read or written.
+/// Fails whenever it is read.
 struct Broken;
 
 impl Read for Broken {
     fn read(&mut self, _: &mut [u8]) -> io::Result<usize> {
-        Err(io::ErrorKind::Other.into())
-    }
-}
-
-impl Write for Broken {
-    fn write(&mut self, _: &[u8]) -> io::Result<usize> {
-        Err(io::ErrorKind::Other.into())
-    }
-
-    fn flush(&mut self) -> io::Result<()> {
         Err(io::ErrorKind::Other.into())
     }
 }
@@ -161,14 +150,13 @@ fn the_page_names_uses_of_new_items() {
 fn examples_return_errors() {
     for &(example, stream, wanted) in EXAMPLES {
         assert!(example(&mut Broken, &mut Vec::new()).is_err());
-        assert_eq!(
-            example(&mut &*stream, &mut Broken).is_ok(),
-            wanted.is_empty()
-        );
+        // there is no room
+        let answer = example(&mut &*stream, &mut &mut [][..]);
+        assert_eq!(answer.is_ok(), wanted.is_empty());
     }
     // it reads no more than it must
     let mut input = io::repeat(b'a').take(100_000);
-    assert!(parselog::write_events(&mut input, Broken).is_err());
+    assert!(parselog::write_events(&mut input, &mut [][..]).is_err());
     assert!(input.limit() > 0);
 }
 

@@ -1,91 +1,53 @@
 //! What parsers tell performers and ask of them: each method, of a performer and of an object of a
 //! trait.
 
-#[path = "support/tell.rs"]
-mod tell;
-
-use std::cell::RefCell;
-use std::collections::BTreeSet;
-
-use tell::{perform_by_tell, Tell};
 use vte::{BoundedParser, Parser, Perform, PerformText};
 
-const STREAM: &[u8] = b"some text\r\n\x1bP1$q~~\x07\x1b\\\x1b]0;t\x07\x1b[1m";
+use crate::vectors::event_lines::{EventLines, Stop};
 
-/// What a performer is told of the stream: text and data alone, in runs, and in runs with layout.
-const SINGLY: &str = "print 's' / print 'o' / print 'm' / print 'e' / print ' ' / print 't' / \
-    print 'e' / print 'x' / print 't' / execute 13 / execute 10 / hook [1] [36] false q / \
-    put 126 / put 126 / put 7 / unhook / esc [] false 92 / osc [[48], [116]] true / \
-    csi [1] [] false m";
-const IN_RUNS: &str = "text \"some text\" / execute 13 / execute 10 / hook [1] [36] false q / \
-    slice [126, 126, 7] / unhook / esc [] false 92 / osc [[48], [116]] true / csi [1] [] false m";
-const WITH_LAYOUT: &str = "text \"some text\\r\\n\" / hook [1] [36] false q / \
-    slice [126, 126, 7] / unhook / esc [] false 92 / osc [[48], [116]] true / csi [1] [] false m";
+const STREAM: &[u8] = b"ab\r\n\x1bP1$q~~\x07\x1b\\\x1b]0;t\x07\x1b[1m";
+const EVENTS: &str = "print 0061\nprint 0062\nexecute 0d\nexecute 0a\nhook [1] 24 false 71\n\
+    put 7e\nput 7e\nput 07\nunhook\nesc - false 5c\nosc true 2 30 74\ncsi [1] - false 6d\n";
 
 /// What comes before a run.
 const NO_RUN: &[u8] = b"\r\xff\x1b[1m\x1bP1q\x1b\\a";
-const UP_TO_RUN: &str =
-    "execute 13 / print '\u{fffd}' / csi [1] [] false m / hook [1] [] false q / \
-    unhook / esc [] false 92";
+const UP_TO_RUN: &str = "execute 0d\nprint fffd\ncsi [1] - false 6d\nhook [1] - false 71\n\
+    unhook\nesc - false 5c\n";
 
-/// Records what it is told and asked.
-#[derive(Default)]
-struct Records {
-    told: Vec<String>,
-    asked: RefCell<BTreeSet<&'static str>>,
-    stop: usize,
-    keeps: bool,
+/// The events up to the last of so many that aren't prints.
+fn up_to(stop: usize, events: &str) -> String {
+    let mut others = 0;
+    let is_before = |line: &&str| {
+        let is_before = others < stop;
+        others += usize::from(!line.starts_with("print"));
+        is_before
+    };
+    events.split_inclusive('\n').take_while(is_before).collect()
 }
 
-impl Tell for Records {
-    fn tell(&mut self, event: String) {
-        self.told.push(event);
-    }
-
-    fn is_over(&self) -> bool {
-        self.asked.borrow_mut().insert("terminated");
-        self.stop <= self.told.len()
-    }
-}
-
-perform_by_tell!(Records);
-
-impl PerformText for Records {
-    fn keeps_layout(&self) -> bool {
-        self.asked.borrow_mut().insert("keeps_layout");
-        self.keeps
-    }
-
-    fn print_text(&mut self, text: &str) {
-        self.told.push(format!("text {text:?}"));
-    }
-
-    fn put_slice(&mut self, bytes: &[u8]) {
-        self.told.push(format!("slice {bytes:?}"));
-    }
-}
-
-/// Reads in these ways, with a performer and with an object of it: both are told the calls, up to
-/// the stop if that is asked for, and asked nothing else.
-macro_rules! assert_records {
-    ($($trait:ident, $keeps:literal: |$it:ident| $read:expr => $told:expr, $asked:expr;)*) => {$({
+/// Reads in these ways, with a performer and with an object of it: both are told these events, up
+/// to a stop if that is asked for, with this text and these data in one run and one slice if there
+/// are any; and asked nothing but whether they keep the layout and whether they are terminated.
+macro_rules! assert_tells {
+    ($($trait:ident, $keeps:literal: |$it:ident| $read:expr
+        => $events:expr, $run:expr, $slice:expr, $asked:expr;)*) => {$({
         fn read<P: $trait + ?Sized>($it: &mut P) {
             let _ = $read;
         }
-        let calls: Vec<&str> = $told.split(" / ").collect();
-        for stop in 0..=calls.len() {
-            let new = || Records { stop, keeps: $keeps, ..Records::default() };
+        for stop in 0..=$events.lines().count() {
+            let when = if $asked.1 { Stop::AfterOthers(stop) } else { Stop::Never };
+            let events = if $asked.1 { up_to(stop, $events) } else { $events.to_owned() };
+            let new = || EventLines::<$keeps>::new(when);
             let (mut performer, mut behind) = (new(), new());
             read(&mut performer);
             let object: &mut dyn $trait = &mut behind;
             read(object);
-            for records in [performer, behind] {
+            for lines in [performer, behind] {
                 let place = concat!(stringify!($read), " of ", stringify!($trait));
-                let asked: Vec<_> = records.asked.take().into_iter().collect();
-                assert_eq!(asked.join(" "), $asked, "{place}, stop {stop}");
-                let count = if $asked == "terminated" { stop } else { calls.len() };
-                let told = calls[..count].join(" / ");
-                assert_eq!(records.told.join(" / "), told, "{place}, stop {stop}");
+                assert_eq!(lines.text, events, "{place}, stop {stop}");
+                assert_eq!(lines.asked.get(), $asked, "{place}, stop {stop}");
+                assert_eq!(lines.runs.concat(), $run, "{place}");
+                assert_eq!(lines.slices.concat(), $slice, "{place}");
             }
         }
     })*};
@@ -93,28 +55,53 @@ macro_rules! assert_records {
 
 #[test]
 fn performers_and_objects_are_told_and_asked_the_same() {
-    assert_records! {
-        Perform, false: |it| Parser::new().advance(it, STREAM) => SINGLY, "";
-        PerformText, true: |it| Parser::new().advance(it, STREAM) => SINGLY, "";
-        PerformText, false: |it| Parser::new().advance_text(it, STREAM) => IN_RUNS, "keeps_layout";
+    assert_tells! {
+        Perform, false: |it| Parser::new().advance(it, STREAM) => EVENTS, "", b"", (false, false);
+        PerformText, true: |it| Parser::new().advance(it, STREAM)
+            => EVENTS, "", b"", (false, false);
+        PerformText, false: |it| Parser::new().advance_text(it, STREAM)
+            => EVENTS, "ab", b"~~\x07", (true, false);
         PerformText, true: |it| BoundedParser::<9>::default().advance_text(it, STREAM)
-            => WITH_LAYOUT, "keeps_layout";
+            => EVENTS, "ab\r\n", b"~~\x07", (true, false);
         Perform, false: |it| Parser::new().advance_until_terminated(it, STREAM)
-            => SINGLY, "terminated";
+            => EVENTS, "", b"", (false, true);
         PerformText, true: |it| BoundedParser::<9>::default().advance_until_terminated(it, STREAM)
-            => SINGLY, "terminated";
-        Perform, false: |it| Parser::new().advance_to_run(it, NO_RUN) => UP_TO_RUN, "terminated";
+            => EVENTS, "", b"", (false, true);
+        Perform, false: |it| Parser::new().advance_to_run(it, NO_RUN)
+            => UP_TO_RUN, "", b"", (false, true);
         PerformText, true: |it| BoundedParser::<9>::default().advance_to_run(it, NO_RUN)
-            => UP_TO_RUN, "terminated";
+            => UP_TO_RUN, "", b"", (false, true);
     }
     #[cfg(any(feature = "std", feature = "ansi"))]
-    assert_records! {
-        Perform, false: |it| vte::LongParser::new().advance(it, STREAM) => SINGLY, "";
+    assert_tells! {
+        Perform, false: |it| vte::LongParser::new().advance(it, STREAM)
+            => EVENTS, "", b"", (false, false);
         PerformText, true: |it| vte::LongParser::new().advance_text(it, STREAM)
-            => WITH_LAYOUT, "keeps_layout";
+            => EVENTS, "ab\r\n", b"~~\x07", (true, false);
         Perform, false: |it| vte::LongParser::new().advance_until_terminated(it, STREAM)
-            => SINGLY, "terminated";
+            => EVENTS, "", b"", (false, true);
         Perform, false: |it| vte::LongParser::new().advance_to_run(it, NO_RUN)
-            => UP_TO_RUN, "terminated";
+            => UP_TO_RUN, "", b"", (false, true);
+    }
+}
+
+/// A stop between runs comes after the byte at which it comes without runs.
+#[cfg(all(feature = "std", feature = "__own"))]
+#[test]
+fn stops_between_runs_are_those_without_runs() {
+    use vte::{LongParser, Own};
+    for stop in 0..=EVENTS.lines().count() {
+        let new = || EventLines::<false>::new(Stop::AfterOthers(stop));
+        let (mut singly, mut bounded, mut long) = (new(), new(), new());
+        let read = Parser::new().advance_until_terminated(&mut singly, STREAM);
+        let reads = [
+            Ok(BoundedParser::new().advance_text_until_terminated(&mut bounded, STREAM)),
+            LongParser::new().advance_text_until_terminated(&mut long, STREAM),
+        ];
+        assert_eq!(reads, [Ok(read); 2], "stop {stop}");
+        for lines in [bounded, long] {
+            assert_eq!(lines.text, singly.text, "stop {stop}");
+            assert_eq!(lines.runs.is_empty(), stop == 0);
+        }
     }
 }

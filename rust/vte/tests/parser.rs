@@ -1,40 +1,9 @@
 //! What the adapter adds to the proved parser: defaults, copies, and operating system commands
 //! without a limit.
-use vte::{BoundedParser, Params, Parser, Perform};
+use vte::{BoundedParser, Parser, Perform};
 
-/// Collects what is dispatched.
-#[derive(Default)]
-struct Collected {
-    text: String,
-    pieces: Vec<Vec<u8>>,
-}
-
-impl Perform for Collected {
-    fn print(&mut self, c: char) {
-        self.text.push(c);
-    }
-
-    fn osc_dispatch(&mut self, params: &[&[u8]], _bell_terminated: bool) {
-        self.pieces = params.iter().map(|piece| piece.to_vec()).collect();
-    }
-
-    fn csi_dispatch(
-        &mut self,
-        params: &Params,
-        _intermediates: &[u8],
-        _ignore: bool,
-        action: char,
-    ) {
-        let numbers: Vec<String> = params.iter().map(|group| format!("{group:?}")).collect();
-        self.text
-            .push_str(&format!("<{}{action}>", numbers.concat()));
-    }
-}
-
-/// A command of so many bytes.
-fn command(count: usize) -> Vec<u8> {
-    [b"\x1b]".as_slice(), &vec![b'a'; count], b"\x07"].concat()
-}
+use crate::vectors::event_lines::EventLines;
+use crate::vectors::events_of;
 
 #[test]
 fn the_default_parser_is_of_1024_bytes() {
@@ -52,22 +21,21 @@ fn parsers_can_be_constants() {
     const NEW: Parser = Parser::new();
     static BOUNDED: Mutex<BoundedParser<5>> = Mutex::new(BoundedParser::new_with_size());
     static USUAL: Mutex<BoundedParser> = Mutex::new(BoundedParser::new());
-    let mut collected = Collected::default();
-    NEW.clone().advance(&mut collected, b"a\x1b]0;title\x07");
-    assert_eq!(collected.pieces, [&b"0"[..], b"title"]);
+    let mut lines = <EventLines>::default();
+    NEW.clone().advance(&mut lines, b"\x1b]0;title\x07");
     BOUNDED
         .lock()
         .unwrap()
-        .advance(&mut collected, b"b\x1b]0;title");
-    BOUNDED.lock().unwrap().advance(&mut collected, b"\x07");
-    assert_eq!(collected.pieces, [&b"0"[..], b"titl"]);
-    USUAL.lock().unwrap().advance(&mut collected, b"c");
-    assert_eq!(collected.text, "abc");
+        .advance(&mut lines, b"b\x1b]0;title");
+    BOUNDED.lock().unwrap().advance(&mut lines, b"\x07");
+    USUAL.lock().unwrap().advance(&mut lines, b"c");
+    let wanted = "osc true 2 30 7469746c65\nprint 0062\nosc true 2 30 7469746c\nprint 0063\n";
+    assert_eq!(lines.text, wanted);
     #[cfg(any(feature = "std", feature = "ansi"))]
     {
         const LONG: vte::LongParser = vte::LongParser::new();
-        assert_eq!(LONG.clone().advance(&mut collected, b"d"), Ok(()));
-        assert_eq!(collected.text, "abcd");
+        assert_eq!(LONG.clone().advance(&mut lines, b"d"), Ok(()));
+        assert_eq!(lines.text, format!("{wanted}print 0064\n"));
     }
 }
 
@@ -90,20 +58,8 @@ fn a_perform_of_no_methods_does_nothing() {
     struct Nothing;
     impl Perform for Nothing {}
     let stream = b"a\x07\x1b[m\x1b]0;t\x07\x1bP+q\x1b\\\x1b(B\xff";
-    assert_eq!(
-        Parser::new().advance_until_terminated(&mut Nothing, stream),
-        stream.len()
-    );
-}
-
-#[test]
-fn a_bounded_parser_has_the_limit_of_its_parameter() {
-    for (count, kept) in [(0, 0), (5, 5), (6, 5), (2000, 5)] {
-        let (mut collected, mut parser) = (Collected::default(), BoundedParser::<5>::default());
-        parser.advance(&mut collected, &command(count));
-        assert_eq!(collected.pieces, [vec![b'a'; kept]]);
-        assert_eq!(parser.command_lost_data(), count > kept);
-    }
+    let read = Parser::new().advance_until_terminated(&mut Nothing, stream);
+    assert_eq!(read, stream.len());
 }
 
 /// Asserts that copies of this parser go on from where it was, whatever it reads meanwhile.
@@ -111,13 +67,12 @@ macro_rules! assert_copies_read_on {
     ($new:expr) => {
         let stream = "é\x1b[1:2;3mü\x1b]0;ab;c\x07\x1bP1$qm\x1b\\x".as_bytes();
         for at in 0..=stream.len() {
-            let (mut parser, mut collected) = ($new, Collected::default());
-            let _ = parser.advance(&mut collected, &stream[..at]);
-            let (mut copy, mut other) = (parser.clone(), Collected::default());
-            let _ = parser.advance(&mut other, b"\x18\x1b]9;y");
-            let _ = copy.advance(&mut collected, &stream[at..]);
-            assert_eq!(collected.text, "é<[1, 2][3]m>üx", "copied at {at}");
-            assert_eq!(collected.pieces, [&b"0"[..], b"ab", b"c"]);
+            let (mut parser, mut lines) = ($new, <EventLines>::default());
+            let _ = parser.advance(&mut lines, &stream[..at]);
+            let mut copy = parser.clone();
+            let _ = parser.advance(&mut <EventLines>::default(), b"\x18\x1b]9;y");
+            let _ = copy.advance(&mut lines, &stream[at..]);
+            assert_eq!(lines.text, events_of(&[stream]).text, "copied at {at}");
         }
     };
 }
@@ -130,34 +85,40 @@ fn copies_read_on() {
     assert_copies_read_on!(vte::LongParser::new());
 }
 
-/// Commands, and whether they lost data.
-fn commands() -> Vec<(String, bool)> {
-    let pieces = "a;".repeat(15);
-    vec![
-        (format!("{pieces}b"), false),
-        (format!("{pieces}b;;;"), false),
-        (format!("{pieces}b;c"), true),
-        (format!("{pieces}b;;c"), true),
-        ("a".repeat(1024), false),
-        (format!("{};;", "a".repeat(1024)), false),
-        ("a".repeat(1025), cfg!(not(feature = "std"))),
-    ]
+/// Asserts that a parser knows whether the command that is open, or ended last, lost data: by more
+/// than 16 pieces, or if it has this limit by more data bytes.
+macro_rules! assert_knows_what_is_lost {
+    ($new:expr, $limit:expr, $is_limited:expr) => {
+        let (pieces, bytes) = (";".repeat(15), "a".repeat($limit));
+        for (command, is_lost) in [
+            (format!("{pieces}b"), false),
+            (format!("{pieces}b;;;"), false),
+            (format!("{pieces}b;c"), true),
+            (format!("{pieces}b;;c"), true),
+            (bytes.clone(), false),
+            (format!("{bytes};;"), false),
+            (format!("{bytes}a"), $is_limited),
+        ] {
+            for end in ["", "\x07", "\x1b", "\x18"] {
+                let mut parser = $new;
+                for byte in format!("\x1b]{command}{end}").bytes() {
+                    let _ = parser.advance(&mut <EventLines>::default(), &[byte]);
+                }
+                assert_eq!(parser.command_lost_data(), is_lost, "{command} {end:?}");
+                // the next command has lost nothing
+                let _ = parser.advance(&mut <EventLines>::default(), b"\x1b\\\x1b]0;t\x07");
+                assert!(!parser.command_lost_data());
+            }
+        }
+    };
 }
 
 #[test]
 fn a_parser_knows_of_a_command_that_lost_data() {
-    for (command, lost) in commands() {
-        for end in ["", "\x07", "\x1b", "\x18"] {
-            let mut parser = Parser::new();
-            for byte in format!("\x1b]{command}{end}").bytes() {
-                parser.advance(&mut Collected::default(), &[byte]);
-            }
-            assert_eq!(parser.command_lost_data(), lost, "{command} {end:?}");
-            // the next command has lost nothing
-            parser.advance(&mut Collected::default(), b"\x1b\\\x1b]0;title\x07");
-            assert!(!parser.command_lost_data());
-        }
-    }
+    assert_knows_what_is_lost!(Parser::new(), 1024, cfg!(not(feature = "std")));
+    assert_knows_what_is_lost!(BoundedParser::<5>::default(), 5, true);
+    #[cfg(any(feature = "std", feature = "ansi"))]
+    assert_knows_what_is_lost!(vte::LongParser::new(), 1024, false);
 }
 
 #[cfg(feature = "std")]
@@ -165,13 +126,10 @@ fn a_parser_knows_of_a_command_that_lost_data() {
 fn what_a_parser_knows_of_a_command_that_has_ended_outlives_its_memory() {
     let command = format!("\x1b]{}b", ";".repeat(16));
     let mut parser = Parser::new();
-    parser.advance(&mut Collected::default(), command.as_bytes());
-    parser.shrink();
-    assert!(parser.command_lost_data());
-    parser.advance(&mut Collected::default(), b"\x07");
-    assert!(parser.command_lost_data());
-    parser.shrink();
-    assert!(parser.command_lost_data());
-    parser.advance(&mut Collected::default(), b"\x1b]0;title");
-    assert!(!parser.command_lost_data());
+    for (bytes, is_lost) in [(&*command, true), ("\x07", true), ("\x1b]0;title", false)] {
+        parser.advance(&mut <EventLines>::default(), bytes.as_bytes());
+        assert_eq!(parser.command_lost_data(), is_lost);
+        parser.shrink();
+        assert_eq!(parser.command_lost_data(), is_lost);
+    }
 }

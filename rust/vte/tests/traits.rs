@@ -1,125 +1,125 @@
 //! Traits of public types that no `impl` names, so that a field could take them away, the error as
 //! one of `std`, and panics.
-#[cfg(feature = "ansi")]
-mod support;
-#[path = "support/tell.rs"]
-mod tell;
 
+use std::fmt::Debug;
 use std::panic::{AssertUnwindSafe, RefUnwindSafe, UnwindSafe};
 
-use tell::{perform_by_tell, Tell};
-use vte::{BoundedParser, Params, ParamsIter, Parser};
-
-/// Compiles if the type has all of these.
-fn is_shared<T: Send + Sync + Unpin + RefUnwindSafe + UnwindSafe>() {}
-
-#[test]
-fn parsers_can_be_sent_and_shared() {
-    is_shared::<(Parser, BoundedParser)>();
-    is_shared::<Params>();
-    is_shared::<ParamsIter<'_>>();
-    #[cfg(any(feature = "std", feature = "ansi"))]
-    is_shared::<(vte::LongParser, vte::Refused)>();
-}
+#[cfg(feature = "ansi")]
+use vte::ansi::{
+    lent::{self, LongProcessor},
+    Processor,
+};
+use vte::{BoundedParser, Params, ParamsIter, Parser, Perform};
 
 #[cfg(feature = "ansi")]
-#[test]
-fn processors_and_what_they_pass_can_be_sent_and_shared() {
-    use support::Pending;
-    use vte::ansi::lent::{Hyperlink, LongProcessor};
-    use vte::ansi::{self, Processor};
-    is_shared::<(Processor<Pending>, LongProcessor<Pending>)>();
-    is_shared::<(Hyperlink<'_>, ansi::Hyperlink)>();
-    is_shared::<(ansi::Attr, ansi::Mode, ansi::PrivateMode, ansi::CursorStyle)>();
-    #[cfg(feature = "std")]
-    is_shared::<(Processor, ansi::StdSyncHandler)>();
-}
+use crate::support::Pending;
 
-/// Compiles if values of the type can be copied and shown.
-fn is_kept<T: Clone + std::fmt::Debug>() {}
+/// Compiles if the types can be sent to other threads, and shared.
+fn are_shared<T: Send + Sync + Unpin + RefUnwindSafe + UnwindSafe>() {}
+
+/// Compiles if values of the types can be copied and shown.
+fn are_kept<T: Clone + Debug>() {}
 
 #[test]
-fn what_a_program_keeps_can_be_copied_and_shown() {
+fn public_types_have_traits_that_no_impl_names() {
     fn ends<T: std::iter::FusedIterator>() {}
-    is_kept::<Params>();
-    is_kept::<ParamsIter<'_>>();
     ends::<ParamsIter<'_>>();
-    is_kept::<Parser>();
+    are_shared::<(Parser, BoundedParser, Params, ParamsIter<'_>)>();
+    are_kept::<(Parser, BoundedParser, Params, ParamsIter<'_>)>();
+    #[cfg(any(feature = "std", feature = "ansi"))]
+    are_shared::<(vte::LongParser, vte::Refused)>();
     #[cfg(feature = "ansi")]
     {
-        use vte::ansi::{self, lent};
-        is_kept::<ansi::Attr>();
-        is_kept::<ansi::Hyperlink>();
-        is_kept::<lent::Hyperlink<'_>>();
-        is_kept::<ansi::Processor<support::Pending>>();
-        is_kept::<lent::LongProcessor<support::Pending>>();
+        use vte::ansi::{Attr, CursorStyle, Hyperlink, Mode, PrivateMode};
+        are_shared::<(Processor<Pending>, LongProcessor<Pending>)>();
+        are_kept::<(Processor<Pending>, LongProcessor<Pending>)>();
+        are_shared::<(Hyperlink, lent::Hyperlink<'_>, Attr)>();
+        are_kept::<(Hyperlink, lent::Hyperlink<'_>, Attr)>();
+        are_shared::<(Mode, PrivateMode, CursorStyle)>();
         #[cfg(feature = "std")]
-        is_kept::<ansi::StdSyncHandler>();
+        {
+            are_shared::<(Processor, vte::ansi::StdSyncHandler)>();
+            are_kept::<vte::ansi::StdSyncHandler>();
+        }
     }
+}
+
+struct Nothing;
+
+impl Perform for Nothing {}
+
+#[cfg(feature = "ansi")]
+impl vte::ansi::Handler for Nothing {}
+
+/// Asserts how a parser or processor is shown that has read something.
+macro_rules! assert_shown {
+    ($new:expr, $shown:literal) => {
+        let mut shown = $new;
+        let _ = shown.advance(&mut Nothing, b"\x1b[?2026h\x1b]0;text");
+        assert_eq!(format!("{shown:?}"), $shown);
+    };
 }
 
 /// A name and what callers can query, but not the bytes that are kept.
 #[test]
 fn debug_shows_a_name() {
-    struct Nothing;
-    impl vte::Perform for Nothing {}
-    let mut parser = BoundedParser::new();
-    parser.advance(&mut Nothing, b"\x1b]0;some title");
-    assert_eq!(format!("{parser:?}"), "BoundedParser { .. }");
+    assert_shown!(BoundedParser::new(), "BoundedParser { .. }");
     #[cfg(feature = "std")]
-    {
-        let mut parser = Parser::new();
-        parser.advance(&mut Nothing, b"\x1b]0;some title");
-        assert_eq!(format!("{parser:?}"), "Parser { .. }");
-    }
+    assert_shown!(Parser::new(), "Parser { .. }");
     #[cfg(any(feature = "std", feature = "ansi"))]
     {
-        let mut parser = vte::LongParser::default();
-        assert!(parser.advance(&mut Nothing, b"\x1b]0;some title").is_ok());
-        assert_eq!(format!("{parser:?}"), "LongParser { .. }");
+        assert_shown!(vte::LongParser::default(), "LongParser { .. }");
         let refused = vte::Refused { read: 3 };
         assert_eq!(format!("{refused:?}"), "Refused { read: 3 }");
     }
-}
-
-#[cfg(feature = "ansi")]
-#[test]
-fn debug_of_processors_says_how_much_they_hold() {
-    use support::Pending;
-    use vte::ansi::lent::LongProcessor;
-    use vte::ansi::Processor;
-    struct Nothing;
-    impl vte::ansi::Handler for Nothing {}
-    let stream = b"\x1b[?2026hsome text";
-    let mut processor = Processor::<Pending>::new();
-    processor.advance(&mut Nothing, stream);
-    assert_eq!(
-        format!("{processor:?}"),
-        "Processor { sync_bytes_count: 9, .. }"
-    );
-    let mut processor = LongProcessor::new(Pending::default()).ok().unwrap();
-    assert!(processor.advance(&mut Nothing, stream).is_ok());
-    assert_eq!(
-        format!("{processor:?}"),
-        "LongProcessor { sync_bytes_count: 9, .. }"
-    );
+    #[cfg(feature = "ansi")]
+    {
+        let (processor, long) = (
+            Processor::<Pending>::new(),
+            LongProcessor::new(Pending(false)),
+        );
+        assert_shown!(processor, "Processor { sync_bytes_count: 8, .. }");
+        assert_shown!(
+            long.ok().unwrap(),
+            "LongProcessor { sync_bytes_count: 8, .. }"
+        );
+    }
 }
 
 /// Panics at the last of so many events.
 struct Panics(usize);
 
-impl Tell for Panics {
-    fn tell(&mut self, _: String) {
+impl Panics {
+    fn count(&mut self) {
         self.0 = self.0.checked_sub(1).expect("no panic before");
         assert!(self.0 > 0, "a panic");
     }
 }
 
-perform_by_tell!(Panics);
+macro_rules! panics {
+    ($($method:ident($($kind:ty),*);)*) => {
+        impl Perform for Panics {
+            $(fn $method(&mut self $(, _: $kind)*) {
+                self.count();
+            })*
+        }
+    };
+}
+
+panics! {
+    print(char);
+    execute(u8);
+    hook(&Params, &[u8], bool, char);
+    put(u8);
+    unhook();
+    osc_dispatch(&[&[u8]], bool);
+    csi_dispatch(&Params, &[u8], bool, char);
+    esc_dispatch(&[u8], bool, u8);
+}
 
 impl vte::PerformText for Panics {
     fn print_text(&mut self, text: &str) {
-        text.chars().for_each(|c| self.tell_character(c));
+        text.chars().for_each(|_| self.count());
     }
 }
 

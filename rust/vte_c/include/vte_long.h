@@ -46,7 +46,7 @@ vte_long_parser *vte_long_parser_new(void);
 void vte_long_parser_free(vte_long_parser *parser);
 
 /* Reads bytes as vte_feed does, but 64 KiB at most. Returns how many were read, VTE_NO_ROOM if
- * there is room for fewer than VTE_LEAST_EVENTS events, or VTE_REFUSED, also for a command of 4
+ * there is room for fewer than VTE_MIN_EVENTS events, or VTE_REFUSED, also for a command of 4
  * GiB.
  *
  * Of the data area it says where it is: it is valid until the next call with the parser. If only

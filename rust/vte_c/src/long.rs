@@ -8,7 +8,7 @@
 
 use crate::border::{slice, slice_mut};
 use crate::memory;
-use crate::proved::vte_c::{event, Events, VteCounts, VteEvent, LEAST_EVENTS, NO_ROOM};
+use crate::proved::vte_c::{event, Events, VteCounts, VteEvent, MIN_EVENTS, NO_ROOM};
 use alloc::boxed::Box;
 use alloc::vec::Vec;
 use vte::{skip_to_command, LongParser, Own as _, Refused};
@@ -134,7 +134,7 @@ pub unsafe extern "C" fn vte_long_feed(
         bytes: 0,
     };
     *data = area.as_ptr();
-    if events.len() < LEAST_EVENTS {
+    if events.len() < MIN_EVENTS {
         return NO_ROOM;
     }
     let size = parser.stored() + DATA_PER_BYTE * bytes.len() + DATA_BEFORE;

@@ -15,6 +15,10 @@ mod vectors;
 
 use vectors::{vectors, Value};
 
+/// The arguments with which it reads, and those with which it writes.
+const WAYS: [&[&str]; 2] = [&[], &["text"]];
+const WRITING: [&[&str]; 5] = [&[], &["text"], &["-h"], &["--help"], &["--version"]];
+
 const HINT: &str = "it reads standard input, as in vtlog text <FILE; see vtlog --help";
 
 /// The program that is tested instead of the one that cargo builds.
@@ -64,19 +68,17 @@ fn vectors_give_their_lines() {
     for vector in vectors() {
         let (kind, limit) = (vector.text("kind"), vector.number("limit"));
         let (arguments, wanted): (&[&str], _) = match (kind, limit) {
-            ("events", Some(1024)) => (&[], vector.events().into_bytes()),
+            ("events", Some(1024)) => (&[], vector.lines("events").into_bytes()),
             ("text", _) => (&["text"], vector.get("text").map_or(vec![], Value::bytes)),
             _ => continue,
         };
-        let (output, name) = (
-            run(arguments, &vector.pieces().concat()),
-            vector.text("name"),
-        );
-        assert!(output.stdout == wanted, "{name}");
+        let output = run(arguments, &vector.pieces().concat());
+        let name = vector.text("name");
         assert!(
             output.status.success() && output.stderr.is_empty(),
             "{name}"
         );
+        assert!(output.stdout == wanted, "{name}");
         count += 1;
     }
     assert!(count > 190, "{count} vectors");
@@ -157,19 +159,14 @@ fn left_terminal(written: &[u8]) -> File {
     extern "C" {
         fn unlockpt(file: i32) -> i32;
     }
-    let terminal = File::options()
-        .read(true)
-        .write(true)
-        .open("/dev/ptmx")
-        .unwrap();
+    let mut options = File::options();
+    let terminal = options.read(true).write(true).open("/dev/ptmx").unwrap();
     let file = std::os::unix::io::AsRawFd::as_raw_fd(&terminal);
     assert_eq!(unsafe { unlockpt(file) }, 0);
     let told = std::fs::read_to_string(format!("/proc/self/fdinfo/{file}")).unwrap();
-    let number = told
-        .lines()
-        .find_map(|line| line.strip_prefix("tty-index:"))
-        .unwrap();
-    let place = format!("/dev/pts/{}", number.trim());
+    let mut lines = told.lines();
+    let number = lines.find_map(|line| line.strip_prefix("tty-index:"));
+    let place = format!("/dev/pts/{}", number.unwrap().trim());
     let mut program = File::options().write(true).open(place).unwrap();
     program.write_all(written).unwrap();
     terminal
@@ -179,38 +176,30 @@ fn left_terminal(written: &[u8]) -> File {
 #[cfg(target_os = "linux")]
 #[test]
 fn standard_input_may_fail() {
-    for arguments in [&[][..], &["text"]] {
-        let (memory, name) = memory();
-        for (input, bytes, why) in [
-            (
-                File::open("/").unwrap(),
-                vec![],
-                "Is a directory (os error 21)",
-            ),
-            (memory, name, "Input/output error (os error 5)"),
-            (
-                left_terminal(b"a\x1b[1"),
-                vec![b'a'],
-                "Input/output error (os error 5)",
-            ),
-        ] {
-            let written: String = match arguments {
-                [] => bytes
-                    .iter()
-                    .map(|byte| match byte {
-                        0 => "execute 00\n".to_owned(),
-                        _ => format!("print {byte:04x}\n"),
-                    })
-                    .collect(),
-                _ => bytes
-                    .iter()
-                    .filter(|byte| **byte != 0)
-                    .map(|byte| char::from(*byte))
-                    .collect(),
-            };
-            let mut command = vtlog(arguments);
-            let output = command.stdin(input).output().unwrap();
-            assert_ends(&output, 1, &written, &failure("read", "input", why));
+    type Input = fn() -> (File, Vec<u8>);
+    let inputs: [(Input, &str); 3] = [
+        (
+            || (File::open("/").unwrap(), vec![]),
+            "Is a directory (os error 21)",
+        ),
+        (memory, "Input/output error (os error 5)"),
+        (
+            || (left_terminal(b"a\x1b[1"), vec![b'a']),
+            "Input/output error (os error 5)",
+        ),
+    ];
+    for (input, why) in inputs {
+        for arguments in WAYS {
+            let (file, bytes) = input();
+            let lines = bytes.iter().map(|byte| match (byte, arguments) {
+                (0, []) => "execute 00\n".to_owned(),
+                (_, []) => format!("print {byte:04x}\n"),
+                (0, _) => String::new(),
+                _ => char::from(*byte).to_string(),
+            });
+            let output = vtlog(arguments).stdin(file).output().unwrap();
+            let message = failure("read", "input", why);
+            assert_ends(&output, 1, &lines.collect::<String>(), &message);
         }
     }
 }
@@ -220,17 +209,23 @@ fn standard_input_may_fail() {
 fn a_file_may_end_in_the_middle() {
     let place = std::env::temp_dir().join(format!("vtlog-{}", std::process::id()));
     for end in [
-        &b"\xe4\xb8"[..],
-        b"\x1b",
-        b"\x1b[1",
-        b"\x1b]0;b",
-        b"\x1bX",
-        b"\x1b[\xc3",
+        "\u{4e00}",
+        "\x1b",
+        "\x1b[1",
+        "\x1b]0;b",
+        "\x1bX",
+        "\x1b[\u{e9}",
     ] {
-        for (arguments, written) in [(&[][..], "print 0061\n"), (&["text"], "a")] {
+        for (arguments, written) in WAYS.into_iter().zip(["print 0061\n", "a"]) {
+            // without the last byte of a character
+            let end = if end.is_ascii() {
+                end.as_bytes()
+            } else {
+                &end.as_bytes()[..end.len() - 1]
+            };
             std::fs::write(&place, [b"a", end].concat()).unwrap();
-            let mut command = vtlog(arguments);
-            let output = command.stdin(File::open(&place).unwrap()).output().unwrap();
+            let file = File::open(&place).unwrap();
+            let output = vtlog(arguments).stdin(file).output().unwrap();
             assert_ends(&output, 0, written, "");
         }
     }
@@ -259,21 +254,12 @@ fn standard_streams_may_be_closed() {
     }
 }
 
-#[test]
-fn a_broken_pipe_is_silent() {
-    let mut child = vtlog(&[]).spawn().unwrap();
-    drop(child.stdout.take());
-    // Another test's process may have the pipe for a moment, so the lines are more than it holds.
-    let _ = child.stdin.take().unwrap().write_all(&[b'a'; 1_000_000]);
-    assert_ends(&child.wait_with_output().unwrap(), 141, "", "");
-}
-
 /// The other end of a socket is closed for whoever has it, so that one write is enough.
 #[cfg(unix)]
 #[test]
 fn a_closed_output_is_silent_whatever_is_written() {
     use std::os::unix::{io::OwnedFd, net::UnixStream};
-    for arguments in [&[][..], &["text"], &["-h"], &["--help"], &["--version"]] {
+    for arguments in WRITING {
         let (output, _other) = UnixStream::pair().unwrap();
         output.shutdown(std::net::Shutdown::Both).unwrap();
         let mut command = vtlog(arguments);
@@ -285,27 +271,16 @@ fn a_closed_output_is_silent_whatever_is_written() {
 /// A log that grows can be followed: what has no line end is written as well.
 #[test]
 fn what_a_piece_gives_is_written_before_the_next_is_read() {
-    type Pieces<'a> = (&'a [&'a str], &'a [&'a [u8]], &'a [&'a str]);
-    let pieces: [Pieces<'_>; 2] = [
-        (
-            &["text"],
-            &[b"a\x1b[1", b"mb", b"\r\n\tc"],
-            &["a", "b", "\r\n\tc"],
-        ),
-        (
-            &[],
-            &[b"a", b"\x1b[m"],
-            &["print 0061\n", "csi [0] - false 6d\n"],
-        ),
-    ];
-    for (arguments, inputs, outputs) in pieces {
+    let of_text = [("a\x1b[1", "a"), ("mb", "b"), ("\r\n\tc", "\r\n\tc")];
+    let of_lines = [("a", "print 0061\n"), ("\x1b[m", "csi [0] - false 6d\n")];
+    for (arguments, pieces) in WAYS.into_iter().zip([&of_lines[..], &of_text]) {
         let mut child = vtlog(arguments).spawn().unwrap();
         let (mut stdin, stdout) = (child.stdin.take().unwrap(), child.stdout.take().unwrap());
         let (sender, written) = std::sync::mpsc::channel();
         let mut bytes = BufReader::new(stdout).bytes();
         std::thread::spawn(move || bytes.try_for_each(|byte| sender.send(byte)));
-        for (input, output) in inputs.iter().zip(outputs) {
-            stdin.write_all(input).unwrap();
+        for (input, output) in pieces {
+            stdin.write_all(input.as_bytes()).unwrap();
             let next = || written.recv_timeout(Duration::from_secs(1200)).ok()?.ok();
             let bytes: Vec<u8> = output.bytes().map_while(|_| next()).collect();
             assert_eq!(String::from_utf8_lossy(&bytes), *output);
@@ -324,18 +299,14 @@ fn full() -> File {
 #[cfg(target_os = "linux")]
 #[test]
 fn a_full_device_fails() {
-    for arguments in [&[][..], &["text"], &["--help"], &["--version"]] {
+    for arguments in WRITING {
         let output = finish(vtlog(arguments).stdout(full()), b"a");
         let why = "No space left on device (os error 28)";
         assert_ends(&output, 1, "", &failure("write", "output", why));
+        // the status needs no message
+        let output = finish(vtlog(arguments).stdout(full()).stderr(full()), b"a");
+        assert_ends(&output, 1, "", "");
     }
-}
-
-#[cfg(target_os = "linux")]
-#[test]
-fn the_status_needs_no_message() {
     let refused = finish(vtlog(&["Text"]).stderr(full()), b"a");
     assert_ends(&refused, 2, "", "");
-    let failed = finish(vtlog(&[]).stdout(full()).stderr(full()), b"a");
-    assert_ends(&failed, 1, "", "");
 }

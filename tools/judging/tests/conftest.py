@@ -1,6 +1,8 @@
+import sys
+
 import pytest
 from judging.reference import NoReference, find_vtlog
-from support import TOOLS, run_python
+from support import TOOLS, run
 from tests.missing import miss
 
 
@@ -15,9 +17,8 @@ def vtlog():
 @pytest.fixture(scope="session")
 def judge(vtlog):
     """Runs tools/judge, whose status must be the wanted one. Returns its output."""
-    def judged(wanted, *words, **how):
-        given = [] if "env" in how else ["--vtlog", vtlog]
-        status, output = run_python(TOOLS / "judge", *given, *words, **how)
+    def judged(wanted, *words):
+        status, output = run(sys.executable, "-B", TOOLS / "judge", "--vtlog", vtlog, *words)
         assert status == wanted, output
         return output
     return judged

@@ -1,7 +1,6 @@
 """What the tests of the judge and of the vectors share."""
 import json
 import subprocess
-import sys
 from pathlib import Path
 from types import SimpleNamespace
 
@@ -22,10 +21,6 @@ def run(*words, **how):
     done = subprocess.run(list(map(str, words)), stdout=subprocess.PIPE, stderr=subprocess.STDOUT,
                           text=True, **how)
     return done.returncode, done.stdout
-
-
-def run_python(*words, **how):
-    return run(sys.executable, "-B", *words, **how)
 
 
 def program_in(folder, line):

@@ -1,5 +1,4 @@
 """Tests of the judge on functions of this process: which classes it finds."""
-import random
 import re
 
 import pytest
@@ -33,20 +32,25 @@ def names(result):
     return {name.partition("/")[0] for name in result.findings}
 
 
+def breaks(*rules):
+    """A parser that breaks rules of its house."""
+    own = house.house_of(rules)
+    return lambda pieces, _: definition.lines_of(b"".join(pieces), own)
+
+
 # of a parser that breaks a house rule, the rules that are named
 @pytest.mark.parametrize("breach, rules", [
     ("malformed=bytes", "malformed unfinished"), ("malformed=drop", "malformed unfinished"),
     ("c1-bytes=replace", "c1-byte"), ("c1-bytes=drop", "c1-byte"),
-    ("c1-characters=print", "c1-character"), ("delete=drop", "delete"),
-    ("bell=drop", "command-bell"), ("command-9c=ends", "byte-9c"), ("device-9c=drop", "byte-9c"),
+    ("c1-characters=print", "c1-character"), ("bell=drop", "command-bell"),
+    ("command-9c=ends", "byte-9c"), ("device-9c=drop", "byte-9c"),
     ("terminator=silent", "terminator"), ("escaped-commands=drop", "command-cut-short"),
     ("cancelled-commands=drop", "command-cut-short"), ("empty-commands=drop", "empty-command"),
-    ("colon=separates", "colon"), ("colon=refuses", "colon"), ("limit=100", "limit"),
-    ("pieces=4", "pieces"), ("pieces=17", "pieces"), ("numbers=16", "numbers"),
-    ("numbers=33", "numbers"), ("largest=9999", "largest"), ("largest=none", "largest")])
+    *((breach, breach.partition("=")[0]) for breach in (
+        "delete=drop", "colon=separates", "colon=refuses", "limit=100", "pieces=4", "pieces=17",
+        "numbers=16", "numbers=33", "largest=9999", "largest=none"))])
 def test_a_breach_of_a_house_rule_has_its_rule(breach, rules):
-    own = house.house_of([breach])
-    result = judged(lambda pieces, _: definition.lines_of(b"".join(pieces), own))
+    result = judged(breaks(breach))
     assert names(result) == set(rules.split())
     assert len(result.findings) == len(rules.split()), "a rule has one class"
     assert (result.unexplained, result.status()) == (0, 1)
@@ -88,24 +92,20 @@ def test_what_is_counted(faults, streams, found):
 
 @pytest.mark.parametrize("most, is_smallest", [(2000, True), (2, False)])
 def test_what_is_not_shrunk_to_the_end(monkeypatch, most, is_smallest):
-    monkeypatch.setattr(judgement, "MOST_CASES", most)
+    monkeypatch.setattr(judgement, "MAX_CASES", most)
     result = judge_of(lambda *_: []).run([cases.Case("", [b"abc\x1b[m"])])
     assert [it.is_smallest for it in result.findings.values()] == [is_smallest]
 
 
-# each class, and what binds a parser there
-@pytest.mark.parametrize("name, level", [
-    ("text/missing", "must"), ("malformed/character", "must"), ("malformed/replacement", "should"),
-    ("unfinished/replacement", "should"), ("unfinished/leaked", "must"),
-    ("overlong/missing", "must"), ("overlong/replacement", "should"), ("surrogate/data", "must"),
-    ("surrogate/replacement", "should"), ("delete/output", "must"), ("limit/memory", "must"),
-    ("cut:unfinished/replacement", "must"), ("cut:between/other", "must"),
-    ("parameters/numbers", "must"), ("empty-number/numbers", "differs"), ("colon/leaked", "should"),
-    ("ignored-string/leaked", "should"), ("device-end/missing", "should"),
-    ("largest/numbers", "differs"), ("largest/crash", "must"), ("numbers/hang", "must"),
-    ("not-deterministic", "must"), ("kept-state", "must"), ("protocol", "must")])
-def test_levels(name, level):
-    assert classes.level_of(name) == level
+@pytest.mark.parametrize("level, names", [
+    ("must", "text/missing malformed/character unfinished/leaked overlong/missing surrogate/data "
+     "delete/output limit/memory cut:unfinished/replacement cut:between/other parameters/numbers "
+     "largest/crash numbers/hang not-deterministic kept-state protocol"),
+    ("should", "malformed/replacement unfinished/replacement overlong/replacement colon/leaked "
+     "surrogate/replacement ignored-string/leaked device-end/missing"),
+    ("differs", "empty-number/numbers largest/numbers")])
+def test_what_binds_a_parser(level, names):
+    assert {classes.level_of(name) for name in names.split()} == {level}
 
 
 def test_what_a_class_is():
@@ -137,7 +137,8 @@ def test_what_binds_has_a_sentence():
     (b"\x1b]\x07", "osc.*", "unhook", "command-bell/other"),
     (b"\x1b]\x07", "1 -", "1 61", "empty-command/data"),
     (b"\x1b[m", "6d", "6e", "control-sequence/final"),
-    (b"\x1b[m", "0", "1", "empty-number/numbers"),
+    (b"\x1b[m", "0", "1", "empty-number/numbers"), (b"\xe4\xa0", "^$", "print fffd",
+                                                   "unfinished/replacement"),
     (b"\x1b[1;m", "6d", "6e", "parameters/final"), (b"\x1bPq", "71", "72", "device-control/final"),
     (b"\x1b]" + b";" * 20 + b"\x07", "16 ", "15 ", "pieces/pieces"),
     (b"\x1b]" + b"a" * 2000 + b"\x07", "(61){999}", "61", "limit/data"),
@@ -168,20 +169,19 @@ def test_a_freed_case_has_none_of_its_rules(case):
     assert classes.freed(case.pieces, cuts, house.DEFAULT) == [stream]
 
 
-def test_what_is_freed_keeps_its_cuts():
-    for rule, freed in (
-            ("delete", [b"a", b"b", b"", b"c"]), ("text", [b"\x7f", b"", b"\x7f", b""]),
-            ("cut:between", [b"a\x7fb\x7fc"]), ("cut:text", [b"a\x7f", b"b", b"\x7f", b"c"])):
-        assert classes.freed([b"a\x7f", b"b", b"\x7f", b"c"], {rule}, house.DEFAULT) == freed
-    for rule, freed in (("cut:text", [b"\xc3\xa9a"]), ("cut:unfinished", [b"\xc3", b"\xa9a"])):
-        assert classes.freed([b"\xc3", b"\xa9a"], {rule}, house.DEFAULT) == freed
-
-
-@pytest.mark.parametrize("rule, stream", [
-    ("pieces=17", b"\x1b]" + b";" * 16 + b"\x07"), ("numbers=33", b"\x1b[" + b";" * 32 + b"m"),
-    ("limit=1025", b"\x1b]" + b"a" * 1025 + b"\x07")], ids=["pieces", "numbers", "limit"])
-def test_a_house_that_keeps_more_is_freed_of_what_others_drop(rule, stream):
-    assert classes.freed([stream], {rule.partition("=")[0]}, house.house_of([rule])) == [b""]
+# pieces, what they are freed of, by a rule of a house that keeps more than others, and what is left
+@pytest.mark.parametrize("pieces, rule, left", [
+    *(([b"a\x7f", b"b", b"\x7f", b"c"], rule, left) for rule, left in (
+        ("delete", [b"a", b"b", b"", b"c"]), ("text", [b"\x7f", b"", b"\x7f", b""]),
+        ("cut:between", [b"a\x7fb\x7fc"]), ("cut:text", [b"a\x7f", b"b", b"\x7f", b"c"]))),
+    ([b"\xc3", b"\xa9a"], "cut:text", [b"\xc3\xa9a"]),
+    ([b"\xc3", b"\xa9a"], "cut:unfinished", [b"\xc3", b"\xa9a"]),
+    ([b"\x1b]" + b";" * 16 + b"\x07"], "pieces=17", [b""]),
+    ([b"\x1b[" + b";" * 32 + b"m"], "numbers=33", [b""]),
+    ([b"\x1b]" + b"a" * 1025 + b"\x07"], "limit=1025", [b""])])
+def test_what_is_freed(pieces, rule, left):
+    own = house.house_of([rule] * ("=" in rule))
+    assert classes.freed(pieces, {rule.partition("=")[0]}, own) == left
 
 
 @pytest.mark.parametrize("stream, cuts, found", [
@@ -203,27 +203,19 @@ def test_which_answers_are_alike(one, other, is_so):
     assert bool(is_alike(*(Difference([b"a"], [], ["put 01", it]) for it in (one, other)))) == is_so
 
 
-def test_an_open_character_that_is_replaced_at_the_end_is_no_must():
-    stream = Difference([b"\xe4\xa0"], [], ["print fffd"])
-    judge = judge_of(lambda *_: ["print fffd"])
-    assert classes.level_of(judge.named(stream)) == "should"
-
-
 def test_what_depends_on_a_cut():
     result = judged(lambda pieces, _: [
         line for piece in pieces for line in definition.lines_of(piece)], CASES[:120])
     assert names(result) and all(name.startswith("cut:") for name in names(result))
 
-
-def test_what_depends_on_a_cut_between_steps():
     def counted(pieces, _):
         steps = definition.steps_of(b"".join(pieces))
         cuts = classes.steps_at_cuts(steps, shrinking.cuts_of(pieces))
         return [line for step in steps for line in step.lines] + ["unhook"] * (
             None in cuts.values())
     result = judged(counted)
-    assert [*result.findings] == ["cut:between/extra"]
-    assert result.findings["cut:between/extra"].streams == result.different
+    assert {name: it.streams for name, it in result.findings.items()} == {
+        "cut:between/extra": result.different}
 
 
 # alone, and in streams that have another fault
@@ -241,13 +233,6 @@ def test_what_depends_on_other_streams(some, lost, names):
     assert report.shown_case(found["kept-state"].difference) == "0e / 61"
 
 
-def test_what_is_by_chance():
-    chance = random.Random(1)
-    result = judged(lambda pieces, _: definition.lines_of(b"".join(pieces))[chance.random() < 0.3:])
-    assert [*result.findings] == ["not-deterministic"]
-    assert "  then  " in report.shown_finding(result.findings["not-deterministic"], str)
-
-
 # answers to a stream one after another, the last of them again and again
 @pytest.mark.parametrize("answers", [
     [["unhook"], []], [["unhook"], ["print 0062"], ["unhook"]],
@@ -257,7 +242,8 @@ def test_two_answers_are_not_deterministic(answers):
     judge = judge_of(lambda pieces, _: ["print 0061"] if pieces == [b"a"]
                      else next(turns, answers[-1]))
     judge.judge_case([[b"a"], [b"b"]])
-    assert [*judge.result.findings] == ["not-deterministic"]
+    [finding] = judge.result.findings.values()
+    assert finding.name == "not-deterministic" and "  then  " in report.shown_finding(finding, str)
 
 
 def test_a_hang_that_was_only_slow_is_none():
@@ -267,42 +253,42 @@ def test_a_hang_that_was_only_slow_is_none():
     assert (result.streams, result.different, result.status()) == (9, 0, 0)
 
 
-def test_left_out_and_known():
-    own = house.house_of(["delete=drop"])
-
-    def dropped(pieces, _):
-        return definition.lines_of(b"".join(pieces), own)
+def test_what_is_left_out():
+    dropped = breaks("delete=drop")
     assert judged(dropped, left_out=["delete"]).different == 0
+    assert judged(dropped).findings["delete/missing"].streams == sum(
+        dropped(case.pieces, []) != definition.lines_of(b"".join(case.pieces)) for case in CASES)
     # what is left out doesn't come back in what is shrunk
-    other = house.house_of(["c1-characters=print", "malformed=drop"])
-    result = judged(lambda pieces, _: definition.lines_of(b"".join(pieces), other),
+    result = judged(breaks("c1-characters=print", "malformed=drop"),
                     left_out=["malformed", "unfinished"])
     assert names(result) == {"c1-character"}
-    found = judged(dropped).findings["delete/missing"].streams
-    assert found == sum(dropped(case.pieces, []) != definition.lines_of(b"".join(case.pieces))
-                        for case in CASES)
-    for known, status in (("delete", 0), ("delete/missing", 0), ("delete/extra", 1), ("del", 1),
-                          ("", 1)):
-        assert judged(dropped, known=[known]).status() == status, known
+
+
+@pytest.mark.parametrize("known, status", [
+    ("delete", 0), ("delete/missing", 0), ("delete/extra", 1), ("del", 1), ("", 1)])
+def test_what_is_known(known, status):
+    result = judged(breaks("delete=drop"), [cases.Case("", [b"\x7f"])], known=[known])
+    assert result.status() == status
 
 
 @pytest.mark.parametrize("one, other, kind", [
     (["csi [9] - false 6d"], ["csi [10] 3f true 6e"], "numbers"),
-    (["hook [1:2] - - 71"], ["hook [1;2] - - 70"], "numbers"),
-    ([], ["print 0061"], "leaked"), ([], ["unhook"], "extra"), (["unhook"], [], "missing"),
-    (["execute 07"], ["print 0007"], "leaked"), (["print 0061"], ["unhook"], "other"),
+    (["hook [1:2] - - 71"], ["hook [1;2] - - 70"], "numbers"), (["unhook"], [], "missing"),
+    ([], ["print 0061"], "leaked"), (["execute 07"], ["print 0007"], "leaked"),
+    ([], ["unhook"], "extra"), (["print 0061"], ["unhook"], "other"),
     (["print fffd"], ["print fffd"] * 2, "replacement"), (["print fffd"], [], "replacement"),
     (["print fffd"], ["print 00e9"], "character"), (["put 61"], ["put 62"], "character"),
     (["print fffd", "print 0061"], [], "missing"),
-    (["osc true 1 61"], ["osc false 1 61"], "bell"), (["osc - 1 61"], ["osc - 2 61 -"], "pieces"),
-    (["osc - 2 61 -"], ["osc - 2 - 61"], "pieces"), (["osc - 1 61"], ["osc - 1 6162"], "data"),
-    (["osc - 2 61 62"], ["osc - 2 61 63"], "data"), (["osc true 1 61"], ["osc - 2 - 62"], "bell"),
+    *(([f"osc {one}"], [f"osc {other}"], kind) for one, other, kind in (
+        ("true 1 61", "false 1 61", "bell"), ("- 1 61", "- 2 61 -", "pieces"),
+        ("- 2 61 -", "- 2 - 61", "pieces"), ("- 1 61", "- 1 6162", "data"),
+        ("- 2 61 62", "- 2 61 63", "data"), ("true 1 61", "osc - 2 - 62", "bell"))),
     (["csi [1] - false 6d"], ["csi [1] 3f true 6d"], "intermediates"),
-    (["esc - false 41"], ["esc - false 42"], "final"),
     (["csi [] - - 6d"], ["csi [] - true 6e"], "ignore"),
-    (["esc - false 41"], ["esc - true 41"], "ignore"),
-    (["esc 28 - 41"], ["esc - - 41"], "intermediates"),
     (["hook [1] - - 71"], ["hook [1] - - 70"], "final"),
+    *((["esc " + one], ["esc " + other], kind) for one, other, kind in (
+        ("- false 41", "- false 42", "final"), ("- false 41", "- true 41", "ignore"),
+        ("28 - 41", "- - 41", "intermediates"))),
     # in long answers the first lines count
     (["put 61", "unhook"] * 999, ["put 62", "print 0061"] * 999, "character"),
     (["unhook"] * 2, ["unhook", "(crash: status 1)"], "crash")])
@@ -318,16 +304,22 @@ def test_each_difference_has_its_place():
     assert kinds.differences_of(other, one) == [(0, "character"), (2, "extra"), (4, "missing")]
 
 
-def test_which_streams_are_judged():
-    some = [*cases.all_cases(["random"], "7", 40)]
-    assert some == [*cases.all_cases(["random"], "7", 400)][:40]
-    assert some != [*cases.all_cases(["random"], "8", 40)]
-    escapes = [sum(b"\x1b" in b"".join(case.pieces) for case in some[at::2]) for at in (0, 1)]
-    assert escapes[0] > escapes[1]
-    recorded = [*cases.all_cases(["recorded"], "7", 40)]
-    assert len(recorded) == 2 * len({case.name.split(" in ")[0] for case in recorded})
-    for whole, cut in zip(recorded[::2], recorded[1::2]):
-        assert b"".join(whole.pieces) == b"".join(cut.pieces)
+# a kind of streams, how their names begin, and whether those in turn depend on the seed
+@pytest.mark.parametrize("kind, name, varies", [
+    ("vectors", "vector ", [False, False]), ("random", "stream ", [True, True]),
+    ("recorded", "recorded stream ", [False, True])])
+def test_which_streams_are_judged(kind, name, varies):
+    some, others, more = ([*cases.all_cases([kind], seed, count)]
+                          for seed, count in (("1", 40), ("2", 40), ("1", 400)))
+    assert some and some == more[:len(some)] and all(it.name.startswith(name) for it in some)
+    assert [any(one.pieces != other.pieces for one, other in zip(some[at::2], others[at::2]))
+            for at in (0, 1)] == varies
+    streams = [b"".join(case.pieces) for case in some]
+    if kind == "random":  # in turn of all, and mostly of text
+        escapes = [sum(b"\x1b" in it for it in streams[at::2]) for at in (0, 1)]
+        assert escapes[0] > escapes[1]
+    if kind == "recorded":  # as they came, and in other pieces
+        assert streams[::2] == streams[1::2]
 
 
 def test_all_vectors_are_judged():

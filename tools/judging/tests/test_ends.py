@@ -144,4 +144,3 @@ def test_a_program_that_closes_its_output_has_the_rest_of_its_time(monkeypatch):
             side.check_status(SimpleNamespace(wait=wait), 8)
     assert waited == [5, 0]
     side.close()
-

@@ -3,17 +3,19 @@ import json
 import mmap
 import os
 import re
+from contextlib import nullcontext
 from runpy import run_path
 from types import SimpleNamespace
 
 import pytest
 from judging import candidate, definition, formats, house, reference, report, shrinking, views
-from judging.cases import Case, all_cases
+from judging.cases import Case
 from judging.classes import Difference
 from judging.judgement import Finding, Judgement
 from judging.rules import ALONE, CUT, RULES
 from support import FILES, TOOLS, program_in
 from tests.missing import miss
+from tests.support import write
 
 
 # streams, house rules, and the events under them
@@ -108,26 +110,6 @@ def test_a_byte_is_replaced_by_plainer_ones(last, first, plain):
                                               "b" + it * 41 for it in wanted]
 
 
-def test_cases_are_read_as_shown():
-    for pieces in ([b""], [b"a", b"", b"\x1b[1m"], [b";" * 16 + b"aa", b"bbb"],
-                   [b"1;" * 9 + b"m", b"a"]):
-        assert report.bytes_shown(report.shown_bytes(pieces)) == pieces
-        shown = report.shown_case(Difference(pieces, [], [], ([b"b", b"c"], [b"d"])))
-        assert report.case_shown(shown) == [[b"b", b"c"], [b"d"], pieces]
-
-
-# a kind of streams, how their names begin, and whether those in turn depend on the seed
-@pytest.mark.parametrize("kind, name, varies", [
-    ("vectors", "vector ", [False, False]), ("random", "stream ", [True, True]),
-    ("recorded", "recorded stream ", [False, True])])
-def test_kinds_of_streams_and_their_seeds(kind, name, varies):
-    some, others = ([*all_cases([kind], seed, 6)] for seed in "12")
-    assert some and all(case.name.startswith(name) for case in some)
-    found = [[case.pieces for case in some[at::2]] != [case.pieces for case in others[at::2]]
-             for at in (0, 1)]
-    assert found == varies
-
-
 @pytest.mark.parametrize("pieces, shown", [
     ([b"\x1b]'\x80", b"", b"\""], '\\x1b]\'\\x80 |  | "'), ([b"a" * 200], "a" * 200),
     ([b"a" * 201], "a" * 150 + " ..")])
@@ -151,6 +133,8 @@ def test_the_example_of_the_page():
     assert [line[:10].split() for line in lines[5:10]] == [["rule"], ["source"]] * 2 + [["level"]]
 
 
+# ---- the reference
+
 def test_the_reference_and_the_definition_must_agree(tmp_path):
     program = program_in(tmp_path, "echo print 0062")
     assert reference.Reference(program).answers([b"a"]) == [["print 0062"]]
@@ -158,21 +142,40 @@ def test_the_reference_and_the_definition_must_agree(tmp_path):
         reference.Reference(program, house.house_of(["delete=drop"])).answers([b"a"])
 
 
+# what is given, what $VTLOG names, and why it is none
+@pytest.mark.parametrize("given, named, told", [
+    ("./right", "failing", None), ("./failing", "right", "failed with status 3: why"),
+    (None, "right", None), (None, "failing", "failed with status 3: why"),
+    *((None, name, "not a program: ./") for name in ("no", "folder", "text")),
+    (None, "other", "other isn't vtlog: it prints other lines"),
+    (None, "empty", "empty can't be run: Exec format error")])
+def test_which_program_is_the_reference(tmp_path, monkeypatch, given, named, told):
+    monkeypatch.chdir(tmp_path)
+    monkeypatch.setenv("VTLOG", f"./{named}")
+    for name, line in {"right": "echo print 0061; echo 'csi [0] - false 6d'; echo print fffd",
+                       "other": "cat", "failing": "echo why >&2; exit 3"}.items():
+        write(name, f"#!/bin/sh\n{line}\n", 0o755)
+    write("empty", "\n", 0o755), write("folder/file", "")
+    write("text", "", 0o644)
+    with pytest.raises(reference.NoReference, match=told) if told else nullcontext():
+        reference.Reference(reference.find_vtlog(given)).check()
+
+
 def test_a_vtlog_of_this_repository_comes_before_others(tmp_path, monkeypatch):
     monkeypatch.delenv("VTLOG", raising=False)
     proved = tmp_path / "crates/vtlog/out/vtlog"
     monkeypatch.setattr(reference, "TOP", tmp_path)
-    monkeypatch.setattr(reference.shutil, "which", {"vtlog": "/bin/installed"}.get)
-    for built, place in (("built", "built"), (None, "/bin/installed")):
-        monkeypatch.setattr(reference, "built_by_cargo", lambda built=built: built)
-        assert reference.find_vtlog() == place
-    proved.parent.mkdir(parents=True)
-    proved.write_text("")
-    assert reference.find_vtlog() == str(proved)
-    proved.unlink()
-    monkeypatch.setattr(reference.shutil, "which", lambda _: None)
-    with pytest.raises(reference.NoReference):
-        reference.find_vtlog()
+
+    def found(built, is_installed):
+        monkeypatch.setattr(reference, "built_by_cargo", lambda: built)
+        installed = {"vtlog": "/bin/installed"} if is_installed else {}
+        monkeypatch.setattr(reference.shutil, "which", installed.get)
+        return reference.find_vtlog()
+    assert [found("built", True), found(None, True)] == ["built", "/bin/installed"]
+    with pytest.raises(reference.NoReference, match="there is no vtlog"):
+        found(None, False)
+    write(proved, "")
+    assert [found("built", True), found(None, True)] == ["built", str(proved)]
 
 
 def test_the_vtlog_of_this_repository_is_built(tmp_path, monkeypatch, capsys):
@@ -188,22 +191,24 @@ def test_the_vtlog_of_this_repository_is_built(tmp_path, monkeypatch, capsys):
     assert {"build", "--release", "--locked", str(reference.CARGO_CRATE / "Cargo.toml")} <= {*said}
 
 
-def test_untold_fields_are_left_out():
-    lines = ["print 0061", "csi [1:2;3] 3f true 6d", "osc true 2 - 61", "hook [0:1] - false 71",
-             "put 61", "unhook", "osc false 1 61"]
-    view = views.View(["ignore", "groups", "bell", "pieces", "dcs"])
-    assert view.of(lines) == ["print 0061", "csi [1;2;3] 3f - 6d", "osc - 1 3b61", "osc - 1 61"]
-    assert views.View().of(lines) == lines
-    methods = {"dcs": ["hook", "put", "unhook"]}
-    lines = ["print 0061", "execute 07", *lines[1:6], "esc 28 true 41"]
-    for word in "print execute csi esc osc dcs".split():
-        hidden = methods.get(word, [word])
-        assert views.View([word]).of(lines) == [it for it in lines if it.split()[0] not in hidden]
-    changes = {"bell": {3: "osc - 2 - 61"}, "pieces": {3: "osc true 1 3b61"},
-               "ignore": {2: "csi [1:2;3] 3f - 6d", 4: "hook [0:1] - - 71", 7: "esc 28 - 41"},
-               "groups": {2: "csi [1;2;3] 3f true 6d", 4: "hook [0;1] - false 71"}}
-    for word, changed in changes.items():
-        assert views.View([word]).of(lines) == [changed.get(at, it) for at, it in enumerate(lines)]
+# ---- answers
+
+LINES = ["print 0061", "execute 07", "csi [1:2;3] 3f true 6d", "osc true 2 - 61", "osc false 1 61",
+         "hook [0:1] - false 71", "put 61", "unhook", "esc 28 true 41"]
+
+
+# words, and the lines that aren't there then, or are others
+@pytest.mark.parametrize("untold, changed", [
+    ("", {}), ("print", {0: ""}), ("execute", {1: ""}), ("csi", {2: ""}), ("osc", {3: "", 4: ""}),
+    ("dcs", {5: "", 6: "", 7: ""}), ("esc", {8: ""}), ("pieces", {3: "osc true 1 3b61"}),
+    ("bell", {3: "osc - 2 - 61", 4: "osc - 1 61"}),
+    ("ignore", {2: "csi [1:2;3] 3f - 6d", 5: "hook [0:1] - - 71", 8: "esc 28 - 41"}),
+    ("groups", {2: "csi [1;2;3] 3f true 6d", 5: "hook [0;1] - false 71"}),
+    ("ignore groups bell pieces dcs", {2: "csi [1;2;3] 3f - 6d", 3: "osc - 1 3b61", 4: "osc - 1 61",
+                                       5: "", 6: "", 7: "", 8: "esc 28 - 41"})])
+def test_untold_fields_are_left_out(untold, changed):
+    lines = [changed.get(at, line) for at, line in enumerate(LINES)]
+    assert views.View(untold.split()).of(LINES) == [line for line in lines if line]
 
 
 DIGITS = "".join(f"{number:04}" for number in range(75))
@@ -233,39 +238,19 @@ def test_long_answers_are_shown_where_they_differ(one, other, shown):
     assert [*report.shown_answers(other, one)] == shown[::-1]
 
 
-def test_numbers_of_any_length_are_compared_as_numbers():
-    for digits, largest, shown in (
-            ("9", 65535, "9"), ("65536", 65535, "65535"), ("100000", 65535, "65535"),
-            ("070000", 80000, "70000"), ("9" * 5000, None, "9" * 5000), ("", 5, "0")):
-        assert definition.number_of(digits, largest) == shown
+def test_answers_come_in_parts(monkeypatch):
+    side = candidate.Program(["cat"], False, 20)
+    for size in range(1, 12):
+        rest, output = bytearray(b"print 0061\nend\nend\nunhook\nend\n"), bytearray(b"\n")
 
-
-@pytest.fixture
-def whole(request):
-    command, *rest = request.param
-    side = candidate.Program(command, False, *rest)
-    yield side
+        def read_some(process, output, until, rest=rest, size=size):
+            read, rest[:size] = rest[:size], b""
+            output += read
+            return bool(read)
+        monkeypatch.setattr(side, "read_some", read_some)
+        answers = [side.next_answer(None, output, 0) for _ in range(3)]
+        assert (answers, output) == ([["print 0061"], [], ["unhook"]], b"\n")
     side.close()
-
-
-@pytest.mark.parametrize("whole", [(["cat"], 20)], indirect=True)
-@pytest.mark.parametrize("size", range(1, 12))
-def test_answers_come_in_parts(whole, monkeypatch, size):
-    rest = bytearray(b"print 0061\nend\nend\nunhook\nend\n")
-
-    def read_some(process, output, until):
-        read, rest[:size] = rest[:size], b""
-        output += read
-        return bool(read)
-    monkeypatch.setattr(whole, "read_some", read_some)
-    output = bytearray(b"\n")
-    answers = [whole.next_answer(None, output, 0) for _ in range(3)]
-    assert (answers, output) == ([["print 0061"], [], ["unhook"]], b"\n")
-
-
-@pytest.mark.parametrize("whole", [(["sleep", "60"], 60, (), None, 0)], indirect=True)
-def test_memory_is_limited(whole):
-    assert whole.answers([[b"a"]]) == [["(memory: more than 0 MiB)"]]
 
 
 def test_what_is_reserved_is_not_used():
@@ -275,19 +260,12 @@ def test_what_is_reserved_is_not_used():
         assert candidate.used_memory(this) - before < 1 << 28
 
 
-def test_of_a_long_output_the_front_is_kept():
-    output = bytearray(b"unhook\n") * (candidate.MOST_OUTPUT // 7 + 1)
-    told = candidate.answer_of(output, "(output: more than 32 MiB)")
-    assert 2 < len(told) < 10000 and told[0] == "unhook" and candidate.mark_of(told) == "output"
-
-
-def test_lines_of_events():
-    for output, told in ((b"print 0061\n", ["print 0061"]), (b"print 0061", ["print 0061"]),
-                         (b"", [])):
-        assert candidate.answer_of(output) == told
-    output = (b"csi [1:2;3] 3f - 6d\nesc - true 41\nunhook\nosc - 2 - 61\nput 00\n"
-              b"hook [] - false 71\nexecute 1a\nprint 10ffff\nosc true 12 6162\n")
+@pytest.mark.parametrize("output", [
+    b"", b"print 0061", b"csi [1:2;3] 3f - 6d\nesc - true 41\nunhook\nosc - 2 - 61\nput 00\n"
+    b"hook [] - false 71\nexecute 1a\nprint 10ffff\nosc true 12 6162"])
+def test_lines_of_events(output):
     assert candidate.answer_of(output) == output.decode().splitlines()
+    assert candidate.answer_of(output + b"\n" * bool(output)) == output.decode().splitlines()
 
 
 @pytest.mark.parametrize("wrong", [
@@ -299,6 +277,8 @@ def test_lines_that_are_none(wrong):
     assert [told[0], candidate.mark_of(told)] == ["print 0061", "protocol"]
     assert len(told) == 2 and re.fullmatch("[ -~]*", "".join(told))
 
+
+# ---- results
 
 def result(is_new=True, **given):
     found = Finding("text/missing", Difference([b"a"], [], []), Case("", [b""]), is_new, 3)
@@ -328,11 +308,10 @@ def test_what_is_summed_up():
 def formatted(kind, **given):
     """What a format makes of two rules, with texts that it has to escape: one is known, of the
     other a kind is new."""
-    found = {}
-    for name, is_new in (("text/missing", False), ("colon/numbers", False), ("colon/leaked", True)):
-        lines = ["print 0061", "(protocol: this is no event line: '<&#\">')"]
-        difference, case = Difference([b"a#"], ["unhook"], lines), Case("x # y", [b"ab"])
-        found[name] = Finding(name, difference, case, is_new)
+    lines = ["print 0061", "(protocol: this is no event line: '<&#\">')"]
+    difference, case = Difference([b"a#"], ["unhook"], lines), Case("x # y", [b"ab"])
+    found = {name: Finding(name, difference, case, name == "colon/leaked")
+             for name in ("text/missing", "colon/numbers", "colon/leaked")}
     judgement = Judgement(**{"streams": 9, "different": 3, "findings": found, **given})
     return formats.FORMATS[kind](judgement, "# \x1b]]>&", lambda case: f"judge '{case}' # <&>")
 
@@ -345,8 +324,7 @@ def test_junit_is_read_by_its_library(given, others):
         import junitparser
     except ImportError:
         miss("there is no python3-junitparser")
-    told = formatted("junit", **given)
-    suite = junitparser.JUnitXml.fromstring(told.encode())
+    suite = junitparser.JUnitXml.fromstring(formatted("junit", **given).encode())
     results = {case.name: case.result for case in suite}
     assert len(results) == len(formats.TESTS) + 2
     failed, skipped = ([name for name, it in results.items() if it and isinstance(it[0], kind)]
@@ -358,11 +336,10 @@ def test_junit_is_read_by_its_library(given, others):
 
 def test_json():
     told = json.loads(formatted("json", different=4, ended_early="x"))
-    findings = told.pop("findings")
+    findings, rule = told.pop("findings"), RULES["text"]
     assert told == {"version": 2, "seed": "# \x1b]]>&", "streams": 9, "different": 4,
                     "unassigned": 1, "ended_early": "x", "new": 1}
     assert [it["new"] for it in findings] == [False, False, True]
-    rule = RULES["text"]
     assert findings[0] == {
         "class": "text/missing", "rule": "text", "kind": "protocol", "level": "must",
         "source": rule.source, "says": rule.says, "page": "docs/EVENTS.md#text", "before": [],

@@ -12,7 +12,7 @@ from generating.vectors import bytes_of, lines_of
 from heads import head_of
 from judging import definition
 from judging.house import House
-from support import EVENTS, FILES, NAMES, TOY, VECTORS, run, run_python
+from support import EVENTS, FILES, NAMES, VECTORS, run
 from tests.missing import miss, need
 
 each_file = pytest.mark.parametrize("file", FILES, ids=NAMES)
@@ -73,16 +73,6 @@ def test_definition_gives_the_vectors(vector):
 
 # in each language what builds the runner and what runs it, and how the example ignores pieces that
 # are as long as $SKIP, and fails without $SKIP
-SKIP = '''import "os"
-
-func isSkipped(piece []byte) bool {
-	skip, is := os.LookupEnv("SKIP")
-	if !is {
-		panic("x")
-	}
-	return len(piece) == len(skip)
-}
-'''
 RUNNERS = {
     "py": ("", f"{sys.executable} -B run.py",
            [('b"".join(pieces)',
@@ -94,9 +84,9 @@ RUNNERS = {
            [("Buffer.concat(pieces)",
              "Buffer.concat(pieces.filter((it) => it.length != process.env.SKIP.length))")]),
     "go": ("go build -o runner run.go my_parser.go", "./runner",
-           [('import "fmt"\n', f'import "fmt"\n{SKIP}'),
-            ("range pieces {",
-             "range pieces {\n\t\tif isSkipped(piece) {\n\t\t\tcontinue\n\t\t}")]),
+           [('import "fmt"', 'import ("fmt"; "os")'),
+            ("range pieces {", 'range pieces { if it, is := os.LookupEnv("SKIP"); !is { panic(is) }'
+             " else if len(piece) == len(it) { continue }")]),
 }
 
 
@@ -161,13 +151,3 @@ def test_a_runner_counts_what_is_wrong(language, tmp_path):
         assert status == 1 and re.search(rf"(?m)^{wrong} of {len(some)} wrong$", said), said
     none = run("sh", "-c", f"{RUNNERS[language][1]} must should differs <events.json", cwd=tmp_path)
     assert none[0] == 1 and none[1].startswith("0 of 0 wrong\n")
-
-
-def test_a_right_parser_has_no_wrong_vector(tmp_path):
-    built(tmp_path, "py")
-    (tmp_path / "my_parser.py").write_text(
-        "from toy import answer\n\n\ndef parse_pieces(pieces):\n    return answer(pieces, [])\n")
-    places = f"{TOY.parent}:{os.environ['PYTHONPATH']}"
-    found = run_python("run.py", cwd=tmp_path, env={**os.environ, "PYTHONPATH": places})
-    count = sum(vector["limit"] == 1024 for vector in EVENTS)
-    assert found == (0, f"0 of {count} wrong\n")

@@ -1,27 +1,25 @@
--- A processor with a limit stands where its engine does: there is always memory. So it does what the engine ensures.
-use Rattle.vte.proofs.Common.{ℕ, List, length, Result, Ok, Err, arith, Bor, Refused, EngineView, Meaning, State, usual_limit, HasAdvanced, HasParsedAndHolds, HasTaken, IsAt, ReadsInTurns, EngineReads, StandingPredicate, EngineStandsAt, ◌≡◌, refl, rules, limited_parser_view, engine_view}
+-- A processor stands where its engine does, so it does what the engine ensures.
+use Rattle.vte.proofs.Common.{ℕ, List, length, Result, Ok, Err, arith, Bor, Refused, EngineView, Meaning, State, usual_limit, HasAdvanced, HasParsedAndHolds, HasTaken, IsAt, ReadsInTurns, EngineReads, StandingPredicate, EngineStandsAt, ◌≡◌, refl, rules, limited_parser_view, engine_view, HasTextRoom, HasParsedAndHoldsWithin, EngineStops, StopsSync, bounded_engine_view, stop, [], ◌+◌, ◌-◌, ◌<◌, ◌++◌, ap, length-append, counts_data, AdvancesLong, HasMemory, HasParsedAndHoldsLong, LacksMemoryLong, drop, length-drop, long_engine_view}
 use Rattle.vte_core.specs.declared.parser.Parser.{Parser}
-use Rattle.vte.proofs.replays.PlainReplays.{plain_call}
+use Rattle.vte.proofs.replays.Tellings.{plain_call}
 use Rattle.vte.proofs.turns.EngineTurns.{has_advanced, taken-to}
 use Rattle.vte.specs.declared.ansi.processor.Processor.{Processor}
 use Rattle.vte.specs.declared.ansi.calls.joined_text.TheConstants.{TEXT_ROOM}
+use Rattle.vte.specs.declared.ansi.bounded_processor.BoundedProcessor.{BoundedProcessor}
+use Rattle.vte.specs.declared.ansi.long_processor.LongProcessor.{LongProcessor}
+use Rattle.vte.proofs.turns.Slices.{until_refused-grows}
 
-abbrev pub limited : {B T W : Type 0} → (T → W) → EngineView (Parser 1024) B T W
+-- ---- with the usual limit
+
+-- There is always memory.
+
+abbrev limited : {B T W : Type 0} → (T → W) → EngineView (Parser 1024) B T W
 limited timeout_of = engine_view usual_limit limited_parser_view (λ text. TEXT_ROOM) timeout_of
 
 module _ {T A V W : Type 0} {timeout_of : T → W} {processor : Processor T A} {value : V} (s : State V W) where
   is_at-engine : IsAt (HasParsedAndHolds timeout_of processor) value s
       → IsAt (EngineStandsAt (limited timeout_of) processor.engine) value s
-  is_at-engine at = record {
-    stands = record {
-      has_read = at.stands.has_read;
-      last = at.stands.last;
-      timeout_is = at.stands.timeout_is;
-      holds = at.stands.holds;
-      has_memory = λ some. record { joined = omega arith; counted = omega arith };
-    };
-    handler_is = at.handler_is;
-  }
+  is_at-engine at = search (rules, arith)
 
   is_at-processor : IsAt (EngineStandsAt (limited timeout_of) processor.engine) value s
       → IsAt (HasParsedAndHolds timeout_of processor) value s
@@ -38,7 +36,7 @@ module _ {V W : Type 0} {m : Meaning V W} {Before After : StandingPredicate W} {
   reads-advances : (s : State V W) → IsAt Before old s → HasAdvanced m s bytes.now (IsAt After new)
   reads-advances s at = has_advanced m s bytes.now (takes s at) (omega (arith, all))
 
-  pub reads_in_turns : ReadsInTurns m Before After old new bytes.now
+  reads_in_turns : ReadsInTurns m Before After old new bytes.now
   reads_in_turns = record { advances = reads-advances; plain = plain_call m bytes reads-advances }
 
 pub refused-never : {T A V W : Type 0} {timeout_of : T → W} {m : Meaning V W} {processor next : Processor T A}
@@ -51,3 +49,94 @@ refused-never bytes (Err refused) r =
     reads_in_turns bytes {read = length bytes.now} (λ s at. absurd (
     let t = r.takes s (is_at-engine s at) in
     r.lacks.lacks t.next.parsed t.is_at.stands.has_read (omega arith))) refl
+
+-- ---- with a limit of its own
+
+-- The engine keeps the room for texts that it has, so no memory is refused.
+
+module _ {T A V W : Type 0} {N : ℕ} {timeout_of : T → W} {processor : BoundedProcessor T A N} {value : V}
+    (s : State V W) where
+  is_at-bounded_engine : IsAt (HasParsedAndHoldsWithin timeout_of processor) value s
+      → IsAt (EngineStandsAt (bounded_engine_view timeout_of) processor.engine) value s
+  is_at-bounded_engine at = record { stands = at.stands.stands; handler_is = at.handler_is }
+
+  is_at-bounded : HasTextRoom N processor.engine.state.text.size
+      → IsAt (EngineStandsAt (bounded_engine_view timeout_of) processor.engine) value s
+      → IsAt (HasParsedAndHoldsWithin timeout_of processor) value s
+  is_at-bounded room at = search (rules, arith)
+
+module _ {T A V W : Type 0} {N : ℕ} {timeout_of : T → W} {m : Meaning V W} {old new : BoundedProcessor T A N}
+    {before value : V} where
+  pub stops_within : EngineStops (bounded_engine_view timeout_of) m old.engine new.engine before value
+      → StopsSync m (HasParsedAndHoldsWithin timeout_of old) (HasParsedAndHoldsWithin timeout_of new) before value
+  stops_within r = record {
+    stops = λ s at.
+        is_at-bounded (stop m s) (r.memory s (is_at-bounded_engine s at) [] 0 at.stands.has_room)
+        (r.stops.stops s (is_at-bounded_engine s at));
+    each_once = r.stops.each_once;
+    holds_well = r.stops.holds_well;
+  }
+
+  pub refused-never-within : (bytes : Bor (List ℕ)) (result : Result (Unit {0}) Refused)
+      → EngineReads (bounded_engine_view timeout_of) m old.engine new.engine before value bytes.now result
+      → ReadsInTurns m (HasParsedAndHoldsWithin timeout_of old) (HasParsedAndHoldsWithin timeout_of new) before value
+      bytes.now
+  refused-never-within bytes (Ok all) r =
+      reads_in_turns bytes (λ s at.
+      taken-to (λ t. is_at-bounded t (r.memory s (is_at-bounded_engine s at) [] 0 at.stands.has_room))
+      (r.takes s (is_at-bounded_engine s at))) refl
+  refused-never-within bytes (Err refused) r =
+      reads_in_turns bytes {read = length bytes.now} (λ s at. absurd (
+      let t = r.takes s (is_at-bounded_engine s at) in
+      r.lacks.lacks t.next.parsed t.is_at.stands.has_read
+      (r.memory s (is_at-bounded_engine s at) [] 0 at.stands.has_room))) refl
+
+-- ---- without a limit
+
+-- A call is refused no memory that was there for all its bytes: room for the held and the given bytes at the start
+-- leaves room for what is left, turn by turn.
+
+module _ {T A V W : Type 0} {timeout_of : T → W} {m : Meaning V W} {new : LongProcessor T A} {value : V}
+    {s : State V W} {bytes : List ℕ} where
+  had_memory : (read : ℕ) → read < length bytes
+      → HasTaken m s bytes read (IsAt (HasParsedAndHoldsLong timeout_of new) value)
+      → LacksMemoryLong timeout_of new (length bytes - read)
+      → HasMemory new s.parsed (length s.held + length bytes) → ⊥
+  had_memory read less taken lacks room =
+      let t = taken.next in
+      let g = until_refused-grows m taken.takes in
+      let counts = counts_data s.parsed g.more in
+      let left = rw (← g.parsed_is) at counts.left in
+      let sum : length g.more + length t.held ≡ length s.held + read =
+      omega (
+        arith,
+        less,
+        ap length g.each_once,
+        length-append s.held bytes,
+        length-append g.more
+            (t.held ++ drop read bytes),
+        length-append t.held (drop read bytes),
+        length-drop read bytes,
+      ) in
+      let held = ap length taken.is_at.stands.holds in
+      lacks.lacks t.parsed taken.is_at.stands.has_read (record {
+        kept = omega (arith, left, room.kept, lacks.within, less, sum, held);
+        joined = omega (arith, left, room.joined, lacks.within, less, sum, held);
+        counted = omega (arith, left, room.counted, lacks.within, less, sum, held);
+      })
+
+pub advances_long : {T A V W : Type 0} {timeout_of : T → W} {m : Meaning V W} {old new : LongProcessor T A}
+    {before value : V} (bytes : Bor (List ℕ)) (result : Result (Unit {0}) Refused)
+    → EngineReads (long_engine_view timeout_of) m old.engine new.engine before value bytes.now result
+    → AdvancesLong timeout_of m old new before value bytes.now result
+advances_long bytes (Ok all) r = record {
+  reads = r;
+  all = reads_in_turns bytes r.takes refl;
+  enough = λ s at room. refl;
+}
+advances_long bytes (Err refused) r = record {
+  reads = r;
+  all = tt;
+  enough = λ s at room.
+      absurd (had_memory refused.read r.within (r.takes s at) r.lacks (r.memory s at _ _ room));
+}

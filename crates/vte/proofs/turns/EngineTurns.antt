@@ -1,9 +1,7 @@
 -- From turns to a call: what the private functions ensure of parser, hold and handler is put together into `HasTurned`
 -- and `HasHalted`, and the loop over turns into `TakesTurns` and `TakesTurnsUntilRefused`.
-use Rattle.vte.proofs.Common.{◌≡◌, ℕ, ◌+◌, ◌-◌, ◌<◌, ◌≤◌, Bool, true, List, [], ◌++◌, length, take, drop, refl, ap, sym, ◌∙◌, arith, length-drop, append-nil, append_assoc, Result, Ok, Err, append_cancel_right, drop_all, drop-drop, take_all, take-append-drop, Refused, ProcessorState, Engine, Meaning, held_of, rules, false, MatchResult, EndsTurn, inside_turn, HasAdvanced, EngineIsAt, HasTaken, EngineView, KeepsMemory, EngineHasMemory, EngineReads, EngineStops, EngineIsAtKeeping, EndsParsingTurn, HasHalted, HasParsedPrefix, HasParsedWithoutBegin, ArePartsAt, ArePartsAtKeeping, ArePartsAtWithMemory, HasTurned, State, TakesTurnsUntilRefused, TakesTurns, all_bytes, turn, hold_turn, parse, stop, between_turns, done, LacksMemoryForSome, Reserves}
-use Rattle.vte.proofs.turns.EachOnce.{grown_bytes}
-use Rattle.vte.proofs.turns.HoldFacts.{stop_well}
-use Rattle.vte.proofs.turns.Kinds.{refused-by_open, is_held, stop_if_due, turn-holds, turn-parses}
+use Rattle.vte.proofs.Common.{◌≡◌, ℕ, ◌+◌, ◌-◌, ◌<◌, ◌≤◌, Bool, true, List, [], ◌++◌, length, take, drop, refl, ap, sym, ◌∙◌, arith, length-drop, append_assoc, Result, Ok, Err, append_cancel_right, drop_all, drop-drop, take_all, take-append-drop, Refused, ProcessorState, Engine, Meaning, held_of, rules, false, MatchResult, EndsTurn, inside_turn, HasAdvanced, EngineIsAt, HasTaken, EngineView, KeepsMemory, EngineHasMemory, EngineReads, EngineStops, EngineIsAtKeeping, EndsParsingTurn, HasHalted, HasParsedPrefix, HasParsedWithoutBegin, ArePartsAt, ArePartsAtKeeping, ArePartsAtWithMemory, HasTurned, State, TakesTurnsUntilRefused, TakesTurns, all_bytes, turn, hold_turn, parse, stop, between_turns, done, LacksMemoryForSome, Reserves}
+use Rattle.vte.proofs.turns.EachOnce.{grown_bytes, refused-by_open, is_held, stop_if_due, turn-holds, turn-parses}
 use Rattle.vte.proofs.turns.Slices.{until_refused-all, open-halts, takes-one, until_refused-grows, until_refused-on, until_refused-well, taken_on}
 
 -- an engine stands where its parts do
@@ -35,12 +33,7 @@ module _ {P B T A V W : Type 0} {view : EngineView P B T W} {value : V} {s : Sta
 
   pub after-next : {old mid new : Engine P B T A} → KeepsMemory (EngineHasMemory view old) (EngineHasMemory view mid)
       → EngineIsAtKeeping view mid new value s → EngineIsAtKeeping view old new value s
-  after-next keeps next =
-      record {
-        engine_at = next.engine_at;
-        memory = λ stream count had. next.memory stream count
-            (keeps stream count had);
-      }
+  after-next keeps next = search (rules, arith)
 
   -- they stand where they stood, and the handler is the same
   pub kept-next : {old mid new : Engine P B T A} {more : ℕ} {result : Bool} → Reserves view mid new more result
@@ -86,19 +79,12 @@ pub stops_update : {P B T A V W : Type 0} {view : EngineView P B T W} {m : Meani
     {before value : V} → KeepsMemory (EngineHasMemory view old) (EngineHasMemory view mid)
     → ((s : State V W) → EngineIsAt view old before s → EngineIsAtKeeping view mid new value (stop m s))
     → EngineStops view m old new before value
-stops_update {m} keeps ends = record {
-  stops = record {
-    stops = λ s at. (ends s at).engine_at;
-    each_once = λ s. append-nil (s.parsed ++ s.held);
-    holds_well = stop_well m;
-  };
-  memory = λ s at stream count had. (ends s at).memory stream count (keeps stream count had);
-}
+stops_update {m} keeps ends = search (rules, arith)
 
 pub stops-next : {P B T A V W : Type 0} {view : EngineView P B T W} {m : Meaning V W} {old new : Engine P B T A}
     {before value : V} {s : State V W} → EngineStops view m old new before value
     → EngineIsAt view old before s → EngineIsAtKeeping view old new value (stop m s)
-stops-next stopped at = record { engine_at = stopped.stops.stops _ at; memory = stopped.memory _ at }
+stops-next stopped at = search (rules, arith)
 
 -- a turn that parses bytes, after a stop if need be
 pub ends_turn : {P B T A V W : Type 0} {view : EngineView P B T W} {m : Meaning V W} {old mid new : Engine P B T A}
@@ -135,14 +121,7 @@ module _ {V W : Type 0} (m : Meaning V W) {s : State V W} {bytes : List ℕ} {n 
     {IsNowAt : State V W → Type 0} where
   pub turned_hold : {pending : Bool} → m.timeout.allows s.timeout pending → is_held pending s bytes ≡ true
       → n ≡ length bytes → IsNowAt (hold_turn m s bytes) → HasTurned m s bytes n IsNowAt
-  turned_hold {pending} allowed held all at =
-      record {
-        pending = pending;
-        allowed = allowed;
-        progress = λ some. omega arith;
-        rest = rw (turn-holds m pending s bytes held) (sym (drop_all n bytes (omega arith)));
-        is_at = rw (turn-holds m pending s bytes held) at;
-      }
+  turned_hold {pending} allowed held all at = search (rules, arith, turn-holds, drop_all)
 
 -- ---- the turns of a call
 
@@ -200,7 +179,7 @@ module _ {V W : Type 0} (m : Meaning V W) (s : State V W) (bytes : List ℕ) whe
     is_at = at;
   }
 
-  pub has_taken-reached : {count read : ℕ} {IsNowAt : State V W → Type 0} → HasReached count read IsNowAt
+  has_taken-reached : {count read : ℕ} {IsNowAt : State V W → Type 0} → HasReached count read IsNowAt
       → HasTaken m s bytes read IsNowAt
   has_taken-reached r = has_taken-turns r.here (between_turns r.takes) r.is_at
 
@@ -234,14 +213,7 @@ module _ {V W : Type 0} (m : Meaning V W) (s : State V W) (bytes : List ℕ) whe
 module _ {V W : Type 0} {m : Meaning V W} {s : State V W} {bytes : List ℕ} {read : ℕ} where
   pub taken-to : {IsNowAt other : State V W → Type 0} → ((t : State V W) → IsNowAt t → other t)
       → HasTaken m s bytes read IsNowAt → HasTaken m s bytes read other
-  taken-to follows h =
-      record {
-        next = h.next;
-        takes = h.takes;
-        each_once = h.each_once;
-        holds_well = h.holds_well;
-        is_at = follows h.next h.is_at;
-      }
+  taken-to follows h = search (rules, arith)
 
   taken-at : {P B T A : Type 0} {view : EngineView P B T W} {old new : Engine P B T A} {value : V}
       → HasTaken m s bytes read (EngineIsAtKeeping view old new value)

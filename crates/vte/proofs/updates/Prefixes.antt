@@ -1,7 +1,7 @@
 -- An early stop reads exactly the prefix up to the byte that begins an update. Such a byte ends a control sequence, so
 -- no character is open or broken there, and the prefix is the shortest that adds a begin.
-use Rattle.vte_core.proofs.shapes.Reported.{breaks_at-all, breaks_at-settled, reported-broken}
-use Rattle.vte.proofs.Common.{◌≡◌, ℕ, zero, suc, ◌+◌, ◌<◌, ◌≤◌, inl, inr, false, nat_lt, Option, List, [], ◌∷◌, ◌++◌, length, take, refl, ap, subst, ◌∙◌, append_assoc, arith, cases_Bool, cases_lt, nat_tests, append-nil, take_all, breaks_at, reported_before, Event, Print, replacement, added, open_character, reported-settled, added-append, added-nothing, opens_silently, begin_count, EndsInBegin, prefix_to_begin}
+use Rattle.vte_core.proofs.Shapes.{breaks_at-all, breaks_at-settled, reported-broken}
+use Rattle.vte.proofs.Common.{◌≡◌, ℕ, zero, suc, ◌+◌, ◌<◌, ◌≤◌, inl, inr, false, nat_lt, Option, List, [], ◌∷◌, ◌++◌, length, take, refl, ap, subst, ◌∙◌, append_assoc, arith, cases_Bool, cases_lt, nat_tests, append-nil, take_all, breaks_at, reported_before, Event, added, open_character, reported-settled, added-append, added-nothing, opens_silently, begin_count, EndsInBegin, prefix_to_begin, rules}
 
 -- ---- how often bytes begin an update
 
@@ -20,15 +20,7 @@ begin_count-added limit p a r =
 -- a broken character begins no update
 pub begin_count-told : (limit : Option ℕ) (p r : List ℕ) (i : ℕ)
     → begin_count (reported_before limit p r i) ≡ begin_count (added limit p (take i r))
-begin_count-told limit p r i = elim (cases_Bool (breaks_at p r i)) [
-  | inl broken ↦
-      rw (
-        reported-broken limit p r i broken,
-        begin_count-append (added limit p (take i r))
-            (Print replacement ∷ []),
-      ) (omega arith)
-  | inr whole ↦ rw (reported-settled limit p r i whole)
-]
+begin_count-told limit p r i = search (rules, arith, reported-broken, begin_count-append, reported-settled)
 
 -- ---- the prefix by its length
 
@@ -82,13 +74,7 @@ prefix-is limit p (b ∷ rest) = elim (cases_Bool (nat_lt 0 (begin_count (added 
 
 -- no character is open after a byte that begins an update
 open_character-begin : {limit : Option ℕ} {p : List ℕ} → EndsInBegin limit p → open_character p ≡ []
-open_character-begin {limit} e = elim (opens_silently limit e.before e.byte) [
-  | inl none ↦ rw e.parsed_is none
-  | inr silent ↦ absurd (elim silent [
-    | inl nothing ↦ omega (arith, e.begins, ap begin_count nothing)
-    | inr once ↦ omega (arith, e.begins, ap begin_count once)
-  ])
-]
+open_character-begin {limit} e = search (rules, arith, opens_silently)
 
 pub open_character-prefix : {limit : Option ℕ} {p r : List ℕ} {k : ℕ} → IsPrefix limit p r k → k < length r
     → open_character (p ++ take k r) ≡ []
@@ -96,10 +82,7 @@ open_character-prefix f more = open_character-begin (f.ends (f.begins more))
 
 -- no character is broken after the prefix
 pub breaks_at-prefix : {limit : Option ℕ} {p r : List ℕ} {k : ℕ} → IsPrefix limit p r k → breaks_at p r k ≡ false
-breaks_at-prefix {p} {r} {k} f = elim (cases_lt k (length r)) [
-  | inl more ↦ breaks_at-settled p r k (open_character-prefix f more)
-  | inr all ↦ breaks_at-all p r k all
-]
+breaks_at-prefix {p} {r} {k} f = search (rules, arith, breaks_at-settled, open_character-prefix, breaks_at-all)
 
 -- the prefix after bytes in which no update begins, and of bytes that begin one, whatever follows
 pub begin_count-none : (limit : Option ℕ) (p a r : List ℕ) → begin_count (added limit p a) ≡ 0

@@ -1,6 +1,6 @@
 -- What the search from the end of a hold has seen, position by position: how many updates begin, and where what is
 -- unread starts. Only a position with ESC can change it, and the older bytes matter only by their last seven.
-use Rattle.vte.proofs.Common.{◌≡◌, ℕ, zero, suc, ◌+◌, ◌-◌, ◌<◌, ◌≤◌, inl, inr, true, false, eqb, Some, None, List, [], ◌∷◌, length, drop, take, get_or, refl, ap, subst, ◌∙◌, add-zero, length-drop, arith, cases_Bool, nat_tests, drop_all, drop_more, get_or-drop, get_or-take, length-take-le, take_all, ◌++◌, IsHeldTail, drop-drop, length-append, Adds, after_word, begin_update, end_update, begins_ending_in_last, begins_with, after_last_end, from_begin_update}
+use Rattle.vte.proofs.Common.{◌≡◌, ℕ, zero, suc, ◌+◌, ◌-◌, ◌<◌, ◌≤◌, inl, inr, true, false, eqb, Some, None, List, [], ◌∷◌, length, drop, take, get_or, refl, ap, subst, ◌∙◌, add-zero, length-drop, arith, cases_Bool, nat_tests, drop_all, drop_more, get_or-drop, get_or-take, length-take-le, take_all, ◌++◌, IsHeldTail, drop-drop, length-append, Adds, after_word, begin_update, end_update, begins_ending_in_last, begins_with, after_last_end, from_begin_update, rules}
 use Rattle.std.specs.Prelude.{◌&&◌, nat_lt}
 use Rattle.memchr.specs.Find.{NoneAfter, Nowhere, Passes, is_byte}
 use Rattle.vte.specs.machine.Hold.{IsNeither, IsPlainBlock, NoneBetween}
@@ -9,16 +9,10 @@ use Rattle.vte.proofs.updates.Sequences.{after_word-whole, begins_ending_in_last
 -- without ESC, or with fewer than eight bytes
 neither-plain : (text : List ℕ) (position : ℕ) → position < length text → eqb (get_or text position 0) 0x1b ≡ false
     → IsNeither text position
-neither-plain text position l e =
-    let d =
-    drop_more text position 0 l in
-    record { no_begin = rw d (grind (arith, nat_tests)); no_end = rw d (grind (arith, nat_tests)) }
+neither-plain text position l e = grind (arith, nat_tests, drop_more)
 
 begins_with-short : (sequence text : List ℕ) → length text < length sequence → begins_with sequence text ≡ false
-begins_with-short sequence text short = elim (cases_Bool (begins_with sequence text)) [
-  | inl is ↦ absurd (omega (arith, begins_with-length sequence text is))
-  | inr other ↦ other
-]
+begins_with-short sequence text short = search (rules, arith, begins_with-length)
 
 neither-short : (text : List ℕ) (position : ℕ) → length text < position + 8 → IsNeither text position
 neither-short text position short =
@@ -194,7 +188,7 @@ module _ {held more text : List ℕ} {start : ℕ} (e : IsHeldTail held more tex
   abbrev all : List ℕ
   all = held ++ more
 
-  pub whole_size : start + length text ≡ length all
+  whole_size : start + length text ≡ length all
   whole_size = let from = e.start_is in omega (arith, ap length e.is, length-drop start all, length-append held more)
 
   pub sequence_at : (position : ℕ) → take (length text - position) (drop position text) ≡ drop (start + position) all

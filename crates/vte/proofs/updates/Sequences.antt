@@ -1,6 +1,6 @@
 -- The two sequences of updates in a text, and the parts after them. Both have eight bytes and one ESC, so they never
 -- overlap; without an end-update in the older bytes, their last seven decide as all of them would.
-use Rattle.vte.proofs.Common.{◌≡◌, ℕ, zero, suc, ◌+◌, ◌-◌, ◌≤◌, inl, inr, ◌⊎◌, true, false, Option, Some, None, List, [], ◌∷◌, ◌++◌, length, drop, refl, ap, zero-add, length-append, length-drop, arith, cases_Bool, cases_lt, nat_tests, drop-drop, after_word, begin_update, end_update, begins_with, after_last_end, from_begin_update, begins_ending_in_last, still_held, sym, ◌<◌}
+use Rattle.vte.proofs.Common.{◌≡◌, ℕ, zero, suc, ◌+◌, ◌-◌, ◌≤◌, inl, inr, ◌⊎◌, true, false, Option, Some, None, List, [], ◌∷◌, ◌++◌, length, drop, refl, ap, zero-add, length-append, length-drop, arith, cases_Bool, cases_lt, nat_tests, drop-drop, after_word, begin_update, end_update, begins_with, after_last_end, from_begin_update, begins_ending_in_last, still_held, sym, ◌<◌, rules}
 use Rattle.std.specs.Prelude.{is_some, nat_lt}
 
 -- an `Option` by cases, for `elim`
@@ -52,7 +52,7 @@ begins_with-append sequence text more e =
 pub from_begin-end_skipped : (n b : ℕ) (text : List ℕ) → begins_with end_update (b ∷ text) ≡ true
     → (from_begin_update text ≡ from_begin_update (drop 7 text))
     × (begins_ending_in_last n text ≡ begins_ending_in_last n (drop 7 text))
-from_begin-end_skipped n b text e = let is = ap (drop 1) (begins_with-is end_update (b ∷ text) e) in rw is (grind arith)
+from_begin-end_skipped n b text e = search (rules, arith)
 
 -- ---- a part at the end of a text
 
@@ -64,7 +64,7 @@ pub record IsSuffix (part text : List ℕ) : Type 0 where
 pub suffix-length : {part text : List ℕ} → (s : IsSuffix part text) → s.prefix + length part ≡ length text
 suffix-length {part} {text} s = omega (arith, s.within, ap length s.is, length-drop s.prefix text)
 
-pub suffix-trans : {part middle text : List ℕ} → IsSuffix part middle → IsSuffix middle text → IsSuffix part text
+suffix-trans : {part middle text : List ℕ} → IsSuffix part middle → IsSuffix middle text → IsSuffix part text
 suffix-trans {text} s t = record {
   prefix = t.prefix + s.prefix;
   within = omega (arith, s.within, suffix-length t);
@@ -75,7 +75,7 @@ suffix-more : {part text : List ℕ} (b : ℕ) → IsSuffix part text → IsSuff
 suffix-more b s = record { prefix = suc s.prefix; within = omega (arith, s.within); is = s.is }
 
 -- without an end-update in a text there is none in its parts
-pub after_last_end-drop : (n : ℕ) (text : List ℕ) → after_last_end text ≡ None → after_last_end (drop n text) ≡ None
+after_last_end-drop : (n : ℕ) (text : List ℕ) → after_last_end text ≡ None → after_last_end (drop n text) ≡ None
 after_last_end-drop zero text e = e
 after_last_end-drop (suc n) [] e = e
 after_last_end-drop (suc n) (b ∷ text) e = grind (arith, after_last_end-drop n text)
@@ -85,7 +85,7 @@ pub record FollowsLastEnd (rest text : List ℕ) : Type 0 where
   pub suffix : IsSuffix rest text
   pub no_end : after_last_end rest ≡ None
 
-pub follows_last_end : (text rest : List ℕ) → after_last_end text ≡ Some rest → FollowsLastEnd rest text
+follows_last_end : (text rest : List ℕ) → after_last_end text ≡ Some rest → FollowsLastEnd rest text
 follows_last_end [] rest e = cc
 follows_last_end (b ∷ text) rest e = elim (cases_Option (after_last_end text)) [
   | inl none ↦

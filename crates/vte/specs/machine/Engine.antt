@@ -2,7 +2,7 @@
 use Rattle.std.specs.Prelude.{◌≡◌, ℕ, ◌<◌, Bool, List, length, nat_lt, take, drop, Result, IfErr, IfOk}
 use Rattle.vte_core.specs.declared.parser.refused.Refused.{Refused}
 use Rattle.vte_core.specs.Stream.{added, events}
-use Rattle.vte.specs.BeginUpdate.{begin_count}
+use Rattle.vte.specs.Synchronized.{begin_count}
 use Rattle.vte.specs.Calls.{last_printed}
 use Rattle.vte.specs.Memory.{KeepsMemory}
 use Rattle.vte.specs.Processor.{Meaning, State, prefix_to_begin, parsing_turn, parse, turn}

@@ -1,16 +1,55 @@
--- The value of a performer: those of its handler and its timeout, the last printed character, the
--- size of its buffer for texts, whether an update has begun, which state and handler it is lent.
-use Rattle.std.specs.Prelude.{◌≡◌, ℕ, Bool, ◌||◌, List, [], nat_lt, if◌then◌else◌, Option}
-use Rattle.std.specs.Borrow.{GName}
-use Rattle.vte.specs.BeginUpdate.{begins_in_event}
+-- The value of a performer, the texts that it splits and joins, and what is read of a colour's
+-- components.
+use Rattle.std.specs.Prelude.{ℕ, List, [], ◌∷◌, if◌then◌else◌, Option, Some, None, ◌+◌, ◌≤◌, Bool, true, false, length, nat_le, ◌≡◌, ◌||◌, nat_lt}
+use Rattle.vte.specs.Colors.{is_component}
+use Rattle.std.specs.Borrow.{Bor, GName}
+use Rattle.std.specs.List.{concat}
+use Rattle.vte.specs.Split.{split_by}
+use Rattle.vte.specs.Synchronized.{begins_in_event}
 use Rattle.vte.specs.Calls.{calls_of, last_printed_after}
 use Rattle.vte.specs.CommandCalls.{system_command_calls}
 use Rattle.vte.specs.Processor.{set_times}
-use Rattle.vte.specs.machine.Texts.{fits_room}
 use Rattle.vte_core.specs.Event.{Event, OscDispatch}
 use Rattle.vte_handler.specs.Call.{Call}
 use Rattle.vte_handler.specs.Handler.{after}
 use Rattle.vte_handler.specs.Timeout.{TimeoutMeaning}
+
+-- ---- colours
+
+-- The first number, if it is at most 255.
+abbrev pub first_component : List ℕ → Option ℕ
+first_component [] = None
+first_component (number ∷ numbers) = if is_component number then Some number else None
+
+-- ---- texts
+
+-- Those of a command are split and joined, and may fit the buffer for texts. They fit 1,040 bytes
+-- if the parser keeps 1,024 bytes, since there are at most 16 pieces.
+
+-- The parts of what is left, if anything is.
+abbrev pub parts_left : ℕ → Option (Bor (List ℕ)) → List (List ℕ)
+parts_left separator None = []
+parts_left separator (Some text) = split_by separator text.now
+
+-- What is added for a text: `;` and the text, or of the first the text alone.
+abbrev pub text_to_join : Bool → List ℕ → List ℕ
+text_to_join true text = text
+text_to_join false text = 0x3b ∷ text
+
+-- All bytes, and a separator for each piece.
+abbrev pub joined_size : List (List ℕ) → ℕ
+joined_size pieces = length (concat pieces) + length pieces
+
+abbrev pub FitsRoom : ℕ → List (List ℕ) → Type 0
+FitsRoom room pieces = joined_size pieces ≤ room
+
+abbrev pub fits_room : ℕ → List (List ℕ) → Bool
+fits_room room pieces = nat_le (joined_size pieces) room
+
+-- ---- a performer
+
+-- The values of its handler and its timeout, the last printed character, the size of its buffer for
+-- texts, whether an update has begun, which state and handler it is lent.
 
 pub record PerformerValue (V W : Type 0) : Type 0 where
   pub handler : V

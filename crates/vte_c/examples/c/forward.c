@@ -48,11 +48,11 @@ static uint8_t drop(uint8_t end) {
 
 /* Reads bytes up to the end of a command. Returns how many. */
 static size_t filter(const uint8_t *bytes, size_t length) {
-    vte_event events[VTE_LEAST_EVENTS];
-    uint8_t data[VTE_LEAST_DATA];
+    vte_event events[VTE_MIN_EVENTS];
+    uint8_t data[VTE_MIN_DATA];
     vte_counts counts;
     size_t read = vte_feed(&parser, bytes, length, VTE_KIND(VTE_OSC), VTE_KIND(VTE_OSC), events,
-                           VTE_LEAST_EVENTS, data, sizeof data, &counts);
+                           VTE_MIN_EVENTS, data, sizeof data, &counts);
     hold(bytes, read - counts.events);
     if (counts.events > 0) {
         uint8_t end = bytes[read - 1];
@@ -84,7 +84,7 @@ int main(void) {
         end = drop('\a');
         hold(&end, 1);
     }
-    fwrite(held, 1, held_length, stdout);
+    if (held != NULL) fwrite(held, 1, held_length, stdout);
     free(held);
     return length < 0 || ferror(stdout) || fflush(stdout) != 0;
 }

@@ -1,11 +1,151 @@
 -- What the automaton's state says of the text that it has read: characters that are printed, and then the bytes of one
 -- that has begun. Each step of the automaton keeps that.
-use Rattle.vte_core.proofs.Common.{List, [], add-one, ap, append_assoc, arith, cond, drop, inl, inr, length, length-drop, refl, subst, suc, sym, take, true, zero, ℕ, ◌&&◌, ◌++◌, ◌+◌, ◌-◌, ◌<◌, ◌∙◌, ◌∷◌, ◌≡◌, ◌≢◌, ◌≤◌, take-add, cases_Bool, false≢true, append-nil, get_or-drop, take_more, slice_index, Range, is_in, IsUtf8Run}
-use Rattle.vte_core.proofs.bytes.FirstBytes.{fits}
-use Rattle.vte_core.proofs.bytes.Printable.{printable-nil, printable-append}
-use Rattle.vte_core.specs.machine.Automaton.{AutomatonState, Between, Failed, next_between, next_if_in, next_state, state_after}
-use Rattle.vte_core.proofs.automaton_states.Steps.{wanted_ranges, state_after-append, next_state-failed, phase-between, phase-failed, phase-waiting, phase}
-use Rattle.vte_core.proofs.automaton_states.Begins.{prints, fails, opens, begins}
+use Rattle.vte_core.proofs.Common.{List, [], ap, arith, get_or, length, refl, suc, ℕ, ◌++◌, ◌<◌, ◌∙◌, ◌∷◌, ◌≡◌, ◌≢◌, ◌≤◌, Range, from_to, inl, inr, subst, sym, true, and_parts, cases_Bool, cases_eq, cases_lt, false≢true, nat_tests, is_in, rows_after_byte, utf8_rows, second_range, IsPrintedAscii, IsUtf8Run, is_layout, add-one, append_assoc, cond, drop, length-drop, take, zero, ◌&&◌, ◌+◌, ◌-◌, take-add, append-nil, get_or-drop, take_more, slice_index, Bool, false, length-append, length-take, encodes, encode, All-cons, All-head, All-nil, All-tail, All, StaysInRun, rules}
+use Rattle.vte_core.proofs.bytes.Utf8.{continuation, fits, tests-row, tests-two}
+use Rattle.vte_core.specs.machine.Automaton.{AutomatonState, Between, One, Two, Three, AfterE0, AfterED, AfterF0, AfterF4, AfterC2, Failed, next_if_in, next_between, next_state, state_after}
+use Rattle.vte_core.proofs.bytes.Runs.{each-one, run-ascii, run-layout, printable-nil, printable-append}
+use Rattle.vte_core.proofs.bytes.Scalars.{in_range-bounds}
+use Rattle.vte_core.proofs.dividing.Utf8Agrees.{printable}
+use Rattle.std.proofs.lemmas.List.{get_or-take, get_or-append-add}
+use Rattle.std.proofs.lemmas.Str.{encode_ascii, encodes-chars}
+use Rattle.vte_core.specs.machine.Scans.{Each}
+
+-- ---- one byte after another
+
+-- A state is the list of ranges that the open character still wants (`wanted_ranges`), and a byte in the first of them
+-- takes it off.
+
+-- The ranges of the bytes that end the character.
+abbrev wanted_ranges : AutomatonState → List Range
+wanted_ranges Between = []
+wanted_ranges One = continuation ∷ []
+wanted_ranges Two = continuation ∷ continuation ∷ []
+wanted_ranges Three = continuation ∷ continuation ∷ continuation ∷ []
+wanted_ranges AfterE0 = from_to 0xa0 0xbf ∷ continuation ∷ []
+wanted_ranges AfterED = from_to 0x80 0x9f ∷ continuation ∷ []
+wanted_ranges AfterF0 = from_to 0x90 0xbf ∷ continuation ∷ continuation ∷ []
+wanted_ranges AfterF4 = from_to 0x80 0x8f ∷ continuation ∷ continuation ∷ []
+wanted_ranges AfterC2 = from_to 0xa0 0xbf ∷ []
+wanted_ranges Failed = []
+
+pub state_after-append : (s : AutomatonState) (xs ys : List ℕ)
+    → state_after s (xs ++ ys) ≡ state_after (state_after s xs) ys
+state_after-append s [] ys = refl
+state_after-append s (b ∷ xs) ys = state_after-append (next_state s b) xs ys
+
+pub next_state-failed : (b : ℕ) → next_state Failed b ≡ Failed
+unfolding next_state
+next_state-failed b = refl
+
+-- ---- what one more byte makes of a state
+
+pub data Phase (s : AutomatonState) : Type 0 where
+  phase-between : s ≡ Between → Phase s
+  phase-failed : s ≡ Failed → Phase s
+  phase-waiting : (t : AutomatonState) (range : Range) → s ≢ Between → range.last ≤ 0xbf
+      → wanted_ranges s ≡ range ∷ wanted_ranges t
+      → ((b : ℕ) → next_state s b ≡ next_if_in range t b) → Phase s
+
+pub phase : (s : AutomatonState) → Phase s
+unfolding next_state
+phase Between = phase-between refl
+phase One = phase-waiting Between continuation (λ e. cc) (omega arith) refl (λ b. refl)
+phase Two = phase-waiting One continuation (λ e. cc) (omega arith) refl (λ b. refl)
+phase Three = phase-waiting Two continuation (λ e. cc) (omega arith) refl (λ b. refl)
+phase AfterE0 = phase-waiting One (from_to 0xa0 0xbf) (λ e. cc) (omega arith) refl (λ b. refl)
+phase AfterED = phase-waiting One (from_to 0x80 0x9f) (λ e. cc) (omega arith) refl (λ b. refl)
+phase AfterF0 = phase-waiting Two (from_to 0x90 0xbf) (λ e. cc) (omega arith) refl (λ b. refl)
+phase AfterF4 = phase-waiting Two (from_to 0x80 0x8f) (λ e. cc) (omega arith) refl (λ b. refl)
+phase AfterC2 = phase-waiting Between (from_to 0xa0 0xbf) (λ e. cc) (omega arith) refl (λ b. refl)
+phase Failed = phase-failed refl
+
+-- ---- what a first byte begins
+
+-- Nothing, or a character with these ranges to come, as the rows of UTF-8 say.
+
+-- Bytes in these ranges end the character.
+abbrev EndsCharacter : ℕ → List Range → Type 0
+EndsCharacter b ranges = (u : List ℕ) → fits ranges u ≡ true → IsUtf8Run true (b ∷ u)
+
+-- the row of Unicode's table that the byte has
+ends-row : (b : ℕ) {ranges : List Range} → 0xc3 ≤ b → rows_after_byte b utf8_rows ≡ ranges ∷ [] → EndsCharacter b ranges
+ends-row b {ranges} low same u fit =
+    printable (omega (arith, low)) (λ e. absurd (omega (arith, e, low)))
+    ((tests-row b ranges same u).is_whole ∙ fit)
+
+-- ---- the first bytes
+
+pub data Begins (b : ℕ) : Type 0 where
+  prints : IsUtf8Run true (b ∷ []) → next_between b ≡ Between → Begins b
+  fails : next_between b ≡ Failed → Begins b
+  opens : (t : AutomatonState) → next_between b ≡ t → t ≢ Between → EndsCharacter b (wanted_ranges t) → Begins b
+
+begins-opened : (b : ℕ) (t : AutomatonState) → next_between b ≡ t → t ≢ Between → 0xc3 ≤ b
+    → rows_after_byte b utf8_rows ≡ wanted_ranges t ∷ [] → Begins b
+begins-opened b t is not low same = opens t is not (ends-row b low same)
+
+-- after C2 the table also has controls
+ends-after_c2 : EndsCharacter 0xc2 (from_to 0xa0 0xbf ∷ [])
+unfolding second_range
+ends-after_c2 [] fit = absurd (false≢true fit)
+ends-after_c2 (c ∷ u) fit =
+    let parts = and_parts (is_in (from_to 0xa0 0xbf) c) (fits [] u) fit in
+    printable (omega arith) (λ _. (in_range-bounds (from_to 0xa0 0xbf) c parts.0).0)
+    ((tests-two 0xc2 (omega arith) (omega arith) (c ∷ u)).is_whole ∙ rw parts.1 (grind (arith, nat_tests)))
+
+pub begins : (b : ℕ) → Begins b
+unfolding utf8_rows
+begins b =
+    elim (cases_lt b 0x80) [
+      | inl ascii ↦ elim (cases_lt b 0x20) [
+        | inl control ↦ elim (cases_Bool (is_layout b)) [
+          | inl layout ↦ prints (run-layout (b ∷ []) 0 b (omega arith) refl layout) (rw layout refl)
+          | inr other ↦ fails (grind (arith, nat_tests))
+        ]
+        | inr printed ↦
+            prints (run-ascii true (b ∷ []) 0 1 (each-one IsPrintedAscii (b ∷ []) 0 (printed, ascii)))
+            (grind (arith, nat_tests))
+      ]
+      | inr from_80 ↦ elim (cases_lt b 0xc2) [
+        | inl lone ↦ fails (grind (arith, nat_tests))
+        | inr from_c2 ↦ elim (cases_eq b 0xc2) [
+          | inl c2 ↦ subst Begins (sym c2) (opens AfterC2 refl (λ e. cc) ends-after_c2)
+          | inr past_c2 ↦ elim (cases_lt b 0xe0) [
+            | inl short ↦
+                begins-opened b One (grind (arith, nat_tests)) (λ e. cc) (omega (arith, from_c2, past_c2))
+                (grind (arith, nat_tests))
+            | inr from_e0 ↦ elim (cases_eq b 0xe0) [
+              | inl e0 ↦ subst Begins (sym e0) (begins-opened 0xe0 AfterE0 refl (λ e. cc) (omega arith) refl)
+              | inr past_e0 ↦ elim (cases_lt b 0xf0) [
+                | inl middle ↦ elim (cases_eq b 0xed) [
+                  | inl ed ↦
+                      subst Begins (sym ed) (begins-opened 0xed AfterED refl (λ e. cc) (omega arith) refl)
+                  | inr other ↦
+                      begins-opened b Two (grind (arith, nat_tests)) (λ e. cc) (omega (arith, from_e0))
+                      (grind (arith, nat_tests))
+                ]
+                | inr from_f0 ↦ elim (cases_eq b 0xf0) [
+                  | inl f0 ↦
+                      subst Begins (sym f0) (begins-opened 0xf0 AfterF0 refl (λ e. cc) (omega arith) refl)
+                  | inr past_f0 ↦ elim (cases_lt b 0xf4) [
+                    | inl long ↦
+                        begins-opened b Three (grind (arith, nat_tests)) (λ e. cc) (omega (arith, from_f0))
+                        (grind (arith, nat_tests))
+                    | inr from_f4 ↦ elim (cases_eq b 0xf4) [
+                      | inl f4 ↦
+                          subst Begins (sym f4) (begins-opened 0xf4 AfterF4 refl (λ e. cc) (omega arith) refl)
+                      | inr past_f4 ↦ fails (grind (arith, nat_tests))
+                    ]
+                  ]
+                ]
+              ]
+            ]
+          ]
+        ]
+      ]
+    ]
+
+-- ---- what has been read
 
 -- Up to `end` stand characters; the bytes from there up to `at` are those of one that has begun.
 pub record ReadSoFar (text : List ℕ) (at : ℕ) (s : AutomatonState) : Type 0 where
@@ -16,7 +156,7 @@ pub record ReadSoFar (text : List ℕ) (at : ℕ) (s : AutomatonState) : Type 0 
   pub settled : s ≡ Between → end ≡ at
 
 none-taken : (text : List ℕ) (at end : ℕ) → end ≡ at → take (at - end) (drop end text) ≡ []
-none-taken text at end same = let none : at - end ≡ 0 = omega (arith, same) in rw none refl
+none-taken text at end same = search (rules, arith)
 
 -- Between two characters all of the text is printed.
 so_far-printed : {text : List ℕ} {at : ℕ} → IsUtf8Run true (take at text) → ReadSoFar text at Between
@@ -145,3 +285,32 @@ so_far-all text (suc at) within ok =
     fine (state_after-next text at (omega arith) ∙ ap (λ s. next_state s (slice_index text at)) e
     ∙ next_state-failed (slice_index text at))) in
     rw add-one at (so_far-further text at (omega arith) old fine)
+
+-- ---- a text without HT, LF and CR
+
+abbrev AreAbove : List ℕ → Type 0
+AreAbove bytes = (k : ℕ) → k < length bytes → 0x20 ≤ get_or bytes k 0
+
+stays-above : (c : ℕ) → 0x20 ≤ c → StaysInRun true c → StaysInRun false c
+stays-above c low e = grind (arith, nat_tests)
+
+-- a character below 20 is a byte
+first-above : (c : ℕ) (rest : List ℕ) → AreAbove (encode c ++ rest) → 0x20 ≤ c
+first-above c rest are = search (rules, arith, encode_ascii)
+
+stays-all_above : (cs : List ℕ) → AreAbove (encodes cs) → All (StaysInRun true) cs → All (StaysInRun false) cs
+stays-all_above [] are all = All-nil (StaysInRun false)
+stays-all_above (c ∷ cs) are all =
+    let rest : AreAbove (encodes cs) = λ k l.
+    subst (λ b. 0x20 ≤ b) (get_or-append-add (encode c) (encodes cs) k 0)
+    (are (length (encode c) + k) (omega (arith, l, length-append (encode c) (encodes cs)))) in
+    All-cons (StaysInRun false) c cs
+    (stays-above c (first-above c (encodes cs) are) (All-head (StaysInRun true) c cs all))
+    (stays-all_above cs rest (All-tail (StaysInRun true) c cs all))
+
+-- a run without bytes below 20 has none
+pub run-kept : (layout : Bool) (text : List ℕ) (at end : ℕ) → (layout ≡ false → Each (λ b. 0x20 ≤ b) text 0 at)
+    → end ≤ at
+    → IsUtf8Run true (take end text) → IsUtf8Run layout (take end text)
+run-kept layout text at end low within run =
+    search (rules, arith, length-take, get_or-take, stays-all_above, encodes-chars)

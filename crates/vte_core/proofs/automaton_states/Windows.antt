@@ -1,13 +1,9 @@
 -- What three bytes say of the automaton's state after them, and what one more byte or a block makes of that.
-use Rattle.vte_core.proofs.Common.{Bool, List, arith, drop, false, inl, inr, length, length-drop, refl, subst, suc, sym, take, take-add, true, zero, ℕ, ◌+◌, ◌-◌, ◌<◌, ◌∙◌, ◌∷◌, [], ◌≡◌, ◌≢◌, ◌≤◌, ap, cases_Bool, cases_eq, cases_lt, get_or-drop, nat_tests, slice_index, Range, IsUtf8Run, is_in, from_to, is_layout}
-use Rattle.vte_core.specs.machine.Each.{Each}
-use Rattle.vte_core.proofs.bytes.EachLemmas.{block-byte, each-both}
-use Rattle.vte_core.proofs.bytes.Printable.{printable-nil}
-use Rattle.vte_core.specs.machine.TextRun.{IsRun}
-use Rattle.vte_core.specs.machine.Scans.{IsWindow}
+use Rattle.vte_core.proofs.Common.{Bool, List, arith, drop, false, inl, inr, length, length-drop, refl, subst, suc, sym, take, take-add, true, zero, ℕ, ◌+◌, ◌-◌, ◌<◌, ◌∙◌, ◌∷◌, [], ◌≡◌, ◌≢◌, ◌≤◌, ap, cases_Bool, cases_lt, get_or-drop, nat_tests, slice_index, Range, IsUtf8Run, is_in, from_to, is_layout, rules}
+use Rattle.vte_core.specs.machine.Scans.{Each, IsWindow}
+use Rattle.vte_core.proofs.bytes.Runs.{block-byte, each-both}
 use Rattle.vte_core.specs.declared.reader.Window.{Window}
-use Rattle.vte_core.proofs.automaton_states.Scanned.{so_far-all, state_after-next}
-use Rattle.vte_core.proofs.automaton_states.Steps.{state_after-append, next_state-failed, phase-between, phase-failed, phase-waiting, phase}
+use Rattle.vte_core.proofs.automaton_states.Scanned.{so_far-all, state_after-next, state_after-append, next_state-failed, phase-between, phase-failed, phase-waiting, phase}
 use Rattle.vte_core.specs.machine.Automaton.{state_after, Follows, FollowsAt, IsPlain, open_count, AutomatonState, Between, One, Two, Three, AfterE0, AfterED, AfterF0, AfterF4, AfterC2, Failed, next_between, next_if_in, next_state, Trails}
 
 -- The tests of a byte after three others.
@@ -28,51 +24,13 @@ module _ (t s f b : ℕ) (fit : Fits t s f b) where
   more range next is trails = rw is trails
 
   continues : 0xc0 ≤ f → is_in (from_to 0x80 0xbf) b ≡ true
-  continues high = elim (cases_Bool (is_in (from_to 0x80 0xbf) b)) [
-    | inl is ↦ is
-    | inr not ↦ absurd (omega (arith, high, (fit.inside not).0))
-  ]
+  continues high = search (rules, arith)
 
   begun : (next : AutomatonState) → next_between b ≡ next → Trails next s f b → Trails (next_between b) s f b
   begun next is trails = subst (λ n. Trails n s f b) (sym is) trails
 
   first-byte : Trails Between t s f → Trails (next_between b) s f b
-  first-byte old = elim (cases_lt b 0x80) [
-    | inl ascii ↦ begun Between (elim (cases_lt b 0x20) [
-      | inl control ↦ rw (fit.plain control) refl
-      | inr printed ↦ grind (arith, nat_tests)
-    ]) (omega (arith, ascii), omega (arith, old.0), omega (arith, old.1))
-    | inr from_80 ↦ elim (cases_lt b 0xc0) [
-      | inl continuation ↦ absurd (omega (arith, fit.outside (grind (arith, nat_tests)) old.0 old.1, old.2))
-      | inr from_c0 ↦ elim (cases_eq b 0xc2) [
-        | inl c2 ↦ begun AfterC2 (rw c2 refl) (c2, omega (arith, old.0))
-        | inr past_c2 ↦ elim (cases_lt b 0xe0) [
-          | inl two ↦
-              begun One (grind (arith, nat_tests, fit.lead from_c0))
-              ((λ low _. absurd (omega (arith, low, from_c0))), omega (arith, two), omega (arith, old.0))
-          | inr from_e0 ↦ elim (cases_eq b 0xe0) [
-            | inl e0 ↦ begun AfterE0 (rw e0 refl) e0
-            | inr past_e0 ↦ elim (cases_lt b 0xf0) [
-              | inl three ↦ elim (cases_eq b 0xed) [
-                | inl ed ↦ begun AfterED (rw ed refl) ed
-                | inr other ↦
-                    begun Two (grind (arith, nat_tests))
-                    ((λ low. absurd (omega (arith, low, from_e0))), omega (arith, three))
-              ]
-              | inr from_f0 ↦ elim (cases_eq b 0xf0) [
-                | inl f0 ↦ begun AfterF0 (rw f0 refl) f0
-                | inr past_f0 ↦ elim (cases_eq b 0xf4) [
-                  | inl f4 ↦ begun AfterF4 (rw f4 refl) f4
-                  | inr other ↦
-                      begun Three (grind (arith, nat_tests, fit.lead from_c0)) (omega (arith, from_f0))
-                ]
-              ]
-            ]
-          ]
-        ]
-      ]
-    ]
-  ]
+  first-byte old = search (rules, arith)
 
   pub leads : (state : AutomatonState) → Trails state t s f → Trails (next_state state b) s f b
   unfolding next_state
@@ -133,25 +91,13 @@ Leads bytes from at =
 state-next : (bytes : List ℕ) (from at : ℕ) → from ≤ at → at < length bytes
     → state_after Between (take (at + 1 - from) (drop from bytes))
     ≡ next_state (state_after Between (take (at - from) (drop from bytes))) (slice_index bytes at)
-state-next bytes from at low within =
-    let text : List ℕ = drop from bytes in
-    let size : at + 1 - from ≡ at - from + 1 = omega (arith, low) in
-    let place : from + (at - from) ≡ at = omega (arith, low) in
-    let byte : slice_index text (at - from) ≡ slice_index bytes at =
-    get_or-drop from bytes (at - from) 0 ∙ ap (slice_index bytes) place in
-    ap (λ n. state_after Between (take n text)) size
-    ∙ state_after-next text (at - from) (omega (arith, length-drop from bytes, low, within))
-    ∙ ap (next_state (state_after Between (take (at - from) text))) byte
+state-next bytes from at low within = search (rules, arith, get_or-drop, state_after-next, length-drop)
 
 leads-next : (layout : Bool) (bytes : List ℕ) (from at : ℕ) → from ≤ at → at < length bytes → Leads bytes from at
     → Follows layout (slice_index bytes (at - 3)) (slice_index bytes (at - 2)) (slice_index bytes (at - 1))
     (slice_index bytes at)
     → Leads bytes from (at + 1)
-leads-next layout bytes from at low within old fit =
-    let third : at + 1 - 3 ≡ at - 2 = omega arith in
-    let second : at + 1 - 2 ≡ at - 1 = omega arith in
-    let first : at + 1 - 1 ≡ at = omega arith in
-    rw (state-next bytes from at low within, third, second, first) (fit.leads _ old)
+leads-next layout bytes from at low within old fit = search (rules, arith, state-next)
 
 module _ (layout : Bool) (bytes : List ℕ) (window : Window) (from at : ℕ) (early : 3 ≤ at) (low : from ≤ at)
     (is : IsWindow bytes (at - 3) window) (fit : (k : ℕ) → k < 16 → FollowsAt layout window k) where
@@ -195,22 +141,12 @@ record IsClosed (bytes : List ℕ) (from at : ℕ) : Type 0 where
   third : slice_index bytes (at - 3) < 0xf0
 
 closed-leads : (bytes : List ℕ) (from at : ℕ) → IsClosed bytes from at → Leads bytes from at
-closed-leads bytes from at closed = rw closed.between (closed.first, closed.second, closed.third)
+closed-leads bytes from at closed = search (rules, arith)
 
 closed-next : (bytes : List ℕ) (from at : ℕ) → from ≤ at → at < length bytes
     → IsClosed bytes from at → IsPlain (slice_index bytes at) → IsClosed bytes from (at + 1)
 unfolding next_state
-closed-next bytes from at low within old plain =
-    let third : at - 2 ≡ at + 1 - 3 = omega arith in
-    let second : at - 1 ≡ at + 1 - 2 = omega arith in
-    let first : at ≡ at + 1 - 1 = omega arith in
-    record {
-      between =
-          state-next bytes from at low within ∙ ap (λ s. next_state s (slice_index bytes at)) old.between ∙ plain.0;
-      first = subst (λ n. slice_index bytes n < 0xc0) first (omega (arith, plain.1));
-      second = subst (λ n. slice_index bytes n < 0xe0) second (omega (arith, old.first));
-      third = subst (λ n. slice_index bytes n < 0xf0) third (omega (arith, old.second));
-    }
+closed-next bytes from at low within old plain = search (rules, arith, state-next)
 
 closed-further : (bytes : List ℕ) (from at to : ℕ) → from ≤ at → to ≤ length bytes
     → Each IsPlain bytes at to → IsClosed bytes from at → (n : ℕ) → at + n ≤ to → IsClosed bytes from (at + n)
@@ -223,9 +159,6 @@ closed-further bytes from at to low within plain old (suc n) few =
     (plain (at + n) (omega arith) (omega (arith, few))))
 
 -- ---- the last end
-
-pub run-none : (layout : Bool) (bytes : List ℕ) (from : ℕ) → IsRun layout bytes from from
-run-none layout bytes from = let none : from - from ≡ 0 = omega arith in rw none (printable-nil layout)
 
 failed-for_good : (bytes : List ℕ) → state_after Failed bytes ≡ Failed
 unfolding next_state
@@ -267,12 +200,7 @@ trails-going _ third second first trails e = cc
 
 trails-between : (s : AutomatonState) (third second first : ℕ) → Trails s third second first → first < 0xc0
     → second < 0xe0 → third < 0xf0 → s ≡ Between
-trails-between Between third second first trails f s t = refl
-trails-between One third second first trails f s t = absurd (omega (arith, trails.0 f s, t))
-trails-between Two third second first trails f s t = absurd (omega (arith, trails.0 (omega (arith, f)), s))
-trails-between AfterC2 third second first trails f s t = absurd (omega (arith, trails.0, f))
-trails-between Failed third second first trails f s t = absurd trails
-trails-between _ third second first trails f s t = absurd (omega (arith, trails, f))
+trails-between s third second first trails f g t = search (rules, arith)
 
 -- Bytes of ASCII that no character is open before lead on.
 pub leads-ascii : (bytes : List ℕ) (from at to : ℕ) → from ≤ at → at ≤ to → to ≤ length bytes

@@ -6,17 +6,17 @@ use Rattle.std.proofs.lemmas.Nat.{and_le_r, le_bytes_8}
 use Rattle.std.proofs.lemmas.Nat.Bits.{bit_at_and, bit_at_or, bit_at-lt}
 use Rattle.std.specs.Int.{bit_at, from_le_bytes, to_le_bytes}
 use Rattle.std.specs.Prelude.{bit_and, bit_or}
-use Rattle.vte_core.specs.machine.TextRun.{IsPrintedAscii, ArePrintedAscii}
+use Rattle.vte_core.specs.machine.Scans.{IsPrintedAscii, ArePrintedAscii}
 
 -- 0x20 is subtracted from each byte: 0xdfdfdfdfdfdfdfe0 is 2 ^ 64 - 0x2020202020202020
 abbrev pub less : ℕ → ℕ
 less word = (word + 0xdfdfdfdfdfdfdfe0) % 2 ^ 64
 
 -- bit 7 of each byte
-abbrev pub mask : ℕ
+abbrev mask : ℕ
 mask = 0x8080808080808080
 
-abbrev pub marks_of : ℕ → ℕ
+abbrev marks_of : ℕ → ℕ
 marks_of word = bit_and (bit_or (less word) word) mask
 
 mask_at : (k : ℕ) → k < 8 → bit_at mask (8 * k + 7) ≡ 1

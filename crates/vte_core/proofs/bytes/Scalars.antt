@@ -1,6 +1,9 @@
--- The number of a well-formed sequence is that of a character: of its bytes, each in its range, the sum has bounds.
-use Rattle.vte_core.proofs.Common.{◌≡◌, ℕ, suc, ◌<◌, ◌≤◌, true, ◌&&◌, List, [], ◌∷◌, length, refl, sym, ap, ◌∙◌, arith, inl, inr, nat_le, low_scalar, IsScalar, InScalarRange, false≢true, leb-true, and_parts, cases_lt, cases_eq, nat_tests, Range, is_in, is_well_formed, scalar_of, second_range, utf8_rows}
-use Rattle.vte_core.proofs.bytes.FirstBytes.{continuation, fits, FirstByte, ascii, lone, of_two, of_three, of_four, first_byte, tests-none, tests-ascii, tests-two, tests-three, tests-four}
+-- The number of a well-formed sequence is that of a character: of its bytes, each in its range, the sum has bounds. So
+-- too with one more byte of an unfinished one.
+use Rattle.vte_core.proofs.Common.{◌≡◌, ℕ, suc, ◌<◌, ◌≤◌, true, ◌&&◌, List, [], ◌∷◌, length, refl, sym, ap, ◌∙◌, arith, inl, inr, IsScalar, InScalarRange, false≢true, and_parts, cases_lt, nat_tests, Range, is_in, is_well_formed, scalar_of, second_range, utf8_rows, ◌+◌, ◌*◌, ◌%◌, false, ◌++◌, subst, and_from, Two, Three, from_to, is_truncated, Carries, rules}
+use Rattle.vte_core.proofs.bytes.Utf8.{continuation, fits, FirstByte, ascii, lone, of_two, of_three, of_four, first_byte, tests-none, tests-ascii, tests-two, tests-three, tests-four, second_plain, rows-lone, rows-none, Tests, truncated-first, truncated-two, truncated-three}
+use Rattle.vte_core.specs.declared.utf8.Carried.{Carried}
+use Rattle.vte_core.specs.declared.utf8.Carried.TheVariants.{Unfinished, Whole, Broken}
 
 -- ---- numbers from ranges
 
@@ -13,9 +16,7 @@ pub record SecondByte (a b : ℕ) : Type 0 where
   pub not_past_the_last : a ≡ 0xf4 → b ≤ 0x8f
 
 pub in_range-bounds : (range : Range) (b : ℕ) → is_in range b ≡ true → (range.first ≤ b) × (b ≤ range.last)
-in_range-bounds range b fits =
-    let parts : (nat_le range.first b ≡ true) × (nat_le b range.last ≡ true) = and_parts _ _ fits in
-    (leb-true _ _ parts.0, leb-true _ _ parts.1)
+in_range-bounds range b fits = search (rules, arith)
 
 abbrev pub IsContinuation : ℕ → Type 0
 IsContinuation b = (0x80 ≤ b) × (b ≤ 0xbf)
@@ -23,16 +24,9 @@ IsContinuation b = (0x80 ≤ b) × (b ≤ 0xbf)
 pub continuation-bounds : (b : ℕ) → is_in continuation b ≡ true → IsContinuation b
 continuation-bounds b fits = in_range-bounds continuation b fits
 
-pub second_byte : {a b : ℕ} → is_in (second_range a) b ≡ true → SecondByte a b
+second_byte : {a b : ℕ} → is_in (second_range a) b ≡ true → SecondByte a b
 unfolding second_range
-second_byte fits = record {
-  low = grind (arith, nat_tests);
-  high = grind (arith, nat_tests);
-  not_overlong_three = λ e. grind (arith, nat_tests);
-  not_surrogate = λ e. grind (arith, nat_tests);
-  not_overlong_four = λ e. grind (arith, nat_tests);
-  not_past_the_last = λ e. grind (arith, nat_tests);
-}
+second_byte fits = search (rules, arith)
 
 -- ---- the character of a well-formed sequence
 
@@ -41,25 +35,11 @@ in_range-two a b low high second = inl (omega arith)
 
 in_range-three : (a b c : ℕ) → 0xe0 ≤ a → a < 0xf0 → SecondByte a b → IsContinuation c
     → InScalarRange (scalar_of (a ∷ b ∷ c ∷ []))
-in_range-three a b c low high second third =
-    elim (cases_lt a 0xed) [
-      | inl below ↦ inl (omega arith)
-      | inr from_ed ↦ elim (cases_eq a 0xed) [
-        | inl is_ed ↦ let b_high : b ≤ 0x9f = second.not_surrogate is_ed in inl (omega arith)
-        | inr ed ↦ inr (omega arith, omega arith)
-      ]
-    ]
+in_range-three a b c low high second third = search (rules, arith)
 
 in_range-four : (a b c d : ℕ) → 0xf0 ≤ a → a < 0xf5 → SecondByte a b → IsContinuation c → IsContinuation d
     → InScalarRange (scalar_of (a ∷ b ∷ c ∷ d ∷ []))
-in_range-four a b c d low high second third fourth =
-    elim (cases_eq a 0xf0) [
-      | inl is_f0 ↦ let b_low : 0x90 ≤ b = second.not_overlong_four is_f0 in inr (omega arith, omega arith)
-      | inr f0 ↦ elim (cases_eq a 0xf4) [
-        | inl is_f4 ↦ let b_high : b ≤ 0x8f = second.not_past_the_last is_f4 in inr (omega arith, omega arith)
-        | inr f4 ↦ inr (omega arith, omega arith)
-      ]
-    ]
+in_range-four a b c d low high second third fourth = search (rules, arith)
 
 -- as many bytes as ranges
 fits-length : (ranges : List Range) (u : List ℕ) → fits ranges u ≡ true → length u ≡ length ranges
@@ -79,15 +59,14 @@ pub data Sequence (p : List ℕ) : Type 0 where
 
 fit-two : (a : ℕ) (u : List ℕ) → 0xc2 ≤ a → a < 0xe0 → fits (second_range a ∷ []) u ≡ true → Sequence (a ∷ u)
 fit-two a (b ∷ []) low high fit = whole_two a b refl low high (second_byte (and_parts _ _ fit).0)
-fit-two a u low high fit = let one : length u ≡ 1 = fits-length (second_range a ∷ []) u fit in absurd (omega arith)
+fit-two a u low high fit = search (rules, arith, fits-length)
 
 fit-three : (a : ℕ) (u : List ℕ) → 0xe0 ≤ a → a < 0xf0 → fits (second_range a ∷ continuation ∷ []) u ≡ true
     → Sequence (a ∷ u)
 fit-three a (b ∷ c ∷ []) low high fit =
     let parts : (is_in (second_range a) b ≡ true) × ((is_in continuation c && true) ≡ true) = and_parts _ _ fit in
     whole_three a b c refl low high (second_byte parts.0) (continuation-bounds c (and_parts _ _ parts.1).0)
-fit-three a u low high fit = let two : length u ≡ 2 = fits-length (second_range a ∷ continuation ∷ []) u fit in
-    absurd (omega arith)
+fit-three a u low high fit = search (rules, arith, fits-length, continuation)
 
 fit-four : (a : ℕ) (u : List ℕ) → 0xf0 ≤ a → a < 0xf5
     → fits (second_range a ∷ continuation ∷ continuation ∷ []) u ≡ true → Sequence (a ∷ u)
@@ -97,9 +76,7 @@ fit-four a (b ∷ c ∷ d ∷ []) low high fit =
     let rest : (is_in continuation c ≡ true) × ((is_in continuation d && true) ≡ true) = and_parts _ _ parts.1 in
     whole_four a b c d refl low high (second_byte parts.0) (continuation-bounds c rest.0)
     (continuation-bounds d (and_parts _ _ rest.1).0)
-fit-four a u low high fit =
-    let three : length u ≡ 3 = fits-length (second_range a ∷ continuation ∷ continuation ∷ []) u fit in
-    absurd (omega arith)
+fit-four a u low high fit = search (rules, arith, fits-length, continuation)
 
 by_first : (a : ℕ) (u : List ℕ) → FirstByte a → is_well_formed (a ∷ u) ≡ true → Sequence (a ∷ u)
 by_first a [] (ascii high) whole = whole_one a refl high
@@ -114,17 +91,120 @@ unfolding is_well_formed utf8_rows
 sequence [] whole = absurd (false≢true whole)
 sequence (a ∷ u) whole = by_first a u (first_byte a) whole
 
-pub scalar_of-in_range : (p : List ℕ) → is_well_formed p ≡ true → InScalarRange (scalar_of p)
-scalar_of-in_range p whole = elim (sequence p whole) [
-  | whole_one a is high ↦ rw is (inl (omega arith))
-  | whole_two a b is low high second ↦ rw is (in_range-two a b low high second)
-  | whole_three a b c is low high second third ↦ rw is (in_range-three a b c low high second third)
-  | whole_four a b c d is low high second third fourth ↦ rw is (in_range-four a b c d low high second third fourth)
-]
+scalar_of-in_range : (p : List ℕ) → is_well_formed p ≡ true → InScalarRange (scalar_of p)
+scalar_of-in_range p whole = search (rules, arith, sequence, in_range-two, in_range-three, in_range-four)
 
 is_scalar : (c : ℕ) → InScalarRange c → IsScalar c
-is_scalar c (inl low) = low_scalar c low
-is_scalar c (inr high) = grind (arith, nat_tests)
+is_scalar c i = search (rules, arith)
 
 pub well_formed_is_scalar : (p : List ℕ) → is_well_formed p ≡ true → IsScalar (scalar_of p)
 well_formed_is_scalar p well = is_scalar (scalar_of p) (scalar_of-in_range p well)
+
+-- ---- one more byte
+
+-- What one more byte makes of an unfinished character, by the ranges of its bytes: a well-formed sequence, a longer
+-- truncated one, or neither. Each is computed from the rows that its first byte leaves.
+
+-- ---- nothing
+
+pub first_truncated : (b : ℕ) → 0xc2 ≤ b → b < 0xf5 → is_truncated (b ∷ []) ≡ true
+unfolding is_truncated utf8_rows
+first_truncated b low high = grind (arith, nat_tests)
+
+-- a byte that begins no sequence and is none
+pub begins_none : (b : ℕ) → 0x80 ≤ b → is_in (from_to 0xc2 0xf4) b ≡ false → Tests (b ∷ []) false false
+begins_none b high no_lead = elim (cases_lt b 0xc2) [
+  | inl below ↦ tests-none b (rows-lone b high below) []
+  | inr from_c2 ↦ tests-none b (rows-none b (grind (arith, nat_tests))) []
+]
+
+-- ---- a character made of its bytes
+
+-- the bytes are a well-formed sequence, and the number is its character's
+pub record Spells (p : List ℕ) (number : ℕ) : Type 0 where
+  pub is_whole : is_well_formed p ≡ true
+  pub same : number ≡ scalar_of p
+
+pub spells-two : {a b : ℕ} → 0xc2 ≤ a → a < 0xe0 → is_in continuation b ≡ true
+    → Spells (a ∷ b ∷ []) (a % 32 * 0x40 + b % 64)
+unfolding is_well_formed utf8_rows
+spells-two {a} {b} low high second = search (rules, arith)
+
+pub spells-three : {a b c : ℕ} → 0xe0 ≤ a → a < 0xf0 → is_in (second_range a) b ≡ true → is_in continuation c ≡ true
+    → Spells (a ∷ b ∷ c ∷ []) ((a % 16 * 0x40 + b % 64) * 0x40 + c % 64)
+spells-three {a} {b} {c} low high second third =
+    search (rules, arith, second_byte, continuation-bounds, tests-three, and_from)
+
+pub spells-four : {a b c d : ℕ} → 0xf0 ≤ a → a < 0xf5 → is_in (second_range a) b ≡ true → is_in continuation c ≡ true
+    → is_in continuation d ≡ true
+    → Spells (a ∷ b ∷ c ∷ d ∷ []) (((a % 8 * 0x40 + b % 64) * 0x40 + c % 64) * 0x40 + d % 64)
+spells-four {a} {b} {c} {d} low high second third fourth =
+    search (rules, arith, second_byte, continuation-bounds, tests-four, and_from)
+
+pub spells-scalar : (p : List ℕ) (number : ℕ) → Spells p number → IsScalar number
+spells-scalar p number spells = subst IsScalar (sym spells.same) (well_formed_is_scalar p spells.is_whole)
+
+-- the same number, by another name
+pub spells-same : {p : List ℕ} {number other : ℕ} → Spells p number → other ≡ number → Spells p other
+spells-same spells same = search (rules, arith)
+
+-- what is made of a well-formed sequence's number
+whole_by : (u : List ℕ) (b : ℕ) {number : ℕ} (r : Carried) → Spells (u ++ b ∷ []) number
+    → (InScalarRange number → r ≡ Whole number) → Carries u b r
+whole_by u b r spells makes = search (rules, arith, scalar_of-in_range)
+
+-- ---- one byte
+
+pub second-broken : (a b : ℕ) → is_truncated (a ∷ []) ≡ true → is_in (second_range a) b ≡ false
+    → Carries (a ∷ []) b Broken
+unfolding is_well_formed is_truncated utf8_rows second_range
+second-broken a b more misfits = (grind (arith, nat_tests), grind (arith, nat_tests))
+
+-- a byte that may stand after no first byte
+pub second-lone : (a b : ℕ) → is_in continuation b ≡ false → is_in (second_range a) b ≡ false
+unfolding second_range
+second-lone a b misfits = grind (arith, nat_tests)
+
+pub second-whole : (a b number : ℕ) (r : Carried) → is_truncated (a ∷ []) ≡ true
+    → is_in (second_range a) b ≡ true → a < 0xe0
+    → number ≡ a % 32 * 0x40 + b % 64 → (InScalarRange number → r ≡ Whole number) → Carries (a ∷ []) b r
+second-whole a b number r more second below same makes =
+    search (rules, arith, truncated-first, continuation, second_plain, whole_by, spells-same, spells-two)
+
+pub second-open : (a b : ℕ) → is_truncated (a ∷ []) ≡ true → is_in (second_range a) b ≡ true → 0xe0 ≤ a
+    → Carries (a ∷ []) b (Unfinished (Two a b))
+unfolding is_truncated utf8_rows second_range
+second-open a b more second low = (refl, grind (arith, nat_tests))
+
+-- ---- two bytes
+
+pub third-broken : (a b c : ℕ) → is_truncated (a ∷ b ∷ []) ≡ true → is_in continuation c ≡ false
+    → Carries (a ∷ b ∷ []) c Broken
+unfolding is_well_formed is_truncated utf8_rows
+third-broken a b c more misfits = (grind (arith, nat_tests), grind (arith, nat_tests))
+
+pub third-whole : (a b c number : ℕ) (r : Carried) → is_truncated (a ∷ b ∷ []) ≡ true
+    → is_in continuation c ≡ true → a < 0xf0
+    → number ≡ (a % 16 * 0x40 + b % 64) * 0x40 + c % 64 → (InScalarRange number → r ≡ Whole number)
+    → Carries (a ∷ b ∷ []) c r
+third-whole a b c number r more third below same makes =
+    search (rules, arith, truncated-two, whole_by, spells-same, spells-three)
+
+pub third-open : (a b c : ℕ) → is_truncated (a ∷ b ∷ []) ≡ true → is_in continuation c ≡ true → 0xf0 ≤ a
+    → Carries (a ∷ b ∷ []) c (Unfinished (Three a b c))
+unfolding is_truncated utf8_rows
+third-open a b c more third low = (refl, grind (arith, nat_tests))
+
+-- ---- three bytes
+
+pub fourth-broken : (a b c d : ℕ) → is_truncated (a ∷ b ∷ c ∷ []) ≡ true → is_in continuation d ≡ false
+    → Carries (a ∷ b ∷ c ∷ []) d Broken
+unfolding is_well_formed is_truncated utf8_rows
+fourth-broken a b c d more misfits = (grind (arith, nat_tests), grind (arith, nat_tests))
+
+pub fourth-whole : (a b c d number : ℕ) (r : Carried) → is_truncated (a ∷ b ∷ c ∷ []) ≡ true
+    → is_in continuation d ≡ true
+    → number ≡ ((a % 8 * 0x40 + b % 64) * 0x40 + c % 64) * 0x40 + d % 64 → (InScalarRange number → r ≡ Whole number)
+    → Carries (a ∷ b ∷ c ∷ []) d r
+fourth-whole a b c d number r more fourth same makes =
+    search (rules, arith, truncated-three, whole_by, spells-same, spells-four)

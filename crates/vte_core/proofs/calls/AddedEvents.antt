@@ -1,16 +1,16 @@
 -- What is reported from position to position. A call is followed with a performer that keeps all events; so what any
 -- performer receives is a function of the bytes, and a stretch that reports no run is known by its events.
-use Rattle.vte_core.proofs.Common.{◌≡◌, ℕ, ◌+◌, ◌<◌, inl, inr, false, Option, List, [], ◌∷◌, ◌++◌, length, take, refl, ap, sym, ◌∙◌, append_assoc, append-nil, arith, cases_Bool, slice_index, false≢true, All, All-append, All-cons, All-nil, Event, Print, replacement, after, added, reported_before, resumed_stream, breaks_at, State, Text, DeviceData, Machine, StandsBy, StandsAt, StandsInside, BytesLead, ChunkCall, chunk_call, Place, InText, InDeviceData, IsAfter, AddsOutsideRuns, IsOutsideRuns}
-use Rattle.vte_core.specs.machine.Completes.{AddsCharacter}
-use Rattle.vte_core.specs.machine.Progress.{HasProgress}
+use Rattle.vte_core.proofs.Common.{◌≡◌, ℕ, ◌+◌, ◌<◌, inl, inr, false, Option, List, [], ◌∷◌, ◌++◌, length, take, refl, ap, sym, ◌∙◌, append_assoc, append-nil, arith, cases_Bool, slice_index, false≢true, All, All-append, All-cons, All-nil, Event, Print, replacement, after, added, reported_before, resumed_stream, breaks_at, State, Machine, StandsBy, StandsAt, StandsInside, BytesLead, ChunkCall, chunk_call, Place, IsAfter, AddsOutsideRuns, IsOutsideRuns, drop, subst, All-drop, HasReadWithLimit, IsSettled, open_character, ReportsOutsideRuns, PrintsNoAscii, rules}
+use Rattle.vte_core.specs.machine.Progress.{AddsCharacter, HasProgress}
 use Rattle.vte_core.specs.machine.ToRun.{IsReadOutsideRuns}
-use Rattle.vte_core.proofs.calls.Progress.{stretch-added}
+use Rattle.vte_core.proofs.calls.Progress.{stretch-added, starts-at}
 use Rattle.vte_core.proofs.fields.PlaceOfState.{IsPlace}
 use Rattle.vte_core.proofs.places.PlaceSteps.{steps}
 use Rattle.vte_core.proofs.places.TextSteps.{AreOutsideRuns, IsOutsideRunsAt}
-use Rattle.vte_core.proofs.shapes.Reported.{reported-settled, reported-broken}
-use Rattle.vte_core.proofs.bytes.EachLemmas.{one_byte}
-use Rattle.vte_core.proofs.streams.After.{added-reads}
+use Rattle.vte_core.proofs.Shapes.{reported-settled, reported-broken}
+use Rattle.vte_core.proofs.bytes.Runs.{one_byte}
+use Rattle.vte_core.proofs.streams.After.{added-reads, added-nothing}
+use Rattle.vte_core.proofs.streams.StreamSteps.{prints_no_ascii, prints_no_ascii-all, prints_no_ascii-character}
 
 -- ---- a performer that keeps all events
 
@@ -63,24 +63,14 @@ outside_runs-all (event ∷ next ∷ events) are = All-cons IsOutsideRuns event 
 
 pub outside_runs-place : {B : Type 0} (limit : Option ℕ) (state : State) (parser : Machine B) (place : Place) (b : ℕ)
     → IsReadOutsideRuns state b → StandsBy limit state parser place → IsOutsideRunsAt place b
-outside_runs-place limit (Text u) parser place b outside s = absurd outside
-outside_runs-place limit DeviceData parser InDeviceData b outside s = outside
-outside_runs-place limit _ parser (InText u) b outside s = absurd s
-outside_runs-place limit _ parser InDeviceData b outside s = absurd s
-outside_runs-place limit _ parser _ b outside s = tt
+outside_runs-place limit state parser place b outside s = search (rules, arith)
 
 -- ---- what is reported between two positions
 
 module _ {limit : Option ℕ} {stream bytes : List ℕ} {i : ℕ} where
   pub adds-same : {j : ℕ} → reported_before limit stream bytes i ≡ reported_before limit stream bytes j
       → AddsOutsideRuns limit stream bytes i j
-  adds-same e =
-      record {
-        events = [];
-        events_are = All-nil IsOutsideRuns;
-        parts = sym e
-            ∙ sym (append-nil (reported_before limit stream bytes i));
-      }
+  adds-same e = search (rules, arith)
 
   pub adds-then : {j k : ℕ} → AddsOutsideRuns limit stream bytes i j
       → AddsOutsideRuns limit stream bytes j k → AddsOutsideRuns limit stream bytes i k
@@ -134,10 +124,66 @@ module _ {limit : Option ℕ} {stream bytes : List ℕ} {i : ℕ} where
   pub adds-character : {begun : List ℕ} {j : ℕ} (a : AddsCharacter limit stream begun bytes (i + 1) j)
       → reported_before limit stream bytes i ≡ added limit stream (take (i + 1) bytes) → All IsOutsideRuns a.events
       → AddsOutsideRuns limit stream bytes i j
-  adds-character a silent are =
-      record {
-        events = a.events;
-        events_are = are;
-        parts = a.parts
-            ∙ ap (λ (es : List Event). es ++ a.events) (sym silent);
-      }
+  adds-character a silent are = search (rules, arith)
+
+-- ---- before a run
+
+-- Nothing at the start, then what an open character is, then stretches of which each reports none.
+
+abbrev AllAfterFirst : List Event → Type 0
+AllAfterFirst events = All IsOutsideRuns (drop 1 events)
+
+after_first-append : (reported events : List Event) → AllAfterFirst reported → All IsOutsideRuns events
+    → AllAfterFirst (reported ++ events)
+after_first-append [] events first are = All-drop IsOutsideRuns 1 events are
+after_first-append (event ∷ reported) events first are = All-append IsOutsideRuns reported events first are
+
+-- nothing, at its start
+pub reports-nothing : {B : Type 0} {limit : Option ℕ} {stream bytes : List ℕ} {parser : Machine B}
+    → IsSettled parser.state → HasReadWithLimit limit parser stream → ReportsOutsideRuns limit stream bytes 0
+reports-nothing {limit} {stream} {bytes} settled h =
+    let none : [] ≡ reported_before limit stream bytes 0 =
+    reported-at (starts-at {call = keeping limit bytes} settled h) in
+    record {
+      outside_runs = λ _. subst (All IsOutsideRuns) none (All-nil IsOutsideRuns);
+      after_first = subst AllAfterFirst none (All-nil IsOutsideRuns);
+      no_ascii = subst (All PrintsNoAscii) none (All-nil PrintsNoAscii);
+    }
+
+-- what an open character is
+pub reports-open : {limit : Option ℕ} {stream begun bytes : List ℕ} {j : ℕ} → AddsCharacter limit stream begun bytes 0 j
+    → (open_character stream ≡ [] → ⊥) → ReportsOutsideRuns limit stream bytes j
+reports-open {limit} {stream} {bytes} {j} a opened =
+    let all : reported_before limit stream bytes j ≡ a.events =
+    a.parts ∙ ap (λ (es : List Event). es ++ a.events) (added-nothing limit stream) in
+    record {
+      outside_runs = λ none. absurd (opened none);
+      after_first = subst AllAfterFirst (sym all) (elim a.events_are [
+        | inl others ↦ All-drop IsOutsideRuns 1 a.events others
+        | inr whole ↦ subst AllAfterFirst (sym whole.same) (All-nil IsOutsideRuns)
+      ]);
+      no_ascii = subst (All PrintsNoAscii) (sym all) (elim a.events_are [
+        | inl others ↦ prints_no_ascii-all a.events others
+        | inr whole ↦
+            subst (All PrintsNoAscii) (sym whole.same)
+            (prints_no_ascii-character _ (prints_no_ascii _ whole.well whole.long))
+      ]);
+    }
+
+-- what is reported up to position i, and what follows up to position j
+pub reports-more : {limit : Option ℕ} {stream bytes : List ℕ} {i j : ℕ} → ReportsOutsideRuns limit stream bytes i
+    → AddsOutsideRuns limit stream bytes i j → ReportsOutsideRuns limit stream bytes j
+reports-more {limit} {stream} {bytes} {i} t a = record {
+  outside_runs =
+      λ none.
+      subst (All IsOutsideRuns) (sym a.parts)
+      (All-append IsOutsideRuns (reported_before limit stream bytes i) a.events (t.outside_runs none)
+      a.events_are);
+  after_first =
+      subst AllAfterFirst (sym a.parts)
+      (after_first-append (reported_before limit stream bytes i) a.events t.after_first a.events_are);
+  no_ascii =
+      subst (All PrintsNoAscii) (sym a.parts)
+      (All-append PrintsNoAscii (reported_before limit stream bytes i) a.events t.no_ascii
+      (prints_no_ascii-all a.events a.events_are));
+}

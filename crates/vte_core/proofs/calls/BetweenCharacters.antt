@@ -1,19 +1,19 @@
 -- A byte between characters: it is one (`performs-printed`), a control or malformed (`performs-single`), or the first
 -- of one (`performs-opened`). What the code does is what `places/PlaceLeads` says of the byte, and the parser is at the
 -- next place. A single byte reports nothing that a run would, after a stretch (`advances-single`).
-use Rattle.vte_core.proofs.Common.{◌≡◌, ◌≢◌, ℕ, ◌+◌, ◌<◌, ◌≤◌, inl, inr, true, false, Option, List, [], ◌∷◌, length, refl, ap, sym, subst, ◌∙◌, arith, cases_lt, nat_tests, slice_index, Advances, Machine, Text, Nothing, Event, Print, replacement, StandsAtPlace, TakesBytes, Place, InText, IsSettledPlace, Carries, escape, character_event, malformed_event, from_to, is_in, is_truncated, is_well_formed, Unfinished, All-cons, All-nil, IsOutsideRuns, Execute, is_control_character, AddsOutsideRuns, IsAfter, resumed_stream, BytesLead, All, cases_Bool, ChunkCall}
+use Rattle.vte_core.proofs.Common.{◌≡◌, ◌≢◌, ℕ, ◌+◌, ◌<◌, ◌≤◌, inl, inr, true, false, Option, List, [], ◌∷◌, length, refl, ap, sym, subst, ◌∙◌, arith, cases_lt, nat_tests, slice_index, Advances, Machine, Text, Nothing, Event, Print, StandsAtPlace, TakesBytes, Place, InText, IsSettledPlace, Carries, escape, character_event, malformed_event, from_to, is_in, is_truncated, is_well_formed, Unfinished, IsOutsideRuns, AddsOutsideRuns, IsAfter, resumed_stream, BytesLead, All, ChunkCall, suc, drop, drop_more, take, HasNoRunAt, One, false≢true, rules}
 use Rattle.vte_core.specs.declared.utf8.Carried.TheVariants.{Unfinished as StillUnfinished}
-use Rattle.vte_core.proofs.bytes.CarriedLemmas.{begins_none}
-use Rattle.vte_core.proofs.bytes.FirstBytes.{ascii-alone}
+use Rattle.vte_core.proofs.bytes.Scalars.{begins_none, first_truncated}
+use Rattle.vte_core.proofs.bytes.Utf8.{ascii-alone}
 use Rattle.vte_core.proofs.fields.PlaceOfState.{stands-by}
-use Rattle.vte_core.proofs.calls.CallEnds.{settled-by}
-use Rattle.vte_core.proofs.calls.Stretches.{advances-byte, advances-reporting, advances-then, not_escape, performs-begun}
-use Rattle.vte_core.specs.machine.Prelude.{MayReadByte}
-use Rattle.vte_core.proofs.calls.States.{place-settled_text}
+use Rattle.vte_core.proofs.calls.Progress.{settled-by, place-settled_text}
+use Rattle.vte_core.proofs.calls.Stretches.{advances-byte, advances-reporting, advances-then, not_escape, performs-begun, reads-byte_at}
+use Rattle.vte_core.specs.machine.Prelude.{MayReadByte, Completes}
 use Rattle.vte_core.proofs.places.PlaceLeads.{text-lone, text-unfinished, text-whole}
-use Rattle.vte_core.proofs.streams.OutsideRuns.{outside_runs-control}
-use Rattle.vte_core.proofs.calls.AddedEvents.{adds-reads}
-use Rattle.vte_core.proofs.places.StreamLemmas.{reads-byte}
+use Rattle.vte_core.proofs.streams.StreamSteps.{outside_runs-control}
+use Rattle.vte_core.proofs.calls.AddedEvents.{adds-reads, added-inside, adds-character, keep, keeps-at, keeping}
+use Rattle.vte_core.proofs.places.TextSteps.{reads-byte}
+use Rattle.vte_core.proofs.calls.Characters.{in_text}
 
 character_event-printed : (b : ℕ) → is_in (from_to 0x20 0x7f) b ≡ true → character_event b ≡ Print b
 unfolding character_event
@@ -71,7 +71,7 @@ module _ {V B : Type 0} {step : V → Event → V} {old new : V} {limit : Option
   ]
 
 -- a byte that begins a longer one
-pub performs-opened : {V B : Type 0} {step : V → Event → V} {value : V} {limit : Option ℕ} {b : ℕ} {v : Unfinished}
+performs-opened : {V B : Type 0} {step : V → Event → V} {value : V} {limit : Option ℕ} {b : ℕ} {v : Unfinished}
     {parser next : Machine B} → parser.state ≡ Text Nothing
     → b ≢ escape → Carries [] b (StillUnfinished v) → next.state ≡ Text v → (place : Place)
     → StandsAtPlace limit parser place
@@ -97,10 +97,7 @@ record Single (limit : Option ℕ) (b : ℕ) : Type 0 where
 
 outside_runs-malformed : (b : ℕ) → All IsOutsideRuns (malformed_event (b ∷ []) ∷ [])
 unfolding malformed_event
-outside_runs-malformed b = elim (cases_Bool (is_control_character b)) [
-  | inl is ↦ rw is (All-cons IsOutsideRuns (Execute b) [] tt (All-nil IsOutsideRuns))
-  | inr is ↦ rw is (All-cons IsOutsideRuns (Print replacement) [] refl (All-nil IsOutsideRuns))
-]
+outside_runs-malformed b = search (rules, arith)
 
 byte-single : (limit : Option ℕ) (b : ℕ) → b ≢ escape → is_in (from_to 0x20 0x7f) b ≡ false
     → is_in (from_to 0xc2 0xf4) b ≡ false
@@ -147,3 +144,40 @@ advances-single before r n other no_lead control malformed =
     (advances-byte r.within r.looked_at r.may_go_on (performs-single r.begun n no_lead control malformed)
     (settled-by r.begun tt))
     (λ stream place s. adds-single _ r.begun n other no_lead r.within r.looked_at s))
+
+-- ---- what a character reports that a lead byte begins
+
+-- A call that completes it from the second byte on (`Completes`) does from the first what any call does (`Advances`).
+-- What it reports is no printed character where no run could begin.
+
+-- by what completes the character that the first byte begins
+pub advances-first : {V B given : Type 0} {call : ChunkCall V} {old new : V} {i j first : ℕ} {parser next : Machine B}
+    → MayReadByte call old (Text Nothing) parser i first → 0xc2 ≤ first → first < 0xf5
+    → Completes call old new (i + 1) j (One first) next
+    → Advances (given × HasNoRunAt false call.bytes i) call old new i j parser next
+advances-first {call} {i} {first} {parser} r lead fits completes = record {
+  goes_on = λ value stream s.
+      completes.stands_at value stream (in_text parser (One first)) refl
+      (reads-byte_at r.within r.looked_at r.may_go_on
+      (performs-opened r.begun (λ e. omega (arith, e, lead)) (refl, first_truncated first lead fits) refl) s);
+  settled = λ within. settled-by (completes.text within) tt;
+  outside_runs = λ given value stream s.
+      let inside =
+      reads-byte_at r.within r.looked_at r.may_go_on
+      (performs-opened r.begun (λ e. omega (arith, e, lead)) (refl, first_truncated first lead fits) refl) s in
+      let silent = reads-byte_at {call = keeping call.limit call.bytes} r.within r.looked_at
+      (λ does. absurd (false≢true does))
+      (performs-opened {step = keep} r.begun (λ e. omega (arith, e, lead)) (refl, first_truncated first lead fits) refl)
+      (keeps-at s) in
+      let reported = completes.adds value stream (in_text parser (One first)) refl inside in
+      adds-character reported (added-inside {parser = in_text parser (One first)} silent) (elim reported.events_are [
+        | inl others ↦ others
+        | inr whole ↦
+            let cut : take (whole.n + 1) (drop i call.bytes) ≡ first ∷ take whole.n (drop (i + 1) call.bytes) =
+            ap (λ n. take n (drop i call.bytes)) (let e : whole.n + 1 ≡ suc whole.n = omega arith in e)
+            ∙ ap (take (suc whole.n)) (drop_more call.bytes i 0 r.within)
+            ∙ ap (λ x. x ∷ take whole.n (drop (i + 1) call.bytes)) (sym r.looked_at) in
+            let control = rw cut at (given.1 (whole.n + 1) (omega (arith, whole.far)) (rw cut whole.well)) in
+            subst (All IsOutsideRuns) (sym whole.same) (outside_runs-control _ control)
+      ]);
+}

@@ -1,27 +1,131 @@
 -- A call inside a character, over any number of its bytes: it reports nothing while the character goes on (`GoesOn`),
--- and then completes it (`completes-all`, `completes-whole`, `completes-broken`), a byte at a time by
--- `calls/InsideCharacters`.
-use Rattle.vte_core.proofs.Common.{◌≡◌, ◌≢◌, ℕ, ◌+◌, ◌<◌, ◌≤◌, inl, inr, true, List, [], ◌∷◌, ◌++◌, length, refl, ap, sym, subst, ◌∙◌, arith, slice_index, Machine, Text, Nothing, One, Two, Three, Event, Print, replacement, StandsInside, bytes_of, may_continue, second_range, Carries, character_event, from_to, is_in, is_truncated, is_well_formed, scalar_of, Unfinished, added, All-cons, All-nil, IsOutsideRuns, append-nil, append_assoc, drop, drop_more, take, take-add, ChunkCall}
+-- and then completes it (`completes-all`, `completes-whole`, `completes-broken`), a byte at a time.
+use Rattle.vte_core.proofs.Common.{◌≡◌, ◌≢◌, ℕ, ◌+◌, ◌<◌, inl, inr, true, Option, List, [], ◌∷◌, ◌++◌, length, refl, ap, sym, subst, ◌∙◌, slice_index, Machine, Text, Nothing, Print, replacement, ProgressInside, StandsAt, StandsInside, StandsAtPlace, StandsBy, Place, InText, bytes_of, may_continue, Carries, character_event, is_truncated, scalar_of, Unfinished, HasReadWithLimit, open_character, ChunkCall, ◌≤◌, arith, One, Two, Three, Event, second_range, from_to, is_in, is_well_formed, added, All-cons, All-nil, IsOutsideRuns, append-nil, append_assoc, drop, drop_more, take, take-add, rules}
 use Rattle.vte_core.specs.declared.utf8.Carried.TheVariants.{Unfinished as StillUnfinished, Whole, Broken}
-use Rattle.vte_core.proofs.bytes.CarriedLemmas.{second-open, third-open}
-use Rattle.vte_core.specs.machine.Completes.{Completes}
-use Rattle.vte_core.proofs.calls.InsideCharacters.{carried-broken, carried-more, carried-whole, in_text, inside-open, inside-same, unfinished-some, truncated-some}
-use Rattle.vte_core.proofs.calls.CallEnds.{inside-all, inside-moved}
-use Rattle.vte_core.proofs.streams.OutsideRuns.{length-longer}
+use Rattle.vte_core.proofs.fields.PlaceOfState.{may_continue-truncated, stands-by, stands-in, stands-place}
+use Rattle.vte_core.proofs.places.PlaceLeads.{text-unfinished, text-whole}
+use Rattle.vte_core.proofs.streams.After.{carried_is_no_escape, after-open_character}
+use Rattle.vte_core.proofs.Shapes.{breaks-broken, breaks-unfinished, breaks-whole}
+use Rattle.vte_core.proofs.calls.Progress.{come-settled, come-broken, come-carried, inside-all, inside-moved}
+use Rattle.vte_core.proofs.places.TextSteps.{reads-byte}
+use Rattle.vte_core.proofs.bytes.Scalars.{second-open, third-open}
+use Rattle.vte_core.specs.machine.Progress.{Completes}
+use Rattle.vte_core.proofs.streams.StreamSteps.{length-longer}
 use Rattle.vte_core.proofs.calls.AddedEvents.{added-inside, keeps-inside, reported-at, keeping}
-use Rattle.vte_core.proofs.streams.Performing.{open_truncated}
 use Rattle.std.proofs.lemmas.List.{drop-drop}
+
+-- ---- a byte
+
+-- The character goes on with it, is whole, or is broken before it (`carried-more`, `carried-whole`, `carried-broken`).
+-- The place is a text with these bytes open, so `places/PlaceLeads` and `Shapes` say what the byte reports.
+
+stands-in_text : {B : Type 0} {limit : Option ℕ} {parser : Machine B} {v : Unfinished} {u : List ℕ}
+    → parser.state ≡ Text v → bytes_of v ≡ u
+    → may_continue u ≡ true → StandsAtPlace limit parser (InText u)
+stands-in_text e same more = stands-by e (same, more)
+
+-- the parser, inside a character of these bytes
+abbrev pub in_text : {B : Type 0} → Machine B → Unfinished → Machine B
+in_text parser unfinished = record { state = Text unfinished; collected = parser.collected; command = parser.command }
+
+record AtText (u : Unfinished) (place : Place) : Type 0 where
+  same : place ≡ InText (bytes_of u)
+  begun : may_continue (bytes_of u) ≡ true
+
+text-by_place : {B : Type 0} (limit : Option ℕ) (parser : Machine B) {u : Unfinished} {place : Place}
+    → StandsBy limit (Text u) parser place → AtText u place
+text-by_place limit parser s = search (rules, arith)
+
+-- an unfinished character has bytes
+pub unfinished-some : (x : ℕ) (u : List ℕ) → x ∷ u ≢ []
+unfinished-some x u none = cc
+
+truncated-some : (u : List ℕ) → is_truncated u ≡ true → u ≢ []
+unfolding is_truncated
+truncated-some [] more none = cc
+truncated-some (x ∷ u) more none = cc
+
+module _ {V B : Type 0} {call : ChunkCall V} {old mid : V} {stream : List ℕ} where
+  inside-open : {i : ℕ} {u : Unfinished} {parser : Machine B} → parser.state ≡ Text u
+      → StandsInside call old mid stream i parser → may_continue (bytes_of u) ≡ true
+  inside-open {u} {parser} e s = (text-by_place call.limit parser (stands-in e s.stands)).begun
+
+  -- a byte that the character goes on with
+  carried-more : {i b : ℕ} {u v : Unfinished} {parser next : Machine B} → parser.state ≡ Text u
+      → is_truncated (bytes_of u) ≡ true → Carries (bytes_of u) b (StillUnfinished v) → next.state ≡ Text v
+      → StandsInside call old mid stream i parser → i < length call.bytes → b ≡ slice_index call.bytes i
+      → StandsInside call old mid stream (i + 1) next
+  carried-more {i} {b} {u} {v} {parser} {next} e opened carries state s within is =
+      let t = text-by_place call.limit parser (stands-in e s.stands) in
+      let more : is_truncated (bytes_of u ++ b ∷ []) ≡ true = subst (λ x. is_truncated x ≡ true) carries.0 carries.1 in
+      record {
+        place = InText (bytes_of u ++ b ∷ []);
+        stands =
+            stands-in_text state carries.0
+            (may_continue-truncated (bytes_of u ++ b ∷ []) more);
+        has_come =
+            come-carried {these = []} t.begun within is (truncated-some (bytes_of u) opened)
+            (breaks-unfinished (bytes_of u) b more)
+            (reads-byte
+            (carried_is_no_escape (bytes_of u) b opened (inr more))
+            text-unfinished) refl (may_continue-truncated (bytes_of u ++ b ∷ []) more)
+            (subst (ProgressInside call old mid stream i) t.same s.has_come);
+      }
+
+  -- a byte that ends it
+  carried-whole : {new : V} {i j b c : ℕ} {u : Unfinished} {parser next : Machine B} → parser.state ≡ Text u
+      → is_truncated (bytes_of u) ≡ true → Carries (bytes_of u) b (Whole c) → next.state ≡ Text Nothing
+      → new ≡ call.step mid (character_event c) → StandsInside call old mid stream i parser → i < length call.bytes
+      → b ≡ slice_index call.bytes i → j ≡ i + 1 → StandsAt call old new stream j next
+  carried-whole {new} {i} {b} {u} {parser}
+      {next} e opened carries state performed s within is later =
+      let t = text-by_place call.limit parser (stands-in e s.stands) in
+      let c =
+      come-carried {new = new} {next = InText []}
+      {these = character_event (scalar_of (bytes_of u ++ b ∷ [])) ∷ []} t.begun within is
+      (truncated-some (bytes_of u) opened)
+      (breaks-whole (bytes_of u) b carries.0)
+      (reads-byte
+      (carried_is_no_escape (bytes_of u) b opened (inl carries.0)) (text-whole carries.0))
+      (performed ∙ ap (λ n. call.step mid (character_event n)) carries.1) refl
+      (subst (ProgressInside call old mid stream i) t.same s.has_come) in
+      subst (λ n. StandsAt call old new stream n next) (sym later)
+      (record {
+        place = InText [];
+        stands = stands-in_text state refl refl;
+        settled = λ _. refl;
+        has_come = come-settled refl refl c;
+      })
+
+  -- a byte that breaks it
+  carried-broken : {new : V} {i b : ℕ} {u : Unfinished} {parser next : Machine B} → parser.state ≡ Text u
+      → is_truncated (bytes_of u) ≡ true → Carries (bytes_of u) b Broken → next.state ≡ Text Nothing
+      → new ≡ call.step mid (Print replacement) → StandsInside call old mid stream i parser → i < length call.bytes
+      → b ≡ slice_index call.bytes i → StandsAt call old new stream i next
+  carried-broken {i} {b} {u} {parser} {next} e opened carries state performed s within is =
+      let t = text-by_place call.limit parser (stands-in e s.stands) in
+      record {
+        place = InText [];
+        stands = stands-in_text state refl refl;
+        settled = λ _. refl;
+        has_come = come-broken t.begun within is (breaks-broken (bytes_of u) b opened carries.0 carries.1) performed
+            (subst (ProgressInside call old mid stream i) t.same s.has_come);
+      }
+
+-- what is open in a text
+pub opens-text : {B : Type 0} {limit : Option ℕ} {stream : List ℕ} {u : Unfinished} (parser : Machine B)
+    → parser.state ≡ Text u → bytes_of u ≢ [] → HasReadWithLimit limit parser stream
+    → open_character stream ≡ [] → ⊥
+opens-text {limit} {stream} {u} parser e some h none =
+    search (rules, arith, text-by_place, stands-in, after-open_character, stands-place)
+
+-- ---- any number of bytes
 
 -- the bytes of a character, with those at a position
 character-bytes : (bytes : List ℕ) (i j n m : ℕ) (begun : List ℕ) {u : List ℕ} → j ≡ i + n
     → u ≡ begun ++ take n (drop i bytes)
     → u ++ take m (drop j bytes) ≡ begun ++ take (n + m) (drop i bytes)
-character-bytes bytes i j n m begun far are =
-    ap (λ (x : List ℕ). x ++ take m (drop j bytes)) are
-    ∙ append_assoc begun (take n (drop i bytes)) (take m (drop j bytes))
-    ∙ ap (λ (x : List ℕ). begun ++ (take n (drop i bytes) ++ take m x))
-    (ap (λ k. drop k bytes) far ∙ sym (drop-drop n i bytes))
-    ∙ ap (λ (x : List ℕ). begun ++ x) (sym (take-add n m (drop i bytes)))
+character-bytes bytes i j n m begun far are = search (rules, arith, append_assoc, drop-drop, take-add)
 
 character-byte : (bytes : List ℕ) (i n : ℕ) (begun : List ℕ) {j b : ℕ} {u : List ℕ} → j < length bytes → j ≡ i + n
     → b ≡ slice_index bytes j → u ≡ begun ++ take n (drop i bytes)
@@ -48,14 +152,7 @@ pub record GoesOn {V B : Type 0} (call : ChunkCall V) (value : V) (i j : ℕ) (b
 
 module _ {V B : Type 0} {call : ChunkCall V} {value : V} {i : ℕ} {begun : Unfinished} where
   pub goes-nowhere : (next : Machine B) → bytes_of begun ≢ [] → GoesOn call value i i begun begun next
-  goes-nowhere next some = record {
-    inside = λ old stream parser e s. inside-same e refl s;
-    kept = λ stream parser e s. inside-same e refl s;
-    more = λ opened. open_truncated (bytes_of begun) opened some;
-    n = 0;
-    far = omega arith;
-    bytes_are = λ _. sym (append-nil (bytes_of begun));
-  }
+  goes-nowhere next some = search (rules, arith)
 
   pub goes-more : {j b : ℕ} {u v : Unfinished} {parser next : Machine B} → GoesOn call value i j begun u parser
       → (is_truncated (bytes_of u) ≡ true → Carries (bytes_of u) b (StillUnfinished v)) → j < length call.bytes

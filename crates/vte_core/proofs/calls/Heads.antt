@@ -1,18 +1,16 @@
 -- The bytes of a head: a function that reads several of them goes on by each. `ReadsHeadUpTo` says which, without the
 -- performer, which learns of a head only at its end; both shapes share it.
 use Rattle.vte_core.specs.machine.ToRun.{IsReadOutsideRuns}
-use Rattle.vte_core.proofs.Common.{◌≡◌, ℕ, zero, suc, ◌+◌, ◌-◌, ◌<◌, ◌≤◌, ◌⊎◌, inr, eqb, Option, List, [], ◌∷◌, ◌++◌, Bool, true, false, length, take, drop, refl, sym, subst, append_assoc, arith, nat_tests, append-nil, drop-drop, drop_more, take-add, slice_index, MatchOption, class_of, is_head_byte, is_parameter_text, AreInClass, Collected, HeadProgress, Entry, Parameters, Machine, State, ControlSequence, DeviceControl, Event, ChunkCall, Leads, CountsNumbers, SameIntermediates, StandsAtPlace, StandsBy, StandsInHead, Place, InControlSequence, InDeviceControl, IsSettledPlace, Advances, ProgressAt, StandsAt, IsSettled, MayGoOn, TakesBytes, TakesByte, ends_body, progress_after, ReadsHead, Some, None, false≢true}
-use Rattle.vte_core.proofs.bytes.ClassCases.{head_ends_nothing, AreInClass-append, parameter_is_head}
-use Rattle.vte_core.proofs.calls.Progress.{come-settled, come-byte}
-use Rattle.vte_core.proofs.calls.Arms.{performs-in}
-use Rattle.vte_core.proofs.calls.CallEnds.{settled-by}
-use Rattle.vte_core.proofs.calls.Stretches.{advances-byte, advances-when, advances-then}
-use Rattle.vte_core.proofs.fields.HeadSteps.{holds-parameter}
+use Rattle.vte_core.proofs.Common.{◌≡◌, ℕ, zero, suc, ◌+◌, ◌-◌, ◌<◌, ◌≤◌, ◌⊎◌, Option, List, [], ◌∷◌, ◌++◌, true, false, length, take, drop, refl, sym, subst, append_assoc, arith, append-nil, drop-drop, drop_more, take-add, slice_index, MatchOption, class_of, is_head_byte, is_parameter_text, AreInClass, Collected, HeadProgress, Entry, Parameters, Machine, State, ControlSequence, DeviceControl, Event, ChunkCall, Leads, CountsNumbers, SameIntermediates, StandsAtPlace, StandsBy, StandsInHead, Place, InControlSequence, InDeviceControl, IsSettledPlace, Advances, ProgressAt, StandsAt, IsSettled, MayGoOn, TakesBytes, TakesByte, ends_body, progress_after, ReadsHead, Some, None, false≢true, rules}
+use Rattle.vte_core.proofs.bytes.Classes.{head_ends_nothing, AreInClass-append, parameter_is_head}
+use Rattle.vte_core.proofs.calls.Progress.{come-settled, come-byte, settled-by}
+use Rattle.vte_core.proofs.calls.Stretches.{performs-in, advances-byte, advances-when, advances-then}
+use Rattle.vte_core.proofs.fields.Heads.{holds-parameter}
 use Rattle.vte_core.proofs.fields.PlaceOfState.{IsPlace, stands-in}
 use Rattle.vte_core.proofs.places.PlaceLeads.{control-head, device-head}
 use Rattle.vte_core.proofs.calls.AddedEvents.{adds-same, keeps-at, reported-at}
-use Rattle.vte_core.proofs.bytes.EachLemmas.{one_byte}
-use Rattle.vte_core.proofs.places.StreamLemmas.{no_escape, reads-byte}
+use Rattle.vte_core.proofs.bytes.Runs.{one_byte}
+use Rattle.vte_core.proofs.places.TextSteps.{no_escape, reads-byte}
 
 -- ---- what is collected
 
@@ -25,15 +23,7 @@ slice-then bytes i j k low high =
 
 pub reads_head-nothing : {bytes : List ℕ} {i : ℕ} {progress : HeadProgress} {held : Collected} → i ≤ length bytes
     → ReadsHead bytes i i progress progress held held
-reads_head-nothing {bytes} {i} {progress} {held} within =
-    let none : i - i ≡ 0 = omega arith in
-    record {
-      low = omega arith;
-      high = within;
-      head_bytes = rw none tt;
-      stands = λ head s. rw
-          (none, append-nil head) s;
-    }
+reads_head-nothing {bytes} {i} {progress} {held} within = search (rules, arith)
 
 pub reads_head-then : {bytes : List ℕ} {i j k : ℕ} {reached progress next : HeadProgress} {old mid new : Collected}
     → ReadsHead bytes i j reached progress old mid → ReadsHead bytes j k progress next mid new
@@ -53,14 +43,7 @@ pub reads_head-byte : {bytes : List ℕ} {i b : ℕ} {progress next : HeadProgre
     → b ≡ slice_index bytes i → is_head_byte (class_of b) ≡ true
     → ((head : List ℕ) → StandsInHead old progress head → StandsInHead new next (head ++ b ∷ []))
     → ReadsHead bytes i (i + 1) progress next old new
-reads_head-byte {bytes} {i} {b} within at is stands =
-    let one = one_byte bytes i b within at in
-    record {
-      low = omega arith;
-      high = omega (arith, within);
-      head_bytes = rw one (is, tt);
-      stands = λ head s. rw one (stands head s);
-    }
+reads_head-byte {bytes} {i} {b} within at is stands = search (rules, arith, one_byte)
 
 -- no byte follows
 pub match-none : {A : Type 0} (B : ℕ → Type 0) (next : Option ℕ) → ((b : ℕ) → next ≡ Some b → ⊥) → MatchOption next A B
@@ -71,20 +54,15 @@ match-none B (Some b) n all = absurd (n b refl)
 -- ---- numbers
 
 pub progress_after-none : (reached : HeadProgress) {from to : ℕ} → from ≡ to → progress_after reached from to ≡ reached
-progress_after-none reached {from} {to} is = let same : eqb from to ≡ true = grind (arith, nat_tests) in rw same refl
+progress_after-none reached {from} {to} is = search (rules, arith)
 
 pub progress_after-more : (reached : HeadProgress) (from to : ℕ) → from < to
     → progress_after reached from to ≡ Parameters
-progress_after-more reached from to more = let other : eqb from to ≡ false = grind (arith, nat_tests) in rw other refl
+progress_after-more reached from to more = search (rules, arith)
 
 progress_after-may : (reached : HeadProgress) (from to : ℕ) → (reached ≡ Entry) ⊎ (reached ≡ Parameters)
     → (progress_after reached from to ≡ Entry) ⊎ (progress_after reached from to ≡ Parameters)
-progress_after-may reached from to may = by_test (eqb from to) refl
-  where
-    by_test : (t : Bool) → eqb from to ≡ t
-        → (progress_after reached from to ≡ Entry) ⊎ (progress_after reached from to ≡ Parameters)
-    by_test true e = rw e may
-    by_test false e = inr (rw e refl)
+progress_after-may reached from to may = search (rules, arith)
 
 -- a digit or a separator
 pub reads_head-parameter : {bytes : List ℕ} {from i b : ℕ} {reached : HeadProgress} {first old new : Collected}
@@ -105,11 +83,11 @@ pub data Shape : Type 0 where
   ControlHead : Shape
   DeviceHead : Shape
 
-abbrev pub state_of : Shape → HeadProgress → State
+abbrev state_of : Shape → HeadProgress → State
 state_of ControlHead progress = ControlSequence progress
 state_of DeviceHead progress = DeviceControl progress
 
-abbrev pub in_head : Shape → List ℕ → Place
+abbrev in_head : Shape → List ℕ → Place
 in_head ControlHead head = InControlSequence head
 in_head DeviceHead head = InDeviceControl head
 
@@ -122,18 +100,13 @@ head-place : {B : Type 0} (shape : Shape) (limit : Option ℕ) (progress : HeadP
     (place : Place)
     → StandsBy limit (state_of shape progress) parser place
     → InHeadAt shape parser.collected progress place
-head-place ControlHead limit progress parser (InControlSequence head) s =
-    record { head = head; same = refl; stands = s }
-head-place ControlHead limit progress parser _ s = absurd s
-head-place DeviceHead limit progress parser (InDeviceControl head) s = record { head = head; same = refl; stands = s }
-head-place DeviceHead limit progress parser _ s = absurd s
+head-place shape limit progress parser place s = search (rules, arith)
 
 head-stands : {B : Type 0} (shape : Shape) {limit : Option ℕ} (progress : HeadProgress) {parser : Machine B}
     (head : List ℕ)
     → parser.state ≡ state_of shape progress
     → StandsInHead parser.collected progress head → StandsAtPlace limit parser (in_head shape head)
-head-stands ControlHead progress head e s = record { by = rw e s }
-head-stands DeviceHead progress head e s = record { by = rw e s }
+head-stands shape progress head e s = search (rules, arith)
 
 head-leads : (shape : Shape) {limit : Option ℕ} (head : List ℕ) {b : ℕ} → is_head_byte (class_of b) ≡ true
     → Leads limit (in_head shape head) b [] (in_head shape (head ++ b ∷ []))

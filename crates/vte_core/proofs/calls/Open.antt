@@ -1,22 +1,26 @@
--- What is open where a parser stands. Only between characters of a text does it go on as a new one: after every other
--- place the digit 0 gives something else than after the empty stream.
-use Rattle.vte_core.proofs.Common.{◌≡◌, ◌≢◌, ℕ, Option, List, [], ◌∷◌, ◌++◌, refl, ap, sym, subst, ◌∙◌, arith, Digit, Machine, State, Text, StandsAtPlace, StandsBy, HasReadWithLimit, Event, Print, replacement, Place, InText, AtEscape, InEscape, InControlSequence, InDeviceControl, InDeviceData, InSystemCommand, InIgnoredString, IsAfter, Leads, left_at, ◌≤◌, ◌<◌, true, false, eqb, EscapeSequence, Unfinished, class_of, escape, is_truncated, sequence_kind, added, bytes_of, events_from}
-use Rattle.vte_core.proofs.bytes.FirstBytes.{ascii-breaks}
-use Rattle.vte_core.proofs.fields.PlaceOfState.{IsPlace, stands-place}
+-- What is open where a parser stands, and what is stored of it where memory may be refused: both are said of the place,
+-- so they hold of every parser that is at one.
+use Rattle.vte_core.proofs.Common.{◌≡◌, ◌≢◌, ℕ, Option, List, [], ◌∷◌, ◌++◌, refl, ap, sym, subst, ◌∙◌, arith, Digit, Machine, State, Text, StandsAtPlace, StandsBy, HasReadWithLimit, Event, Print, replacement, Place, InText, AtEscape, InEscape, InControlSequence, InDeviceControl, InDeviceData, InSystemCommand, InIgnoredString, IsAfter, Leads, left_at, ◌≤◌, ◌<◌, true, false, eqb, EscapeSequence, class_of, escape, is_truncated, sequence_kind, added, events_from, ◌+◌, Bool, None, length, take, length-take, concat, slice_index, MeetsData, open_data_count, open_command_size, SystemCommand, ProgressAt, IsRefusedInCommand, ReadsUntilRefused, StandsInside, ChunkCall, ToClose, CommandToClose, loses_data, outcome, rules}
+use Rattle.vte_core.proofs.bytes.Utf8.{ascii-breaks}
+use Rattle.vte_core.proofs.fields.PlaceOfState.{IsPlace, stands-place, in_command, stands-by}
 use Rattle.vte_core.proofs.places.PlaceLeads.{escape-end, intermediate-end, control-head, device-head, data-put, command-item, ignored-more}
-use Rattle.vte_core.proofs.shapes.TextLemmas.{text_outcome-broken}
-use Rattle.vte_core.proofs.streams.After.{added-after, added-reads, after-events, after-left, after-nothing}
-use Rattle.vte_core.proofs.streams.Performing.{events-empty}
-use Rattle.vte_core.proofs.places.StreamLemmas.{reads-byte, waits-byte}
-use Rattle.vte_core.proofs.calls.States.{place-settled_text}
+use Rattle.vte_core.proofs.Shapes.{text_outcome-broken}
+use Rattle.vte_core.proofs.streams.After.{added-after, added-reads, after-events, after-left, after-nothing, events-empty, open_at_end-any, after-reads}
+use Rattle.vte_core.proofs.places.TextSteps.{reads-byte, waits-byte}
+use Rattle.vte_core.proofs.calls.Progress.{place-settled_text, reads-item, come-command}
 use Rattle.vte_core.proofs.calls.ToRun.{reads-anew}
-use Rattle.vte_core.proofs.streams.OpenEnds.{open_at_end-any}
 use Rattle.vte_core.specs.Open.{kind_to_close, open_at_end}
 use Rattle.vte_core.specs.Stream.{IsFinished, IsUnfinished}
 use Rattle.vte_core.specs.declared.parser.open.Open.TheVariants as kind
-use Rattle.vte_core.specs.declared.parser.State.TheVariants.{Escape, EscapeIntermediate, ControlSequence, DeviceControl, DeviceData, SystemCommand, IgnoredString}
-use Rattle.vte_core.specs.declared.utf8.Unfinished.TheVariants.{Nothing, One, Two, Three}
-use Rattle.vte_core.specs.machine.OpenStates.{open_in}
+use Rattle.vte_core.specs.declared.utf8.Unfinished.TheVariants.{Nothing}
+use Rattle.vte_core.specs.machine.ParserFields.{open_in}
+use Rattle.vte_core.proofs.fields.Stores.{open_for, pieces_stored}
+use Rattle.vte_core.proofs.streams.StreamSteps.{counts_data}
+
+-- ---- what is open
+
+-- Only between characters of a text does a parser go on as a new one: after every other place the digit 0 gives
+-- something else than after the empty stream.
 
 -- the byte is a digit
 record IsProbe (b : ℕ) : Type 0 where
@@ -28,7 +32,7 @@ record IsProbe (b : ℕ) : Type 0 where
 
 probe-zero : IsProbe 0x30
 unfolding class_of sequence_kind
-probe-zero = record { class = refl; key = refl; low = omega arith; high = omega arith; other = refl }
+probe-zero = search (rules, arith)
 
 -- what a digit gives after a stream
 probe-gives : {limit : Option ℕ} {stream : List ℕ} {place next : Place} {b : ℕ} {reported : List Event}
@@ -52,9 +56,7 @@ probe-not_alone : {limit : Option ℕ} {stream : List ℕ} {place : Place} {b : 
     → IsProbe b → IsPlace place → IsAfter limit stream place → place ≢ InText []
     → added limit stream (b ∷ []) ≢ Print b ∷ []
 probe-not_alone {place = InText []} d is a other = absurd (other refl)
-probe-not_alone {place = InText (c ∷ u)} {b} d is a other = λ alone.
-    let e = sym alone ∙ probe-in_character d is a in
-    let same : b ≡ replacement = cc in omega (arith, same, d.high)
+probe-not_alone {place = InText (c ∷ u)} {b} d is a other = search (rules, arith, probe-in_character)
 probe-not_alone {place = AtEscape} d is a other = λ alone.
     let e = sym alone ∙ probe-gives d a (escape-end d.class refl d.key) refl in cc
 probe-not_alone {place = InEscape ints} d is a other = λ alone.
@@ -72,32 +74,14 @@ probe-not_alone {place = InIgnoredString} d is a other = λ alone.
 
 -- ---- what is open in the state is open at the place, and at the end of the stream
 
-open_in-text : (limit : Option ℕ) (u : Unfinished)
-    → open_in (Text u) ≡ kind_to_close (left_at limit (InText (bytes_of u)))
-open_in-text limit Nothing = refl
-open_in-text limit (One a) = refl
-open_in-text limit (Two a b) = refl
-open_in-text limit (Three a b c) = refl
-
 open_in-place : {B : Type 0} (limit : Option ℕ) (state : State) (parser : Machine B) (place : Place)
     → StandsBy limit state parser place → open_in state ≡ kind_to_close (left_at limit place)
-open_in-place limit (Text u) parser (InText bytes) s =
-    open_in-text limit u ∙ ap (λ begun. kind_to_close (left_at limit (InText begun))) s.0
-open_in-place limit Escape parser AtEscape s = refl
-open_in-place limit EscapeIntermediate parser (InEscape intermediates) s = refl
-open_in-place limit (ControlSequence progress) parser (InControlSequence head) s = refl
-open_in-place limit (DeviceControl progress) parser (InDeviceControl head) s = refl
-open_in-place limit DeviceData parser InDeviceData s = refl
-open_in-place limit SystemCommand parser (InSystemCommand items) s = refl
-open_in-place limit IgnoredString parser InIgnoredString s = refl
-open_in-place limit _ parser _ s = absurd s
+open_in-place limit state parser place s = search (rules, arith)
 
 pub which_is_open : {B : Type 0} {limit : Option ℕ} {stream : List ℕ} {parser : Machine B}
     → HasReadWithLimit limit parser stream → open_in parser.state ≡ open_at_end stream
 which_is_open {limit} {stream} {parser} h =
-    open_in-place limit parser.state parser h.place h.stands.by
-    ∙ sym (ap kind_to_close (after-left h.is_after (stands-place h.stands)))
-    ∙ open_at_end-any limit stream
+    search (rules, arith, open_in-place, after-left, stands-place, open_at_end-any)
 
 -- nothing is open only between characters
 
@@ -120,12 +104,135 @@ pub closed_is_finished : {B : Type 0} {limit : Option ℕ} {stream : List ℕ} (
     → open_in parser.state ≡ kind.Nothing → HasReadWithLimit limit parser stream
     → HasReadWithLimit limit parser [] × IsFinished limit stream
 closed_is_finished {limit} {stream} parser nothing h =
-    let begun = settled-open_in parser.state nothing in
-    let here = place-settled_text begun h.stands in
-    (reads-anew parser begun h, is_finished-settled (subst (IsAfter limit stream) here h.is_after))
+    search (rules, arith, settled-open_in, place-settled_text, reads-anew, is_finished-settled)
 
 pub open_is_unfinished : {B : Type 0} {limit : Option ℕ} {stream : List ℕ} {parser : Machine B}
     → open_in parser.state ≢ kind.Nothing → HasReadWithLimit limit parser stream → IsUnfinished limit stream
 open_is_unfinished {limit} {parser} some h =
-    probe-not_alone probe-zero (stands-place h.stands) h.is_after
-    (λ here. some (state-settled limit parser.state parser (subst (StandsAtPlace limit parser) here h.stands).by))
+    search (rules, arith, probe-not_alone, probe-zero, stands-place, state-settled)
+
+-- ---- refused memory
+
+pub inside-reads : {V B : Type 0} {call : ChunkCall V} {old value : V} {stream : List ℕ} {i : ℕ} {parser : Machine B}
+    → StandsInside call old value stream i parser → HasReadWithLimit call.limit parser (stream ++ take i call.bytes)
+inside-reads s = search (rules, arith)
+
+-- what a stream leaves is what its place leaves
+left-at_place : {B : Type 0} (parser : Machine B) (stream : List ℕ) (h : HasReadWithLimit None parser stream)
+    → (outcome None stream).left ≡ left_at None h.place
+left-at_place parser stream h = after-left h.is_after (stands-place h.stands)
+
+-- a byte that is refused is a data byte of an open command
+pub meets_data : {B : Type 0} {parser : Machine B} {stream bytes : List ℕ} {from : ℕ}
+    → IsRefusedInCommand None parser.state parser.command bytes from
+    → HasReadWithLimit None parser stream → MeetsData stream (slice_index bytes from)
+meets_data {parser} {stream} {bytes} {from} refused h =
+    let byte : ℕ = slice_index bytes from in
+    let k = in_command refused.inside h.stands in
+    let o = open_for k.keeps refused.few refused.is_data.1 in
+    let last : Place = InSystemCommand (k.items ++ byte ∷ []) in
+    let joined : IsAfter None (stream ++ byte ∷ []) last =
+    after-reads
+    (subst (IsAfter None stream) k.same h.is_after) (reads-item refused.is_data.0) tt in
+    record {
+      pieces = o.pieces;
+      last = o.last;
+      lost = loses_data None k.items;
+      few = o.few;
+      is_open =
+          left-at_place parser stream h ∙ ap (left_at None) k.same
+          ∙ ap (λ those. CommandToClose those (loses_data None k.items)) o.before;
+      is_data = refused.is_data;
+      joins = after-left joined tt
+          ∙ ap (λ those. CommandToClose those (loses_data None (k.items ++ byte ∷ []))) o.later
+          ∙ ap (λ d. CommandToClose (o.pieces ++ (o.last ++ byte ∷ []) ∷ []) d) o.lost;
+    }
+
+-- ---- where a call ends
+
+-- in a command no character is open
+pub refuses-inside : {V B : Type 0} {call : ChunkCall V} {old new : V} {n : ℕ} {before parser : Machine B}
+    → ReadsUntilRefused call old new n before parser → (stream : List ℕ) → HasReadWithLimit call.limit before stream
+    → StandsInside call old new stream n parser
+refuses-inside {call} {old} {new} {n} {parser} r stream h =
+    let s = r.stands_at stream h in
+    let k = in_command r.refused.inside s.stands in
+    record {
+      place = InSystemCommand k.items;
+      stands = stands-by r.refused.inside k.keeps;
+      has_come = come-command (subst (ProgressAt call old new stream n) k.same s.has_come);
+    }
+
+-- ---- what is stored
+
+-- in a command as many bytes as are open
+pub stored_is_open : {B : Type 0} {parser : Machine B} {stream : List ℕ} → parser.state ≡ SystemCommand
+    → HasReadWithLimit None parser stream
+    → length parser.command.bytes ≡ open_command_size stream
+stored_is_open {parser} {stream} e h =
+    let k = in_command e h.stands in
+    pieces_stored k.keeps
+    ∙ sym (ap open_data_count (left-at_place parser stream h ∙ ap (left_at None) k.same))
+
+command-by_place : {B : Type 0} {parser : Machine B} {place : Place} {pieces : List (List ℕ)} {lost : Bool}
+    → StandsAtPlace None parser place → left_at None place ≡ CommandToClose pieces lost
+    → parser.state ≡ SystemCommand
+command-by_place s e = search (rules, arith)
+
+-- a command is open in that state alone
+state-in_command : {B : Type 0} (parser : Machine B) (stream : List ℕ) → HasReadWithLimit None parser stream
+    → (pieces : List (List ℕ)) (lost : Bool) → (outcome None stream).left ≡ CommandToClose pieces lost
+    → parser.state ≡ SystemCommand
+state-in_command parser stream h pieces lost open_command =
+    command-by_place h.stands (sym (left-at_place parser stream h) ∙ open_command)
+
+-- of an open command the bytes of its pieces
+pub stores_pieces : {B : Type 0} (parser : Machine B) (stream : List ℕ) → HasReadWithLimit None parser stream
+    → (pieces : List (List ℕ)) (lost : Bool)
+    → (outcome None stream).left ≡ CommandToClose pieces lost → length parser.command.bytes ≡ length (concat pieces)
+stores_pieces parser stream h pieces lost open_command =
+    stored_is_open (state-in_command parser stream h pieces lost open_command) h
+    ∙ ap open_data_count open_command
+
+open_data-by_left : (left : ToClose) (n : ℕ)
+    → ((pieces : List (List ℕ)) (lost : Bool) → left ≡ CommandToClose pieces lost → n ≡ length (concat pieces))
+    → open_data_count left ≤ n
+open_data-by_left left n stored = search (rules, arith)
+
+-- no more are open
+pub open_is_stored : {B : Type 0} (parser : Machine B) (stream : List ℕ) → HasReadWithLimit None parser stream
+    → open_command_size stream ≤ length parser.command.bytes
+open_is_stored parser stream h =
+    open_data-by_left (outcome None stream).left (length parser.command.bytes) (stores_pieces parser stream h)
+
+-- outside a command no data bytes are open
+pub none_is_open : {B : Type 0} (parser : Machine B) (stream : List ℕ) → (parser.state ≡ SystemCommand → ⊥)
+    → HasReadWithLimit None parser stream → open_command_size stream ≡ 0
+none_is_open parser stream other h =
+    omega (
+      arith,
+      open_data-by_left (outcome None stream).left 0
+          (λ pieces lost e. absurd (other (state-in_command parser stream h pieces lost e))),
+    )
+
+-- where memory is refused, there wasn't enough for all bytes of the call
+pub lacks_all : {V B : Type 0} {call : ChunkCall V} {old new : V} {n : ℕ} {before parser : Machine B}
+    → ReadsUntilRefused call old new n before parser → (stream : List ℕ) → HasReadWithLimit call.limit before stream
+    → before.command.capacity ≤ parser.command.capacity
+    → before.command.capacity < open_command_size stream + length call.bytes
+lacks_all {call} {n} {parser} r stream h kept =
+    let read : List ℕ = take n call.bytes in
+    let stored =
+    stored_is_open r.refused.inside
+    (subst (λ limit. HasReadWithLimit limit parser (stream ++ read)) r.refused.unlimited
+    (inside-reads (refuses-inside r stream h))) in
+    omega (
+      arith,
+      stored,
+      (counts_data stream read).left,
+      r.refused.lacks.lacks,
+      r.refused.lacks.within,
+      r.within,
+      length-take n call.bytes,
+      kept,
+    )

@@ -8,14 +8,54 @@
 -- or the next byte breaks the open one; `come-command`: back from there
 -- `come-starts`: there something starts
 -- `come-to`, `come-performs`: the public clauses of a call that stops, and of one that reads all
-use Rattle.vte_core.proofs.Common.{◌≡◌, ℕ, zero, suc, ◌+◌, ◌-◌, ◌<◌, ◌≤◌, inl, inr, true, false, Option, List, [], ◌∷◌, ◌++◌, length, take, drop, refl, ap, sym, subst, ◌∙◌, append_assoc, arith, slice_index, cases_Bool, cases_lt, append-nil, drop_more, take-add, breaks, breaks_at, IsStart, reported_before, resumed_stream, Event, Print, replacement, after, added, open_character, ProgressAt, ProgressInside, MayGoOn, BytesLead, Place, InText, ChunkCall, InSystemCommand, IsAfter, IsSettledPlace, open_at, ComesTo}
-use Rattle.vte_core.proofs.streams.After.{after-left, after-nothing, after-open_character, after-reads, added-reads, added-nothing}
-use Rattle.vte_core.proofs.calls.States.{reads-item}
-use Rattle.vte_core.proofs.fields.PlaceOfState.{IsPlace, open_at-settled}
-use Rattle.vte_core.proofs.streams.Performing.{after_events-append}
-use Rattle.vte_core.proofs.shapes.Reported.{breaks_at-all, breaks_at-settled, breaks_at-byte, no_start, starts-settled, starts-broken, resumed_stream-settled, resumed_stream-broken, reported-all, reported-settled, reported-broken}
-use Rattle.vte_core.proofs.bytes.EachLemmas.{one_byte}
-use Rattle.vte_core.proofs.stops.Units.{added_from, after_from, breaks_there, goes_on_from}
+-- `starts-X`, `ends-X`, `settles`: where a call starts, where it stops or ends, and where no character is open
+use Rattle.vte_core.proofs.Common.{◌≡◌, ℕ, ◌<◌, ◌≤◌, inl, inr, true, false, not, eqb, Option, List, [], ◌∷◌, ◌++◌, ap, sym, arith, cases_lt, nat_tests, Machine, Text, Nothing, StandsAtPlace, StandsBy, Place, InText, InSystemCommand, escape, BytesLead, zero, suc, ◌+◌, ◌-◌, length, take, drop, refl, subst, ◌∙◌, append_assoc, slice_index, cases_Bool, append-nil, drop_more, take-add, breaks, breaks_at, IsStart, reported_before, resumed_stream, Event, Print, replacement, after, added, open_character, ProgressAt, ProgressInside, MayGoOn, ChunkCall, IsAfter, IsSettledPlace, open_at, ComesTo, State, StopsExactly, IsSettled, ReadsUpTo, StandsAt, StandsInside, HasReadWithLimit, bytes_of, Unfinished, rules}
+use Rattle.vte_core.proofs.fields.PlaceOfState.{stands-in, IsPlace, open_at-settled, stands-place}
+use Rattle.vte_core.proofs.places.PlaceLeads.{command-item}
+use Rattle.vte_core.proofs.places.TextSteps.{reads-byte}
+use Rattle.vte_core.proofs.streams.After.{after-left, after-nothing, after-open_character, after-reads, added-reads, added-nothing, after_events-append}
+use Rattle.vte_core.proofs.Shapes.{breaks_at-all, breaks_at-settled, breaks_at-byte, no_start, starts-settled, starts-broken, resumed_stream-settled, resumed_stream-broken, reported-all, reported-settled, reported-broken, resumed_stream-all}
+use Rattle.vte_core.proofs.bytes.Runs.{one_byte}
+use Rattle.vte_core.proofs.EarlyStops.{added_from, after_from, breaks_there, goes_on_from}
+
+-- ---- the place of a state
+
+-- By cases of the state, of which all but one are absurd.
+
+-- ---- between characters
+
+text-by_place : {B : Type 0} (limit : Option ℕ) (parser : Machine B) (place : Place)
+    → StandsBy limit (Text Nothing) parser place → place ≡ InText []
+text-by_place limit parser place s = search (rules, arith)
+
+-- between characters of a text there is one place
+pub place-settled_text : {B : Type 0} {limit : Option ℕ} {parser : Machine B} {place : Place}
+    → parser.state ≡ Text Nothing → StandsAtPlace limit parser place → place ≡ InText []
+place-settled_text {limit} {parser} {place} e s = text-by_place limit parser place (stands-in e s)
+
+-- ---- whether a call asks
+
+-- a const parameter that is a `bool` is a number in proofs
+pub may_stop-some : (n : ℕ) → (n ≡ 0 → ⊥) → not (eqb n 0) ≡ true
+may_stop-some n some = grind (arith, nat_tests)
+
+pub may_stop-none : {n : ℕ} → n ≡ 0 → not (eqb n 0) ≡ true → ⊥
+may_stop-none none is = let e : not (eqb 0 0) ≡ true = rw none at is in cc
+
+-- a call that may stop nothing reads all
+pub reads-all : (n size : ℕ) → n ≤ size → (n < size → false ≡ true) → n ≡ size
+reads-all n size within asked = search (rules, arith)
+
+-- ---- in an operating system command
+
+item_is_no_escape : (b : ℕ) → 0x20 ≤ b → eqb b escape ≡ false
+item_is_no_escape b low = grind (arith, nat_tests)
+
+pub reads-item : {limit : Option ℕ} {items : List ℕ} {b : ℕ} → 0x20 ≤ b
+    → BytesLead limit (InSystemCommand items) (b ∷ []) [] (InSystemCommand (items ++ b ∷ []))
+reads-item {b} low =
+    reads-byte (item_is_no_escape b low)
+    (command-item low)
 
 -- ---- the bytes of a call from one position to the next
 
@@ -25,10 +65,7 @@ stretch-ends bytes i j further =
 
 -- of what is unread only the next byte counts
 breaks-prefix : (u unread : List ℕ) (n : ℕ) → 0 < n → breaks u unread ≡ true → breaks u (take n unread) ≡ true
-breaks-prefix u unread zero some broken = absurd (omega arith)
-breaks-prefix [] unread (suc n) some broken = broken
-breaks-prefix (a ∷ u) [] (suc n) some broken = broken
-breaks-prefix (a ∷ u) (b ∷ unread) (suc n) some broken = broken
+breaks-prefix u unread n k broken = search (rules, arith)
 
 module _ (limit : Option ℕ) (stream bytes : List ℕ) (i j : ℕ) (further : i < j) where
   abbrev here : List ℕ
@@ -75,7 +112,7 @@ module _ {V : Type 0} {call : ChunkCall V} {old : V} {stream : List ℕ} where
       (after-open_character c.is_after is
       ∙ open_at-settled place between)) c
 
-  pub come-all : {value : V} {i : ℕ} {place : Place} → length call.bytes ≤ i
+  come-all : {value : V} {i : ℕ} {place : Place} → length call.bytes ≤ i
       → ProgressInside call old value stream i place → ProgressAt call old value stream i place
   come-all {i} all c = come-whole (breaks_at-all stream call.bytes i all) c
 
@@ -85,20 +122,16 @@ module _ {V : Type 0} {call : ChunkCall V} {old : V} {stream : List ℕ} where
       → new ≡ call.step value (Print replacement) → ProgressInside call old value stream i place
       → ProgressAt call old new stream i (InText [])
   come-broken {i} {b} {place} is_place within is broken performed c =
-      let here : breaks_at stream call.bytes i ≡ true =
-      breaks_at-byte stream call.bytes i within is
-      (after-open_character c.is_after is_place) ∙ broken in
-      record {
-        performed =
-            performed ∙ ap (λ v. call.step v (Print replacement)) c.performed
-            ∙ sym (after_events-append call.step old (added call.limit stream (take i call.bytes))
-            (Print replacement ∷ []))
-            ∙ ap (after call.step old) (sym (reported-broken call.limit stream call.bytes i here));
-        is_after =
-            subst (λ s. IsAfter call.limit s (InText [])) (sym (resumed_stream-broken stream call.bytes i here))
-            after-nothing;
-        earlier = c.earlier;
-      }
+      search (
+        rules,
+        arith,
+        breaks_at-byte,
+        after-open_character,
+        after_events-append,
+        reported-broken,
+        resumed_stream-broken,
+        after-nothing,
+      )
 
   -- ---- some bytes more
 
@@ -187,12 +220,8 @@ module _ {V : Type 0} {call : ChunkCall V} {old : V} {stream : List ℕ} where
 
   -- ---- the start of a call
 
-  pub come-nowhere : {place : Place} → IsAfter call.limit stream place → ProgressInside call old old stream 0 place
-  come-nowhere {place} a = record {
-    performed = sym (ap (after call.step old) (added-nothing call.limit stream));
-    is_after = rw (append-nil stream) a;
-    earlier = λ does j below start. absurd (omega arith);
-  }
+  come-nowhere : {place : Place} → IsAfter call.limit stream place → ProgressInside call old old stream 0 place
+  come-nowhere {place} a = search (rules, arith, added-nothing, append-nil)
 
   come-back : {value : V} {i : ℕ} {place : Place} → breaks_at stream call.bytes i ≡ false
       → ProgressAt call old value stream i place → ProgressInside call old value stream i place
@@ -216,20 +245,23 @@ module _ {V : Type 0} {call : ChunkCall V} {old : V} {stream : List ℕ} where
 
   -- ---- where something starts
 
-  pub come-starts : {value : V} {i : ℕ} {place : Place} → IsPlace place → IsSettledPlace place → i < length call.bytes
+  come-starts : {value : V} {i : ℕ} {place : Place} → IsPlace place → IsSettledPlace place → i < length call.bytes
       → ProgressAt call old value stream i place → IsStart stream call.bytes i
-  come-starts {i} {place} is between within c = elim (cases_Bool (breaks_at stream call.bytes i)) [
-    | inl broken ↦ starts-broken within broken
-    | inr whole ↦ starts-settled within
-        (ap open_character (sym (resumed_stream-settled stream call.bytes i whole))
-        ∙ after-open_character c.is_after is
-        ∙ open_at-settled place between)
-  ]
+  come-starts {i} {place} is between within c =
+      search (
+        rules,
+        arith,
+        starts-broken,
+        starts-settled,
+        resumed_stream-settled,
+        after-open_character,
+        open_at-settled,
+      )
 
   -- ---- the end of a call
 
   -- the public clauses of a call that may stop: `starts` comes from the loop's exit
-  pub come-to : {value : V} {n : ℕ} {place : Place} → call.may_stop ≡ true → n ≤ length call.bytes
+  come-to : {value : V} {n : ℕ} {place : Place} → call.may_stop ≡ true → n ≤ length call.bytes
       → (n < length call.bytes → IsStart stream call.bytes n) → ProgressAt call old value stream n place
       → ComesTo call.step call.is_terminated old call.limit stream call.bytes value n
   come-to {n} does within starts c =
@@ -251,6 +283,107 @@ module _ {V : Type 0} {call : ChunkCall V} {old : V} {stream : List ℕ} where
       }
 
   -- the public clause of a call that reads all bytes
-  pub come-performs : {value : V} {n : ℕ} {place : Place} → n ≡ length call.bytes
+  come-performs : {value : V} {n : ℕ} {place : Place} → n ≡ length call.bytes
       → ProgressAt call old value stream n place → value ≡ after call.step old (added call.limit stream call.bytes)
   come-performs {n} all c = c.performed ∙ ap (after call.step old) (reported-all call.limit stream call.bytes n all)
+
+-- ---- between characters
+
+by_settled : {B : Type 0} (limit : Option ℕ) (state : State) (parser : Machine B) (place : Place) → IsSettled state
+    → StandsBy limit state parser place → IsSettledPlace place
+by_settled limit state parser place settled s = search (rules, arith)
+
+settled-place : {B : Type 0} {limit : Option ℕ} (parser : Machine B) → IsSettled parser.state → (place : Place)
+    → StandsAtPlace limit parser place → IsSettledPlace place
+settled-place {limit} parser settled place s = by_settled limit parser.state parser place settled s.by
+
+pub settled-by : {state other : State} → state ≡ other → IsSettled other → IsSettled state
+settled-by e settled = subst IsSettled (sym e) settled
+
+pub settled-nothing : (u : Unfinished) → bytes_of u ≡ [] → IsSettled (Text u)
+settled-nothing Nothing e = tt
+settled-nothing _ e = cc
+
+pub settled-outside : (state : State) → ((unfinished : Unfinished) → state ≡ Text unfinished → ⊥) → IsSettled state
+settled-outside (Text u) n = absurd (n u refl)
+settled-outside _ n = tt
+
+module _ {V B : Type 0} {call : ChunkCall V} where
+  -- ---- from inside a character to where something starts
+
+  pub settles : {old value : V} {stream : List ℕ} {i : ℕ} {parser : Machine B} → IsSettled parser.state
+      → StandsInside call old value stream i parser → StandsAt call old value stream i parser
+  settles {parser} settled s =
+      let place_is = settled-place parser settled s.place s.stands in
+      record {
+        place = s.place;
+        stands = s.stands;
+        settled = λ _. place_is;
+        has_come = come-settled (stands-place s.stands) place_is s.has_come;
+      }
+
+  pub inside-all : {old value : V} {stream : List ℕ} {i : ℕ} {parser : Machine B}
+      → StandsInside call old value stream i parser → length call.bytes ≤ i → StandsAt call old value stream i parser
+  inside-all s all =
+      record {
+        place = s.place;
+        stands = s.stands;
+        settled = λ within. absurd (omega arith);
+        has_come = come-all all s.has_come;
+      }
+
+  pub inside-moved : {old value : V} {stream : List ℕ} {i j : ℕ} {parser : Machine B} → i ≡ j
+      → StandsInside call old value stream i parser → StandsInside call old value stream j parser
+  inside-moved {old} {value} {stream} {parser} e s = search (rules, arith)
+
+  -- ---- the start and the end of a call
+
+  pub starts-inside : {old : V} {stream : List ℕ} {parser : Machine B} → HasReadWithLimit call.limit parser stream
+      → StandsInside call old old stream 0 parser
+  starts-inside h = record { place = h.place; stands = h.stands; has_come = come-nowhere h.is_after }
+
+  pub starts-at : {old : V} {stream : List ℕ} {parser : Machine B} → IsSettled parser.state
+      → HasReadWithLimit call.limit parser stream → StandsAt call old old stream 0 parser
+  starts-at settled h = settles settled (starts-inside h)
+
+  pub ends-comes : {old value : V} {stream : List ℕ} {n : ℕ} {parser : Machine B} → call.may_stop ≡ true
+      → n ≤ length call.bytes → StandsAt call old value stream n parser
+      → ComesTo call.step call.is_terminated old call.limit stream call.bytes value n
+  ends-comes {parser} does within s =
+      come-to does within
+      (λ left. come-starts (stands-place s.stands) (s.settled left) left s.has_come) s.has_come
+
+  pub ends-stops : {old value : V} {stream : List ℕ} {n : ℕ} {parser : Machine B} → call.may_stop ≡ true
+      → n ≤ length call.bytes → (n < length call.bytes → call.is_terminated value ≡ true)
+      → StandsAt call old value stream n parser
+      → StopsExactly call.step call.is_terminated old call.limit stream call.bytes value n
+  ends-stops does within stops s =
+      record { comes = ends-comes does within s; stops = stops; all = λ all. come-performs all s.has_come }
+
+  pub ends-reads : {old value : V} {stream : List ℕ} {n : ℕ} {parser : Machine B}
+      → StandsAt call old value stream n parser
+      → HasReadWithLimit call.limit parser (resumed_stream stream call.bytes n)
+  ends-reads s = record { place = s.place; stands = s.stands; is_after = s.has_come.is_after }
+
+  -- of a call that reads all bytes
+  pub ends-performs : {old value : V} {stream : List ℕ} {n : ℕ} {parser : Machine B} → n ≡ length call.bytes
+      → StandsAt call old value stream n parser → value ≡ after call.step old (added call.limit stream call.bytes)
+  ends-performs all s = come-performs all s.has_come
+
+  pub ends-reads_all : {old value : V} {stream : List ℕ} {n : ℕ} {parser : Machine B} → n ≡ length call.bytes
+      → StandsAt call old value stream n parser → HasReadWithLimit call.limit parser (stream ++ call.bytes)
+  ends-reads_all {stream} {n} {parser} all s =
+      subst (HasReadWithLimit call.limit parser) (resumed_stream-all stream call.bytes n all) (ends-reads s)
+
+  -- ---- where the loop of a call ends: at a stop, or with all bytes read
+
+  pub ends-at_stop : {old value : V} {n : ℕ} {before parser : Machine B} → call.may_stop ≡ true
+      → call.is_terminated value ≡ true → n ≤ length call.bytes
+      → ((stream : List ℕ) → HasReadWithLimit call.limit before stream → StandsAt call old value stream n parser)
+      → ReadsUpTo call old value n before parser
+  ends-at_stop does stopped within stands = search (rules, arith)
+
+  pub ends-with_all : {old value : V} {n : ℕ} {before parser : Machine B} → n ≡ length call.bytes
+      → ((stream : List ℕ) → HasReadWithLimit call.limit before stream → StandsAt call old value stream n parser)
+      → ReadsUpTo call old value n before parser
+  ends-with_all all stands = search (rules, arith)

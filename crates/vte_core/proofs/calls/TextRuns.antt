@@ -1,20 +1,14 @@
 -- What a run of text does to a call's progress: its characters one by one do the same. By induction over the
 -- characters, and for the performer by its contract over the whole run.
-use Rattle.vte_core.proofs.Common.{cases_Bool, inl, inr, Bool, List, Option, [], ap, arith, drop, false, length, map, refl, subst, sym, take, true, ℕ, ◌++◌, ◌+◌, ◌-◌, ◌<◌, ◌∙◌, ◌∷◌, ◌≡◌, ◌≢◌, ◌≤◌, encode, false≢true, append-nil, take-append-drop, All-append, All-head, All-nil, All-tail, All, slice_index, breaks_at, resumed_stream, reported_before, Event, Print, replacement, after, added, cut_at_escape, escape, with_bodies, events, ChunkCall, run_event, character_event, is_control_character, malformed_event, text_outcome, Text, Machine, Nothing, BytesLead, StandsAtPlace, InText, encodes, nat_tests, outcome_from, Advances, ProgressAt, MayGoOn, StandsAt, StandsInside, chars, IsUtf8, NoCharacterStops, IsUtf8Run, IsPrintedAscii, PrintsRun, StaysInRun, ends_run}
+use Rattle.vte_core.proofs.Common.{cases_Bool, inl, inr, Bool, List, Option, [], ap, arith, drop, false, length, map, refl, subst, sym, take, true, ℕ, ◌++◌, ◌+◌, ◌-◌, ◌<◌, ◌∙◌, ◌∷◌, ◌≡◌, ◌≢◌, ◌≤◌, encode, append-nil, take-append-drop, All-append, All-head, All-nil, All-tail, All, slice_index, breaks_at, resumed_stream, reported_before, Event, Print, replacement, after, added, cut_at_escape, escape, with_bodies, events, ChunkCall, run_event, character_event, is_control_character, malformed_event, text_outcome, Text, Machine, Nothing, BytesLead, StandsAtPlace, InText, encodes, nat_tests, outcome_from, Advances, ProgressAt, MayGoOn, StandsAt, StandsInside, chars, IsUtf8, NoCharacterStops, IsUtf8Run, IsPrintedAscii, PrintsRun, StaysInRun, rules}
 use Rattle.std.proofs.lemmas.List.{take-take}
-use Rattle.std.proofs.lemmas.List.Elements.{All-from_get_or}
-use Rattle.std.proofs.lemmas.Str.{inside_one, encodes-chars, scalars-chars}
-use Rattle.vte_core.proofs.bytes.EachLemmas.{each-one}
-use Rattle.vte_core.proofs.bytes.Printable.{chars-one, layout-is_plain_control, run_event-no_control, run_event-printed, run-ascii}
+use Rattle.std.proofs.lemmas.Str.{encodes-chars, scalars-chars}
+use Rattle.vte_core.proofs.bytes.Runs.{each-one, chars-one, layout-is_plain_control, run_event-no_control, run_event-printed, run-ascii}
 use Rattle.vte_core.proofs.dividing.Utf8Agrees.{cut-text, text_outcome-encodes}
-use Rattle.vte_core.proofs.calls.Progress.{come-further, stretch-added}
-use Rattle.vte_core.proofs.streams.After.{added-reads}
-use Rattle.vte_core.proofs.shapes.Reported.{reported-settled, reported-broken}
-use Rattle.vte_core.proofs.stops.Units.{added-append}
-use Rattle.vte_core.proofs.calls.States.{place-settled_text}
-use Rattle.vte_core.proofs.calls.CallEnds.{settled-by, settles}
-use Rattle.vte_core.proofs.streams.Performing.{after_events-append}
-use Rattle.vte_core.proofs.shapes.OutcomeLemmas.{with_bodies-report}
+use Rattle.vte_core.proofs.calls.Progress.{come-further, stretch-added, place-settled_text, settled-by, settles}
+use Rattle.vte_core.proofs.streams.After.{added-reads, after_events-append}
+use Rattle.vte_core.proofs.Shapes.{reported-settled, reported-broken, with_bodies-report}
+use Rattle.vte_core.proofs.EarlyStops.{added-append}
 use Rattle.vte_core.proofs.streams.StreamSteps.{reported_by_stream}
 
 -- ---- what a text gives, and a run
@@ -49,16 +43,12 @@ plain-events layout (c ∷ cs) plain =
     let rest = plain-events layout cs (All-tail (StaysInRun layout) c cs plain) in
     cc
 
-escape-ends_run : (layout : Bool) → ends_run layout escape ≡ true
-escape-ends_run layout = grind arith
-
 replacement-event : (layout : Bool) → run_event layout replacement ≡ Print replacement
 replacement-event layout = grind arith
 
 no_escape-encode : (layout : Bool) (c : ℕ) → StaysInRun layout c → All (λ b. b ≢ escape) (encode c)
-no_escape-encode layout c plain = All-from_get_or (λ b. b ≢ escape) (encode c) 0 (λ k l e.
-    let is : c ≡ escape = inside_one c [] (encode c) k (sym (append-nil (encode c))) l (omega (arith, e)) ∙ e in
-    absurd (false≢true (sym plain ∙ ap (ends_run layout) is ∙ escape-ends_run layout)))
+unfolding encode
+no_escape-encode layout c plain = search (rules, arith)
 
 no_escape-encodes : (layout : Bool) (cs : List ℕ) → All (StaysInRun layout) cs → All (λ b. b ≢ escape) (encodes cs)
 no_escape-encodes layout [] plain = All-nil (λ b. b ≢ escape)

@@ -1,6 +1,6 @@
 -- Runs that a caller takes from its own input: bytes that lead from the parser's place back to it, so the parser
 -- needn't change, and that no further printed character or data byte follows.
-use Rattle.vte_core.proofs.Common.{◌≡◌, ℕ, zero, suc, ◌+◌, ◌-◌, ◌<◌, ◌≤◌, false, true, Option, List, [], ◌++◌, drop, length, length-take, length-drop, map, take, refl, ap, sym, subst, ◌∙◌, arith, append-nil, drop_more, slice_index, Machine, DeviceData, Text, State, Nothing, class_of, resumed_stream, Event, Print, Put, BytesLead, StandsAtPlace, StandsBy, HasReadWithLimit, Place, InDeviceData, InText, IsAfter, IsSettled, StandsAt, ChunkCall, HasNoRunAt, IsRun, chars, Unfinished, IsRange}
+use Rattle.vte_core.proofs.Common.{◌≡◌, ℕ, zero, suc, ◌+◌, ◌-◌, ◌<◌, ◌≤◌, false, true, Option, List, [], ◌++◌, drop, length, length-take, length-drop, map, take, refl, sym, subst, arith, append-nil, drop_more, slice_index, Machine, DeviceData, Text, State, Nothing, class_of, resumed_stream, Put, BytesLead, StandsAtPlace, StandsBy, HasReadWithLimit, Place, InDeviceData, IsSettled, StandsAt, ChunkCall, HasNoRunAt, IsRun, Unfinished, IsRange, rules}
 use Rattle.vte_core.specs.machine.Prelude.{ArePut, AreOfKind, ComesToRun, IsOutsideTextAndData, IsDeviceData, IsTaken}
 use Rattle.vte_core.specs.machine.ToRun.{HasRun, IsWholeAt, bytes_at, kind_events}
 use Rattle.vte_core.specs.AdvanceToRun.{IsRunIn, IsLongestRun, ReturnsRun, run_bytes, taken_bytes, taken_events}
@@ -9,16 +9,13 @@ use Rattle.vte_core.specs.declared.reader.run.RunKind.{RunKind}
 use Rattle.vte_core.specs.declared.reader.run.RunKind.TheVariants.{Text as TextKind, Data as DataKind, Nothing as NoKind}
 use Rattle.vte_core.specs.declared.reader.run.RunRange.{RunRange}
 use Rattle.vte_core.specs.declared.reader.run.Taken.{Taken}
-use Rattle.vte_core.specs.declared.reader.run.Taken.TheVariants.{Text as TakenText, Data, Nothing as TakenNothing}
-use Rattle.vte_core.specs.Text.{IsRunText}
-use Rattle.vte_core.proofs.bytes.ClassCases.{data_ends_nothing}
-use Rattle.vte_core.proofs.calls.CallEnds.{ends-comes, ends-reads}
-use Rattle.vte_core.proofs.calls.States.{place-settled_text}
+use Rattle.vte_core.proofs.bytes.Classes.{data_ends_nothing}
+use Rattle.vte_core.proofs.calls.Progress.{ends-comes, ends-reads, place-settled_text}
 use Rattle.vte_core.proofs.calls.TextRuns.{reads-text}
 use Rattle.vte_core.proofs.fields.PlaceOfState.{IsPlace, stands-in}
 use Rattle.vte_core.proofs.places.PlaceLeads.{data-put}
 use Rattle.vte_core.proofs.streams.After.{added-nothing, added-reads, after-nothing, after-reads}
-use Rattle.vte_core.proofs.places.StreamLemmas.{no_escape, reads-append, reads-byte, reads-nothing}
+use Rattle.vte_core.proofs.places.TextSteps.{no_escape, reads-append, reads-byte, reads-nothing}
 
 -- ---- no run
 
@@ -26,34 +23,19 @@ has-nowhere : {B : Type 0} {limit : Option ℕ} {bytes : List ℕ} {from : ℕ} 
     → from ≤ length bytes → place.start ≡ from → place.end ≡ from
     → place.kind ≡ NoKind → HasRun limit bytes place parser
 has-nowhere {limit} {bytes} {from} {place} {parser} within starts ends kind =
-    let none : bytes_at bytes place ≡ [] =
-    ap (λ n. take n (drop place.start bytes))
-    (let e : place.end - place.start ≡ 0 = omega (arith, starts, ends) in e) in
-    record {
-      is_range = record { in_order = omega (arith, starts, ends); within = omega (arith, within, ends) };
-      kind = rw kind tt;
-      whole = rw kind (starts ∙ sym ends);
-      adds = λ stream h. rw (kind, none) (added-nothing limit stream);
-      reads = λ stream h. rw none (subst (HasReadWithLimit limit parser) (sym (append-nil stream)) h);
-    }
+    search (rules, arith, added-nothing, append-nil)
 
 -- in no other state
 pub outside-text_and_data : (state : State) → ((unfinished : Unfinished) → state ≡ Text unfinished → ⊥)
     → (state ≡ DeviceData → ⊥)
     → IsOutsideTextAndData state
-outside-text_and_data (Text unfinished) no_text no_data = no_text unfinished refl
-outside-text_and_data DeviceData no_text no_data = no_data refl
-outside-text_and_data _ no_text no_data = tt
+outside-text_and_data state no_text no_data = search (rules, arith)
 
 -- ---- a text
 
-text-by_unfinished : (unfinished : Unfinished) → IsSettled (Text unfinished) → Text unfinished ≡ Text Nothing
-text-by_unfinished Nothing settled = refl
-text-by_unfinished _ settled = absurd settled
-
 pub settled-text : {state : State} {unfinished : Unfinished} → state ≡ Text unfinished → IsSettled state
     → state ≡ Text Nothing
-settled-text {unfinished} e settled = e ∙ text-by_unfinished unfinished (subst IsSettled e settled)
+settled-text {unfinished} e settled = search (rules, arith)
 
 -- bytes that lead from the parser's place to the same
 has-run : {B : Type 0} {limit : Option ℕ} {bytes : List ℕ} {place : RunRange} {parser : Machine B} {here : Place}
@@ -63,24 +45,7 @@ has-run : {B : Type 0} {limit : Option ℕ} {bytes : List ℕ} {place : RunRange
     → IsRange bytes place.start place.end → AreOfKind place.kind (bytes_at bytes place)
     → IsWholeAt bytes place place.kind → HasRun limit bytes place parser
 has-run {limit} {bytes} {place} {parser} {here} is only reads range kind whole =
-    let these : List ℕ = bytes_at bytes place in
-    let events : List Event = kind_events place.kind these in
-    record {
-      is_range = range;
-      kind = kind;
-      whole = whole;
-      adds =
-          λ stream h.
-          added-reads
-          (subst (IsAfter limit stream) (only h.place h.stands) h.is_after) reads is;
-      reads = λ stream h. record {
-        place = here;
-        stands = subst (StandsAtPlace limit parser) (only h.place h.stands) h.stands;
-        is_after =
-            after-reads
-            (subst (IsAfter limit stream) (only h.place h.stands) h.is_after) reads is;
-      };
-    }
+    search (rules, arith, added-reads, after-reads)
 
 -- the text that stands from one position to another
 pub has-text : {B : Type 0} {limit : Option ℕ} {bytes : List ℕ} {from end : ℕ} {parser : Machine B}
@@ -130,11 +95,7 @@ has-data {limit} {bytes} {from} {end} {parser} begun low high are ended =
 -- between characters a parser goes on as a new one
 pub reads-anew : {B : Type 0} {limit : Option ℕ} {stream : List ℕ} (parser : Machine B) → parser.state ≡ Text Nothing
     → HasReadWithLimit limit parser stream → HasReadWithLimit limit parser []
-reads-anew {limit} parser begun h = record {
-  place = InText [];
-  stands = subst (StandsAtPlace limit parser) (place-settled_text begun h.stands) h.stands;
-  is_after = after-nothing;
-}
+reads-anew {limit} parser begun h = search (rules, arith, place-settled_text, after-nothing)
 
 -- ---- where a call comes
 
@@ -145,12 +106,7 @@ module _ {V B : Type 0} {call : ChunkCall V} {old new : V} {place : RunRange} {b
       → ((stream : List ℕ) → HasReadWithLimit call.limit before stream
       → StandsAt call old new stream place.start parser)
       → ComesToRun call old new place before parser
-  comes-to_run has some goes stands = record {
-    has = has;
-    stands_at = stands;
-    may_go_on = λ _. goes;
-    stops = λ none. absurd (omega (arith, none, some));
-  }
+  comes-to_run has some goes stands = search (rules, arith)
 
   -- the call ends without a run
   pub comes-nowhere : {from : ℕ} → from ≤ length call.bytes → place.start ≡ from → place.end ≡ from
@@ -179,33 +135,11 @@ takes-by_kind : (bytes : List ℕ) (place : RunRange) (kind : RunKind) (taken : 
     → AreOfKind kind (bytes_at bytes place)
     → length (bytes_at bytes place) ≡ place.end - place.start → IsWholeAt bytes place kind
     → TakesRun bytes place.end (bytes_at bytes place) kind taken
-takes-by_kind bytes place TextKind (TakenText text) same are size whole = record {
-  are = same;
-  events = ap (λ (x : List ℕ). map Print (chars x)) same;
-  whole = (omega (arith, ap length same, size, whole.0), subst (IsRunText false) (sym same) are.plain, whole.1);
-}
-takes-by_kind bytes place DataKind (Data those) same are size whole = record {
-  are = same;
-  events = ap (map Put) same;
-  whole = (omega (arith, ap length same, size, whole.0), whole.1);
-}
-takes-by_kind bytes place NoKind TakenNothing same are size whole =
-    let none : bytes_at bytes place ≡ [] =
-    ap (λ n. take n (drop place.start bytes)) (let e : place.end - place.start ≡ 0 = omega (arith, whole) in e) in
-    record { are = sym none; events = refl; whole = tt }
-takes-by_kind bytes place _ _ same are size whole = absurd same
+takes-by_kind bytes place kind taken same are size whole = search (rules, arith)
 
 run-size : (bytes : List ℕ) (place : RunRange) → IsRange bytes place.start place.end
     → length (bytes_at bytes place) ≡ place.end - place.start
-run-size bytes place range =
-    omega (
-      arith,
-      length-take (place.end - place.start)
-          (drop place.start bytes),
-      length-drop place.start bytes,
-      range.in_order,
-      range.within,
-    )
+run-size bytes place range = search (rules, arith, length-take, length-drop)
 
 takes-run : {B : Type 0} {limit : Option ℕ} {bytes : List ℕ} {place : RunRange} {parser : Machine B} (taken : Taken)
     → HasRun limit bytes place parser
@@ -216,15 +150,7 @@ takes-run {bytes} {place} taken h is =
 stands-run : {B : Type 0} {limit : Option ℕ} {bytes : List ℕ} {run : Run} {place : RunRange} {parser : Machine B}
     → HasRun limit bytes place parser → run.start ≡ place.start
     → run.end ≡ place.end → IsTaken place.kind (bytes_at bytes place) run.taken → IsRunIn bytes run
-stands-run {bytes} {run} {place} h starts ends taken =
-    let these = takes-run run.taken h taken in
-    let size = run-size bytes place h.is_range in
-    record {
-      end = rw (these.are, size, starts, ends) (omega (arith, h.is_range.in_order));
-      within = rw ends h.is_range.within;
-      bytes_are = rw (these.are, size, starts) refl;
-      whole = rw ends these.whole;
-    }
+stands-run {bytes} {run} {place} h starts ends taken = search (rules, arith, takes-run, run-size)
 
 -- a call that comes to a run, as its callers see it
 module _ {V B : Type 0} {call : ChunkCall V} {old new : V} (run : Run) {place : RunRange} {before parser : Machine B}

@@ -1,65 +1,34 @@
 -- The well-formed sequences are the encodings of characters, as the standard library has them: by the number of bytes,
 -- with division and remainder by 64 on both sides.
-use Rattle.vte_core.proofs.Common.{map, ◌≡◌, ℕ, ◌+◌, ◌-◌, ◌*◌, ◌/◌, ◌%◌, ◌<◌, ◌≤◌, true, List, [], ◌∷◌, ◌++◌, refl, sym, ap, ◌∙◌, arith, ◌≢◌, inl, inr, append_assoc, scalar, scalars, encode, encodes, scalar_cases, concat, IsScalar, InScalarRange, false≢true, and_parts, cases_lt, ne_eqb, nat_tests, All-head, All-tail, report, cut_at_escape, escape, character_event, text_outcome, is_in, is_well_formed, scalar_of, segments, second_range, IsUtf8, chars}
-use Rattle.std.proofs.Common.{All}
-use Rattle.std.proofs.lemmas.Str.{encode_ascii, encode_same, encodes-chars, scalars-chars, IsUtf8-encode, IsUtf8-append, IsUtf8-nil}
-use Rattle.vte_core.proofs.dividing.DivisionLemmas.{all_divided}
-use Rattle.vte_core.proofs.bytes.FirstBytes.{continuation, ascii-alone, tests-two, tests-three, tests-four}
+use Rattle.vte_core.proofs.Common.{map, ◌≡◌, ℕ, ◌+◌, ◌-◌, ◌<◌, ◌≤◌, true, List, [], ◌∷◌, ◌++◌, refl, sym, ap, ◌∙◌, arith, ◌≢◌, inl, inr, append_assoc, scalar, scalars, encode, encodes, concat, IsScalar, InScalarRange, false≢true, and_parts, ne_eqb, nat_tests, All-head, All-tail, report, cut_at_escape, escape, character_event, text_outcome, is_in, is_well_formed, scalar_of, segments, second_range, IsUtf8, chars, suc, Bool, false, length, take, drop, get_or, subst, and_from, cases_eq, append-nil, drop_more, All-nil, All-cons, All, slice_index, is_control_character, StaysInRun, from_to, IsUtf8Run, IsRun, rules}
+use Rattle.std.proofs.lemmas.Str.{encode_ascii, encodes-chars, scalars-chars, IsUtf8-encode, IsUtf8-append, IsUtf8-nil, chars-encodes}
+use Rattle.vte_core.proofs.dividing.Division.{all_divided}
+use Rattle.vte_core.proofs.bytes.Utf8.{tests-two, tests-three, tests-four, second_plain}
 use Rattle.vte_core.proofs.bytes.Scalars.{IsContinuation, SecondByte, sequence, whole_one, whole_two, whole_three, whole_four, well_formed_is_scalar}
-use Rattle.vte_core.proofs.shapes.TextLemmas.{trailing_count-whole, segments-first, text_outcome-well_formed, not_well_formed-nothing}
-use Rattle.vte_core.proofs.bytes.Utf8Lemmas.{in_range}
-use Rattle.vte_core.proofs.shapes.OutcomeLemmas.{report-append}
-
--- ---- the encodings by their lengths
-
-encode-two : (c : ℕ) → 0x80 ≤ c → c < 0x800 → encode c ≡ (0xc0 + c / 0x40) ∷ (0x80 + c % 0x40) ∷ []
-unfolding encode
-encode-two c low high = grind (arith, nat_tests)
-
-encode-three : (c : ℕ) → 0x800 ≤ c → c < 0x10000
-    → encode c ≡ (0xe0 + c / 0x1000) ∷ (0x80 + (c / 0x40) % 0x40) ∷ (0x80 + c % 0x40) ∷ []
-unfolding encode
-encode-three c low high = grind (arith, nat_tests)
-
-encode-four : (c : ℕ) → 0x10000 ≤ c
-    → encode c ≡ (0xf0 + c / 0x40000) ∷ (0x80 + (c / 0x1000) % 0x40) ∷ (0x80 + (c / 0x40) % 0x40)
-    ∷ (0x80 + c % 0x40) ∷ []
-unfolding encode
-encode-four c low = grind (arith, nat_tests)
+use Rattle.vte_core.proofs.Shapes.{trailing_count-whole, segments-first, text_outcome-well_formed, not_well_formed-nothing, report-append}
+use Rattle.vte_core.proofs.bytes.Runs.{no_control-stays}
 
 -- ---- a well-formed sequence is the encoding of its character
 
 encoded-two : (a b : ℕ) → 0xc2 ≤ a → a < 0xe0 → SecondByte a b → encode (scalar_of (a ∷ b ∷ [])) ≡ a ∷ b ∷ []
-encoded-two a b low high second =
-    let c : ℕ = (a - 0xc0) * 0x40 + (b - 0x80) in
-    let first : 0xc0 + c / 0x40 ≡ a = omega arith in
-    let last : 0x80 + c % 0x40 ≡ b = omega arith in
-    encode-two c (omega arith) (omega arith) ∙ rw (first, last) refl
+unfolding encode
+encoded-two a b low high second = search (rules, arith)
 
-pub three_from : (a b d : ℕ) → 0xe0 ≤ a → SecondByte a b → 0x800 ≤ scalar_of (a ∷ b ∷ d ∷ [])
+three_from : (a b d : ℕ) → 0xe0 ≤ a → SecondByte a b → 0x800 ≤ scalar_of (a ∷ b ∷ d ∷ [])
 three_from a b d low second = grind (arith, second.not_overlong_three)
 
 encoded-three : (a b d : ℕ) → 0xe0 ≤ a → a < 0xf0 → SecondByte a b → IsContinuation d
     → encode (scalar_of (a ∷ b ∷ d ∷ [])) ≡ a ∷ b ∷ d ∷ []
-encoded-three a b d low high second third =
-    let c : ℕ = (a - 0xe0) * 0x1000 + (b - 0x80) * 0x40 + (d - 0x80) in
-    let first : 0xe0 + c / 0x1000 ≡ a = omega arith in
-    let middle : 0x80 + (c / 0x40) % 0x40 ≡ b = omega arith in
-    let last : 0x80 + c % 0x40 ≡ d = omega arith in
-    encode-three c (three_from a b d low second) (omega arith) ∙ rw (first, middle, last) refl
+unfolding encode
+encoded-three a b d low high second third = search (rules, arith)
 
-pub four_from : (a b d e : ℕ) → 0xf0 ≤ a → SecondByte a b → 0x10000 ≤ scalar_of (a ∷ b ∷ d ∷ e ∷ [])
+four_from : (a b d e : ℕ) → 0xf0 ≤ a → SecondByte a b → 0x10000 ≤ scalar_of (a ∷ b ∷ d ∷ e ∷ [])
 four_from a b d e low second = grind (arith, second.not_overlong_four)
 
 encoded-four : (a b d e : ℕ) → 0xf0 ≤ a → a < 0xf5 → SecondByte a b → IsContinuation d → IsContinuation e
     → encode (scalar_of (a ∷ b ∷ d ∷ e ∷ [])) ≡ a ∷ b ∷ d ∷ e ∷ []
-encoded-four a b d e low high second third fourth =
-    let c : ℕ = (a - 0xf0) * 0x40000 + (b - 0x80) * 0x1000 + (d - 0x80) * 0x40 + (e - 0x80) in
-    let first : 0xf0 + c / 0x40000 ≡ a = omega arith in
-    let second_is : 0x80 + (c / 0x1000) % 0x40 ≡ b = omega arith in
-    let third_is : 0x80 + (c / 0x40) % 0x40 ≡ d = omega arith in
-    let last : 0x80 + c % 0x40 ≡ e = omega arith in
-    encode-four c (four_from a b d e low second) ∙ rw (first, second_is, third_is, last) refl
+unfolding encode
+encoded-four a b d e low high second third fourth = search (rules, arith)
 
 pub well_formed_is_encoded : (p : List ℕ) → is_well_formed p ≡ true → encode (scalar_of p) ≡ p
 well_formed_is_encoded p well = elim (sequence p well) [
@@ -71,102 +40,19 @@ well_formed_is_encoded p well = elim (sequence p well) [
 
 -- ---- the encoding of a character is well formed
 
--- the second byte is one that the first allows
-in_second : {a b : ℕ} → SecondByte a b → is_in (second_range a) b ≡ true
-unfolding second_range
-in_second second =
-    grind (
-      arith,
-      nat_tests,
-      second.low,
-      second.high,
-      second.not_overlong_three,
-      second.not_surrogate,
-      second.not_overlong_four,
-      second.not_past_the_last,
-    )
-
-formed-two : (c : ℕ) → 0x80 ≤ c → c < 0x800 → is_well_formed (encode c) ≡ true
-formed-two c low high =
-    let a : ℕ = 0xc0 + c / 0x40 in
-    let b : ℕ = 0x80 + c % 0x40 in
-    let second : SecondByte a b = record {
-      low = omega arith;
-      high = omega arith;
-      not_overlong_three = λ is. absurd (omega arith);
-      not_surrogate = λ is. absurd (omega arith);
-      not_overlong_four = λ is. absurd (omega arith);
-      not_past_the_last = λ is. absurd (omega arith);
-    } in
-    rw (encode-two c low high)
-    ((tests-two a (omega arith) (omega arith) (b ∷ [])).is_whole ∙ rw (in_second second) refl)
-
-no_surrogate : (c : ℕ) → InScalarRange c → 0xe0 + c / 0x1000 ≡ 0xed → 0x80 + (c / 0x40) % 0x40 ≤ 0x9f
-no_surrogate c (inl below) is = omega arith
-no_surrogate c (inr above) is = absurd (omega arith)
-
-formed-three : (c : ℕ) → 0x800 ≤ c → c < 0x10000 → InScalarRange c → is_well_formed (encode c) ≡ true
-formed-three c low high range =
-    let a : ℕ = 0xe0 + c / 0x1000 in
-    let b : ℕ = 0x80 + (c / 0x40) % 0x40 in
-    let d : ℕ = 0x80 + c % 0x40 in
-    let second : SecondByte a b = record {
-      low = omega arith;
-      high = omega arith;
-      not_overlong_three = λ is. omega arith;
-      not_surrogate = no_surrogate c range;
-      not_overlong_four = λ is. absurd (omega arith);
-      not_past_the_last = λ is. absurd (omega arith);
-    } in
-    let last : is_in continuation d ≡ true = in_range continuation d (omega arith) (omega arith) in
-    let whole = (tests-three a (omega arith) (omega arith) (b ∷ d ∷ [])).is_whole in
-    rw (encode-three c low high) (whole ∙ rw (in_second second, last) refl)
-
-formed-four : (c : ℕ) → 0x10000 ≤ c → c < 0x110000 → is_well_formed (encode c) ≡ true
-formed-four c low high =
-    let a : ℕ = 0xf0 + c / 0x40000 in
-    let b : ℕ = 0x80 + (c / 0x1000) % 0x40 in
-    let d : ℕ = 0x80 + (c / 0x40) % 0x40 in
-    let e : ℕ = 0x80 + c % 0x40 in
-    let second : SecondByte a b = record {
-      low = omega arith;
-      high = omega arith;
-      not_overlong_three = λ is. absurd (omega arith);
-      not_surrogate = λ is. absurd (omega arith);
-      not_overlong_four = λ is. omega arith;
-      not_past_the_last = λ is. omega arith;
-    } in
-    let third : is_in continuation d ≡ true = in_range continuation d (omega arith) (omega arith) in
-    let last : is_in continuation e ≡ true = in_range continuation e (omega arith) (omega arith) in
-    let whole = (tests-four a (omega arith) (omega arith) (b ∷ d ∷ e ∷ [])).is_whole in
-    rw (encode-four c low) (whole ∙ rw (in_second second, third, last) refl)
-
 by_size : (c : ℕ) → InScalarRange c → c < 0x110000 → is_well_formed (encode c) ≡ true
-by_size c range below = elim (cases_lt c 0x80) [
-  | inl one ↦ rw (encode_ascii c one) (ascii-alone c one).is_whole
-  | inr from_80 ↦ elim (cases_lt c 0x800) [
-    | inl two ↦ formed-two c from_80 two
-    | inr from_800 ↦ elim (cases_lt c 0x10000) [
-      | inl three ↦ formed-three c from_800 three range
-      | inr from_10000 ↦ formed-four c from_10000 below
-    ]
-  ]
-]
+unfolding is_well_formed encode Rattle.vte_core.specs.Utf8.utf8_rows
+by_size c range below = search (rules, arith)
 
 in_scalar_range : (c : ℕ) → IsScalar c → InScalarRange c × (c < 0x110000)
-in_scalar_range c is = elim (scalar_cases c is) [
-  | inl low ↦ (inl low, omega arith)
-  | inr high ↦ (inr (omega arith, omega arith), high.1)
-]
+in_scalar_range c is = search (rules, arith)
 
 pub encoded_is_well_formed : (c : ℕ) → IsScalar c → is_well_formed (encode c) ≡ true
 encoded_is_well_formed c is = let range = in_scalar_range c is in by_size c range.0 range.1
 
 pub scalar_of-encoded : (c : ℕ) → IsScalar c → scalar_of (encode c) ≡ c
-scalar_of-encoded c is =
-    let same : encode (scalar_of (encode c)) ≡ encode c =
-    well_formed_is_encoded (encode c) (encoded_is_well_formed c is) in
-    (encode_same (scalar_of (encode c)) c [] [] (ap (λ (u : List ℕ). u ++ []) same)).0
+unfolding encode
+scalar_of-encoded c is = search (rules, arith)
 
 -- ---- whole texts
 
@@ -220,3 +106,107 @@ cut-text [] more none = refl
 cut-text (b ∷ text) more none =
     let other : b ≢ escape = All-head (λ b. b ≢ escape) b text none in
     rw (ne_eqb b escape other, cut-text text more (All-tail (λ b. b ≢ escape) b text none)) refl
+
+-- ---- a character that is a run
+
+-- It has two to four bytes, at the front of some bytes or in a call's input, and is no control.
+
+printable-whole : {layout : Bool} (p : List ℕ) → is_well_formed p ≡ true → is_control_character (scalar_of p) ≡ false
+    → IsUtf8Run layout p
+printable-whole {layout} p whole plain =
+    let c : ℕ = scalar_of p in
+    let same : encodes (c ∷ []) ≡ p = append-nil (encode c) ∙ well_formed_is_encoded p whole in
+    let is : chars p ≡ c ∷ [] =
+    ap chars (sym same) ∙ chars-encodes (c ∷ []) (and_from (scalar c) true (well_formed_is_scalar p whole) refl) in
+    record {
+      utf8 = subst IsUtf8 (well_formed_is_encoded p whole) (IsUtf8-encode c (well_formed_is_scalar p whole));
+      plain = subst (All (StaysInRun layout)) (sym is)
+          (All-cons (StaysInRun layout) c [] (no_control-stays layout c plain)
+          (All-nil (StaysInRun layout)));
+    }
+
+-- a control of two bytes is C2 and less than A0
+past_controls : (b : ℕ) (u : List ℕ) → 0xc2 ≤ b → (b ≡ 0xc2 → 0xa0 ≤ get_or u 0 0) → is_well_formed (b ∷ u) ≡ true
+    → 0xa0 ≤ scalar_of (b ∷ u)
+past_controls b u low plain whole = elim (sequence (b ∷ u) whole) [
+  | whole_one a is high ↦ absurd (omega (arith, low, high, ap (λ x. get_or x 0 0) is))
+  | whole_two a c is from_c2 below second ↦ wide is (elim (cases_eq b 0xc2) [
+    | inl c2 ↦ omega (arith, c2, plain c2, ap (λ x. get_or x 0 0) is, ap (λ x. get_or x 1 0) is, second.low)
+    | inr other ↦ omega (arith, low, other, ap (λ x. get_or x 0 0) is, second.low)
+  ])
+  | whole_three a c d is from_e0 below second third ↦
+      wide is (omega (arith, three_from a c d from_e0 second))
+  | whole_four a c d e is from_f0 below second third fourth ↦
+      wide is (omega (arith, four_from a c d e from_f0 second))
+]
+  where
+    wide : {p : List ℕ} → b ∷ u ≡ p → 0xa0 ≤ scalar_of p → 0xa0 ≤ scalar_of (b ∷ u)
+    wide {p} is high = subst (λ p. 0xa0 ≤ scalar_of p) (sym is) high
+
+no_control : (c : ℕ) → 0xa0 ≤ c → is_control_character c ≡ false
+no_control c low = grind (arith, nat_tests)
+
+pub printable : {layout : Bool} {b : ℕ} {u : List ℕ} → 0xc2 ≤ b → (b ≡ 0xc2 → 0xa0 ≤ get_or u 0 0)
+    → is_well_formed (b ∷ u) ≡ true → IsUtf8Run layout (b ∷ u)
+printable {b} {u} low plain whole =
+    printable-whole (b ∷ u) whole (no_control (scalar_of (b ∷ u)) (past_controls b u low plain whole))
+
+-- ---- the same among other bytes
+
+-- They stand at `from`, past k others.
+abbrev StandAt : List ℕ → ℕ → ℕ → List ℕ → Type 0
+StandAt bytes from k [] = Unit {0}
+StandAt bytes from k (b ∷ u) =
+    (from + k < length bytes) × (b ≡ slice_index bytes (from + k)) × StandAt bytes from (suc k) u
+
+stand-take : (bytes : List ℕ) (from k : ℕ) (u : List ℕ) → StandAt bytes from k u
+    → take (length u) (drop (from + k) bytes) ≡ u
+stand-take bytes from k [] at = refl
+stand-take bytes from k (b ∷ u) at = search (rules, arith, (stand-take bytes from (suc k) u at.2), drop_more)
+
+run-of : {layout : Bool} (bytes : List ℕ) (from b : ℕ) (u : List ℕ) → from < length bytes → b ≡ slice_index bytes from
+    → StandAt bytes from 1 u
+    → 0xc2 ≤ b → (b ≡ 0xc2 → 0xa0 ≤ get_or u 0 0) → is_well_formed (b ∷ u) ≡ true
+    → IsRun layout bytes from (from + suc (length u))
+run-of {layout} bytes from b u within is at low plain whole =
+    let same : take (suc (length u)) (drop from bytes) ≡ b ∷ u =
+    ap (take (suc (length u))) (drop_more bytes from 0 within)
+    ∙ ap (λ c. c ∷ take (length u) (drop (from + 1) bytes)) (sym is) ∙ ap (λ x. b ∷ x) (stand-take bytes from 1 u at) in
+    subst (λ n. IsUtf8Run layout (take n (drop from bytes)))
+    (let e : suc (length u) ≡ from + suc (length u) - from = omega arith in e)
+    (subst (IsUtf8Run layout) (sym same) (printable low plain whole))
+
+pub run-two : {layout : Bool} (bytes : List ℕ) (from : ℕ) {first second : ℕ} → from + 2 ≤ length bytes
+    → first ≡ slice_index bytes from → second ≡ slice_index bytes (from + 1)
+    → 0xc2 ≤ first → first < 0xe0 → is_in (from_to 0x80 0xbf) second ≡ true → (first ≡ 0xc2 → 0xa0 ≤ second)
+    → IsRun layout bytes from (from + 2)
+run-two bytes from {first} {second} long is_first is_second low high continues plain =
+    let e : second_range first ≡ from_to 0x80 0xbf =
+    second_plain first (λ e. omega (arith, e, high)) (λ e. omega (arith, e, high)) (λ e. omega (arith, e, high))
+    (λ e. omega (arith, e, high)) in
+    run-of bytes from first (second ∷ []) (omega (arith, long)) is_first (omega (arith, long), is_second, tt) low plain
+    ((tests-two first low high (second ∷ [])).is_whole ∙ and_from _ _ (ap (λ r. is_in r second) e ∙ continues) refl)
+
+pub run-three : {layout : Bool} (bytes : List ℕ) (from : ℕ) {first second third : ℕ} → from + 3 ≤ length bytes
+    → first ≡ slice_index bytes from → second ≡ slice_index bytes (from + 1)
+    → third ≡ slice_index bytes (from + 2) → 0xe0 ≤ first → first < 0xf0 → is_in (second_range first) second ≡ true
+    → is_in (from_to 0x80 0xbf) third ≡ true → IsRun layout bytes from (from + 3)
+run-three bytes from {first} {second} {third} long is_first is_second is_third low high begins continues =
+    run-of bytes from first (second ∷ third ∷ []) (omega (arith, long)) is_first
+    (omega (arith, long), is_second, (omega (arith, long), is_third, tt))
+    (omega (arith, low)) (λ e. absurd (omega (arith, e, low)))
+    ((tests-three first low high (second ∷ third ∷ [])).is_whole ∙ and_from _ _ begins (and_from _ _ continues refl))
+
+pub run-four : {layout : Bool} (bytes : List ℕ) (from : ℕ) {first second third fourth : ℕ} → from + 4 ≤ length bytes
+    → first ≡ slice_index bytes from
+    → second ≡ slice_index bytes (from + 1) → third ≡ slice_index bytes (from + 2)
+    → fourth ≡ slice_index bytes (from + 3) → 0xf0 ≤ first → first < 0xf5
+    → is_in (second_range first) second ≡ true → is_in (from_to 0x80 0xbf) third ≡ true
+    → is_in (from_to 0x80 0xbf) fourth ≡ true
+    → IsRun layout bytes from (from + 4)
+run-four bytes from {first} {second} {third} {fourth} long is_first is_second is_third is_fourth low high begins
+    continues ends =
+    run-of bytes from first (second ∷ third ∷ fourth ∷ []) (omega (arith, long)) is_first
+    (omega (arith, long), is_second, (omega (arith, long), is_third, (omega (arith, long), is_fourth, tt)))
+    (omega (arith, low)) (λ e. absurd (omega (arith, e, low)))
+    ((tests-four first low high _).is_whole ∙ and_from _ _ begins (and_from _ _ continues (and_from _ _ ends refl)))

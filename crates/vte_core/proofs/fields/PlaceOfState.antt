@@ -1,22 +1,25 @@
--- What is known of a parser that is at a place: by cases of its state, to each of which belongs one kind of place.
-use Rattle.vte_core.proofs.Common.{◌≡◌, ℕ, true, Option, List, [], ◌∷◌, ◌++◌, refl, ap, sym, subst, ◌∙◌, append-nil, Machine, State, Text, Escape, SystemCommand, body_outcome, device_data_outcome, executed_events, leaves, open_bytes, HoldsIntermediates, StandsBy, StandsAtPlace, Place, InText, AtEscape, InSystemCommand, open_at, left_at, rest_outcome, outcome_from, events_from, IsSettledPlace, Stored, HoldsItems, SameItems, text_outcome, is_truncated, Nothing, may_continue}
+-- What is known of a parser that is at a place, and that a clone of it, or one made of what was saved of it, is at the
+-- same: by cases of its state, to each of which belongs one kind of place.
+use Rattle.vte_core.proofs.Common.{◌≡◌, ℕ, true, Option, List, [], ◌∷◌, ◌++◌, refl, ap, subst, append-nil, Machine, State, Text, Escape, SystemCommand, body_outcome, device_data_outcome, executed_events, leaves, open_bytes, HoldsIntermediates, StandsBy, StandsAtPlace, Place, InText, AtEscape, InSystemCommand, open_at, left_at, rest_outcome, outcome_from, events_from, IsSettledPlace, Stored, HoldsItems, SameItems, text_outcome, is_truncated, Nothing, may_continue, EscapeIntermediate, ControlSequence, DeviceControl, DeviceData, IgnoredString, HasReadWithLimit, StandsInHead, InEscape, InControlSequence, InDeviceControl, InDeviceData, InIgnoredString, take, arith, usual_limit, rules}
 use Rattle.vte_core.specs.IgnoredString.{ignored_string_outcome}
 use Rattle.vte_core.specs.machine.Place.{control_sequence_from, device_control_from, escape_from, system_command_from}
-use Rattle.vte_core.proofs.shapes.TextLemmas.{text_outcome-end, text_outcome-nothing}
+use Rattle.vte_core.proofs.Shapes.{text_outcome-end, text_outcome-nothing}
+use Rattle.vte_core.specs.declared.parser.saved.Saved.{Saved}
+use Rattle.vte_core.specs.machine.SavedLayout.{HasIntermediates, IsInHead, IsRestored, flag_of, state_bytes}
+use Rattle.vte_core.specs.machine.Store.{AreParts, ArePieceEnds}
+use Rattle.vte_core.specs.Saved.{HasReadSaved}
 
 -- what a state says of the place, if the parser is in it
 pub stands-in : {B : Type 0} {limit : Option ℕ} {state : State} {parser : Machine B} {place : Place}
     → parser.state ≡ state → StandsAtPlace limit parser place
     → StandsBy limit state parser place
-stands-in {limit} {parser} {place} e s =
-    subst (λ state. StandsBy limit state parser place) e s.by
+stands-in {limit} {parser} {place} e s = search (rules, arith)
 
 -- a parser in a state stands at the place of which that state says so
 pub stands-by : {B : Type 0} {limit : Option ℕ} {state : State} {parser : Machine B} {place : Place}
     → parser.state ≡ state → StandsBy limit state parser place
     → StandsAtPlace limit parser place
-stands-by {limit} {parser} {place} e by =
-    record { by = subst (λ state. StandsBy limit state parser place) (sym e) by }
+stands-by {limit} {parser} {place} e by = search (rules, arith)
 
 escape-by_state : {B : Type 0} (limit : Option ℕ) (state : State) (parser : Machine B)
     → StandsBy limit state parser AtEscape
@@ -36,8 +39,7 @@ pub record InCommandAt {B : Type 0} (limit : Option ℕ) (parser : Machine B) (p
 
 command-by_place : {B : Type 0} {limit : Option ℕ} {parser : Machine B} {place : Place}
     → StandsBy limit SystemCommand parser place → InCommandAt limit parser place
-command-by_place {place = InSystemCommand items} s = record { items = items; same = refl; keeps = s }
-command-by_place s = absurd s
+command-by_place s = search (rules, arith)
 
 pub in_command : {B : Type 0} {limit : Option ℕ} {parser : Machine B} {place : Place} → parser.state ≡ SystemCommand
     → StandsAtPlace limit parser place → InCommandAt limit parser place
@@ -50,9 +52,7 @@ IsPlace _ = Unit {0}
 
 is_place-by_state : {B : Type 0} (limit : Option ℕ) (state : State) (parser : Machine B) (place : Place)
     → StandsBy limit state parser place → IsPlace place
-is_place-by_state limit (Text unfinished) parser (InText u) s = s.1
-is_place-by_state limit _ parser (InText u) s = absurd s
-is_place-by_state limit _ parser _ s = tt
+is_place-by_state limit state parser place s = search (rules, arith)
 
 pub stands-place : {B : Type 0} {limit : Option ℕ} {parser : Machine B} {place : Place}
     → StandsAtPlace limit parser place
@@ -86,9 +86,7 @@ pub events_from-nothing : (limit : Option ℕ) (place : Place) → IsPlace place
 events_from-nothing limit place is = ap (λ outcome. outcome.reported) (outcome_from-nothing limit place is)
 
 pub open_bytes-at : (limit : Option ℕ) (place : Place) → open_bytes (left_at limit place) ≡ open_at place
-open_bytes-at limit (InText []) = refl
-open_bytes-at limit (InText (a ∷ u)) = refl
-open_bytes-at limit _ = refl
+open_bytes-at limit place = search (rules, arith)
 
 pub open_at-settled : (place : Place) → IsSettledPlace place → open_at place ≡ []
 open_at-settled (InText u) none = none
@@ -101,9 +99,74 @@ stands-text_begun e = stands-by e (refl, refl)
 
 pub keeps-same : {limit : Option ℕ} {old new : Stored} {items : List ℕ} → SameItems old new → HoldsItems limit old items
     → HoldsItems limit new items
-keeps-same same keeps = record {
-  goes_on = rw (same.bytes, same.ends) keeps.goes_on;
-  end = rw (same.bytes, same.ends) keeps.end;
-  fewer = rw same.bytes keeps.fewer;
-  lost = rw same.bytes (same.lost ∙ keeps.lost);
-}
+keeps-same same keeps = search (rules, arith)
+
+-- ---- clones
+
+-- A machine with the state of another, what is collected there and its items has read the same.
+
+-- In a state only what counts in it must be the same.
+stands_by-same : {B C : Type 0} (limit : Option ℕ) (state : State) (old : Machine B) (new : Machine C) (place : Place)
+    → (HasIntermediates state → (ints : List ℕ) → HoldsIntermediates old.collected ints
+    → HoldsIntermediates new.collected ints)
+    → (IsInHead state → HasIntermediates state → old.collected ≡ new.collected)
+    → (state ≡ SystemCommand → SameItems old.command new.command)
+    → StandsBy limit state old place → StandsBy limit state new place
+stands_by-same limit (Text unfinished) old new (InText u) ints head items s = s
+stands_by-same limit Escape old new AtEscape ints head items s = ints tt [] s
+stands_by-same limit EscapeIntermediate old new (InEscape bytes) ints head items s = ints tt bytes s
+stands_by-same limit (ControlSequence progress) old new (InControlSequence read) ints head items s =
+    subst (λ collected. StandsInHead collected progress read) (head tt tt) s
+stands_by-same limit (DeviceControl progress) old new (InDeviceControl read) ints head items s =
+    subst (λ collected. StandsInHead collected progress read) (head tt tt) s
+stands_by-same limit DeviceData old new InDeviceData ints head items s = tt
+stands_by-same limit SystemCommand old new (InSystemCommand command) ints head items s = keeps-same (items refl) s
+stands_by-same limit IgnoredString old new InIgnoredString ints head items s = tt
+stands_by-same limit _ old new _ ints head items s = absurd s
+
+pub reads_cloned : {B C : Type 0} (limit : Option ℕ) (old : Machine B) (new : Machine C) → new.state ≡ old.state
+    → new.collected ≡ old.collected → SameItems old.command new.command
+    → (stream : List ℕ) → HasReadWithLimit limit old stream → HasReadWithLimit limit new stream
+reads_cloned limit old new state same items stream has_read = search (rules, arith)
+
+-- ---- saved parsers
+
+-- Everything that counts of a machine is saved: in a head the numbers, in a command its pieces.
+pub record HasSaved {B : Type 0} (saved : Saved) (machine : Machine B) : Type 0 where
+  pub state : saved.state ≡ state_bytes machine.state
+  pub intermediates : HasIntermediates machine.state
+      → take saved.intermediate_count saved.intermediates ≡ machine.collected.intermediates.items
+  pub too_many_intermediates : HasIntermediates machine.state
+      → flag_of saved.too_many_intermediates ≡ machine.collected.too_many_intermediates
+  pub params : IsInHead machine.state
+      → AreParts (take saved.group_count saved.lengths)
+      (take saved.number_count saved.numbers) machine.collected.params
+  pub number : IsInHead machine.state → saved.number ≡ machine.collected.number
+  pub joined : IsInHead machine.state → flag_of saved.joined ≡ machine.collected.joined
+  pub bytes : machine.state ≡ SystemCommand
+      → take saved.byte_count saved.bytes ≡ machine.command.bytes
+  pub ends : machine.state ≡ SystemCommand → take saved.end_count saved.ends ≡ machine.command.ends
+  pub lost : machine.state ≡ SystemCommand → flag_of saved.lost ≡ machine.command.lost
+  pub are_ends : machine.state ≡ SystemCommand
+      → ArePieceEnds machine.command.bytes machine.command.ends
+
+holds-saved : {B C : Type 0} {saved : Saved} {old : Machine B} {new : Machine C} {ints : List ℕ} → HasSaved saved old
+    → IsRestored saved new → HasIntermediates old.state → HasIntermediates new.state
+    → HoldsIntermediates old.collected ints → HoldsIntermediates new.collected ints
+holds-saved h r has_old has_new holds = search (rules, arith)
+
+collected-saved : {B C : Type 0} {saved : Saved} {old : Machine B} {new : Machine C} → HasSaved saved old
+    → IsRestored saved new → IsInHead old.state × HasIntermediates old.state
+    → IsInHead new.state × HasIntermediates new.state → old.collected ≡ new.collected
+collected-saved h r in_old in_new = search (rules, arith)
+
+items-saved : {B C : Type 0} {saved : Saved} {old : Machine B} {new : Machine C} → HasSaved saved old
+    → IsRestored saved new → old.state ≡ SystemCommand
+    → new.state ≡ SystemCommand → SameItems old.command new.command
+items-saved h r old_is new_is = search (rules, arith)
+
+-- what was saved has read what the machine has
+pub reads_saved : {B : Type 0} {saved : Saved} {machine : Machine B} → HasSaved saved machine
+    → (stream : List ℕ) → HasReadWithLimit usual_limit machine stream → HasReadSaved saved stream
+reads_saved {machine} h stream has_read =
+    search (rules, arith, stands-by, stands_by-same, holds-saved, collected-saved, items-saved)

@@ -2,15 +2,15 @@
 -- definition of that shape alone.
 --
 -- A lemma is named by the place and what comes there, as `escape-end` for the end of a sequence right after ESC.
-use Rattle.vte_core.proofs.Common.{◌≡◌, ℕ, ◌≤◌, true, false, eqb, Option, List, [], ◌∷◌, ◌++◌, ap, sym, append_assoc, append-nil, arith, nat_tests, Class, Control, Intermediate, Delete, Digit, Colon, Semicolon, Marker, Final, High, dispatches_escape, class_of, is_cancel, is_device_data, is_head_byte, EscapeSequence, sequence_kind, body_outcome, control_sequence_end, control_sequence_outcome, device_data_outcome, device_control_after_head, ends_command, ends_device_data, device_control_outcome, escape_outcome, executed_events, first_two, are_too_many, Execute, Hook, Put, Unhook, OscDispatch, CsiDispatch, EscDispatch, head_of, is_well_shaped, sequence_event, Leads, InText, AtEscape, InEscape, InControlSequence, InDeviceControl, InDeviceData, InSystemCommand, InIgnoredString, pieces_of, bell, system_command_outcome, text_outcome, character_event, Bool}
-use Rattle.vte_core.proofs.Common.{Place, refl, malformed_event, is_truncated, is_well_formed, scalar_of, nat_le}
+use Rattle.vte_core.proofs.Common.{◌≡◌, ℕ, ◌≤◌, true, false, eqb, Option, List, [], ◌∷◌, ◌++◌, ap, sym, append_assoc, append-nil, arith, nat_tests, Class, Control, Intermediate, Final, High, dispatches_escape, class_of, is_cancel, is_device_data, is_head_byte, EscapeSequence, sequence_kind, body_outcome, control_sequence_end, control_sequence_outcome, device_data_outcome, device_control_after_head, ends_command, ends_device_data, device_control_outcome, escape_outcome, executed_events, first_two, are_too_many, Execute, Hook, Put, Unhook, OscDispatch, CsiDispatch, EscDispatch, head_of, is_well_shaped, sequence_event, Leads, InText, AtEscape, InEscape, InControlSequence, InDeviceControl, InDeviceData, InSystemCommand, InIgnoredString, pieces_of, bell, system_command_outcome, text_outcome, character_event, Bool, Place, refl, malformed_event, is_truncated, is_well_formed, scalar_of, nat_le, ◌<◌, cond, length, IsBounded, AreFromOneByte, IsExecuted, IsPrintable, IsShort, IsAtMostOneShort, Event, Print, Head, reported_intermediates, rules}
 use Rattle.vte_core.specs.IgnoredString.{ignored_string_outcome}
 use Rattle.vte_core.specs.SequenceKind.{ControlSequence, DeviceControl, SystemCommand, IgnoredString, SequenceKind}
 use Rattle.vte_core.specs.machine.Place.{control_sequence_from, device_control_from, escape_from, system_command_from}
-use Rattle.vte_core.proofs.bytes.ClassLemmas.{spans}
-use Rattle.vte_core.proofs.bytes.ClassCases.{head_is_no_control, head_is_no_end}
-use Rattle.vte_core.proofs.bytes.PlainKeys.{is_dropped, is_dropped_in_head, below_finals}
-use Rattle.vte_core.proofs.shapes.TextLemmas.{text_outcome-lone, text_outcome-well_formed}
+use Rattle.vte_core.proofs.bytes.Classes.{spans, head_is_no_control, head_is_no_end, is_dropped, is_dropped_in_head, below_finals}
+use Rattle.vte_core.proofs.Shapes.{text_outcome-lone, text_outcome-well_formed}
+use Rattle.std.proofs.lemmas.List.{length-take}
+use Rattle.vte_core.proofs.fields.Numbers.{AreGroups-groups_of, some_group}
+use Rattle.vte_core.proofs.bytes.Scalars.{well_formed_is_scalar}
 
 -- ---- DEL and 80..FF
 
@@ -24,17 +24,12 @@ drops _ = true
 pub byte-dropped : {limit : Option ℕ} {place : Place} {b : ℕ} {k : Class} → drops place ≡ true → class_of b ≡ k
     → is_dropped k ≡ true → Leads limit place b [] place
 unfolding body_outcome escape_from control_sequence_from device_control_from ignored_string_outcome executed_events
-byte-dropped {place = InText u} at e h = cc
-byte-dropped {place = InDeviceData} at e h = cc
-byte-dropped {place = InSystemCommand items} at e h = cc
-byte-dropped {k = Delete} at e h = record { leads = λ rest. simp e }
-byte-dropped {k = High} at e h = record { leads = λ rest. simp e }
-byte-dropped at e h = cc
+byte-dropped at e h = search (rules, arith)
 
 -- ---- C0
 
 -- where they are executed, and nothing changes
-abbrev pub executes : Place → Bool
+abbrev executes : Place → Bool
 executes AtEscape = true
 executes (InEscape intermediates) = true
 executes (InControlSequence head) = true
@@ -43,10 +38,7 @@ executes _ = false
 pub byte-executed : {limit : Option ℕ} {place : Place} {b : ℕ} → executes place ≡ true → class_of b ≡ Control
     → Leads limit place b (Execute b ∷ []) place
 unfolding body_outcome escape_from control_sequence_from executed_events
-byte-executed {place = AtEscape} at e = record { leads = λ rest. simp e }
-byte-executed {place = InEscape ints} at e = record { leads = λ rest. simp e }
-byte-executed {place = InControlSequence head} at e = record { leads = λ rest. simp e }
-byte-executed at e = cc
+byte-executed at e = search (rules, arith)
 
 -- ---- after ESC
 
@@ -57,14 +49,14 @@ escape-intermediate {b} e =
     let s = spans b e in record { leads = λ rest. simp (e, below_finals b (omega arith)) }
 
 -- the place after a key that begins a body
-abbrev pub begun_by : SequenceKind → Place
+abbrev begun_by : SequenceKind → Place
 begun_by ControlSequence = InControlSequence []
 begun_by DeviceControl = InDeviceControl []
 begun_by SystemCommand = InSystemCommand []
 begun_by IgnoredString = InIgnoredString
 begun_by EscapeSequence = AtEscape
 
-abbrev pub begins_body : SequenceKind → Bool
+abbrev begins_body : SequenceKind → Bool
 begins_body EscapeSequence = false
 begins_body _ = true
 
@@ -73,8 +65,7 @@ pub escape-key : {limit : Option ℕ} {b : ℕ} (k : SequenceKind) → class_of 
     → Leads limit AtEscape b [] (begun_by k)
 unfolding body_outcome executed_events control_sequence_outcome control_sequence_from device_control_outcome
     device_control_from system_command_outcome system_command_from
-escape-key EscapeSequence e is begins = cc
-escape-key _ e is begins = record { leads = λ rest. simp (e, is) }
+escape-key k e is begins = search (rules, arith)
 
 -- ---- after ESC and intermediates
 
@@ -87,24 +78,14 @@ pub intermediate-end : {limit : Option ℕ} {ints : List ℕ} {b : ℕ} {k : Cla
     → dispatches_escape k ≡ true
     → Leads limit (InEscape ints) b (EscDispatch (first_two ints) (are_too_many ints) b ∷ []) (InText [])
 unfolding escape_from executed_events
-intermediate-end {k = Digit} e h = record { leads = λ rest. simp (e, append-nil) }
-intermediate-end {k = Colon} e h = record { leads = λ rest. simp (e, append-nil) }
-intermediate-end {k = Semicolon} e h = record { leads = λ rest. simp (e, append-nil) }
-intermediate-end {k = Marker} e h = record { leads = λ rest. simp (e, append-nil) }
-intermediate-end {k = Final} e h = record { leads = λ rest. simp (e, append-nil) }
-intermediate-end e h = cc
+intermediate-end e h = search (rules, arith)
 
 -- where it has no other meaning after ESC
 pub escape-end : {limit : Option ℕ} {b : ℕ} {k : Class} → class_of b ≡ k → dispatches_escape k ≡ true
     → sequence_kind b ≡ EscapeSequence
     → Leads limit AtEscape b (EscDispatch [] false b ∷ []) (InText [])
 unfolding body_outcome executed_events escape_outcome
-escape-end {k = Digit} e h key = record { leads = λ rest. simp (e, key) }
-escape-end {k = Colon} e h key = record { leads = λ rest. simp (e, key) }
-escape-end {k = Semicolon} e h key = record { leads = λ rest. simp (e, key) }
-escape-end {k = Marker} e h key = record { leads = λ rest. simp (e, key) }
-escape-end {k = Final} e h key = record { leads = λ rest. simp (e, key) }
-escape-end e h key = cc
+escape-end e h key = search (rules, arith)
 
 -- ---- in the head of a control sequence
 
@@ -133,8 +114,7 @@ control-silent e ill = record { leads = λ rest. simp (e, append-nil, ill) }
 pub device-dropped : {limit : Option ℕ} {head : List ℕ} {b : ℕ} {k : Class} → class_of b ≡ k
     → is_dropped_in_head k ≡ true → Leads limit (InDeviceControl head) b [] (InDeviceControl head)
 unfolding device_control_from
-device-dropped {k = Control} e h = record { leads = λ rest. simp e }
-device-dropped e h = byte-dropped refl e h
+device-dropped e h = search (rules, arith)
 
 pub device-head : {limit : Option ℕ} {head : List ℕ} {b : ℕ} → is_head_byte (class_of b) ≡ true
     → Leads limit (InDeviceControl head) b [] (InDeviceControl (head ++ b ∷ []))
@@ -190,11 +170,8 @@ command-item {b} low =
 -- C0 but BEL is dropped
 pub command-control : {limit : Option ℕ} {items : List ℕ} {b : ℕ} → class_of b ≡ Control → eqb b bell ≡ false
     → Leads limit (InSystemCommand items) b [] (InSystemCommand items)
-unfolding system_command_from
-command-control {b} e other =
-    let low = spans b e in
-    let none : nat_le 0x20 b ≡ false = grind (arith, nat_tests) in
-    record { leads = λ rest. simp (e, other, none) }
+unfolding system_command_from class_of
+command-control {b} e other = search (rules, arith)
 
 pub command-bell : {limit : Option ℕ} {items : List ℕ} {b : ℕ} → class_of b ≡ Control → eqb b bell ≡ true
     → Leads limit (InSystemCommand items) b (OscDispatch (pieces_of limit items) true ∷ []) (InText [])
@@ -221,3 +198,46 @@ text-whole {u} {b} whole =
 pub text-lone : {limit : Option ℕ} {b : ℕ} → is_well_formed (b ∷ []) ≡ false → is_truncated (b ∷ []) ≡ false
     → Leads limit (InText []) b (malformed_event (b ∷ []) ∷ []) (InText [])
 text-lone {b} whole more = record { leads = λ rest. text_outcome-lone rest b whole more }
+
+-- ---- the events of one byte are small
+
+-- A character, a control, or a dispatch whose intermediates and final byte have bounds: by the kind of event.
+
+pub executed_low : (b : ℕ) → b < 0x20 → IsExecuted b
+executed_low b low = grind (arith, nat_tests)
+
+pub two_at_most : (bytes : List ℕ) → length (first_two bytes) ≤ 2
+two_at_most bytes = omega (arith, length-take 2 bytes)
+
+-- the event of a sequence and of a hook have the same bounds
+pub bounded-head : (limit : Option ℕ) (head : Head) (final : ℕ) → (0x40 ≤ final) × (final < 0x7f)
+    → IsBounded limit (sequence_event CsiDispatch head final) × IsBounded limit (sequence_event Hook head final)
+unfolding sequence_event
+bounded-head limit head final is =
+    let groups = AreGroups-groups_of head.parameter_text in
+    let few = two_at_most (reported_intermediates head) in
+    let some = some_group head.parameter_text in
+    ((groups, few, is.1, is.0, some), (groups, few, is.1, is.0, some))
+
+short-chosen : (t : Bool) (b c : ℕ) → (t ≡ true → IsExecuted b) → (t ≡ false → IsPrintable c)
+    → IsShort (cond t (Execute b) (Print c))
+short-chosen true b c e p = e refl
+short-chosen false b c e p = p refl
+
+pub short-character : (bytes : List ℕ) → is_well_formed bytes ≡ true → IsShort (character_event (scalar_of bytes))
+unfolding character_event
+short-character bytes whole = search (rules, arith, short-chosen, well_formed_is_scalar)
+
+pub short-malformed : (b : ℕ) → IsShort (malformed_event (b ∷ []))
+unfolding malformed_event
+short-malformed b = search (rules, arith)
+
+pub short_bounded : (limit : Option ℕ) (event : Event) → IsShort event → IsBounded limit event
+short_bounded limit event short = search (rules, arith)
+
+pub tiny_brief : (limit : Option ℕ) (reported : List Event) → IsAtMostOneShort reported → AreFromOneByte limit reported
+tiny_brief limit reported tiny = search (rules, arith)
+
+pub tiny-both : (limit : Option ℕ) (prefix rest : List Event) → IsAtMostOneShort prefix → IsAtMostOneShort rest
+    → AreFromOneByte limit (prefix ++ rest)
+tiny-both limit prefix rest t s = search (rules, arith)

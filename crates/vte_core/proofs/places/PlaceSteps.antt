@@ -1,19 +1,12 @@
 -- After every place every byte reports at most two events, of which the second is short, and leads to a place
 -- (`steps`): by cases of the place and of the byte's class, each by a lemma of `PlaceLeads`.
-use Rattle.vte_core.proofs.Common.{◌≡◌, ℕ, inl, inr, false, eqb, Option, List, refl, arith, cases_Bool, nat_tests, Class, Control, Cancel, Intermediate, Final, Delete, High, class_of, ends_body, SequenceKind, EscapeSequence, sequence_kind, AreFromOneByte, Event, head_of, is_well_shaped, sequence_event, Leads, Place, InText, AtEscape, InEscape, InControlSequence, InDeviceControl, InDeviceData, InSystemCommand, InIgnoredString, closing_events_at, escape, bell, pieces_of, kept_items, None, ◌≤◌, ◌+◌, open_data_count, left_at, breaks, open_at, sym, false≢true, ◌∙◌, [], ◌∷◌, ◌++◌, Execute}
-use Rattle.vte_core.proofs.bytes.FirstBytes.{Tests, ascii-breaks}
-use Rattle.vte_core.proofs.shapes.Reported.{breaks-broken}
+use Rattle.vte_core.proofs.Common.{◌≡◌, ℕ, inl, inr, false, eqb, Option, List, refl, arith, cases_Bool, nat_tests, Class, Control, Cancel, Intermediate, Final, Delete, High, class_of, ends_body, SequenceKind, EscapeSequence, sequence_kind, AreFromOneByte, Event, head_of, is_well_shaped, sequence_event, Leads, Place, InText, AtEscape, InEscape, InControlSequence, InDeviceControl, InDeviceData, InSystemCommand, InIgnoredString, closing_events_at, escape, bell, pieces_of, kept_items, None, ◌≤◌, ◌+◌, open_data_count, left_at, breaks, open_at, sym, false≢true, ◌∙◌, [], ◌∷◌, ◌++◌, Execute, rules}
 use Rattle.vte_core.specs.Class.{Escape}
-use Rattle.vte_core.proofs.places.BriefLemmas.{bounded-head, executed_low, two_at_most}
-use Rattle.vte_core.proofs.places.CancelLemmas.{byte-cancels, closing_brief, closing_alone_brief}
-use Rattle.vte_core.proofs.bytes.ClassCases.{ends_not_cancel}
-use Rattle.vte_core.proofs.bytes.ClassLemmas.{Spans, spans}
-use Rattle.vte_core.proofs.bytes.PlainKeys.{below_finals}
-use Rattle.vte_core.proofs.places.PlaceLeads.{escape-key, escape-intermediate, escape-end, intermediate-more, intermediate-end, byte-dropped, byte-executed, control-head, control-dispatched, control-silent, device-dropped, device-head, device-well_shaped, device-ill_shaped, data-put, data-dropped, data-terminator, command-item, command-control, command-bell, ignored-more}
+use Rattle.vte_core.proofs.places.PlaceLeads.{bounded-head, executed_low, two_at_most, escape-key, escape-intermediate, escape-end, intermediate-more, intermediate-end, byte-dropped, byte-executed, control-head, control-dispatched, control-silent, device-dropped, device-head, device-well_shaped, device-ill_shaped, data-put, data-dropped, data-terminator, command-item, command-control, command-bell, ignored-more}
+use Rattle.vte_core.proofs.places.TextSteps.{byte-cancels, closing_brief, closing_alone_brief, reads-byte, reads-escape, no_escape, cancel_is_no_escape, AreOutsideRuns, FitsLeft, IsLittle, IsOutsideRunsAt, IsText, Steps, step-text}
+use Rattle.vte_core.proofs.bytes.Classes.{ends_not_cancel, Spans, spans, below_finals}
 use Rattle.vte_core.proofs.fields.PlaceOfState.{IsPlace}
-use Rattle.vte_core.proofs.fields.KeptItems.{few_pieces, pieces_push, some_pieces}
-use Rattle.vte_core.proofs.places.StreamLemmas.{reads-byte, reads-escape, no_escape, cancel_is_no_escape}
-use Rattle.vte_core.proofs.places.TextSteps.{AreOutsideRuns, FitsLeft, IsLittle, IsOutsideRunsAt, IsText, Steps, step-text}
+use Rattle.vte_core.proofs.fields.Pieces.{few_pieces, pieces_push, some_pieces}
 
 abbrev IsOutsideText : Place → Type 0
 IsOutsideText (InText u) = ⊥
@@ -36,14 +29,10 @@ no_text _ is text = text
 nothing_open : (limit : Option ℕ) (place : Place) → HoldsNothing place
     → (open_at place ≡ []) × (open_data_count (left_at limit place) ≡ 0) × IsPlace place
 unfolding pieces_of kept_items
-nothing_open limit (InText []) none = (refl, refl, refl)
-nothing_open limit (InText (a ∷ u)) none = absurd none
-nothing_open limit (InSystemCommand []) none = (refl, refl, tt)
-nothing_open limit (InSystemCommand (item ∷ items)) none = absurd none
-nothing_open limit _ none = (refl, refl, tt)
+nothing_open limit place j = search (rules, arith)
 
 -- a byte of the class, of which the class says that it is not ESC
-pub no_escape-class : (b : ℕ) {k : Class} → class_of b ≡ k → ends_body k ≡ false → eqb b escape ≡ false
+no_escape-class : (b : ℕ) {k : Class} → class_of b ≡ k → ends_body k ≡ false → eqb b escape ≡ false
 no_escape-class b is no_end = no_escape b (rw is no_end)
 
 module _ {limit : Option ℕ} {place next : Place} {b : ℕ} where
@@ -238,25 +227,15 @@ step-ordinary limit InIgnoredString b k placed is no_end =
 -- ESC breaks a character
 little-escape : (limit : Option ℕ) (place : Place) → IsPlace place → IsText place
     → breaks (open_at place) (escape ∷ []) ≡ false → IsLittle AtEscape (closing_events_at limit place)
-little-escape limit (InText []) is text unbroken = inl refl
-little-escape limit (InText (a ∷ u)) is text unbroken =
-    let tests : Tests (a ∷ u ++ escape ∷ []) false false = ascii-breaks (a ∷ u) escape is (omega arith) in
-    absurd (false≢true (sym unbroken ∙ breaks-broken (a ∷ u) escape is tests.is_whole tests.is_open))
-little-escape limit _ is text unbroken = absurd text
+little-escape limit place is text unbroken = search (rules, arith)
 
 outside_runs-closing : (limit : Option ℕ) (place : Place) (b : ℕ) → IsOutsideRunsAt place b
     → AreOutsideRuns (closing_events_at limit place)
-outside_runs-closing limit (InText u) b outside = absurd outside
-outside_runs-closing limit InDeviceData b outside = tt
-outside_runs-closing limit (InSystemCommand items) b outside = tt
-outside_runs-closing limit _ b outside = tt
+outside_runs-closing limit place b outside = search (rules, arith)
 
 outside_runs-cancel : (limit : Option ℕ) (place : Place) (b : ℕ) → IsOutsideRunsAt place b
     → AreOutsideRuns (closing_events_at limit place ++ Execute b ∷ [])
-outside_runs-cancel limit (InText u) b outside = absurd outside
-outside_runs-cancel limit InDeviceData b outside = (tt, tt)
-outside_runs-cancel limit (InSystemCommand items) b outside = (tt, tt)
-outside_runs-cancel limit _ b outside = tt
+outside_runs-cancel limit place b outside = search (rules, arith)
 
 step-by_class : (limit : Option ℕ) (place : Place) (b : ℕ) (k : Class) → IsPlace place → class_of b ≡ k
     → Steps limit place b

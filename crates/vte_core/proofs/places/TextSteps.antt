@@ -1,14 +1,82 @@
--- What one byte reports in a text, whatever it is: by whether it ends, continues or breaks the open character.
-use Rattle.vte_core.proofs.Common.{◌≡◌, ℕ, ◌⊎◌, inl, inr, true, false, eqb, Option, List, [], ◌∷◌, ◌++◌, refl, ap, sym, subst, ◌∙◌, cases_Bool, false≢true, AreFromOneByte, IsAtMostOneShort, IsOutsideRuns, class_of, is_device_data, Event, Print, ◌≤◌, ◌+◌, None, arith, FitsStore, ToClose, CommandToClose, open_data_count, left_at, replacement, report, Place, InDeviceData, InText, breaks, open_at, escape, Leads, BytesLead, may_continue, is_truncated, is_well_formed}
-use Rattle.vte_core.proofs.places.PlaceLeads.{text-unfinished, text-whole, text-lone}
-use Rattle.vte_core.proofs.shapes.TextLemmas.{text_outcome-broken}
-use Rattle.vte_core.proofs.places.BriefLemmas.{short-character, short-malformed, tiny_brief, tiny-both}
-use Rattle.vte_core.proofs.fields.PlaceOfState.{IsPlace, may_continue-truncated}
-use Rattle.vte_core.proofs.shapes.Reported.{breaks-broken}
-use Rattle.vte_core.proofs.places.StreamLemmas.{reads-byte, waits-byte}
+-- What one byte does in a text, whatever it is, by whether it ends, continues or breaks the open character; and what
+-- CAN and SUB do at all places.
+use Rattle.vte_core.proofs.Common.{◌≡◌, ℕ, false, eqb, Option, List, [], ◌∷◌, ◌++◌, refl, ap, sym, ◌∙◌, append_assoc, arith, nat_tests, Cancel, class_of, ends_body, Event, Leads, BytesLead, report, Place, InText, AtEscape, closing_events_at, rest_outcome, outcome_from, events_from, cut_at_escape, with_bodies, outcome, events, escape, ◌⊎◌, inl, inr, true, cases_Bool, false≢true, AreFromOneByte, IsAtMostOneShort, IsOutsideRuns, is_device_data, Print, ◌≤◌, ◌+◌, None, FitsStore, ToClose, CommandToClose, open_data_count, left_at, replacement, InDeviceData, breaks, open_at, may_continue, is_truncated, is_well_formed, ◌<◌, Execute, InSystemCommand, bell, text_outcome, character_event, is_control_character, append-nil, body_outcome, control_sequence_end, device_data_outcome, device_control_after_head, executed_events, rules}
+use Rattle.vte_core.proofs.Shapes.{report-append, with_bodies-report, text_outcome-broken, breaks-broken, text_outcome-well_formed}
+use Rattle.vte_core.proofs.fields.PlaceOfState.{IsPlace, rest_outcome-nothing, may_continue-truncated}
+use Rattle.vte_core.proofs.places.PlaceLeads.{text-unfinished, text-whole, text-lone, short-character, short-malformed, tiny_brief, tiny-both, executed_low}
+use Rattle.vte_core.specs.IgnoredString.{ignored_string_outcome}
+use Rattle.vte_core.specs.machine.Place.{control_sequence_from, device_control_from, escape_from, system_command_from}
+use Rattle.vte_core.proofs.bytes.Classes.{spans}
+use Rattle.vte_core.proofs.bytes.Utf8.{Tests, ascii-alone, ascii-breaks}
+use Rattle.vte_core.proofs.fields.Pieces.{few_pieces, some_pieces}
+
+-- ---- from a text or a body to the whole stream
+
+-- What a byte does in its part, it does in the stream, since only ESC cuts.
+
+-- a stream is what more bytes give after nothing
+pub outcome-after_nothing : (limit : Option ℕ) (stream : List ℕ)
+    → outcome limit stream ≡ outcome_from limit (InText []) stream
+unfolding outcome outcome_from
+outcome-after_nothing limit stream = refl
+
+pub events-after_nothing : (limit : Option ℕ) (stream : List ℕ)
+    → events limit stream ≡ events_from limit (InText []) stream
+unfolding events
+events-after_nothing limit stream = ap (λ outcome. outcome.reported) (outcome-after_nothing limit stream)
+
+outcome_from-byte : (limit : Option ℕ) (place : Place) (b : ℕ) (more : List ℕ) → eqb b escape ≡ false
+    → outcome_from limit place (b ∷ more)
+    ≡ with_bodies limit (rest_outcome limit place (b ∷ (cut_at_escape more).text)) (cut_at_escape more).bodies
+unfolding outcome_from
+outcome_from-byte limit place b more e = simp e
+
+-- what a byte does in a text or a body, it does in the stream
+pub reads-byte : {limit : Option ℕ} {place next : Place} {b : ℕ} {reported : List Event} → eqb b escape ≡ false
+    → Leads limit place b reported next → BytesLead limit place (b ∷ []) reported next
+unfolding outcome_from
+reads-byte {limit} {place} {next} {b} {reported} e l = search (rules, arith, outcome_from-byte, with_bodies-report)
+
+-- the same where the byte is still to be read
+pub waits-byte : (limit : Option ℕ) (place next : Place) (b : ℕ) (reported : List Event) (more : List ℕ)
+    → eqb b escape ≡ false
+    → ((rest : List ℕ) → rest_outcome limit place (b ∷ rest) ≡ report reported (rest_outcome limit next (b ∷ rest)))
+    → outcome_from limit place (b ∷ more) ≡ report reported (outcome_from limit next (b ∷ more))
+waits-byte limit place next b reported more e l = search (rules, arith, outcome_from-byte, with_bodies-report)
+
+-- ESC closes what stands before it
+pub outcome_from-escape : (limit : Option ℕ) (place : Place) (more : List ℕ) → IsPlace place
+    → outcome_from limit place (escape ∷ more)
+    ≡ report (closing_events_at limit place) (outcome_from limit AtEscape more)
+unfolding outcome_from
+outcome_from-escape limit place more is = search (rules, arith, rest_outcome-nothing)
+
+pub reads-escape : {limit : Option ℕ} {place : Place} → IsPlace place
+    → BytesLead limit place (escape ∷ []) (closing_events_at limit place) AtEscape
+reads-escape {limit} {place} is = record { reads = λ more. outcome_from-escape limit place more is }
+
+pub reads-nothing : {limit : Option ℕ} {place : Place} → BytesLead limit place [] [] place
+reads-nothing = record { reads = λ more. refl }
+
+pub reads-append : {limit : Option ℕ} {place next last : Place} {bytes these : List ℕ}
+    {reported more_reported : List Event} → BytesLead limit place bytes reported next
+    → BytesLead limit next these more_reported last
+    → BytesLead limit place (bytes ++ these) (reported ++ more_reported) last
+reads-append {limit} {place} {last} {bytes} {these} {reported} {more_reported} r s =
+    search (rules, arith, append_assoc, report-append)
+
+pub no_escape : (b : ℕ) → ends_body (class_of b) ≡ false → eqb b escape ≡ false
+unfolding class_of
+no_escape b is = grind (arith, nat_tests)
+
+pub cancel_is_no_escape : (b : ℕ) → class_of b ≡ Cancel → eqb b escape ≡ false
+unfolding class_of
+cancel_is_no_escape b is = grind (arith, nat_tests)
+
+-- ---- a byte in a text
 
 -- where a character is open at the place, at most U+FFFD was reported
-abbrev pub LeavesOpen : Place → List Event → Type 0
+abbrev LeavesOpen : Place → List Event → Type 0
 LeavesOpen next reported = (open_at next ≡ []) ⊎ ((reported ≡ []) ⊎ (reported ≡ Print replacement ∷ []))
 
 -- nothing was reported, or one short event after which no character is open
@@ -28,7 +96,7 @@ abbrev pub FitsLeft : Option ℕ → ToClose → Type 0
 FitsLeft size (CommandToClose pieces dropped) = FitsStore size pieces
 FitsLeft size _ = Unit {0}
 
-pub text_left : (limit : Option ℕ) (begun : List ℕ) → open_data_count (left_at limit (InText begun)) ≡ 0
+text_left : (limit : Option ℕ) (begun : List ℕ) → open_data_count (left_at limit (InText begun)) ≡ 0
 text_left limit [] = refl
 text_left limit (a ∷ begun) = refl
 
@@ -61,8 +129,7 @@ pub record Steps (limit : Option ℕ) (place : Place) (byte : ℕ) : Type 0 wher
   pub outside_runs : IsOutsideRunsAt place byte → AreOutsideRuns reported
 
 little-is_short : (next : Place) (reported : List Event) → IsLittle next reported → IsAtMostOneShort reported
-little-is_short next reported little =
-    elim little [ inl nothing ↦ subst IsAtMostOneShort (sym nothing) tt | inr closed ↦ closed.1 ]
+little-is_short next reported little = search (rules, arith)
 
 step-little : {limit : Option ℕ} {begun later : List ℕ} {byte : ℕ} {reported : List Event}
     → IsLittle (InText later) reported → eqb byte escape ≡ false
@@ -130,6 +197,45 @@ step-broken limit begun byte other more part none =
 
 pub step-text : (limit : Option ℕ) (begun : List ℕ) (byte : ℕ) → eqb byte escape ≡ false → may_continue begun ≡ true
     → Steps limit (InText begun) byte
-step-text limit [] byte other begun = step-settled other
-step-text limit (a ∷ begun) byte other more =
-    step-by_tests other (λ part none. step-broken limit (a ∷ begun) byte other more part none)
+step-text limit begun byte other begun0 = search (rules, arith, step-settled, step-by_tests, step-broken)
+
+-- They end what is open and are executed: what is closed comes first. By cases of the place.
+
+-- ---- CAN and SUB
+
+no_bell : (b : ℕ) → class_of b ≡ Cancel → eqb b bell ≡ false
+unfolding class_of
+no_bell b e = grind (arith, nat_tests)
+
+text_outcome-cancel : (rest : List ℕ) (b : ℕ) → b < 0x20
+    → text_outcome (b ∷ rest) ≡ report (Execute b ∷ []) (text_outcome rest)
+unfolding character_event
+text_outcome-cancel rest b low =
+    let control : is_control_character b ≡ true = grind (arith, nat_tests) in
+    rw control at (text_outcome-well_formed (b ∷ []) rest (ascii-alone b (omega arith)).is_whole)
+
+-- what is closed comes first, then the byte is executed
+pub byte-cancels : {limit : Option ℕ} {place : Place} {b : ℕ} → IsPlace place → class_of b ≡ Cancel
+    → Leads limit place b (closing_events_at limit place ++ Execute b ∷ []) (InText [])
+unfolding body_outcome executed_events escape_from control_sequence_from control_sequence_end device_control_from
+    device_control_after_head device_data_outcome system_command_from ignored_string_outcome
+byte-cancels {place = InText []} {b} is e = record { leads = λ rest. text_outcome-cancel rest b (spans b e) }
+byte-cancels {place = InText (a ∷ u)} {b} is e =
+    let low : b < 0x20 = spans b e in
+    let tests : Tests (a ∷ u ++ b ∷ []) false false = ascii-breaks (a ∷ u) b is (omega arith) in
+    record {
+      leads = λ rest. text_outcome-broken (a ∷ u) b is tests.is_whole tests.is_open rest
+          ∙ ap (report (Print replacement ∷ [])) (text_outcome-cancel rest b low);
+    }
+byte-cancels {place = InSystemCommand items} {b} is e = record { leads = λ rest. simp (e, no_bell b e, append-nil) }
+byte-cancels is e = record { leads = λ rest. simp e }
+
+-- ---- both are little
+
+pub closing_brief : (limit size : Option ℕ) (place : Place) (b : ℕ) → FitsLeft size (left_at limit place) → b < 0x20
+    → AreFromOneByte size (closing_events_at limit place ++ Execute b ∷ [])
+closing_brief limit size place b fits low = search (rules, arith, executed_low, few_pieces, some_pieces)
+
+pub closing_alone_brief : (limit size : Option ℕ) (place : Place) → FitsLeft size (left_at limit place)
+    → AreFromOneByte size (closing_events_at limit place)
+closing_alone_brief limit size place fits = search (rules, arith, few_pieces, some_pieces)

@@ -2,32 +2,145 @@
 -- do after the bytes that lead from the place to another, whose events are added.
 --
 -- `added-X` says what `added` is in the case X, and `after-X` what `IsAfter` says of X.
-use Rattle.vte_core.proofs.Common.{◌≡◌, ℕ, Option, List, [], ◌++◌, length, drop, refl, ap, sym, ◌∙◌, append_assoc, append-nil, arith, drop_all, drop-append_seam, Machine, StandsAtPlace, HasReadWithLimit, Event, report, open_bytes, added, events, outcome, open_character, Place, InText, IsAfter, open_at, left_at, outcome_from, events_from, BytesLead}
-use Rattle.vte_core.proofs.fields.PlaceOfState.{IsPlace, outcome_from-nothing, events_from-nothing, open_bytes-at}
-use Rattle.vte_core.proofs.streams.Performing.{events-empty}
-use Rattle.vte_core.proofs.shapes.OutcomeLemmas.{report-append}
-use Rattle.vte_core.proofs.streams.OpenEnds.{open_bytes-any}
-use Rattle.vte_core.proofs.places.StreamLemmas.{outcome-after_nothing}
+use Rattle.vte_core.proofs.Common.{◌≡◌, ℕ, ◌⊎◌, inl, inr, cases_Bool, true, false, eqb, Option, List, [], ◌∷◌, ◌++◌, refl, ap, sym, ◌∙◌, arith, Machine, Event, Print, replacement, report, after, Place, InText, AtEscape, closing_events_at, outcome_from, events, escape, TakesByte, TakesBytes, is_truncated, is_well_formed, Bool, None, SequenceKind, sequence_kind, body_rest, body_outcome, sequence_outcome, class_of, is_cancel, is_key, Outcome, ToClose, CommandToClose, open_bytes, from_first, cut_at_escape, with_bodies, outcome, open_character, system_command_outcome, text_outcome, append_assoc, append-nil, drop_all, drop-append_seam, StandsAtPlace, HasReadWithLimit, added, IsAfter, open_at, left_at, events_from, BytesLead, rules}
+use Rattle.std.proofs.Common.{eqb-true}
+use Rattle.vte_core.proofs.bytes.Utf8.{Tests, ascii-breaks}
+use Rattle.vte_core.proofs.Shapes.{text_outcome-broken, report-append}
+use Rattle.vte_core.proofs.fields.PlaceOfState.{may_continue-truncated, events_from-nothing, IsPlace, outcome_from-nothing, open_bytes-at}
+use Rattle.vte_core.proofs.places.TextSteps.{events-after_nothing, reads-byte, waits-byte, outcome_from-escape}
+use Rattle.vte_core.specs.Open.{kind_to_close, open_at_end}
+
+-- ---- from a byte to bytes, and from a place to what a parser has read
+
+-- `TakesByte` of a byte is `TakesBytes` of one.
+
+pub after_events-append : {V : Type 0} (step : V → Event → V) (value : V) (xs ys : List Event)
+    → after step value (xs ++ ys) ≡ after step (after step value xs) ys
+after_events-append step value [] ys = refl
+after_events-append step value (x ∷ xs) ys = after_events-append step (step value x) xs ys
+
+-- one byte that is no ESC
+pub takes-performs : {V B : Type 0} {step : V → Event → V} {old new : V} {limit : Option ℕ} {place : Place} {byte : ℕ}
+    {parser : Machine B} → eqb byte escape ≡ false
+    → TakesByte step old new limit place byte parser → TakesBytes step old new limit place (byte ∷ []) parser
+takes-performs e t = record {
+  reported = t.reported;
+  next = t.next;
+  performed = t.performed;
+  stands = t.stands;
+  reads = reads-byte e t.leads;
+}
+
+-- ---- a byte that is offered to an open character
+
+-- a byte that belongs to an open character is no ESC
+pub carried_is_no_escape : (u : List ℕ) (b : ℕ) → is_truncated u ≡ true
+    → (is_well_formed (u ++ b ∷ []) ≡ true) ⊎ (is_truncated (u ++ b ∷ []) ≡ true) → eqb b escape ≡ false
+carried_is_no_escape u b more carried = elim (cases_Bool (eqb b escape)) [
+  | inl is ↦
+      let e : b ≡ escape = eqb-true b escape is in
+      let tests : Tests (u ++ b ∷ []) false false = ascii-breaks u b more (omega arith) in
+      elim carried [ inl h ↦ cc (h, tests.is_whole) | inr h ↦ cc (h, tests.is_open) ]
+  | inr other ↦ other
+]
+
+closing-unfinished : (limit : Option ℕ) (u : List ℕ) → is_truncated u ≡ true
+    → closing_events_at limit (InText u) ≡ Print replacement ∷ []
+unfolding is_truncated
+closing-unfinished limit [] more = cc
+closing-unfinished limit (a ∷ u) more = refl
+
+-- a byte that breaks a character is still to be read, ESC too
+pub waits-broken : (limit : Option ℕ) (u : List ℕ) (b : ℕ) (more : List ℕ) → is_truncated u ≡ true
+    → is_well_formed (u ++ b ∷ []) ≡ false → is_truncated (u ++ b ∷ []) ≡ false
+    → outcome_from limit (InText u) (b ∷ more)
+    ≡ report (Print replacement ∷ []) (outcome_from limit (InText []) (b ∷ more))
+waits-broken limit u b more begun whole next = elim (cases_Bool (eqb b escape)) [
+  | inr other ↦
+      waits-byte limit (InText u) (InText []) b (Print replacement ∷ []) more other
+      (text_outcome-broken u b begun whole next)
+  | inl e ↦
+      let is : b ≡ escape = eqb-true b escape e in
+      let there : outcome_from limit (InText []) (escape ∷ more) ≡ outcome_from limit AtEscape more =
+      outcome_from-escape limit (InText []) more refl in
+      rw is (
+      outcome_from-escape limit (InText u) more (may_continue-truncated u begun)
+      ∙ ap (λ es. report es (outcome_from limit AtEscape more)) (closing-unfinished limit u begun)
+      ∙ ap (report (Print replacement ∷ [])) (sym there)
+      )
+]
+
+pub events-empty : (limit : Option ℕ) → events limit [] ≡ []
+events-empty limit = events-after_nothing limit [] ∙ events_from-nothing limit (InText []) refl
+
+-- ---- what is unfinished, whatever the limit
+
+-- By the definitions, part by part: only what is kept of a command depends on the size of the store.
+
+-- a view of what is open that is the same whatever is kept of a command
+module _ {A : Type 0} (view : ToClose → A)
+    (same : (pieces others : List (List ℕ)) (lost other : Bool)
+    → view (CommandToClose pieces lost) ≡ view (CommandToClose others other)) where
+  view-shape : (limit : Option ℕ) (k : SequenceKind) (key : ℕ) (bytes : List ℕ)
+      → view (sequence_outcome limit k key bytes).left ≡ view (sequence_outcome None k key bytes).left
+  unfolding system_command_outcome
+  view-shape limit k key bytes = search (rules, arith)
+
+  view-rest : (limit : Option ℕ) (rest : List ℕ)
+      → view (body_rest limit rest).left ≡ view (body_rest None rest).left
+  view-rest limit [] = refl
+  view-rest limit (key ∷ bytes) =
+      elim (cases_Bool (is_cancel (class_of key))) [
+        | inl cancels ↦ rw cancels refl
+        | inr other ↦ rw other (view-shape limit (sequence_kind key) key bytes)
+      ]
+
+  view-body : (limit : Option ℕ) (body : List ℕ)
+      → view (body_outcome limit body).left ≡ view (body_outcome None body).left
+  unfolding body_outcome
+  view-body limit body = view-rest limit (from_first (λ b. is_key (class_of b)) body)
+
+  view-bodies : (limit : Option ℕ) (part other : Outcome) (bodies : List (List ℕ))
+      → view part.left ≡ view other.left
+      → view (with_bodies limit part bodies).left ≡ view (with_bodies None other bodies).left
+  view-bodies limit part other [] e = e
+  view-bodies limit part other (body ∷ bodies) e =
+      view-bodies limit (body_outcome limit body) (body_outcome None body) bodies (view-body limit body)
+
+  view-any : (limit : Option ℕ) (stream : List ℕ)
+      → view (outcome limit stream).left ≡ view (outcome None stream).left
+  unfolding outcome
+  view-any limit stream =
+      let cut = cut_at_escape stream in
+      view-bodies limit (text_outcome cut.text) (text_outcome cut.text) cut.bodies refl
+
+open_bytes-any : (limit : Option ℕ) (stream : List ℕ)
+    → open_bytes (outcome limit stream).left ≡ open_character stream
+unfolding open_character
+open_bytes-any limit stream = view-any open_bytes (λ _ _ _ _. refl) limit stream
+
+pub open_at_end-any : (limit : Option ℕ) (stream : List ℕ)
+    → kind_to_close (outcome limit stream).left ≡ open_at_end stream
+unfolding open_at_end
+open_at_end-any limit stream = view-any kind_to_close (λ _ _ _ _. refl) limit stream
+
+-- ---- further bytes
 
 pub added-nothing : (limit : Option ℕ) (stream : List ℕ) → added limit stream [] ≡ []
-added-nothing limit stream =
-    ap (λ s. drop (length (events limit stream)) (events limit s)) (append-nil stream)
-    ∙ drop_all (length (events limit stream)) (events limit stream) (omega arith)
+added-nothing limit stream = search (rules, arith, append-nil, drop_all)
 
 pub events-reported : (limit : Option ℕ) (stream : List ℕ) → events limit stream ≡ (outcome limit stream).reported
 unfolding events
 events-reported limit stream = refl
 
 pub after-nothing : {limit : Option ℕ} → IsAfter limit [] (InText [])
-after-nothing {limit} = record {
-  goes_on =
-      λ more. outcome-after_nothing limit more
-      ∙ ap (λ es. report es (outcome_from limit (InText []) more)) (sym (events-empty limit));
-}
+unfolding outcome events outcome_from text_outcome
+after-nothing {limit} = search (rules, arith)
 
 pub after-events : {limit : Option ℕ} {stream : List ℕ} (more : List ℕ) {place : Place} → IsAfter limit stream place
     → events limit (stream ++ more) ≡ events limit stream ++ events_from limit place more
-after-events {limit} {stream} more a = events-reported limit (stream ++ more) ∙ ap (λ o. o.reported) (a.goes_on more)
+unfolding events
+after-events {limit} {stream} more a = search (rules, arith)
 
 -- what the stream leaves open is open at the place
 pub after-left : {limit : Option ℕ} {stream : List ℕ} {place : Place} → IsAfter limit stream place → IsPlace place
@@ -70,9 +183,7 @@ after-reads {limit} {stream} {bytes} {next} {these} a r is = record {
 -- what is added to a stream is what follows its place
 pub added-after : {limit : Option ℕ} {stream : List ℕ} (bytes : List ℕ) {place : Place} → IsAfter limit stream place
     → added limit stream bytes ≡ events_from limit place bytes
-added-after {limit} {stream} bytes {place} a =
-    ap (drop (length (events limit stream))) (after-events bytes a)
-    ∙ drop-append_seam (events limit stream) (events_from limit place bytes)
+added-after {limit} {stream} bytes {place} a = search (rules, arith, after-events, drop-append_seam)
 
 -- what bytes that lead to a place add is what they report
 pub added-reads : {limit : Option ℕ} {stream bytes : List ℕ} {place next : Place} {these : List Event}

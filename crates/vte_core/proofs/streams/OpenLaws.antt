@@ -1,6 +1,6 @@
 -- What is open at the end of a stream: nothing before the last ESC has a say in it, and an open character is the last
 -- bytes of the stream. By the definitions, part by part.
-use Rattle.vte_core.proofs.Common.{◌≡◌, ◌≢◌, ◌⊎◌, ℕ, ◌≤◌, Bool, eqb, cases_Bool, cases_lt, inl, inr, eqb-true, false≢true, Option, None, Place, InText, open_at, List, [], ◌∷◌, ◌++◌, length, All, append_assoc, append-nil, concat, refl, ap, sym, subst, ◌∙◌, arith, SequenceKind, EscapeSequence, sequence_kind, body_rest, body_outcome, sequence_outcome, class_of, is_cancel, is_key, ends_head, ends_command, ends_device_data, Outcome, open_bytes, from_first, cut_at_escape, with_bodies, outcome, open_character, escape, system_command_outcome, system_command_rest, control_sequence_outcome, device_control_outcome, device_control_after_head, device_data_outcome, escape_outcome, head_of, is_well_shaped, text_outcome, segments, segments_outcome, is_truncated}
+use Rattle.vte_core.proofs.Common.{◌≡◌, ◌≢◌, ◌⊎◌, ℕ, ◌≤◌, Bool, cases_Bool, inl, inr, eqb-true, Option, None, Place, open_at, List, [], ◌∷◌, ◌++◌, length, All, append_assoc, append-nil, concat, refl, ap, sym, subst, ◌∙◌, arith, SequenceKind, EscapeSequence, sequence_kind, body_rest, body_outcome, sequence_outcome, class_of, is_cancel, is_key, ends_head, ends_command, ends_device_data, Outcome, open_bytes, from_first, cut_at_escape, with_bodies, outcome, open_character, escape, system_command_outcome, system_command_rest, control_sequence_outcome, device_control_outcome, device_control_after_head, device_data_outcome, escape_outcome, text_outcome, segments, segments_outcome, rules}
 use Rattle.vte_core.specs.Class.{ends_escape}
 use Rattle.vte_core.specs.ControlSequence.{control_sequence_rest}
 use Rattle.vte_core.specs.declared.parser.open.Open.TheVariants as kind
@@ -10,8 +10,8 @@ use Rattle.vte_core.specs.IgnoredString.{ignored_string_outcome, ignored_string_
 use Rattle.vte_core.specs.Laws.{OpensLate}
 use Rattle.vte_core.specs.Open.{kind_to_close, open_at_end}
 use Rattle.vte_core.specs.SequenceKind.{ControlSequence, DeviceControl, IgnoredString, SystemCommand}
-use Rattle.vte_core.proofs.bytes.FirstBytes.{truncated-long}
-use Rattle.vte_core.proofs.dividing.DivisionLemmas.{all_divided}
+use Rattle.vte_core.proofs.bytes.Utf8.{truncated-long}
+use Rattle.vte_core.proofs.dividing.Division.{all_divided}
 use Rattle.vte_core.proofs.dividing.Utf8Agrees.{cut-text}
 use Rattle.vte_core.proofs.fields.PlaceOfState.{IsPlace}
 use Rattle.vte_core.proofs.streams.After.{after-open_character}
@@ -55,10 +55,7 @@ EndsOpen bytes o = Ends bytes (open_bytes o.left)
 
 ends-segments : (parts : List (List ℕ)) → EndsOpen (concat parts) (segments_outcome parts)
 ends-segments [] = ends-all []
-ends-segments (part ∷ []) = elim (cases_Bool (is_truncated part)) [
-  | inl more ↦ rw (more, append-nil part) (ends-all part)
-  | inr whole ↦ rw whole (ends-nothing (part ++ []))
-]
+ends-segments (part ∷ []) = search (rules, arith, append-nil, ends-all, ends-nothing)
 ends-segments (part ∷ next ∷ parts) = ends-after part (ends-segments (next ∷ parts))
 
 ends-text : (text : List ℕ) → EndsOpen text (text_outcome text)
@@ -101,13 +98,7 @@ ends-data bytes = ends-then (ends-from_first ends_device_data bytes) (rest _)
 ends-after_head : (head : List ℕ) (end : ℕ) (bytes : List ℕ)
     → EndsOpen bytes (device_control_after_head head end bytes)
 unfolding device_control_after_head
-ends-after_head head end bytes = elim (cases_Bool (is_cancel (class_of end))) [
-  | inl cancels ↦ rw cancels (ends-text bytes)
-  | inr other ↦ elim (cases_Bool (is_well_shaped (head_of head))) [
-    | inl well ↦ rw (other, well) (ends-data bytes)
-    | inr ill ↦ rw (other, ill) (ends-ignored bytes)
-  ]
-]
+ends-after_head head end bytes = search (rules, arith, ends-text, ends-data, ends-ignored)
 
 ends-device : (bytes : List ℕ) → EndsOpen bytes (device_control_outcome bytes)
 unfolding device_control_outcome
@@ -155,10 +146,7 @@ joined (body ∷ bodies) = escape ∷ body ++ joined bodies
 
 cut-joined : (stream : List ℕ) → (cut_at_escape stream).text ++ joined (cut_at_escape stream).bodies ≡ stream
 cut-joined [] = refl
-cut-joined (b ∷ stream) = elim (cases_Bool (eqb b escape)) [
-  | inl is ↦ rw is (ap (λ u. escape ∷ u) (cut-joined stream) ∙ ap (λ c. c ∷ stream) (sym (eqb-true b escape is)))
-  | inr other ↦ rw other (ap (λ u. b ∷ u) (cut-joined stream))
-]
+cut-joined (b ∷ stream) = search (rules, arith, (cut-joined stream), eqb-true)
 
 ends-bodies : (limit : Option ℕ) (text : List ℕ) (part : Outcome) (bodies : List (List ℕ)) → EndsOpen text part
     → EndsOpen (text ++ joined bodies) (with_bodies limit part bodies)
@@ -183,10 +171,7 @@ cut-append : (stream more : List ℕ)
       bodies = (cut_at_escape stream).bodies ++ (cut_at_escape more).text ∷ (cut_at_escape more).bodies;
     }
 cut-append [] more = refl
-cut-append (b ∷ stream) more = elim (cases_Bool (eqb b escape)) [
-  | inl is ↦ rw (is, cut-append stream more) refl
-  | inr other ↦ rw (other, cut-append stream more) refl
-]
+cut-append (b ∷ stream) more = search (rules, arith, (cut-append stream more))
 
 left-last : (limit : Option ℕ) (part : Outcome) (before : List (List ℕ)) (body : List ℕ) (bodies : List (List ℕ))
     → (with_bodies limit part (before ++ body ∷ bodies)).left
@@ -196,11 +181,7 @@ left-last limit part (first ∷ before) body bodies = left-last limit (body_outc
 
 opens-escape : (stream more : List ℕ) → open_at_end (stream ++ escape ∷ more) ≡ open_at_end (escape ∷ more)
 unfolding open_at_end outcome
-opens-escape stream more =
-    let cut = cut_at_escape stream in
-    let rest = cut_at_escape more in
-    ap (λ c. kind_to_close (with_bodies None (text_outcome c.text) c.bodies).left) (cut-append stream more)
-    ∙ ap kind_to_close (left-last None (text_outcome cut.text) cut.bodies rest.text rest.bodies)
+opens-escape stream more = search (rules, arith, cut-append, left-last)
 
 -- ---- a text
 
@@ -208,10 +189,7 @@ kind-segments : (parts : List (List ℕ))
     → (kind_to_close (segments_outcome parts).left ≡ kind.Nothing)
     ⊎ (kind_to_close (segments_outcome parts).left ≡ kind.Character)
 kind-segments [] = inl refl
-kind-segments (part ∷ []) = elim (cases_Bool (is_truncated part)) [
-  | inl more ↦ rw more (inr refl)
-  | inr whole ↦ rw whole (inl refl)
-]
+kind-segments (part ∷ []) = search (rules, arith)
 kind-segments (part ∷ next ∷ parts) = kind-segments (next ∷ parts)
 
 opens-text : (text : List ℕ) → All (λ b. b ≢ escape) text
@@ -226,12 +204,7 @@ opens-text text none =
 -- ---- the law
 
 few-at : (place : Place) → IsPlace place → length (open_at place) ≤ 3
-few-at (InText []) is = omega arith
-few-at (InText (a ∷ u)) is = elim (cases_lt (length u) 3) [
-  | inl few ↦ omega (arith, few)
-  | inr many ↦ absurd (false≢true (sym (truncated-long a u many) ∙ is))
-]
-few-at _ is = omega arith
+few-at place is = search (rules, arith, truncated-long)
 
 open-few : (stream : List ℕ) → length (open_character stream) ≤ 3
 open-few stream =

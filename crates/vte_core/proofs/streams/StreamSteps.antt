@@ -1,16 +1,14 @@
 -- A stream of any bytes, from its prefix: each byte leads from a place to a place (`arrives`), so what a stream gives
 -- stays as it is whatever follows, and it begins anew where all places lead to the same.
 use Rattle.vte_core.specs.Laws.{Resyncs, ResyncsAfter, Grows, OpensSilently}
-use Rattle.vte_core.proofs.Common.{◌≡◌, ℕ, ◌+◌, ◌≤◌, inl, inr, Option, None, List, [], ◌∷◌, ◌++◌, arith, open_data_count, drop, length, refl, ap, sym, ◌∙◌, append_assoc, All, All-append, All-cons, All-nil, Cancel, class_of, IsBounded, AreFromOneByte, Event, Place, InText, AtEscape, open_at, events_from, IsAfter, added, events, open_character, escape, BytesLead, InSystemCommand, left_at}
-use Rattle.vte_core.proofs.places.BriefLemmas.{short_bounded}
-use Rattle.vte_core.proofs.places.CancelLemmas.{byte-cancels}
-use Rattle.vte_core.proofs.streams.After.{added-after, added-reads, after-events, after-nothing, after-open_character, after-reads}
+use Rattle.vte_core.proofs.Common.{◌≡◌, ℕ, ◌+◌, ◌≤◌, inl, inr, Option, None, List, [], ◌∷◌, ◌++◌, arith, open_data_count, drop, length, refl, ap, sym, ◌∙◌, append_assoc, All, All-append, All-nil, Cancel, class_of, IsBounded, AreFromOneByte, Event, Place, InText, AtEscape, open_at, events_from, IsAfter, added, events, open_character, escape, BytesLead, InSystemCommand, left_at, Some, CountsData, ToClose, CommandToClose, ◌≢◌, ◌<◌, true, length-append, cases_lt, nat_tests, character_event, is_control_character, is_well_formed, scalar_of, IsOutsideRuns, PrintsNoAscii, rules}
+use Rattle.vte_core.proofs.places.TextSteps.{byte-cancels, events-after_nothing, outcome_from-escape, reads-byte, reads-escape, reads-nothing, reads-append, cancel_is_no_escape, FitsLeft, Steps}
+use Rattle.vte_core.proofs.streams.After.{added-after, added-reads, after-events, after-nothing, after-open_character, after-reads, events-empty, after-left}
 use Rattle.vte_core.proofs.places.PlaceSteps.{steps}
 use Rattle.vte_core.proofs.fields.PlaceOfState.{IsPlace}
-use Rattle.vte_core.proofs.streams.Performing.{events-empty}
-use Rattle.vte_core.proofs.places.StreamLemmas.{events-after_nothing, outcome_from-escape, reads-byte, reads-escape, reads-nothing, reads-append, cancel_is_no_escape}
-use Rattle.vte_core.proofs.places.TextSteps.{FitsLeft, Steps}
-use Rattle.vte_core.proofs.fields.KeptItems.{pieces_fit}
+use Rattle.vte_core.proofs.fields.Pieces.{pieces_fit}
+use Rattle.std.proofs.lemmas.Str.{length-encode}
+use Rattle.vte_core.proofs.dividing.Utf8Agrees.{well_formed_is_encoded}
 
 left-fits : (limit : Option ℕ) (place : Place) → FitsLeft limit (left_at limit place)
 left-fits limit (InText []) = tt
@@ -18,7 +16,7 @@ left-fits limit (InText (a ∷ u)) = tt
 left-fits limit (InSystemCommand items) = pieces_fit limit items
 left-fits limit _ = tt
 
-abbrev pub size_at : Option ℕ → Place → ℕ
+abbrev size_at : Option ℕ → Place → ℕ
 size_at limit place = open_data_count (left_at limit place)
 
 -- the bytes report events of a bounded size after the place, and lead to a next place
@@ -32,15 +30,10 @@ pub record Arrives (limit size : Option ℕ) (place : Place) (bytes : List ℕ) 
 
 brief_bounded : (limit : Option ℕ) (reported : List Event) → AreFromOneByte limit reported
     → All (IsBounded limit) reported
-brief_bounded limit [] brief = All-nil (IsBounded limit)
-brief_bounded limit (event ∷ []) brief = All-cons (IsBounded limit) event [] brief (All-nil (IsBounded limit))
-brief_bounded limit (event ∷ last ∷ []) brief =
-    All-cons (IsBounded limit) event (last ∷ []) brief.0
-    (All-cons (IsBounded limit) last [] (short_bounded limit last brief.1) (All-nil (IsBounded limit)))
-brief_bounded limit (_ ∷ _ ∷ _ ∷ _) brief = absurd brief
+brief_bounded limit reported brief = search (rules, arith)
 
 -- the pieces that are left fit into the size at each place on the way
-pub arrives : (limit size : Option ℕ) (place : Place) (bytes : List ℕ) → IsPlace place
+arrives : (limit size : Option ℕ) (place : Place) (bytes : List ℕ) → IsPlace place
     → ((on_way : Place) → (limit ≡ None → size_at limit on_way ≤ size_at limit place + length bytes)
     → FitsLeft size (left_at limit on_way)) → Arrives limit size place bytes
 arrives limit size place [] is fits =
@@ -106,10 +99,7 @@ grows_after : {limit : Option ℕ} (stream : List ℕ) {bytes : List ℕ} (more 
     {reported : List Event} → IsPlace next
     → BytesLead limit a.place bytes reported next
     → events limit (stream ++ (bytes ++ more)) ≡ events limit (stream ++ bytes) ++ events_from limit next more
-grows_after {limit} stream {bytes} more a is reads =
-    ap (events limit) (sym (append_assoc stream bytes more))
-    ∙ after-events more
-    (after-reads a.is_after reads is)
+grows_after {limit} stream {bytes} more a is reads = search (rules, arith, append_assoc, after-events, after-reads)
 
 -- where the byte leads to a text between characters, what follows begins as a new stream
 resyncs_after : (limit : Option ℕ) (end : ℕ) → class_of end ≡ Cancel → ResyncsAfter limit end
@@ -176,3 +166,50 @@ opens_silently limit stream b =
 
 pub events_are_bounded : (limit : Option ℕ) (stream : List ℕ) → All (IsBounded limit) (events limit stream)
 events_are_bounded limit stream = leads_to.bounded
+
+-- ---- how much data a command has that bytes dispatch or leave open, without a limit
+
+fits_by : (n : ℕ) (left : ToClose) → open_data_count left ≤ n → FitsLeft (Some n) left
+fits_by n (CommandToClose pieces lost) within = within
+fits_by n _ within = tt
+
+pub counts_data : (stream bytes : List ℕ) → CountsData stream bytes
+counts_data stream bytes =
+    let a = leads_to {limit = None} {stream = stream} in
+    let c = arrives None (Some (size_at None a.place + length bytes)) a.place bytes a.is_place
+    (λ place few. fits_by _ (left_at None place) (few refl)) in
+    let before = ap open_data_count (after-left a.is_after a.is_place) in
+    let later = ap open_data_count (after-left (after-reads a.is_after c.reads c.is_place) c.is_place) in
+    record {
+      reported = rw (before, added-reads a.is_after c.reads c.is_place) c.bounded;
+      left = omega (arith, before, later, c.grows refl);
+    }
+
+-- ---- events that no run reports
+
+-- A control, and a character of two bytes or more only where its event is no printed one. Such a character is never
+-- ASCII.
+
+-- a sequence of two bytes or more is no character of ASCII
+pub prints_no_ascii : (p : List ℕ) → is_well_formed p ≡ true → 1 < length p → 0x80 ≤ scalar_of p
+prints_no_ascii p well long = elim (cases_lt (scalar_of p) 0x80) [
+  | inl low ↦
+      let size = sym (length-encode (scalar_of p)) ∙ ap length (well_formed_is_encoded p well) in
+      absurd (grind (arith, nat_tests))
+  | inr high ↦ omega (arith, high)
+]
+
+pub length-longer : (u : List ℕ) (b : ℕ) → u ≢ [] → 1 < length (u ++ b ∷ [])
+length-longer [] b some = absurd (some refl)
+length-longer (a ∷ u) b some = omega (arith, length-append u (b ∷ []))
+
+pub prints_no_ascii-character : (c : ℕ) → 0x80 ≤ c → All PrintsNoAscii (character_event c ∷ [])
+unfolding character_event
+prints_no_ascii-character c high = search (rules, arith)
+
+pub outside_runs-control : (c : ℕ) → is_control_character c ≡ true → All IsOutsideRuns (character_event c ∷ [])
+unfolding character_event
+outside_runs-control c is = search (rules, arith)
+
+pub prints_no_ascii-all : (events : List Event) → All IsOutsideRuns events → All PrintsNoAscii events
+prints_no_ascii-all events are = search (rules, arith)

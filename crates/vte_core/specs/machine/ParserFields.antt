@@ -1,18 +1,70 @@
 -- The place at which a parser stands, and what it has read.
-use Rattle.std.specs.Prelude.{◌≡◌, ℕ, ◌<◌, Bool, true, false, if◌then◌else◌, Option, List, [], ◌∷◌, ◌++◌, length, take, ⊤}
+use Rattle.std.specs.Prelude.{◌≡◌, ℕ, ◌<◌, ◌≤◌, Bool, true, false, List, [], ◌∷◌, ◌++◌, if◌then◌else◌, ◌==◌, Option, length, take, ⊤, ◌||◌, ◌-◌, drop, slice_index, MatchOption}
+use Rattle.vte_core.specs.declared.utf8.Unfinished.{Unfinished}
+use Rattle.vte_core.specs.declared.utf8.Unfinished.TheVariants.{Nothing, One, Two, Three}
+use Rattle.vte_core.specs.declared.utf8.Carried.{Carried}
+use Rattle.vte_core.specs.declared.utf8.Carried.TheVariants.{Unfinished as StillUnfinished, Whole, Broken}
+use Rattle.vte_core.specs.Utf8.{Range, from_to, is_truncated, is_well_formed, scalar_of}
 use Rattle.vte_core.specs.declared.head.Collected.{Collected}
 use Rattle.vte_core.specs.declared.head.HeadProgress.{HeadProgress}
 use Rattle.vte_core.specs.declared.head.HeadProgress.TheVariants.{Entry, Parameters, Intermediates, IllShaped}
 use Rattle.vte_core.specs.declared.parser.machine.Machine.{Machine}
 use Rattle.vte_core.specs.declared.parser.State.{State}
 use Rattle.vte_core.specs.declared.parser.State.TheVariants.{Text, Escape, EscapeIntermediate, ControlSequence, DeviceControl, DeviceData, SystemCommand, IgnoredString}
-use Rattle.vte_core.specs.Class.{is_intermediate, is_marker, is_parameter_text, AreInClass}
+use Rattle.vte_core.specs.Class.{is_intermediate, is_marker, is_parameter_text, AreInClass, is_head_byte}
 use Rattle.vte_core.specs.Intermediates.{first_two, are_too_many}
-use Rattle.vte_core.specs.Head.{head_of, is_well_shaped}
+use Rattle.vte_core.specs.Head.{head_of, is_well_shaped, reported_intermediates}
 use Rattle.vte_core.specs.Parameters.{Number, is_colon, is_separator, number_of, numbers, grouped, groups_of, has_too_many_numbers, most_numbers}
 use Rattle.vte_core.specs.machine.Place.{Place, InText, AtEscape, InEscape, InControlSequence, InDeviceControl, InDeviceData, InSystemCommand, InIgnoredString, IsAfter}
 use Rattle.vte_core.specs.machine.Store.{HoldsItems}
-use Rattle.vte_core.specs.machine.Unfinished.{bytes_of, may_continue}
+use Rattle.vte_core.specs.declared.head.HeadEnd.{HeadEnd}
+use Rattle.vte_core.specs.declared.parser.open.Open.{Open}
+use Rattle.vte_core.specs.declared.parser.open.Open.TheVariants as kind
+
+-- ---- a character whose bytes come one at a time
+
+abbrev pub bytes_of : Unfinished → List ℕ
+bytes_of Nothing = []
+bytes_of (One a) = a ∷ []
+bytes_of (Two a b) = a ∷ b ∷ []
+bytes_of (Three a b c) = a ∷ b ∷ c ∷ []
+
+-- More bytes can complete a character.
+abbrev pub may_continue : List ℕ → Bool
+may_continue [] = true
+may_continue (b ∷ bytes) = is_truncated (b ∷ bytes)
+
+-- What one more byte makes of the open bytes.
+abbrev pub Carries : List ℕ → ℕ → Carried → Type 0
+Carries u b (StillUnfinished v) = (bytes_of v ≡ u ++ b ∷ []) × (is_truncated (bytes_of v) ≡ true)
+Carries u b (Whole c) = (is_well_formed (u ++ b ∷ []) ≡ true) × (c ≡ scalar_of (u ++ b ∷ []))
+Carries u b Broken = (is_well_formed (u ++ b ∷ []) ≡ false) × (is_truncated (u ++ b ∷ []) ≡ false)
+
+-- The first byte of a sequence of two bytes.
+pub record BeginsTwo (b : ℕ) : Type 0 where
+  pub low : 0xc2 ≤ b
+  pub high : b < 0xe0
+
+-- The first byte of a sequence of three bytes.
+pub record BeginsThree (b : ℕ) : Type 0 where
+  pub low : 0xe0 ≤ b
+  pub high : b < 0xf0
+
+-- The first byte of a sequence of four bytes.
+pub record BeginsFour (b : ℕ) : Type 0 where
+  pub low : 0xf0 ≤ b
+  pub high : b < 0xf5
+
+-- The second bytes that table 3-7 allows after a first byte of two or more.
+unfoldable pub second_range : ℕ → Range
+second_range a =
+    if a == 0xe0 then from_to 0xa0 0xbf
+    else if a == 0xed then from_to 0x80 0x9f
+    else if a == 0xf0 then from_to 0x90 0xbf
+    else if a == 0xf4 then from_to 0x80 0x8f
+    else from_to 0x80 0xbf
+
+-- ---- numbers, heads and the place
 
 -- The first two intermediates are held, and whether there are more.
 pub record HoldsIntermediates (collected : Collected) (intermediates : List ℕ) : Type 0 where
@@ -117,3 +169,56 @@ pub record HasReadWithLimit {B : Type 0} (limit : Option ℕ) (parser : Machine 
   pub place : Place
   pub stands : StandsAtPlace limit parser place
   pub is_after : IsAfter limit stream place
+
+-- ---- a complete head
+
+-- The head is well shaped, and what a dispatch of it reports is collected.
+pub record IsReady (collected : Collected) (ignored : Bool) (head : List ℕ) : Type 0 where
+  pub well_shaped : is_well_shaped (head_of head) ≡ true
+  pub groups : collected.params ≡ groups_of (head_of head).parameter_text
+  pub intermediates : collected.intermediates.items
+      ≡ first_two (reported_intermediates (head_of head))
+  pub ignore : ignored
+      ≡ (are_too_many (reported_intermediates (head_of head))
+      || has_too_many_numbers (head_of head).parameter_text)
+
+-- ---- a head that is being read
+
+-- What is collected, with this number in its field. While its digits are read, it is in a local.
+abbrev pub with_open_number : Collected → ℕ → Collected
+with_open_number collected number = record {
+  intermediates = collected.intermediates;
+  too_many_intermediates = collected.too_many_intermediates;
+  params = collected.params;
+  number = number;
+  joined = collected.joined;
+}
+
+-- The bytes from position i to position j are read as part of a head, whatever its shape.
+pub record ReadsHead (bytes : List ℕ) (i j : ℕ) (reached progress : HeadProgress)
+    (old new : Collected) : Type 0 where
+  pub low : i ≤ j
+  pub high : j ≤ length bytes
+  pub head_bytes : AreInClass is_head_byte (take (j - i) (drop i bytes))
+  pub stands : (head : List ℕ) → StandsInHead old reached head
+      → StandsInHead new progress (head ++ take (j - i) (drop i bytes))
+
+-- A head is read from position i up to `end`, and the byte there, if there is one, was looked at.
+pub record ReadsHeadUpTo (bytes : List ℕ) (i : ℕ) (reached : HeadProgress) (end : HeadEnd)
+    (old new : Collected) : Type 0 where
+  pub head : ReadsHead bytes i end.position reached end.progress old new
+  pub next : MatchOption end.next (end.position ≡ length bytes)
+      (λ byte. (end.position < length bytes) × (byte ≡ slice_index bytes end.position))
+
+-- ---- what is open in a state
+
+abbrev pub open_in : State → Open
+open_in (Text Nothing) = kind.Nothing
+open_in (Text begun) = kind.Character
+open_in Escape = kind.EscapeSequence
+open_in EscapeIntermediate = kind.EscapeSequence
+open_in (ControlSequence progress) = kind.ControlSequence
+open_in (DeviceControl progress) = kind.DeviceControl
+open_in DeviceData = kind.DeviceControl
+open_in SystemCommand = kind.SystemCommand
+open_in IgnoredString = kind.IgnoredString

@@ -1,4 +1,5 @@
--- Places in a text or a body at which a stream may end, and what more bytes give there.
+-- Places in a text or a body at which a stream may end, what more bytes give there, and where they
+-- lead, according to the grammar.
 use Rattle.std.specs.Prelude.{◌≡◌, ℕ, List, [], ◌∷◌, ◌++◌, Option, ⊤}
 use Rattle.std.specs.List.{filter}
 use Rattle.vte_core.specs.Body.{body_outcome}
@@ -104,3 +105,15 @@ pub record IsAfter (limit : Option ℕ) (stream : List ℕ) (place : Place) : Ty
   pub goes_on : (more : List ℕ)
       → outcome limit (stream ++ more)
       ≡ report (events limit stream) (outcome_from limit place more)
+
+-- The byte gives these events and leads to the next place, whatever follows.
+pub record Leads (limit : Option ℕ) (place : Place) (byte : ℕ) (reported : List Event)
+    (next : Place) : Type 0 where
+  pub leads : (rest : List ℕ)
+      → rest_outcome limit place (byte ∷ rest) ≡ report reported (rest_outcome limit next rest)
+
+-- The bytes, which may include ESC, give these events and lead to the next place.
+pub record BytesLead (limit : Option ℕ) (place : Place) (bytes : List ℕ) (reported : List Event)
+    (next : Place) : Type 0 where
+  pub reads : (more : List ℕ)
+      → outcome_from limit place (bytes ++ more) ≡ report reported (outcome_from limit next more)

@@ -1,13 +1,12 @@
 -- The words that contracts of the parser's functions share.
 pub use Rattle.vte_core.specs.Class.{IsDeviceData, class_of, dispatches_escape, ends_body, is_plain_control, is_device_data, is_final, is_head_byte, is_intermediate, is_parameter_text}
 pub use Rattle.vte_core.specs.EarlyStop.{NoCharacterStops}
-pub use Rattle.vte_core.specs.Event.{CsiDispatch, EscDispatch, Event, Execute, Hook, OscDispatch, Print, Put, Unhook}
+pub use Rattle.vte_core.specs.Event.{CsiDispatch, EscDispatch, Event, Execute, Hook, OscDispatch, Print, Put, Unhook, after}
 pub use Rattle.vte_core.specs.SequenceKind.{begins_ignored_string}
 pub use Rattle.vte_core.specs.LongParser.{read_count}
 pub use Rattle.vte_core.specs.Looks.{counted, looked}
 pub use Rattle.vte_core.specs.OutsideRuns.{ReportsOutsideRuns}
 pub use Rattle.vte_core.specs.Parameters.{is_separator}
-pub use Rattle.vte_core.specs.Perform.{after}
 pub use Rattle.vte_core.specs.Outcome.{SaysLoss}
 pub use Rattle.vte_core.specs.Stream.{IsFinished, IsUnfinished}
 unfoldable pub use Rattle.vte_core.specs.Stream.{outcome}
@@ -17,20 +16,10 @@ pub use Rattle.vte_core.specs.Text.{HasNoRunAt, character_event, is_control_char
 pub use Rattle.vte_core.specs.Utf8.{is_in, is_truncated, scalar_of, from_to}
 pub use Rattle.vte_core.specs.declared.parser.State.TheVariants.{DeviceData, Escape, EscapeIntermediate, IgnoredString, SystemCommand, Text}
 pub use Rattle.vte_core.specs.declared.utf8.Unfinished.TheVariants.{Nothing, One}
-pub use Rattle.vte_core.specs.machine.Each.{Each}
-pub use Rattle.vte_core.specs.machine.Completes.{Completes}
-pub use Rattle.vte_core.specs.machine.Data.{AreIgnored, ArePut}
-pub use Rattle.vte_core.specs.machine.MayRead.{MayRead, MayReadAt, MayReadByte}
-pub use Rattle.vte_core.specs.machine.Moves.{Costs, HandlesByte, MovesWithin, Refuses, SpendsWithin}
-pub use Rattle.vte_core.specs.machine.ParserFields.{CountsNumbers, HoldsIntermediates, HoldsHead, HasReadWithLimit, SameIntermediates, SameNumbers, HoldsNumbers, StandsAtPlace, StandsInHead}
+pub use Rattle.vte_core.specs.machine.Scans.{Each, AreIgnored, ArePut, ArePrintedAscii, IsPrintedAscii, IsRun, IsNonEmptyRun, PrintsRun, FindsEnd, IsRange, IsWindow, Scans, LooksAtMost}
+pub use Rattle.vte_core.specs.machine.Progress.{Completes, MayRead, MayReadAt, MayReadByte, Costs, HandlesByte, MovesWithin, Refuses, SpendsWithin, Advances, IsSettled, ReadsUpTo, ReadsUntilRefused, StandsAt, chunk_call}
+pub use Rattle.vte_core.specs.machine.ParserFields.{CountsNumbers, HoldsIntermediates, HoldsHead, HasReadWithLimit, SameIntermediates, SameNumbers, HoldsNumbers, StandsAtPlace, StandsInHead, ReadsHeadUpTo, with_open_number, IsReady, BeginsFour, BeginsThree, BeginsTwo, Carries, bytes_of, second_range}
 pub use Rattle.vte_core.specs.machine.Place.{AtEscape, InControlSequence, InDeviceControl, IsSettledPlace, Place, closing_events_at}
-pub use Rattle.vte_core.specs.machine.Progress.{Advances, IsSettled, ReadsUpTo, ReadsUntilRefused, StandsAt, chunk_call}
-pub use Rattle.vte_core.specs.machine.Reading.{ReadsHeadUpTo, with_open_number}
-pub use Rattle.vte_core.specs.machine.Ready.{IsReady}
-pub use Rattle.vte_core.specs.machine.TextRun.{ArePrintedAscii, IsPrintedAscii, IsRun, IsNonEmptyRun, PrintsRun}
-pub use Rattle.vte_core.specs.machine.Scans.{FindsEnd, IsRange, IsWindow, Scans, LooksAtMost}
 pub use Rattle.vte_core.specs.machine.Store.{ArePieceEnds, HasCapacity, Stored, HoldsItems, ReservesCapacity, SameItems, cut_pieces, fitting}
-pub use Rattle.vte_core.specs.machine.Takes.{Dispatches, TakesBytes, TakesByte}
-pub use Rattle.vte_core.specs.machine.Reports.{Reports, ReportsAll}
+pub use Rattle.vte_core.specs.machine.Takes.{Dispatches, TakesBytes, TakesByte, Reports, ReportsAll}
 pub use Rattle.vte_core.specs.machine.ToRun.{AreOfKind, ComesToRun, IsOutsideTextAndData, IsReadOutsideRuns, IsTaken, read_through_range, read_before_range}
-pub use Rattle.vte_core.specs.machine.Unfinished.{BeginsFour, BeginsThree, BeginsTwo, Carries, bytes_of, second_range}

@@ -6,8 +6,7 @@ use Rattle.vte_core.specs.declared.parser.State.{State}
 use Rattle.vte_core.specs.declared.parser.State.TheVariants.{Text, Escape, EscapeIntermediate, ControlSequence, DeviceControl, DeviceData, SystemCommand, IgnoredString}
 use Rattle.vte_core.specs.declared.parser.saved.Saved.{Saved}
 use Rattle.vte_core.specs.declared.utf8.Unfinished.TheVariants.{Nothing, One, Two, Three}
-use Rattle.vte_core.specs.machine.Groups.{AreParts}
-use Rattle.vte_core.specs.machine.Store.{ArePieceEnds}
+use Rattle.vte_core.specs.machine.Store.{AreParts, ArePieceEnds}
 
 -- The number of a state, and the bytes of an unfinished character.
 abbrev pub state_bytes : State → List ℕ

@@ -1,9 +1,8 @@
--- The stored part of an operating system command.
-use Rattle.std.specs.Prelude.{◌≡◌, ℕ, zero, suc, ◌+◌, ◌-◌, ◌<◌, ◌≤◌, List, [], ◌∷◌, ◌++◌, length, take, drop, Option, Some, None, ⊤}
-use Rattle.std.specs.Prelude.{Bool, true, false, slice_index, if◌then◌else◌, ◌==◌, nat_lt}
-use Rattle.std.specs.List.{All, filter, slice_range}
+-- The stored part of an operating system command, and of groups.
+use Rattle.std.specs.Prelude.{◌≡◌, ℕ, zero, suc, ◌+◌, ◌-◌, ◌<◌, ◌≤◌, List, [], ◌∷◌, ◌++◌, length, take, drop, Option, Some, None, ⊤, Bool, true, false, slice_index, if◌then◌else◌, ◌==◌, nat_lt, sum, All, option_to_list}
+use Rattle.std.specs.List.{filter, slice_range}
 use Rattle.std.specs.List.Sorted.{IsNonDecreasing}
-use Rattle.vte_core.specs.Parameters.{semicolon}
+use Rattle.vte_core.specs.Parameters.{semicolon, greatest_number, most_numbers}
 use Rattle.vte_core.specs.SystemCommand.{IsCommandData, is_data_item, kept_after, most_pieces, pieces_of}
 
 -- For each `;` of a text, how many data bytes come before it, starting from `count`.
@@ -89,3 +88,35 @@ pub record ArePieceEnds (bytes ends : List ℕ) : Type 0 where
   pub few : length ends ≤ most_pieces
   pub in_order : IsNonDecreasing ends
   pub within : All (λ end. end ≤ length bytes) ends
+
+-- ---- groups
+
+-- All numbers are in one list, and the length of each group.
+
+-- The numbers, cut into groups of these lengths.
+abbrev pub cut_by_lengths : List ℕ → List ℕ → List (List ℕ)
+cut_by_lengths [] numbers = []
+cut_by_lengths (n ∷ lengths) numbers = take n numbers ∷ cut_by_lengths lengths (drop n numbers)
+
+-- The lengths cover all numbers, and no group is empty.
+pub record AreLengths (lengths numbers : List ℕ) : Type 0 where
+  pub whole : sum lengths ≡ length numbers
+  pub filled : All (λ n. 0 < n) lengths
+
+-- Before a number joins a group, the length of that group, which is the last, is removed.
+pub record IsTakenOff (joined : Bool) (lengths rest : List ℕ) (last : Option ℕ) : Type 0 where
+  pub parts : lengths ≡ rest ++ option_to_list last
+  pub found : joined ≡ true → last ≡ None → length lengths ≡ 0
+  pub alone : joined ≡ false → last ≡ None
+
+-- The lengths and numbers of a `Params`: each number is up to 65,535.
+pub record AreFlatGroups (lengths numbers : List ℕ) : Type 0 where
+  pub lengths_fit : AreLengths lengths numbers
+  pub small : All (λ number. number ≤ greatest_number) numbers
+
+-- The groups are stored as these lengths and numbers, at most 32 of each.
+pub record AreParts (lengths numbers : List ℕ) (groups : List (List ℕ)) : Type 0 where
+  pub stored : AreFlatGroups lengths numbers
+  pub cut : groups ≡ cut_by_lengths lengths numbers
+  pub few_groups : length lengths ≤ most_numbers
+  pub few_numbers : length numbers ≤ most_numbers

@@ -1,16 +1,26 @@
--- What the parser did with a byte, or several: the events that it reported, and the place at which
--- it then stands.
-use Rattle.std.specs.Prelude.{◌≡◌, ◌≤◌, ℕ, List, Option}
+-- What the parser did with a byte, or several: the events that a performer received, with the
+-- count of looks, and the place at which the parser then stands.
+use Rattle.std.specs.Prelude.{◌≡◌, ℕ, ◌+◌, List, ◌≤◌, Option}
 use Rattle.vte_core.specs.declared.reader.Reader.{Reader}
+use Rattle.vte_core.specs.Event.{Event, after}
+use Rattle.vte_core.specs.Looks.{looked}
 use Rattle.vte_core.specs.declared.parser.machine.Machine.{Machine}
 use Rattle.vte_core.specs.declared.parser.State.TheVariants.{Text}
 use Rattle.vte_core.specs.declared.utf8.Unfinished.TheVariants.{Nothing}
-use Rattle.vte_core.specs.Event.{Event}
-use Rattle.vte_core.specs.machine.Leads.{Leads, BytesLead}
+use Rattle.vte_core.specs.machine.Place.{Leads, BytesLead, Place}
 use Rattle.vte_core.specs.machine.ParserFields.{StandsAtPlace}
-use Rattle.vte_core.specs.machine.Place.{Place}
-use Rattle.vte_core.specs.machine.Reports.{Reports}
-use Rattle.vte_core.specs.Perform.{after}
+
+-- The performer received the event, which counts one look.
+pub record Reports {V : Type 0} (step : V → Event → V) (old new : V) (event : Event)
+    (earlier later : Reader) : Type 0 where
+  pub value : new ≡ step old event
+  pub count : looked later ≡ looked earlier + 1
+
+-- The performer received the events, which count `many` looks.
+pub record ReportsAll {V : Type 0} (step : V → Event → V) (old new : V) (events : List Event)
+    (many : ℕ) (earlier later : Reader) : Type 0 where
+  pub value : new ≡ after step old events
+  pub count : looked later ≡ looked earlier + many
 
 -- The performer received the events of the byte, and the parser stands at the place to which it
 -- leads.

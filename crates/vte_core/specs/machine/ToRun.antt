@@ -14,8 +14,7 @@ use Rattle.vte_core.specs.Class.{IsDeviceData, class_of, is_device_data}
 use Rattle.vte_core.specs.Event.{Event, Print, Put}
 use Rattle.vte_core.specs.machine.ParserFields.{HasReadWithLimit}
 use Rattle.vte_core.specs.machine.Progress.{ChunkCall, StandsAt}
-use Rattle.vte_core.specs.machine.TextRun.{IsUtf8Run}
-use Rattle.vte_core.specs.machine.Scans.{IsRange}
+use Rattle.vte_core.specs.machine.Scans.{IsUtf8Run, IsRange}
 use Rattle.vte_core.specs.Stream.{added}
 use Rattle.vte_core.specs.Text.{HasNoRunAt}
 

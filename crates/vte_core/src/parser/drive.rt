@@ -98,7 +98,11 @@ impl<B: Buffer> Machine<B> {
     {
         // A comparison, because the match jumps by a table, which is hard to predict.
         if let State::Text(_) = self.state {
-            return Ok(self.read_text::<P, G, MAY_STOP>(reader, performer, input, from));
+            return Ok(if MAY_STOP || G::IN_RUNS {
+                self.read_text::<P, G, MAY_STOP>(reader, performer, input, from)
+            } else {
+                self.read_characters::<P, G, MAY_STOP>(reader, performer, input, from)
+            });
         }
         Ok(match self.state {
             // Never: this was tested above.

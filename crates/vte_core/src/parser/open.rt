@@ -1,6 +1,6 @@
 //! What is unfinished where a parser stands.
 ghost use Rattle.std.specs.Prelude.{◌≡◌};
-ghost use Rattle.vte_core.specs.machine.OpenStates.{open_in};
+ghost use Rattle.vte_core.specs.machine.ParserFields.{open_in};
 
 use crate::parser::{State, Unfinished};
 

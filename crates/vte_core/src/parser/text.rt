@@ -1,5 +1,5 @@
 //! Text: characters, runs of them, and malformed sequences.
-ghost use Rattle.std.specs.Prelude.{◌≡◌, ◌+◌, ◌*◌, ◌<◌, ◌≤◌, false, true, IfSome, length, slice_index};
+ghost use Rattle.std.specs.Prelude.{◌≡◌, ◌+◌, ◌*◌, ◌<◌, ◌≤◌, false, true, IfSome, None, length, slice_index};
 ghost use Rattle.vte_core.specs.machine.Prelude.{Advances, IsPrintedAscii, MayReadAt, MayReadByte, MovesWithin, NoCharacterStops, Nothing, PrintsRun, Text, chunk_call, looked};
 
 use crate::buffer::Buffer;
@@ -147,6 +147,90 @@ impl<B: Buffer> Machine<B> {
             }
         }
         position
+    }
+
+    /// Reads text as `read_text` does, by characters. Each round has its byte from the one before,
+    /// which takes fewer instructions, but more if the call may stop.
+    #[inline(always)]
+    pub(crate) fn read_characters<P: CountedPerform<G>, G: Granularity, const MAY_STOP: bool>(
+        &mut self,
+        reader: &mut Reader,
+        performer: &mut P,
+        input: Input<'_>,
+        from: usize,
+    ) -> usize
+        requires singly { G.IN_RUNS ≡ false }
+        requires may_read { MayReadAt
+            (chunk_call MAY_STOP P.step P.is_terminated B.limit input.bytes.now)
+            (P.value_of performer.old) (Text Nothing) self.old from }
+        ensures advances { Advances ⊥
+            (chunk_call MAY_STOP P.step P.is_terminated B.limit input.entry.bytes.now)
+            (P.value_of performer.old) (P.value_of performer.new) from result self.old self.new }
+        ensures moves { MovesWithin 5 0 input.entry.bytes.now from result self.old self.new
+            reader.old reader.new }
+    {
+        let mut position = from;
+        let mut prefix = input.up_to((from + SHORT_TEXT).min(input.len()));
+        let mut byte = reader.byte_at(input, from);
+        while let Some(next) = self.read_one::<P, G, MAY_STOP>(
+            reader, performer, input, position, byte,
+        ) {
+            position = next;
+            if MAY_STOP && performer.terminated() {
+                return position;
+            }
+            if position < prefix.len() {
+                byte = reader.byte_at(prefix, position);
+            } else if position < input.len() {
+                prefix = input.up_to(reader.search_text::<MAY_STOP>(input, from, position));
+                byte = reader.byte_at(input, position);
+            } else {
+                return position;
+            }
+        }
+        self.read_sequence::<P, G, MAY_STOP>(reader, performer, input, position)
+    }
+
+    /// Reads what a byte of text begins, which was looked at: a character, a malformed sequence or
+    /// a control. Returns where it ends, or nothing if the byte is ESC, which is left unread.
+    #[inline(always)]
+    fn read_one<P: CountedPerform<G>, G: Granularity, const MAY_STOP: bool>(
+        &mut self,
+        reader: &mut Reader,
+        performer: &mut P,
+        input: Input<'_>,
+        from: usize,
+        first: u8,
+    ) -> Option<usize>
+        requires singly { G.IN_RUNS ≡ false }
+        requires may_read { MayReadByte
+            (chunk_call MAY_STOP P.step P.is_terminated B.limit input.bytes.now)
+            (P.value_of performer.old) (Text Nothing) self.old from first }
+        ensures escape { result ≡ None → first ≡ 0x1b }
+        ensures unread { result ≡ None → (self.new ≡ self.old)
+            × (P.value_of performer.new ≡ P.value_of performer.old)
+            × (looked reader.new ≡ looked reader.old) }
+        ensures advances { IfSome result (λ end. Advances ⊥
+            (chunk_call MAY_STOP P.step P.is_terminated B.limit input.entry.bytes.now)
+            (P.value_of performer.old) (P.value_of performer.new) from end self.old self.new) }
+        ensures text { IfSome result (λ end. end < length input.entry.bytes.now
+            → self.new.state ≡ Text Nothing) }
+        ensures moves { IfSome result (λ end. MovesWithin 3 1 input.entry.bytes.now from end
+            self.old self.new reader.old reader.new) }
+    {
+        if is_printed_ascii(first) {
+            performer.print_char(reader, char::from(first));
+        } else if is_lead(first) {
+            let end = self.read_character::<P, G, MAY_STOP>(reader, performer, input, from, first);
+            return Some(end);
+        } else if first >= 0xa0 {
+            reader.report_lone_byte(performer, first);
+        } else if first == ESCAPE {
+            return None;
+        } else {
+            reader.report_lone_byte(performer, first);
+        }
+        Some(from + 1)
     }
 
     /// Reads what begins with a lead byte, which was looked at, for a performer that takes runs: a

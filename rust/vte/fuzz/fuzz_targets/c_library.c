@@ -57,7 +57,7 @@ static void must(int holds) {
 /* Reads the stream in pieces, and returns the sum of its events that count. */
 static uint64_t events(vte_parser parser, const uint8_t *stream, size_t length, size_t piece,
                        size_t more, uint32_t kinds, uint32_t stops) {
-    size_t room = VTE_LEAST_EVENTS + more, data_room = VTE_LEAST_DATA + more;
+    size_t room = VTE_MIN_EVENTS + more, data_room = VTE_MIN_DATA + more;
     vte_event *reported = malloc(room * sizeof *reported);
     uint8_t *data = malloc(data_room);
     must(reported != NULL && data != NULL);
@@ -85,7 +85,7 @@ static uint64_t events(vte_parser parser, const uint8_t *stream, size_t length, 
 /* The sum of the text of the stream. */
 static uint64_t text(vte_parser parser, const uint8_t *stream, size_t length, size_t piece,
                      size_t more) {
-    size_t room = VTE_LEAST_TEXT + more;
+    size_t room = VTE_MIN_TEXT + more;
     uint8_t *written = malloc(room);
     must(written != NULL);
     sum = 0;

@@ -2,6 +2,7 @@
 
 use std::alloc::{GlobalAlloc, Layout, System};
 use std::cell::Cell;
+use std::panic::Location;
 use std::process::{Command, Output};
 
 thread_local! {
@@ -53,20 +54,24 @@ pub fn refused<T>(answer: impl FnOnce() -> T) -> T {
     answer
 }
 
-/// Runs the test that has this closure alone, in a program of its own, which calls it by this
-/// function. Returns what it said, or `None` in that program.
-fn alone<F: FnOnce()>(call: F, by: fn(F)) -> Option<Output> {
+/// Runs the test that has this closure in a program of its own, which of all such closures calls
+/// that at this line alone, by this function. Returns what it said, or `None` in that program.
+#[track_caller]
+fn alone<T, F: FnOnce() -> T>(call: F, by: fn(F) -> T) -> Option<Output> {
     const WHICH: &str = "VTE_TEST_ALONE";
+    let line = Location::caller().line().to_string();
+    if let Ok(which) = std::env::var(WHICH) {
+        if which == line {
+            by(call);
+        }
+        return None;
+    }
     // without the crate's name
     let (_, place) = std::any::type_name::<F>().split_once("::").unwrap();
     let test = place.split("::{{").next().unwrap();
-    if std::env::var_os(WHICH).is_some() {
-        by(call);
-        return None;
-    }
     let output = Command::new(std::env::current_exe().unwrap())
         .args(["--nocapture", "--exact", test])
-        .env(WHICH, "1")
+        .env(WHICH, line)
         .output();
     Some(output.unwrap())
 }
@@ -74,6 +79,7 @@ fn alone<F: FnOnce()>(call: F, by: fn(F)) -> Option<Output> {
 /// Checks something that the memory of other tests would change, in a program of its own.
 #[cfg(target_os = "linux")]
 #[allow(dead_code)]
+#[track_caller]
 pub fn holds_alone(check: impl FnOnce()) {
     if let Some(output) = alone(check, |check| check()) {
         let counts = String::from_utf8_lossy(&output.stdout);
@@ -94,7 +100,8 @@ pub fn status(name: &str) -> usize {
 
 /// Checks that a call ends the program, another one, if it is refused memory, with this number of
 /// bytes in the message.
-pub fn ends_without(count: usize, call: impl FnOnce()) {
+#[track_caller]
+pub fn ends_without<T>(count: usize, call: impl FnOnce() -> T) {
     let output = match alone(call, refused) {
         Some(output) => output,
         None => return,

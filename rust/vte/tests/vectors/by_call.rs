@@ -3,7 +3,7 @@
 use vte::ansi::lent::{Handler, HandlerCall, TakeCall, TakeText};
 use vte::ansi::HandlerText;
 
-use crate::call_lines::{CallLines, Lent};
+use super::call_lines::{CallLines, Lent};
 
 /// Writes a line for each call that it takes.
 pub struct Values<'a>(pub &'a mut CallLines);

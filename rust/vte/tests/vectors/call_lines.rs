@@ -21,6 +21,9 @@ use vte::ansi::{
 pub struct CallLines {
     /// The lines, which a timeout may write too.
     pub text: Rc<RefCell<String>>,
+    /// The runs, whose characters have lines too.
+    #[cfg(feature = "ansi")]
+    pub runs: Vec<String>,
     /// The character of the last `input`, and its line: some vectors repeat it two million times.
     input: (char, String),
 }
@@ -223,25 +226,20 @@ impl lent::Handler for Lent<'_> {
     }
 }
 
-/// Checks what a run promises, and returns its characters.
-#[cfg(feature = "ansi")]
-fn characters_of_run(text: &str) -> std::str::Chars<'_> {
-    assert!(!text.is_empty(), "a run without a character");
-    let is_control = |c| matches!(c, '\0'..='\u{1f}' | '\u{80}'..='\u{9f}');
-    assert!(!text.contains(is_control), "a control in {text:?}");
-    text.chars()
-}
-
 #[cfg(feature = "ansi")]
 impl HandlerText for CallLines {
     fn input_text(&mut self, text: &str) {
-        characters_of_run(text).for_each(|c| Handler::input(self, c));
+        assert!(!text.is_empty(), "a run without a character");
+        let is_control = |c| matches!(c, '\0'..='\u{1f}' | '\u{80}'..='\u{9f}');
+        assert!(!text.contains(is_control), "a control in {text:?}");
+        text.chars().for_each(|c| Handler::input(self, c));
+        self.runs.push(text.to_owned());
     }
 }
 
 #[cfg(feature = "ansi")]
 impl HandlerText for Lent<'_> {
     fn input_text(&mut self, text: &str) {
-        characters_of_run(text).for_each(|c| lent::Handler::input(self, c));
+        self.0.input_text(text);
     }
 }

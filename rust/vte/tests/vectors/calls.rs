@@ -1,83 +1,139 @@
 //! Vectors of handler calls, by handlers of owned and of lent texts, and by one that takes calls as
 //! values.
 //!
-//! However the bytes of a `stream` are cut, they make its calls. The bytes of a `stops` make its
-//! prints and attributes, with a stop at each place. An `order` has the calls of the handler and
-//! the timeout, in pieces of every length.
+//! However the bytes of a stream are cut, they make its calls; also in pieces of every length, if
+//! the vector has the calls of the timeout too. Vectors of updates have acts on one processor.
 
-use crate::acts::check_acts;
-use crate::block::{blocks, Block};
-use crate::call_lines::CallLines;
-use crate::json::cuttings;
+use super::call_lines::CallLines;
+use super::json::{cuttings, vectors, Value};
 #[cfg(feature = "__own")]
-use crate::reader::CallsInRuns;
-use crate::reader::{ByObject, LentTexts, LentTextsInRuns, OwnedTexts, OwnedTextsInRuns, Reader};
+use super::reader::CallsInRuns;
+use super::reader::{ByObject, LentTexts, LentTextsInRuns, OwnedTexts, OwnedTextsInRuns, Reader};
 
-const VECTORS: &str = include_str!("../../../../crates/call_vectors/stdin");
 const LONGEST_PIECE: usize = 32;
+/// Updates that are stopped at each place.
+const STOPPED: [&str; 3] = [
+    "update ended and begun in one call",
+    "begin and end of an update cut across calls",
+    "begin with another mode beside it inside an update",
+];
 
-fn check_stream<R: Reader>(vector: &Block<'_>) {
-    let (stream, calls) = (vector.pieces().concat(), vector.all("call"));
-    assert!(R::calls_of(&[&stream]) == calls, "{}, whole", vector.name);
-    for cutting in cuttings(&stream) {
-        let (count, first) = (
-            cutting.len(),
-            cutting.first().map_or(0, |piece| piece.len()),
-        );
-        assert!(
-            R::calls_of(&cutting) == calls,
-            "{} in {count} pieces, the first of {first} bytes",
-            vector.name
-        );
+fn check_stream<R: Reader>(name: &str, stream: &[u8], calls: &str) {
+    for pieces in cuttings(stream) {
+        let lengths: Vec<_> = pieces.iter().map(|piece| piece.len()).take(9).collect();
+        assert!(R::calls_of(&pieces) == calls, "{name} in {lengths:?}");
     }
 }
 
-fn check_stops<R: Reader>(vector: &Block<'_>) {
-    let (stream, calls) = (vector.pieces().concat(), vector.all("call"));
+/// Checks the prints and attributes of a stream that is stopped at each place.
+fn check_stops<R: Reader>(name: &str, stream: &[u8], calls: &str) {
+    let is_shown =
+        |line: &&str| line.starts_with("input ") || line.starts_with("terminal_attribute ");
+    let shown = |calls: &str| -> String { calls.split_inclusive('\n').filter(is_shown).collect() };
     for place in 0..=stream.len() {
         let (mut reader, mut lines) = (R::default(), CallLines::default());
         reader.read(&mut lines, &stream[..place]);
         reader.stop(&mut lines);
-        assert_eq!(reader.held(), 0, "{}", vector.name);
+        assert_eq!(reader.held(), 0, "{name}");
         reader.read(&mut lines, &stream[place..]);
-        let shown: String = lines
-            .take()
-            .split_inclusive('\n')
-            .filter(is_shown)
-            .collect();
-        assert_eq!(shown, calls, "{} stopped at {place}", vector.name);
+        assert_eq!(shown(&lines.take()), shown(calls), "{name} at {place}");
     }
 }
 
-fn is_shown(line: &&str) -> bool {
-    line.starts_with("input ") || line.starts_with("terminal_attribute ")
-}
-
-fn check_order<R: Reader>(vector: &Block<'_>) {
-    let (stream, calls) = (vector.pieces().concat(), vector.all("call"));
+/// Checks the calls of the handler and the timeout, in pieces of each length.
+fn check_order<R: Reader>(name: &str, stream: &[u8], calls: &str) {
     for length in 1..LONGEST_PIECE {
         let (mut reader, mut lines) = (R::default(), CallLines::default());
         reader.timeout().log.replace(lines.text.clone());
         for piece in stream.chunks(length) {
             reader.read(&mut lines, piece);
         }
-        assert_eq!(lines.take(), calls, "{} in pieces of {length}", vector.name);
+        assert_eq!(lines.take(), calls, "{name} in pieces of {length}");
     }
 }
 
+/// Checks each act on a processor: its calls, how many bytes are held after it, how often the
+/// timeout was set since it was cleared, and whether the act set or cleared it.
+fn check_acts<R: Reader>(vector: &Value) {
+    let (mut reader, mut lines, name) = (R::default(), CallLines::default(), vector.text("name"));
+    let answers = vector.text("timeout").to_owned();
+    reader.timeout().answers.replace(answers);
+    for step in vector.items("steps") {
+        match step.get("advance") {
+            Some(bytes) => reader.read(&mut lines, &bytes.bytes()),
+            None if step.text("act") == "expire" => reader.timeout().is_expired.set(true),
+            None => {
+                reader.stop(&mut lines);
+                assert_eq!(reader.held(), 0, "{name}");
+            }
+        }
+        assert_eq!(lines.take(), step.lines("calls"), "{name}");
+        let timeout = reader.timeout();
+        for (field, found) in [("held", reader.held()), ("count", timeout.count)] {
+            let wanted = step.number(field);
+            assert_eq!(wanted.unwrap_or(found), found, "{field} of {name}");
+        }
+        let acts = timeout.log.borrow().take();
+        if step.get("timeouts").is_some() {
+            let wanted = step.lines("timeouts").replace("set", "set_timeout 150");
+            assert_eq!(acts, wanted.replace("clear", "clear_timeout"), "{name}");
+        }
+    }
+}
+
+/// The command that has a value's text, as that of the first colour of a palette or as the index of
+/// a colour, and its calls.
+fn command_of(vector: &Value) -> (String, String) {
+    let text = vector.text("text");
+    let (command, index, parts) = match (vector.text("kind"), vector.number("value")) {
+        ("colour", _) => (format!("\x1b]4;1;{text}\x07"), 1, vector.items("value")),
+        (_, index) => (
+            format!("\x1b]4;{text};#000\x07"),
+            index.unwrap_or(0),
+            &[][..],
+        ),
+    };
+    let [r, g, b] = [0, 1, 2].map(|at| parts.get(at).map_or("0".to_owned(), |it| it.written("")));
+    let is_value = !parts.is_empty() || vector.number("value").is_some();
+    let call = format!("set_color {index} Rgb {{ r: {r}, g: {g}, b: {b} }}\n");
+    (command, call.repeat(usize::from(is_value)))
+}
+
 fn check_vectors<R: Reader>() {
-    let mut count = 0;
-    for vector in blocks(VECTORS) {
-        match vector.kind {
-            "stream" => check_stream::<R>(&vector),
-            "stops" => check_stops::<R>(&vector),
-            "order" => check_order::<R>(&vector),
-            "run" => check_acts::<R>(&vector),
-            kind => panic!("no such kind of vectors: {kind}"),
+    let (mut count, mut stopped) = (0, 0);
+    for vector in vectors() {
+        let (name, stream) = (vector.text("name"), vector.pieces().concat());
+        let mut calls = vector.lines("calls");
+        match vector.text("kind") {
+            "calls" if vector.get("timeouts").is_some() => {
+                check_order::<R>(name, &stream, &calls);
+            }
+            "calls" => check_stream::<R>(name, &stream, &calls),
+            "colour" | "number" => {
+                let (command, calls) = command_of(&vector);
+                check_stream::<R>(name, command.as_bytes(), &calls);
+            }
+            "updates" => {
+                check_acts::<R>(&vector);
+                calls = vector
+                    .items("steps")
+                    .iter()
+                    .map(|step| step.lines("calls"))
+                    .collect();
+                if vector.text("timeout") == "counting" && !calls.contains("SyncUpdate") {
+                    check_stream::<R>(name, &stream, &calls);
+                }
+            }
+            _ => continue,
+        }
+        if STOPPED.contains(&name) {
+            check_stops::<R>(name, &stream, &calls);
+            stopped += 1;
         }
         count += 1;
     }
     assert!(count > 600, "{count} vectors");
+    assert_eq!(stopped, STOPPED.len());
 }
 
 /// Tests that the vectors' calls are made by these readers.

@@ -2,26 +2,31 @@
 //!
 //! rust/vte/fuzz has this file too, without features, over the crate `vte`, which has no runs.
 
-use std::fmt::Write;
+use std::cell::Cell;
+use std::fmt::{Arguments, Write};
 
 #[cfg(any(test, feature = "ansi"))]
 use vte::PerformText;
 use vte::{Params, Perform};
 
 /// When a performer is terminated.
-#[derive(Clone, Copy, PartialEq, Eq)]
+#[derive(Clone, Copy, Default, PartialEq, Eq)]
 pub enum Stop {
+    #[default]
     Never,
-    FromTheStart,
     AfterPrint,
     AfterEscape,
+    /// After each event, until `is_terminated` is set back.
+    AfterEach,
+    /// Once so many events had no character to print.
+    AfterOthers(usize),
 }
 
 impl Stop {
     pub fn named(name: &str) -> Self {
         match name {
             "never" => Stop::Never,
-            "from the start" => Stop::FromTheStart,
+            "from the start" => Stop::AfterOthers(0),
             "after print 1" => Stop::AfterPrint,
             "after esc 1" => Stop::AfterEscape,
             _ => panic!("no such stop: {name}"),
@@ -31,23 +36,34 @@ impl Stop {
 
 /// Writes a line for each event, and is terminated as `stop` says. With `KEEPS` its runs may hold
 /// HT, LF and CR.
+#[derive(Default)]
 pub struct EventLines<const KEEPS: bool = false> {
     pub text: String,
-    stop: Stop,
-    is_terminated: bool,
+    /// How many events had no character to print.
+    pub others: usize,
+    pub stop: Stop,
+    pub is_terminated: bool,
+    /// The runs and slices, whose characters and bytes have lines too.
+    pub runs: Vec<String>,
+    pub slices: Vec<Vec<u8>>,
+    /// Whether it was asked if it keeps the layout, and if it is terminated.
+    pub asked: Cell<(bool, bool)>,
 }
 
 impl<const KEEPS: bool> EventLines<KEEPS> {
     pub fn new(stop: Stop) -> Self {
         EventLines {
-            text: String::new(),
             stop,
-            is_terminated: stop == Stop::FromTheStart,
+            is_terminated: stop == Stop::AfterOthers(0),
+            ..Self::default()
         }
     }
 
-    pub fn push(&mut self, line: std::fmt::Arguments<'_>) {
+    pub fn push(&mut self, line: Arguments<'_>) {
         writeln!(self.text, "{line}").unwrap();
+        self.others += 1;
+        self.is_terminated |=
+            self.stop == Stop::AfterEach || self.stop == Stop::AfterOthers(self.others);
     }
 
     fn push_sequence(
@@ -85,8 +101,8 @@ fn hex(bytes: &[u8]) -> String {
 
 impl<const KEEPS: bool> Perform for EventLines<KEEPS> {
     fn print(&mut self, c: char) {
-        self.push(format_args!("print {:04x}", u32::from(c)));
-        self.is_terminated |= self.stop == Stop::AfterPrint;
+        writeln!(self.text, "print {:04x}", u32::from(c)).unwrap();
+        self.is_terminated |= matches!(self.stop, Stop::AfterPrint | Stop::AfterEach);
     }
 
     fn execute(&mut self, byte: u8) {
@@ -106,10 +122,7 @@ impl<const KEEPS: bool> Perform for EventLines<KEEPS> {
     }
 
     fn osc_dispatch(&mut self, params: &[&[u8]], bell_terminated: bool) {
-        let pieces: String = params
-            .iter()
-            .map(|piece| format!(" {}", hex(piece)))
-            .collect();
+        let pieces: String = params.iter().map(|it| format!(" {}", hex(it))).collect();
         let count = params.len();
         self.push(format_args!("osc {bell_terminated} {count}{pieces}"));
     }
@@ -119,15 +132,14 @@ impl<const KEEPS: bool> Perform for EventLines<KEEPS> {
     }
 
     fn esc_dispatch(&mut self, intermediates: &[u8], ignore: bool, byte: u8) {
-        self.push(format_args!(
-            "esc {} {ignore} {byte:02x}",
-            hex(intermediates)
-        ));
+        let intermediates = hex(intermediates);
+        self.push(format_args!("esc {intermediates} {ignore} {byte:02x}"));
         self.is_terminated |= self.stop == Stop::AfterEscape;
     }
 
     #[cfg(any(test, feature = "ansi"))]
     fn terminated(&self) -> bool {
+        self.asked.set((self.asked.get().0, true));
         self.is_terminated
     }
 }
@@ -136,11 +148,13 @@ impl<const KEEPS: bool> Perform for EventLines<KEEPS> {
 #[cfg(any(test, feature = "ansi"))]
 impl<const KEEPS: bool> PerformText for EventLines<KEEPS> {
     fn keeps_layout(&self) -> bool {
+        self.asked.set((true, self.asked.get().1));
         KEEPS
     }
 
     fn print_text(&mut self, text: &str) {
         assert!(!text.is_empty(), "a run without a character");
+        assert!(!self.is_terminated, "a run after a stop");
         assert_eq!(std::str::from_utf8(text.as_bytes()), Ok(text));
         for c in text.chars() {
             match c {
@@ -151,6 +165,7 @@ impl<const KEEPS: bool> PerformText for EventLines<KEEPS> {
                 }
             }
         }
+        self.runs.push(text.to_owned());
     }
 
     fn put_slice(&mut self, bytes: &[u8]) {
@@ -158,6 +173,7 @@ impl<const KEEPS: bool> PerformText for EventLines<KEEPS> {
         for byte in bytes {
             self.put(*byte);
         }
+        self.slices.push(bytes.to_owned());
     }
 }
 

@@ -1,9 +1,10 @@
 //! Vectors of events, and of stops, which are calls that stop early.
 
-use vte::{parts, BoundedParser, Parser, Perform, PerformText};
+use vte::{parts, BoundedParser, Parser};
 
-use crate::event_lines::{EventLines, Stop};
-use crate::json::{cuttings, vectors, Value};
+use super::event_lines::{EventLines, Stop};
+use super::events_of;
+use super::json::{cuttings, vectors, Value, MAX_CUT};
 
 /// What follows each stream.
 const NEXT: &[u8] = b"z\x1bc";
@@ -29,58 +30,45 @@ fn events_of_next(vector: &str) -> String {
     format!("{of_z}\nesc - false 63\n")
 }
 
-/// Returns what reads a stream in pieces by copies of a parser, and `NEXT`: the events of both.
-fn by<P: Clone, const KEEPS: bool>(
+/// Checks that copies of a parser which advance so give the events of a stream, however it is cut,
+/// and then those of `NEXT`.
+fn check<P: Clone, const KEEPS: bool>(
+    vector: &Value,
     parser: P,
     advance: impl Fn(&mut P, &mut EventLines<KEEPS>, &[u8]),
-) -> impl Fn(&[&[u8]]) -> [String; 2] {
-    move |pieces| {
-        let (mut parser, mut lines) = (parser.clone(), EventLines::new(Stop::Never));
-        for piece in pieces {
+) {
+    let (pieces, name) = (vector.pieces(), vector.text("name"));
+    let pieces: Vec<&[u8]> = pieces.iter().map(Vec::as_slice).collect();
+    let stream = pieces.concat();
+    let events = [vector.lines("events"), events_of_next(name)];
+    for cutting in [pieces].into_iter().chain(cuttings(&stream)) {
+        let (mut parser, mut lines) = (parser.clone(), EventLines::default());
+        for piece in &cutting {
             advance(&mut parser, &mut lines, piece);
         }
-        let events = lines.text.split_off(0);
+        let found = lines.text.split_off(0);
         advance(&mut parser, &mut lines, NEXT);
-        [events, lines.text]
+        let lengths: Vec<_> = cutting.iter().map(|piece| piece.len()).take(9).collect();
+        assert!([found, lines.text] == events, "{name} in {lengths:?}");
     }
 }
 
 /// Advances, and is asked to stop.
-fn advance_all<P: Perform + ?Sized>(parser: &mut Parser, performer: &mut P, bytes: &[u8]) {
-    let read = parser.advance_until_terminated(performer, bytes);
+fn advance_all(parser: &mut Parser, lines: &mut EventLines, bytes: &[u8]) {
+    let read = parser.advance_until_terminated(lines, bytes);
     assert_eq!(read, bytes.len());
-}
-
-fn events_of(stream: &[u8]) -> String {
-    let [events, _] = by::<_, false>(Parser::new(), Parser::advance)(&[stream]);
-    events
-}
-
-fn check_stream(vector: &Value, events_of: impl Fn(&[&[u8]]) -> [String; 2]) {
-    let (pieces, name) = (vector.pieces(), vector.text("name"));
-    let pieces: Vec<&[u8]> = pieces.iter().map(Vec::as_slice).collect();
-    let stream = pieces.concat();
-    let events = [vector.events(), events_of_next(name)];
-    for cutting in [pieces, vec![&stream]].into_iter().chain(cuttings(&stream)) {
-        let lengths: Vec<_> = cutting.iter().map(|piece| piece.len()).take(9).collect();
-        assert!(events_of(&cutting) == events, "{name} in {lengths:?}");
-    }
 }
 
 #[cfg(any(feature = "std", feature = "ansi"))]
 fn check_long(vector: &Value) {
     use vte::LongParser;
-    let long = LongParser::new;
-    check_stream(
-        vector,
-        by::<_, false>(long(), |it, lines, piece| it.advance(lines, piece).unwrap()),
-    );
-    check_stream(
-        vector,
-        by::<_, false>(long(), |it, lines, piece| {
-            it.advance_text(lines, piece).unwrap()
-        }),
-    );
+    let new = LongParser::new;
+    check::<_, false>(vector, new(), |it, lines, piece| {
+        it.advance(lines, piece).unwrap()
+    });
+    check::<_, false>(vector, new(), |it, lines, piece| {
+        it.advance_text(lines, piece).unwrap()
+    });
 }
 
 /// Whether a stream may have a command with more data bytes than are kept.
@@ -93,20 +81,13 @@ fn vectors_of(kind: &'static str) -> impl Iterator<Item = Value> {
     vectors().filter(move |vector| vector.text("kind") == kind)
 }
 
-fn streams() -> impl Iterator<Item = (Value, Option<usize>)> {
-    vectors_of("events").map(|vector| {
-        let limit = vector.number("limit");
-        (vector, limit)
-    })
-}
-
 /// The streams whose events don't depend on the parameter of the parser.
 fn streams_for_all() -> Vec<Value> {
-    let vectors: Vec<_> = streams()
-        .filter(|(vector, size)| !may_reach(&vector.pieces().concat(), *size))
-        .filter(|(_, size)| cfg!(feature = "std") || size.is_some())
-        .map(|(vector, _)| vector)
-        .collect();
+    let does_not_depend = |vector: &Value| {
+        let size = vector.number("limit");
+        !may_reach(&vector.pieces().concat(), size) && (cfg!(feature = "std") || size.is_some())
+    };
+    let vectors: Vec<_> = vectors_of("events").filter(does_not_depend).collect();
     assert!(vectors.len() > 190, "{} vectors", vectors.len());
     vectors
 }
@@ -114,15 +95,8 @@ fn streams_for_all() -> Vec<Value> {
 #[test]
 fn streams_give_their_events() {
     for vector in streams_for_all() {
-        check_stream(&vector, by::<_, false>(Parser::new(), Parser::advance));
-        check_stream(&vector, by::<_, false>(Parser::new(), advance_all));
-        // a performer of which the parser knows only the trait
-        check_stream(
-            &vector,
-            by::<_, false>(Parser::new(), |it, lines, piece| {
-                advance_all(it, lines as &mut dyn PerformText, piece);
-            }),
-        );
+        check::<_, false>(&vector, Parser::new(), Parser::advance);
+        check::<_, false>(&vector, Parser::new(), advance_all);
         #[cfg(any(feature = "std", feature = "ansi"))]
         check_long(&vector);
     }
@@ -131,51 +105,23 @@ fn streams_give_their_events() {
 #[test]
 fn streams_give_their_events_in_runs() {
     for vector in streams_for_all() {
-        check_stream(&vector, by::<_, false>(Parser::new(), Parser::advance_text));
+        check::<_, false>(&vector, Parser::new(), Parser::advance_text);
         // a performer that keeps HT, LF and CR in its runs
-        check_stream(&vector, by::<_, true>(Parser::new(), Parser::advance_text));
-        check_stream(
-            &vector,
-            by::<_, false>(Parser::new(), |it, lines, piece| {
-                it.advance_text(lines as &mut dyn PerformText, piece);
-            }),
-        );
-        // both methods in turn, which leave the parser in the same state
-        let turns = (Parser::new(), false);
-        check_stream(
-            &vector,
-            by::<_, false>(turns, |(it, is_in_runs), lines, piece| {
-                *is_in_runs = !*is_in_runs;
-                if *is_in_runs {
-                    it.advance_text(lines, piece);
-                } else {
-                    it.advance(lines, piece);
-                }
-            }),
-        );
-    }
-}
-
-#[cfg(any(feature = "std", feature = "ansi"))]
-#[test]
-fn commands_without_a_limit_are_kept() {
-    let vectors: Vec<_> = streams().filter(|(_, size)| size.is_none()).collect();
-    assert!(!vectors.is_empty());
-    for (vector, _) in vectors {
-        check_long(&vector);
+        check::<_, true>(&vector, Parser::new(), Parser::advance_text);
     }
 }
 
 fn check_both<const N: usize>(vector: &Value) {
     let new = BoundedParser::<N>::default;
-    check_stream(vector, by::<_, false>(new(), BoundedParser::advance));
-    check_stream(vector, by::<_, false>(new(), BoundedParser::advance_text));
+    check::<_, false>(vector, new(), BoundedParser::advance);
+    check::<_, false>(vector, new(), BoundedParser::advance_text);
 }
 
 #[test]
 fn commands_are_kept_up_to_a_limit() {
-    for (vector, size) in streams() {
-        match size {
+    let mut without_limit = 0;
+    for vector in vectors_of("events") {
+        match vector.number("limit") {
             Some(0) => check_both::<0>(&vector),
             Some(1) => check_both::<1>(&vector),
             Some(2) => check_both::<2>(&vector),
@@ -184,9 +130,14 @@ fn commands_are_kept_up_to_a_limit() {
             Some(32) => check_both::<32>(&vector),
             Some(1024) => check_both::<1024>(&vector),
             Some(size) => panic!("no parser of {size} bytes here"),
-            None => {}
+            None => {
+                without_limit += 1;
+                #[cfg(any(feature = "std", feature = "ansi"))]
+                check_long(&vector);
+            }
         }
     }
+    assert!(without_limit > 0);
 }
 
 /// What is skipped has no command, and doesn't change what is open. As in C and Python, the parser
@@ -204,8 +155,7 @@ fn commands_are_found_by_skipping() {
     let mut skipped = 0;
     for stream in of_vectors.chain([by_hand]) {
         for pieces in cuttings(&stream) {
-            let mut all: EventLines = EventLines::new(Stop::Never);
-            let mut found: EventLines = EventLines::new(Stop::Never);
+            let (mut all, mut found) = (EventLines::default(), EventLines::default());
             let (mut whole, mut parser) = (Parser::new(), Parser::new());
             for mut bytes in pieces {
                 whole.advance(&mut all, bytes);
@@ -230,54 +180,43 @@ fn commands_are_found_by_skipping() {
 /// Each part of a stream is read by a parser of its own.
 #[test]
 fn parts_give_the_events_of_their_stream() {
-    let vectors = streams_for_all();
-    for vector in &vectors {
-        let stream = vector.pieces().concat();
-        for size in 0..stream.len().min(40) {
-            let lines: String = parts(&stream, size).map(events_of).collect();
-            assert_eq!(lines, vector.events(), "{}, {size}", vector.text("name"));
+    let mut most = 0;
+    for vector in streams_for_all() {
+        let (stream, name) = (vector.pieces().concat(), vector.text("name"));
+        // one with 100,000 bytes takes a while
+        let sizes = if stream.len() > MAX_CUT { 3 } else { 40 };
+        for size in 0..stream.len().min(sizes) {
+            let lines: String = parts(&stream, size)
+                .map(|it| events_of(&[it]).text)
+                .collect();
+            assert_eq!(lines, vector.lines("events"), "{name}, {size}");
         }
+        most = most.max(parts(&stream, 1).count());
     }
-    assert!(vectors
-        .iter()
-        .any(|vector| parts(&vector.pieces().concat(), 1).count() > 2));
-}
-
-/// A cut before the ESC isn't enough: nothing says to the first part that its character is broken.
-#[test]
-fn a_part_without_the_next_escape_lacks_events() {
-    let stream = b"caf\xc3\x1b[1m!";
-    assert_eq!(
-        events_of(&stream[..5]),
-        "print 0063\nprint 0061\nprint 0066\nprint fffd\n"
-    );
-    assert_eq!(
-        events_of(&stream[..4]),
-        "print 0063\nprint 0061\nprint 0066\n"
-    );
+    assert!(most > 2);
 }
 
 #[test]
 fn stops_are_early() {
-    let vectors: Vec<_> = vectors_of("stops").collect();
-    assert!(!vectors.is_empty());
-    for vector in vectors {
+    let mut count = 0;
+    for vector in vectors_of("stops") {
         let name = vector.text("name");
         let mut lines: EventLines = EventLines::new(Stop::named(vector.text("terminated")));
         let (mut parser, mut events) = (Parser::new(), String::new());
         let before = vector.get("before").map_or(vec![], Value::bytes);
-        parser.advance(&mut <EventLines>::new(Stop::Never), &before);
+        parser.advance(&mut <EventLines>::default(), &before);
         for step in vector.items("steps") {
             let bytes = step.get("bytes").map_or(vec![], Value::bytes);
-            match step.number("read") {
-                Some(read) => {
-                    let found = parser.advance_until_terminated(&mut lines, &bytes);
-                    assert_eq!(found, read, "{name}");
-                }
-                None => parser.advance(&mut lines, &bytes),
+            if let Some(read) = step.number("read") {
+                let found = parser.advance_until_terminated(&mut lines, &bytes);
+                assert_eq!(found, read, "{name}");
+            } else {
+                parser.advance(&mut lines, &bytes);
             }
-            events.push_str(&step.events());
+            events.push_str(&step.lines("events"));
             assert_eq!(lines.text, events, "{name}");
         }
+        count += 1;
     }
+    assert!(count > 0);
 }

@@ -1,42 +1,43 @@
-//! The vectors of `vectors/*.json`, which docs/JUDGE.md describes, and ways to cut a stream.
+//! The vectors of `vectors/*.json`, which docs/JUDGE.md describes, and private ones; and ways to
+//! cut a stream.
 
-const FILES: [&str; 2] = [
+use std::iter::{from_fn, once, Peekable};
+use std::str::Chars;
+
+const FILES: [&str; 3] = [
     include_str!("../../../../vectors/events.json"),
     include_str!("../../../../vectors/calls.json"),
+    include_str!("../../../../tools/generating/private_vectors.json"),
 ];
 /// Streams with more bytes than this aren't cut at every place.
-pub const MOST_CUT: usize = 2048;
+pub const MAX_CUT: usize = 2048;
 
 /// A value of JSON: a vector is an object.
 pub enum Value {
     /// A number, `true`, `false` or `null`.
-    Word(&'static str),
+    Word(String),
     Text(String),
     List(Vec<Value>),
     Object(Vec<(String, Value)>),
 }
 
-/// The vectors of both files.
+/// The vectors of all files, each of which is a list or an object with lists of vectors alone.
 pub fn vectors() -> impl Iterator<Item = Value> {
-    FILES.iter().flat_map(|file| {
-        let fields = match (Reader { rest: file }).value() {
-            Value::Object(fields) => fields,
-            _ => panic!("no object"),
-        };
-        let lists = fields.into_iter().map(|(name, value)| match value {
-            Value::List(vectors) if name == "vectors" || name == "long" => vectors,
-            _ => vec![],
-        });
-        lists.flatten()
+    let values = FILES.map(|file| read_value(&mut file.chars().peekable()).expect("a value"));
+    let lists = values.into_iter().flat_map(|value| match value {
+        Value::Object(fields) => fields.into_iter().map(|(_, value)| value).collect(),
+        list => vec![list],
+    });
+    lists.flat_map(|value| match value {
+        Value::List(vectors) => vectors,
+        _ => vec![],
     })
 }
 
 impl Value {
     pub fn get(&self, name: &str) -> Option<&Value> {
         match self {
-            Value::Object(fields) => fields
-                .iter()
-                .find_map(|(field, value)| (field == name).then_some(value)),
+            Value::Object(fields) => fields.iter().find(|it| it.0 == name).map(|it| &it.1),
             _ => None,
         }
     }
@@ -67,12 +68,11 @@ impl Value {
 
     /// The pieces of a stream.
     pub fn pieces(&self) -> Vec<Vec<u8>> {
-        let of_steps = self.items("steps").iter().map(|step| {
-            let bytes = step.get("advance").or_else(|| step.get("bytes"));
-            bytes.map_or(vec![], Value::bytes)
-        });
+        let of_steps = self.items("steps").iter();
+        let of_steps =
+            of_steps.filter_map(|step| step.get("advance").or_else(|| step.get("bytes")));
         let pieces = self.items("pieces").iter().chain(self.get("before"));
-        pieces.map(Value::bytes).chain(of_steps).collect()
+        pieces.chain(of_steps).map(Value::bytes).collect()
     }
 
     /// The bytes that this gives in hex.
@@ -84,107 +84,62 @@ impl Value {
             .collect()
     }
 
-    /// The lines of all events.
-    pub fn events(&self) -> String {
-        let events = self.items("events").iter();
-        events.map(|event| event.written("\n")).collect()
+    /// The lines of a field with events or calls.
+    pub fn lines(&self, name: &str) -> String {
+        self.items(name).iter().map(|it| it.written("\n")).collect()
     }
 
     /// The parts of a text, its repetitions written out, with an end after each line.
-    fn written(&self, end: &str) -> String {
+    pub fn written(&self, end: &str) -> String {
         match self {
             Value::Text(text) => format!("{text}{end}"),
             Value::List(items) => items.iter().map(|item| item.written(end)).collect(),
-            Value::Object(_) => match self.get("line") {
-                Some(line) => line.written("") + end,
-                None => {
-                    let times = self.number("times").expect("a number");
-                    format!("{}{end}", self.text("repeat")).repeat(times)
+            Value::Object(_) => match (self.get("line"), self.number("times")) {
+                (Some(line), _) => line.written("") + end,
+                (None, times) => {
+                    format!("{}{end}", self.text("repeat")).repeat(times.expect("a number"))
                 }
             },
-            Value::Word(word) => panic!("{word} is no text"),
+            Value::Word(word) => word.clone(),
         }
     }
 }
 
-/// Reads JSON.
-struct Reader {
-    rest: &'static str,
+/// Reads the next value, or none at the end of a list or object. What stands between values goes.
+fn read_value(rest: &mut Peekable<Chars<'_>>) -> Option<Value> {
+    while rest.next_if(|it| " \n,:".contains(*it)).is_some() {}
+    Some(match rest.next()? {
+        ']' | '}' => return None,
+        '[' => Value::List(from_fn(|| read_value(rest)).collect()),
+        '{' => {
+            let field = || Some((read_value(rest)?.written(""), read_value(rest)?));
+            Value::Object(from_fn(field).collect())
+        }
+        '"' => Value::Text(from_fn(|| read_character(rest)).collect()),
+        first => {
+            let others = from_fn(|| rest.next_if(char::is_ascii_alphanumeric));
+            Value::Word(once(first).chain(others).collect())
+        }
+    })
 }
 
-impl Reader {
-    fn value(&mut self) -> Value {
-        if self.takes("[") {
-            Value::List(self.items("]", Self::value))
-        } else if self.takes("{") {
-            Value::Object(self.items("}", |reader| {
-                let name = reader.value().written("");
-                assert!(reader.takes(":"));
-                (name, reader.value())
-            }))
-        } else if self.takes("\"") {
-            Value::Text(self.text())
-        } else {
-            let end = self.rest.find(|it: char| !it.is_alphanumeric());
-            let word = self.take(end.expect("an end"));
-            assert!(!word.is_empty(), "no value");
-            Value::Word(word)
-        }
-    }
-
-    fn items<T>(&mut self, end: &str, item: impl Fn(&mut Self) -> T) -> Vec<T> {
-        let mut items = vec![];
-        while !self.takes(end) {
-            items.push(item(self));
-            self.takes(",");
-        }
-        items
-    }
-
-    /// The rest of a text, whose escapes are those of `"`, a backslash and LF.
-    fn text(&mut self) -> String {
-        let mut text = String::new();
-        loop {
-            let end = self.rest.find(['"', '\\']);
-            text.push_str(self.take(end.expect("an end")));
-            if self.take(1) == "\"" {
-                return text;
-            }
-            text.push_str(match self.take(1) {
-                "n" => "\n",
-                escaped => {
-                    assert!(matches!(escaped, "\"" | "\\"), "{escaped}");
-                    escaped
-                }
-            });
-        }
-    }
-
-    /// Takes this, and white space before it, if it is next.
-    fn takes(&mut self, text: &str) -> bool {
-        self.rest = self.rest.trim_start();
-        let is_next = self.rest.starts_with(text);
-        self.take(if is_next { text.len() } else { 0 });
-        is_next
-    }
-
-    fn take(&mut self, length: usize) -> &'static str {
-        let (taken, rest) = self.rest.split_at(length);
-        self.rest = rest;
-        taken
+/// Reads the next character of a text, whose escapes are those of `"`, a backslash and LF.
+fn read_character(rest: &mut Peekable<Chars<'_>>) -> Option<char> {
+    match rest.next()? {
+        '"' => None,
+        '\\' => match rest.next()? {
+            'n' => Some('\n'),
+            escaped @ ('"' | '\\') => Some(escaped),
+            escaped => panic!("no such escape: {escaped}"),
+        },
+        c => Some(c),
     }
 }
 
-/// The ways to cut a stream: byte by byte, and in two at every place.
+/// The ways to cut a stream: byte by byte, and in two at every place, before it at first.
 pub fn cuttings(stream: &[u8]) -> impl Iterator<Item = Vec<&[u8]>> {
-    let places = if stream.len() > MOST_CUT {
-        0
-    } else {
-        stream.len()
-    };
-    let in_two = (0..=places).map(move |place| {
-        let (front, back) = stream.split_at(place);
-        vec![front, back]
-    });
-    std::iter::once(stream.chunks(1).collect()).chain(in_two)
+    let is_short = stream.len() <= MAX_CUT;
+    let places = 0..=if is_short { stream.len() } else { 0 };
+    let in_two = places.map(move |at| vec![&stream[..at], &stream[at..]]);
+    once(stream.chunks(1).collect()).chain(in_two)
 }

@@ -50,33 +50,30 @@ struct Silent;
 
 impl Perform for Silent {}
 
-/// By each type of parser, byte by byte, and by one that reads the whole.
+/// Asserts what is open, of parsers that read byte by byte and of parsers that read all at once.
+macro_rules! assert_opens {
+    ($new:expr) => {
+        assert_eq!(($new.open(), $new.is_open()), (Nothing, false));
+        for &(stream, letters) in BY_HAND {
+            let mut parser = $new;
+            let found = (1..=stream.len()).map(|end| {
+                let mut whole = $new;
+                let _ = whole.advance(&mut Silent, &stream[..end]);
+                let _ = parser.advance(&mut Silent, &stream[end - 1..end]);
+                assert_eq!(whole.open(), parser.open(), "{stream:02x?} up to {end}");
+                assert_eq!(whole.is_open(), whole.open() != Nothing);
+                assert_eq!(parser.is_open(), whole.is_open());
+                letter(parser.open())
+            });
+            assert_eq!(found.collect::<String>(), letters, "{stream:02x?}");
+        }
+    };
+}
+
 #[test]
 fn each_byte() {
-    for &(stream, letters) in BY_HAND {
-        let (mut parser, mut limited) = (Parser::new(), BoundedParser::<2>::new_with_size());
-        #[cfg(any(feature = "std", feature = "ansi"))]
-        let mut long = vte::LongParser::new();
-        assert_eq!(stream.len(), letters.len());
-        for (end, wanted) in (1..).zip(letters.chars()) {
-            let (prefix, next) = (&stream[..end], &stream[end - 1..end]);
-            let check = |open: Open, is_open: bool| {
-                let found = (letter(open), is_open);
-                assert_eq!(found, (wanted, wanted != 'N'), "{prefix:02x?}");
-            };
-            let mut whole = Parser::new();
-            assert_eq!((whole.open(), whole.is_open()), (Nothing, false));
-            whole.advance(&mut Silent, prefix);
-            check(whole.open(), whole.is_open());
-            parser.advance(&mut Silent, next);
-            check(parser.open(), parser.is_open());
-            limited.advance(&mut Silent, next);
-            check(limited.open(), limited.is_open());
-            #[cfg(any(feature = "std", feature = "ansi"))]
-            {
-                long.advance(&mut Silent, next).unwrap();
-                check(long.open(), long.is_open());
-            }
-        }
-    }
+    assert_opens!(Parser::new());
+    assert_opens!(BoundedParser::<2>::new_with_size());
+    #[cfg(any(feature = "std", feature = "ansi"))]
+    assert_opens!(vte::LongParser::new());
 }

@@ -9,8 +9,8 @@ use vte::ansi::lent::ByCall;
 use vte::ansi::{Handler, Processor, Timeout};
 
 #[cfg(feature = "__own")]
-use crate::by_call::Values;
-use crate::call_lines::{CallLines, Lent};
+use super::by_call::Values;
+use super::call_lines::{CallLines, Lent};
 
 /// A processor that passes texts in one way.
 pub trait Reader: Default {
@@ -71,79 +71,41 @@ readers! {
     CallsInRuns: advance_text, stop_sync_text, lines => &mut ByCall(Values(lines));
 }
 
-/// When a timeout is pending.
-#[derive(Clone, Copy, Default)]
-pub enum Answers {
-    /// If it was set since it was last cleared.
-    #[default]
-    Counting,
-    Always,
-    Never,
-    /// From question to question, the first time.
-    Alternating,
-    /// As `Counting`, until it expires.
-    Expiring,
-}
-
-impl Answers {
-    pub fn named(name: &str) -> Self {
-        match name {
-            "counting" => Answers::Counting,
-            "always" => Answers::Always,
-            "never" => Answers::Never,
-            "alternating" => Answers::Alternating,
-            "expiring" => Answers::Expiring,
-            _ => panic!("no such timeout: {name}"),
-        }
-    }
-}
-
-/// A timeout that counts its calls and writes them down.
+/// A timeout that counts and writes down its calls.
 #[derive(Default)]
 pub struct TestTimeout {
-    pub answers: Cell<Answers>,
+    /// When it is pending: the `timeout` of a vector, or "" for "counting".
+    pub answers: RefCell<String>,
     /// How many times it was set since it was last cleared.
     pub count: usize,
-    /// How many times it was set and cleared in all.
-    pub sets: usize,
-    pub clears: usize,
-    /// Where each set and clear is written: the lines of a handler.
+    /// Where each set and clear is written, which may be the lines of a handler.
     pub log: RefCell<Rc<RefCell<String>>>,
     was_asked: Cell<bool>,
-    is_expired: Cell<bool>,
-}
-
-impl TestTimeout {
-    pub fn expire(&self) {
-        self.is_expired.set(true);
-    }
-
-    fn write(&self, line: &str) {
-        self.log.borrow().borrow_mut().push_str(line);
-    }
+    pub is_expired: Cell<bool>,
 }
 
 impl Timeout for TestTimeout {
     fn set_timeout(&mut self, duration: Duration) {
         self.count += 1;
-        self.sets += 1;
         self.is_expired.set(false);
-        self.write(&format!("set_timeout {}\n", duration.as_millis()));
+        let line = format!("set_timeout {}\n", duration.as_millis());
+        self.log.borrow().borrow_mut().push_str(&line);
     }
 
     fn clear_timeout(&mut self) {
         self.count = 0;
-        self.clears += 1;
-        self.write("clear_timeout\n");
+        self.log.borrow().borrow_mut().push_str("clear_timeout\n");
     }
 
     fn pending_timeout(&self) -> bool {
-        match self.answers.get() {
-            Answers::Counting => self.count != 0,
-            Answers::Always => true,
-            Answers::Never => false,
-            Answers::Alternating => !self.was_asked.replace(!self.was_asked.get()),
-            Answers::Expiring => self.count != 0 && !self.is_expired.get(),
+        match self.answers.borrow().as_str() {
+            "" | "counting" => self.count != 0,
+            "always" => true,
+            "never" => false,
+            // from question to question, the first time
+            "alternating" => !self.was_asked.replace(!self.was_asked.get()),
+            "expiring" => self.count != 0 && !self.is_expired.get(),
+            answers => panic!("no such timeout: {answers}"),
         }
     }
 }

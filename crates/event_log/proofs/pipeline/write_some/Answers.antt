@@ -1,5 +1,5 @@
 -- What the collector collected is appended to what was written (`written_more`).
-use Rattle.event_log.proofs.Collected.{adds_up_at_first}
+use Rattle.event_log.proofs.Records.{adds_up_at_first}
 use Rattle.event_log.proofs.Progress.{written_more}
 use Rattle.event_log.proofs.pipeline.write_some.Goals as goal
 

@@ -2,8 +2,7 @@
 use Rattle.std.proofs.Common.{◌≡◌, ℕ, Bool, true, false, List, [], ◌∷◌, length, drop, refl, sym, ◌∙◌, ap, arith}
 use Rattle.examples.specs.Bell.{rung_after}
 use Rattle.vte_core.specs.EarlyStop.{StopsExactly, resumed_stream}
-use Rattle.vte_core.specs.Event.{Event, Execute}
-use Rattle.vte_core.specs.Perform.{after}
+use Rattle.vte_core.specs.Event.{Event, Execute, after}
 use Rattle.vte_core.specs.Stream.{added, events, usual_limit}
 use Rattle.examples.proofs.bell.rings.Goals as goal
 

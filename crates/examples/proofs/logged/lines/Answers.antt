@@ -1,5 +1,5 @@
 -- The devices are new, so they tell their bytes, and the lines that `run` writes are those that the writer holds.
-use Rattle.std.proofs.Common.{◌≡◌, ℕ, Bool, true, false, List, [], Some, Bor, ap}
+use Rattle.std.proofs.Common.{◌≡◌, ℕ, Bool, true, false, List, [], Some, Bor, ap, is_some}
 use Rattle.examples.specs.Logged.{bytes_unless}
 use Rattle.examples.proofs.logged.lines.Goals as goal
 
@@ -17,6 +17,7 @@ are_told false bytes written e = cc
 pub returns-in-Ok : goal.returns-in-Ok
 returns-in-Ok c =
     let input =
-    tells c.new-2.result.failed c.new-2.result.inner c.args.stream c.new-2.ensures.works c.new-2.ensures.same in
+    tells (is_some c.new-2.result.error) c.new-2.result.inner c.args.stream
+    c.new-2.ensures.works c.new-2.ensures.same in
     are_told c.run.new.writer.refused c.run.new.writer.bytes.items _
     (c.in-Ok.ensures.lines c.args.stream.now [] input (ap (λ items. Some items) c.new.ensures.items)).written

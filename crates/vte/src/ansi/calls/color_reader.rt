@@ -1,7 +1,7 @@
 //! Colours of numbers, read from any iterator of them.
 ghost use Rattle.std.specs.Prelude.{◌≡◌, drop, map};
-ghost use Rattle.vte.specs.ColorReading.{color_reading, kind_reading, without_color_space};
-ghost use Rattle.vte.specs.machine.ColorReader.{first_component};
+ghost use Rattle.vte.specs.Colors.{color_reading, kind_reading, without_color_space};
+ghost use Rattle.vte.specs.machine.Performer.{first_component};
 
 use crate::ansi::calls::numbers::NumberIterator;
 use vte_types::{Color, Rgb};
@@ -15,7 +15,7 @@ fn next_component<I: NumberIterator>(numbers: &mut I) -> Option<u8>
 }
 
 /// Reads a colour of this kind, and uses up what it read.
-#[tactic(auto, using(crate::proofs::ColorReadings::no_red, crate::proofs::ColorReadings::after_red, crate::proofs::ColorReadings::after_green, crate::proofs::ColorReadings::after_blue))]
+#[tactic(auto, using(crate::proofs::Commands::no_red, crate::proofs::Commands::after_red, crate::proofs::Commands::after_green, crate::proofs::Commands::after_blue))]
 pub(crate) fn read_color<I: NumberIterator>(kind: u16, numbers: &mut I) -> Option<Color>
     ensures color { result ≡ (kind_reading kind (map I.number (I.left numbers.old))).color }
     ensures rest { I.left numbers.new
@@ -34,7 +34,7 @@ pub(crate) fn read_color<I: NumberIterator>(kind: u16, numbers: &mut I) -> Optio
 }
 
 /// Reads a colour after 38, 48 or 58 in one group.
-#[tactic(auto, using(crate::proofs::ColorReadings::themselves))]
+#[tactic(auto, using(crate::proofs::Commands::themselves))]
 pub(crate) fn read_joined(numbers: &[u16]) -> Option<Color>
     ensures { result ≡ (color_reading (without_color_space numbers.now)).color }
 {

@@ -1,8 +1,8 @@
 //! Colours as texts.
 ghost use Rattle.std.specs.Prelude.{◌≡◌, ◌≤◌, ◌<◌, ◌^◌, length, Some, IfSome};
-ghost use Rattle.vte.specs.ColorText.{xparse_color_of, color_of_parts, color_of_thirds, component_by, scaled_to_255, top_eight_bits};
+ghost use Rattle.vte.specs.Colors.{xparse_color_of, color_of_parts, color_of_thirds, component_by, scaled_to_255, top_eight_bits};
 ghost use Rattle.vte.specs.Split.{split_by};
-ghost use Rattle.vte_types.specs.Hex.{hex_number};
+ghost use Rattle.vte_types.specs.Rgb.{hex_number};
 
 use crate::ansi::split::{split_at_first, strip_word};
 use vte_types::Rgb;
@@ -18,7 +18,7 @@ pub(crate) fn xparse_color(text: &[u8]) -> Option<Rgb>
 }
 
 /// Returns the color of three numbers with `/` between them.
-#[tactic(auto, using(crate::proofs::ColorTexts::fourth_part))]
+#[tactic(auto, using(crate::proofs::Commands::fourth_part))]
 fn color_by_parts(text: &[u8]) -> Option<Rgb>
     ensures { result ≡ color_of_parts (split_by 0x2f text.now) }
 {

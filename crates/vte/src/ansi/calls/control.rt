@@ -1,13 +1,11 @@
 //! The calls of control sequences.
 ghost use Rattle.std.specs.Prelude.{◌≡◌, ◌≢◌, [], ◌∷◌, unwrap_or};
-ghost use Rattle.vte.specs.ControlCalls.{control_calls, repeat_calls, window_rows};
-ghost use Rattle.vte.specs.ControlCalls.{rows_without_intermediates};
+ghost use Rattle.vte.specs.ControlCalls.{control_calls, repeat_calls, window_rows, rows_without_intermediates, change_call, change_calls};
 ghost use Rattle.vte.specs.Numbers.{first_numbers};
 ghost use Rattle.vte.specs.OptionalCalls.{for_some};
 ghost use Rattle.vte.specs.SelectedValues.{cursor_rows, keys_rows, line_rows, screen_rows, tab_rows};
 ghost use Rattle.vte_handler.specs.Call as call;
-ghost use Rattle.vte_types.specs.Rows.{entry_of};
-ghost use Rattle.vte.specs.ModeChange.{change_call, change_calls};
+ghost use Rattle.vte_types.specs.Words.{entry_of};
 ghost use Rattle.vte_handler.specs.Handler.{after};
 
 use crate::ansi::calls::input::InputAs;
@@ -139,7 +137,7 @@ fn perform_plain<H: InputAs<G>, G>(
 }
 
 /// Passes the last printed character on `count` times, if there is one.
-#[tactic(auto, using(crate::proofs::Calling::one_less))]
+#[tactic(auto, using(crate::proofs::Commands::one_less))]
 fn repeat<H: InputAs<G>, G>(handler: &mut H, last: Option<char>, count: u16)
     ensures { H.value_of handler.new ≡ after H.step (H.value_of handler.old)
         (repeat_calls last count) }

@@ -2,7 +2,7 @@
 ghost use Rattle.std.specs.Prelude.{◌≡◌, Some};
 ghost use Rattle.vte.specs.EscapeCalls.{charset_rows, charset_calls, execute_calls, escape_calls};
 ghost use Rattle.vte_handler.specs.Handler.{after};
-ghost use Rattle.vte_types.specs.Rows.{entry_of};
+ghost use Rattle.vte_types.specs.Words.{entry_of};
 
 use vte_handler::Handler;
 use vte_types::{CharsetIndex, StandardCharset};

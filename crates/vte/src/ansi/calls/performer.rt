@@ -4,7 +4,7 @@ ghost use Rattle.std.specs.Str.{chars};
 ghost use Rattle.vte_core.specs.Event.{Print};
 ghost use Rattle.vte.specs.Calls.{last_printed_from};
 ghost use Rattle.vte.specs.machine.Performing.{performer_value, with_private_mode, with_private_modes};
-ghost use Rattle.vte.specs.machine.Texts.{fits_room};
+ghost use Rattle.vte.specs.machine.Performer.{fits_room};
 ghost use Rattle.vte_handler.specs.Timeout.{timeout_meaning};
 
 use crate::ansi::calls::command::perform_system_command;
@@ -106,7 +106,7 @@ impl<'s, 'h, H: HandlerText, T: Timeout + Drop, B: TextBuffer + Drop> PerformTex
     }
 
     #[inline(always)]
-    #[tactic(auto, using(crate::proofs::performing::TextRuns::performed_run))]
+    #[tactic(auto, using(crate::proofs::Performing::performed_run))]
     fn print_text(&mut self, text: &str) {
         self.handler.input_text(text);
         self.state.preceding_char = last_char(text, self.state.preceding_char);
@@ -152,7 +152,7 @@ impl<'s, 'h, H: Handler, T: Timeout + Drop, B: TextBuffer + Drop, G> Performer<'
 }
 
 /// Returns the last character of a text, or the one before it if the text is empty.
-#[tactic(auto, using(crate::proofs::performing::TextRuns::last_of_text))]
+#[tactic(auto, using(crate::proofs::Performing::last_of_text))]
 // cargo: #[inline(always)]
 fn last_char(text: &str, before: Option<char>) -> Option<char>
     ensures { result ≡ last_printed_from before (map Print (chars text.now)) }

@@ -1,7 +1,7 @@
 //! Select graphic rendition (SGR).
 ghost use Rattle.std.specs.Prelude.{◌≡◌, drop, option_map};
 ghost use Rattle.vte.specs.Rendition.{attribute_calls, attribute_rows, color_rows, rendition, underline_of};
-ghost use Rattle.vte_types.specs.Rows.{entry_of};
+ghost use Rattle.vte_types.specs.Words.{entry_of};
 ghost use Rattle.vte_handler.specs.Handler.{after};
 
 use crate::ansi::calls::color_reader::{read_color, read_joined};
@@ -12,7 +12,7 @@ use vte_types::{Attr, Color, NamedColor};
 
 /// Calls the handler for each attribute of the groups.
 #[inline(always)]
-#[tactic(auto, using(crate::proofs::Calling::attributes_after))]
+#[tactic(auto, using(crate::proofs::Commands::attributes_after))]
 pub(crate) fn perform_attributes<H: Handler>(handler: &mut H, params: &Params)
     ensures { H.value_of handler.new
         ≡ after H.step (H.value_of handler.old) (attribute_calls params.now) }

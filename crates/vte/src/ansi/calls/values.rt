@@ -1,6 +1,6 @@
 //! What the numbers of control sequences select.
 ghost use Rattle.std.specs.Prelude.{◌≡◌};
-ghost use Rattle.vte_types.specs.Rows.{entry_of};
+ghost use Rattle.vte_types.specs.Words.{entry_of};
 ghost use Rattle.vte.specs.SelectedValues.{behavior_of, bottom_of, keyboard_modes as modes_of, path_rows, scp_update_rows};
 
 use vte_types::{KeyboardModes, KeyboardModesApplyBehavior, ScpCharPath, ScpUpdateMode};

@@ -12,7 +12,7 @@ ghost use Rattle.vte_handler.specs.Timeout.{timeout_meaning};
 use crate::ansi::calls::performer::ProcessorState;
 use crate::ansi::calls::text_buffer::TextBuffer;
 use crate::ansi::updates::UPDATE_TIMEOUT_MILLIS;
-use crate::ansi::updates::hold::{MOST_HELD, SyncState};
+use crate::ansi::updates::hold::{MAX_HELD, SyncState};
 use crate::ansi::updates::parsing::{EventParser, ParseAs, parse_all, parse_until_begin};
 use std::alloc::Allocator;
 use std::time::Duration;
@@ -192,7 +192,7 @@ impl<P: EventParser + Drop, B: TextBuffer + Drop, T: Timeout + Drop, A: Allocato
     fn has_room(&self, count: usize) -> bool
         ensures { result ≡ nat_le (length (held_of self.now.hold) + count) most_held }
     {
-        count <= MOST_HELD && self.hold.len() <= MOST_HELD - count
+        count <= MAX_HELD && self.hold.len() <= MAX_HELD - count
     }
 
     /// Parses bytes up to the one that begins an update, a slice at a time, and returns how many.

@@ -1,7 +1,7 @@
 -- The headline: by induction over the pieces. A call performs what its bytes add, and what is reported of a longer
 -- stream is what was reported before and what is added (`events_grow`).
-use Rattle.vte_core.proofs.Common.{ℕ, List, Bor, Some, [], ◌∷◌, append-nil, events, flat_map-append, get_or, take_more, take, ap, sym, arith, take_all, flat_map, after}
-use Rattle.vte_core.proofs.streams.Performing.{after_events-append, events-empty}
+use Rattle.vte_core.proofs.Common.{ℕ, List, Bor, Some, [], ◌∷◌, append-nil, events, flat_map-append, get_or, take_more, take, arith, take_all, flat_map, rules}
+use Rattle.vte_core.proofs.streams.After.{after_events-append, events-empty}
 use Rattle.vte_core.proofs.streams.StreamSteps.{events_grow}
 use Rattle.vte_core.proofs.laws.replay.Goals as goal
 
@@ -13,12 +13,7 @@ new_with_size-parser-requires g c = omega arith
 
 -- No piece is read, and no event is given.
 pub loop-chunk-init : goal.loop-chunk-init
-loop-chunk-init g c = record {
-  performed =
-      ap (after g.P.Perform.step (g.P.Perform.value_of c.args.performer.now))
-      (sym (events-empty (Some g.row.OSC_RAW_BUF_SIZE)));
-  has_read = c.new_with_size-parser.ensures;
-}
+loop-chunk-init g c = search (rules, arith, events-empty)
 
 -- A piece more: its events are added to those of the pieces before.
 pub loop-chunk-preserved : goal.loop-chunk-preserved

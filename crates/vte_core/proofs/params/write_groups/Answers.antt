@@ -1,7 +1,7 @@
 -- What is written after the last group, or if there is none, is the text of the groups.
-use Rattle.vte_core.proofs.Common.{sym, ap, ◌∙◌, refl, arith, common_steps, shown}
+use Rattle.vte_core.proofs.Common.{◌∙◌, refl, arith, common_steps, rules}
 use Rattle.std.proofs.Output.{has_written_of_eq, has_written_append, writes_in_calls_nil}
-use Rattle.vte_core.proofs.showing.Shown.{groups_written, shown-nil}
+use Rattle.vte_core.proofs.Showing.{groups_written, shown-nil}
 use Rattle.vte_core.proofs.params.write_groups.Goals as goal
 
 pub returns-in-None : goal.returns-in-None
@@ -13,9 +13,7 @@ returns-in-None g c plain _ =
     (has_written_append _ _ _ _ _ _ first (c.loop-group.invariant.1 first.plain))
 
 pub returns-in_default : goal.returns-in_default
-returns-in_default g c plain _ =
-    has_written_of_eq _ _ _ _ _ (sym (ap shown c.in_default.ensures.steps.0 ∙ shown-nil))
-    (record { wrote = writes_in_calls_nil _ _; plain = plain })
+returns-in_default g c plain _ = search (rules, arith, has_written_of_eq, shown-nil, writes_in_calls_nil)
 
 pub loop-group-preserved : goal.loop-group-preserved
 loop-group-preserved g c = grind (arith, common_steps)

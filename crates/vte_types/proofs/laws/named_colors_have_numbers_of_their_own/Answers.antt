@@ -1,5 +1,5 @@
 -- A table reads the colour back from its number (`Shades`).
-use Rattle.vte_types.proofs.Shades.{number_decides}
+use Rattle.vte_types.proofs.Colors.{number_decides}
 use Rattle.vte_types.proofs.laws.named_colors_have_numbers_of_their_own.Goals as goal
 
 pub returns : goal.returns

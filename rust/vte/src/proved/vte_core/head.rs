@@ -8,7 +8,7 @@ use crate::proved::vte_core::params::Params;
 use crate::proved::vte_core::reader::Reader;
 
 /// How many intermediates of a sequence are kept, a marker among them.
-const MOST_INTERMEDIATES: usize = 2;
+const MAX_INTERMEDIATES: usize = 2;
 
 /// How far a head has been read.
 #[derive(Clone, Copy)]
@@ -42,7 +42,7 @@ pub(crate) struct HeadEnd {
 #[derive(Clone)]
 pub(crate) struct Collected {
     // the first two, a marker among them
-    pub(crate) intermediates: ArrayVec<u8, MOST_INTERMEDIATES>,
+    pub(crate) intermediates: ArrayVec<u8, MAX_INTERMEDIATES>,
     // whether there were more
     pub(crate) too_many_intermediates: bool,
     // the first 32 numbers, without the one that is being read

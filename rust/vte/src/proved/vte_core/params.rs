@@ -6,16 +6,16 @@ use core::fmt;
 use core::iter::FusedIterator;
 
 /// How many numbers of a sequence are kept.
-const MOST_NUMBERS: usize = 32;
+const MAX_NUMBERS: usize = 32;
 
 /// The numbers of a sequence, in groups that are never empty.
 #[derive(Clone)]
 #[doc = include_str!("../../docs/params.md")]
 pub struct Params {
     // all numbers in a row
-    numbers: ArrayVec<u16, MOST_NUMBERS>,
+    numbers: ArrayVec<u16, MAX_NUMBERS>,
     // how many of them stand in each group
-    lengths: ArrayVec<u8, MOST_NUMBERS>,
+    lengths: ArrayVec<u8, MAX_NUMBERS>,
 }
 
 /// An iterator over the groups of a [`Params`], each a slice of its numbers.
@@ -63,8 +63,8 @@ impl Params {
     /// Returns the parameters with these parts, or none if the lengths don't cover all numbers.
     #[cfg(feature = "__own")]
     pub(crate) fn from_parts(
-        lengths: ArrayVec<u8, MOST_NUMBERS>,
-        numbers: ArrayVec<u16, MOST_NUMBERS>,
+        lengths: ArrayVec<u8, MAX_NUMBERS>,
+        numbers: ArrayVec<u16, MAX_NUMBERS>,
     ) -> Self {
         if are_lengths(lengths.as_slice(), numbers.as_slice()) {
             Params { numbers, lengths }
@@ -95,7 +95,7 @@ impl Params {
 
 /// Removes the length of the last group if the next number joins it.
 #[inline]
-fn take_joined(lengths: &mut ArrayVec<u8, MOST_NUMBERS>, joined: bool) -> Option<u8> {
+fn take_joined(lengths: &mut ArrayVec<u8, MAX_NUMBERS>, joined: bool) -> Option<u8> {
     if joined {
         lengths.pop()
     } else {

@@ -6,10 +6,10 @@ use vte::{Params, Perform, Run, Taken};
 
 /// The most data bytes of one event: 16 pieces of together 1,024 bytes, each after four with its
 /// length.
-pub(crate) const MOST_DATA: usize = 1088;
+pub(crate) const MAX_DATA: usize = 1088;
 
 /// The most data bytes of what one byte of a stream adds: an event, and a character after it.
-const MOST_ADDED: usize = MOST_DATA + 4;
+const MAX_ADDED: usize = MAX_DATA + 4;
 
 /// Returns whether a command has the most pieces, or with their lengths the most data bytes that a
 /// parser with a limit keeps. Any other has lost no data.
@@ -219,7 +219,7 @@ impl<'a> Events<'a> {
     fn resume(&mut self, lost_data: bool) {
         if self.paused {
             self.paused = false;
-            if !self.met && self.size - self.used >= MOST_ADDED {
+            if !self.met && self.size - self.used >= MAX_ADDED {
                 self.full_count = self.events.len().saturating_sub(1);
             }
             if lost_data {
@@ -310,7 +310,7 @@ impl<'a> Events<'a> {
         if end <= self.size && self.count < self.events.len() {
             let start = self.used as u32;
             self.used = end;
-            if self.size - self.used < MOST_ADDED {
+            if self.size - self.used < MAX_ADDED {
                 self.full_count = 0;
             }
             self.add_record(VteEvent { start, ..event });

@@ -9,7 +9,7 @@
 pub(crate) mod event;
 pub(crate) use event::VteEvent;
 pub(crate) use events::Events;
-pub(crate) use feed::{VteCounts, LEAST_EVENTS, NO_ROOM};
+pub(crate) use feed::{VteCounts, MIN_EVENTS, NO_ROOM};
 mod events;
 mod feed;
 mod text;
@@ -79,15 +79,15 @@ pub fn vte_event_size() -> usize {
 
 /// Returns for how many events there has to be room.
 pub fn vte_least_events() -> usize {
-    feed::LEAST_EVENTS
+    feed::MIN_EVENTS
 }
 
 /// Returns for how many data bytes there has to be room.
 pub fn vte_least_data() -> usize {
-    feed::LEAST_DATA
+    feed::MIN_DATA
 }
 
 /// Returns for how many bytes of text there has to be room.
 pub fn vte_least_text() -> usize {
-    text::LEAST_TEXT
+    text::MIN_TEXT
 }

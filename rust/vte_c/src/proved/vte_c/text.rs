@@ -5,10 +5,10 @@ use crate::proved::vte_c::feed::NO_ROOM;
 use vte::{Params, Parser, Perform, PerformText, Saved};
 
 /// For how many bytes of text there must be room: what two bytes of a stream add.
-pub(crate) const LEAST_TEXT: usize = 16;
+pub(crate) const MIN_TEXT: usize = 16;
 
 /// The most bytes of text that one byte of a stream adds: one byte adds at most two characters.
-const MOST_TEXT: usize = 8;
+const MAX_TEXT: usize = 8;
 
 /// Writes text into the caller's buffer, as long as all of it fits.
 struct Text<'a> {
@@ -107,7 +107,7 @@ pub(crate) fn strip(
     written: &mut usize,
 ) -> usize {
     *written = 0;
-    if room.len() < LEAST_TEXT {
+    if room.len() < MIN_TEXT {
         return NO_ROOM;
     }
     let size = room.len();
@@ -128,9 +128,9 @@ fn read_into(saved: &mut Saved, bytes: &[u8], room: &mut Text<'_>) -> usize {
     parser.restore(saved);
     let mut count = 0;
     // The text of a chunk fits whatever its bytes are, so no character needs a stop.
-    while count < bytes.len() && room.left() >= MOST_TEXT {
+    while count < bytes.len() && room.left() >= MAX_TEXT {
         let unread = &bytes[count..];
-        let size = unread.len().min(room.left() / MOST_TEXT);
+        let size = unread.len().min(room.left() / MAX_TEXT);
         let chunk = &unread[..size];
         parser.advance_text(room, chunk);
         count += chunk.len();

@@ -1,6 +1,8 @@
 // Written by tools/erase from crates/event_log/src/device.rt: edit that one.
 //! Readers and writers.
 
+use std::io::{self, Read, Write};
+
 /// A source of bytes.
 ///
 /// A source that has failed stays failed.
@@ -31,4 +33,68 @@ pub trait Sink {
     ///
     /// Fails if the sink has failed.
     fn flush(&mut self) -> Result<(), ()>;
+}
+
+/// A [`Read`] or [`Write`] of std as a [`Source`] or [`Sink`].
+///
+/// After the first error of the reader or writer inside, it has failed: every further call is an
+/// error, and nothing is known of its bytes.
+pub struct Device<D> {
+    inner: D,
+    error: Option<io::Error>,
+}
+
+impl<D> Device<D> {
+    /// Wraps a reader or writer.
+    pub fn new(inner: D) -> Self {
+        Device { inner, error: None }
+    }
+
+    /// Returns the error by which it has failed.
+    pub fn error(&self) -> Option<&io::Error> {
+        self.error.as_ref()
+    }
+}
+
+impl<D: Read> Source for Device<D> {
+    fn read(&mut self, room: &mut [u8]) -> Result<usize, ()> {
+        if self.error.is_some() {
+            return Err(());
+        }
+        match self.inner.read(room) {
+            Ok(count) => Ok(count),
+            Err(error) => {
+                self.error = Some(error);
+                Err(())
+            }
+        }
+    }
+}
+
+impl<D: Write> Sink for Device<D> {
+    fn write_all(&mut self, bytes: &[u8]) -> Result<(), ()> {
+        if self.error.is_some() {
+            return Err(());
+        }
+        match self.inner.write_all(bytes) {
+            Ok(()) => Ok(()),
+            Err(error) => {
+                self.error = Some(error);
+                Err(())
+            }
+        }
+    }
+
+    fn flush(&mut self) -> Result<(), ()> {
+        if self.error.is_some() {
+            return Err(());
+        }
+        match self.inner.flush() {
+            Ok(()) => Ok(()),
+            Err(error) => {
+                self.error = Some(error);
+                Err(())
+            }
+        }
+    }
 }

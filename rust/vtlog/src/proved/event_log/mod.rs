@@ -12,6 +12,6 @@ mod pipeline;
 mod plain;
 mod recorder;
 
-pub use device::{Sink, Source};
+pub use device::{Device, Sink, Source};
 pub use fault::Fault;
 pub use pipeline::{run, run_text};

@@ -6,7 +6,7 @@ use crate::proved::event_log::lines::Lines;
 use vte::{Params, Perform, PerformText};
 
 /// The most bytes of text that one byte of a stream adds: one byte adds at most two characters.
-const MOST_TEXT: usize = 8;
+const MAX_TEXT: usize = 8;
 
 /// Collects the text of a stream, without its sequences, in a buffer of 8,192 bytes.
 ///
@@ -104,7 +104,7 @@ impl Collector for Plain {
     fn collect<'a>(&mut self, parser: &mut RunParser, bytes: &'a [u8]) -> &'a [u8] {
         let mut unread = bytes;
         while !unread.is_empty() && !self.terminated() {
-            let (chunk, rest) = unread.split_at(unread.len().min(self.texts.room() / MOST_TEXT));
+            let (chunk, rest) = unread.split_at(unread.len().min(self.texts.room() / MAX_TEXT));
             parser.advance_text(self, chunk);
             unread = rest;
         }

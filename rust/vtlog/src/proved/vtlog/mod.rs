@@ -2,12 +2,9 @@
 //! `vtlog` reads what is sent to a terminal, and prints one line per event, or with the argument
 //! `text` only the text.
 
-mod stream;
-
 use crate::prelude::{env, eprintln, HostRuntime, Vec};
-use crate::proved::event_log::{run, run_text, Fault, Sink, Source};
-use crate::proved::vtlog::stream::Stream;
-use std::io;
+use crate::proved::event_log::{run, run_text, Device, Fault, Sink, Source};
+use std::io::{self, ErrorKind};
 use std::process::ExitCode;
 
 const VERSION: &str = "vtlog 0.1.0\n";
@@ -60,20 +57,20 @@ pub(crate) fn main(rt: HostRuntime) -> ExitCode {
 fn log_streams(rt: &HostRuntime) -> io::Result<u8> {
     let words: Vec<String> = env::args(rt)?.skip(1).collect(rt.alloc())?;
     let args: Vec<&str> = words.iter().map(|word| word.as_str()).collect(rt.alloc())?;
-    let mut input = Stream::new(rt.stdin());
-    let mut output = Stream::new(rt.stdout());
+    let mut input = Device::new(rt.stdin());
+    let mut output = Device::new(rt.stdout());
     let (status, message) = log(&args, &mut input, &mut output);
-    if output.is_closed() {
+    if output.error().map(|error| error.kind()) == Some(ErrorKind::BrokenPipe) {
         // this ends the program silently, as it ends other filters
         return Ok(141);
     }
     if !message.is_empty() {
         let _ = eprintln!(rt; "{message}");
     }
-    if let Some(error) = input.trouble() {
+    if let Some(error) = input.error() {
         let _ = eprintln!(rt; "vtlog: standard input: {error}");
     }
-    if let Some(error) = output.trouble() {
+    if let Some(error) = output.error() {
         let _ = eprintln!(rt; "vtlog: standard output: {error}");
     }
     if let (2, Some(word)) = (status, unexpected(&args)) {

@@ -1,6 +1,6 @@
 -- The line has the last five of the six hex digits, or all of them (`PrintLines`).
 use Rattle.event_log.proofs.Common.{arith, hex_byte, six_hex_digits}
-use Rattle.event_log.proofs.PrintLines.{line_of_five, line_of_six}
+use Rattle.event_log.proofs.Fields.{line_of_five, line_of_six}
 use Rattle.event_log.proofs.lines.Lines.append_long_print.Goals as goal
 
 pub returns-in-65536-to-1048575 : goal.returns-in-65536-to-1048575

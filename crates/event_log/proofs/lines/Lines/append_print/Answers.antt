@@ -1,6 +1,6 @@
 -- A number below 0x10000 has four hex digits, which are those of two bytes (`PrintLines`).
 use Rattle.event_log.proofs.Common.{arith, hex_byte}
-use Rattle.event_log.proofs.PrintLines.{line_of_four}
+use Rattle.event_log.proofs.Fields.{line_of_four}
 use Rattle.event_log.proofs.lines.Lines.append_print.Goals as goal
 
 pub returns-in-256-to-65535 : goal.returns-in-256-to-65535

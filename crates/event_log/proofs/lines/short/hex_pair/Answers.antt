@@ -1,6 +1,6 @@
 -- The table has the two hex digits of each byte (`HexPairs`).
 use Rattle.event_log.proofs.Common.{arith}
-use Rattle.event_log.proofs.HexPairs.{table_entry}
+use Rattle.event_log.proofs.Fields.{table_entry}
 use Rattle.event_log.proofs.lines.short.hex_pair.Goals as goal
 
 pub returns : goal.returns

@@ -1,6 +1,6 @@
 -- The text of a chunk has at most eight bytes for each of its own, so there is room for all of it (`kept_text`).
 use Rattle.event_log.proofs.Common.{◌<◌, ◌∙◌, length, ap, sym, arith, rules, take-append-drop, Record, usual_limit}
-use Rattle.event_log.proofs.TextInRuns.{kept_text}
+use Rattle.event_log.proofs.Lengths.{kept_text}
 use Rattle.event_log.proofs.Records.{half_has_room}
 use Rattle.event_log.proofs.plain.PlainCollector.collect.Goals as goal
 

@@ -3,7 +3,7 @@ use Rattle.event_log.proofs.Common.{◌∙◌, true, ap, sym, arith, map, after,
 use Rattle.std.proofs.lemmas.Iterator.{YieldsList-from_chars}
 use Rattle.std.proofs.lemmas.Iterator.Consumers.{YieldsList-end}
 use Rattle.std.proofs.lemmas.List.{map-id}
-use Rattle.event_log.proofs.TextInRuns.{after-more, takes_run, text_of_one}
+use Rattle.event_log.proofs.Lengths.{after-more, takes_run, text_of_one}
 use Rattle.event_log.proofs.plain.PlainPerformText.print_text.Goals as goal
 
 pub returns-then-text-room : goal.returns-then-text-room

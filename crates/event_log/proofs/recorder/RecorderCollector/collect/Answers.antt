@@ -1,7 +1,7 @@
 -- The call stops before a line could be lost (`kept_lines`), and not before its first byte (`reads_some`).
 use Rattle.event_log.proofs.Common.{arith, length-drop, usual_limit}
-use Rattle.event_log.proofs.Collected.{cut_from}
-use Rattle.event_log.proofs.RecordedLines.{kept_lines, reads_some}
+use Rattle.event_log.proofs.Records.{cut_from}
+use Rattle.event_log.proofs.Lengths.{kept_lines, reads_some}
 use Rattle.event_log.proofs.recorder.RecorderCollector.collect.Goals as goal
 
 pub returns-clause-progress : goal.returns-clause-progress

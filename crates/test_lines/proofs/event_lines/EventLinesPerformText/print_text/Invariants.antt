@@ -1,7 +1,7 @@
 -- The stop is as after the characters so far.
 use Rattle.std.proofs.Common.{◌≡◌, false, map}
 use Rattle.test_lines.specs.Stop.{stop_after}
-use Rattle.vte_core.specs.Perform.{after}
+use Rattle.vte_core.specs.Event.{after}
 use Rattle.vte_core.specs.Text.{run_event}
 use Rattle.test_lines.proofs.event_lines.EventLinesPerformText.print_text.Given as goal
 

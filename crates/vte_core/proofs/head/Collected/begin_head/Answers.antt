@@ -1,10 +1,7 @@
 -- A head begins with no intermediates and no numbers.
-use Rattle.vte_core.proofs.Common.{refl}
-use Rattle.vte_core.proofs.fields.HeadSteps.{holds-nothing}
-use Rattle.vte_core.proofs.fields.NumberSteps.{counts-nothing}
+use Rattle.vte_core.proofs.Common.{arith, rules}
+use Rattle.vte_core.proofs.fields.Heads.{holds-nothing, counts-nothing}
 use Rattle.vte_core.proofs.head.Collected.begin_head.Goals as goal
 
 pub returns-clause-head : goal.returns-clause-head
-returns-clause-head c =
-    λ holds. holds-nothing _ (record { kept = holds.kept; too_many_intermediates = holds.too_many_intermediates })
-    (counts-nothing _ c.clear.ensures refl refl)
+returns-clause-head c = search (rules, arith, holds-nothing, counts-nothing)

@@ -1,12 +1,10 @@
 -- A digit makes the open number longer; a separator settles it and opens another.
-use Rattle.vte_core.proofs.Common.{◌≡◌, Bool, true, false, refl, arith}
-use Rattle.vte_core.proofs.fields.NumberSteps.{counts-digit, counts-separator}
+use Rattle.vte_core.proofs.Common.{◌≡◌, Bool, true, false, refl, arith, rules}
+use Rattle.vte_core.proofs.fields.Heads.{counts-digit, counts-separator}
 use Rattle.vte_core.proofs.head.Collected.collect_parameter_byte.Goals as goal
 
 pub returns-in-Some-clause-counts : goal.returns-in-Some-clause-counts
-returns-in-Some-clause-counts c = λ text k.
-    let is = c.in-Some.ensures in
-    counts-digit c.args.byte k is.0 is.1 refl refl (omega (arith, c.min-number.ensures, is.2))
+returns-in-Some-clause-counts c = search (rules, arith, counts-digit)
 
 -- what no digit is
 left_is_separator : (separator parameter : Bool) → (separator ≡ false → parameter ≡ false) → parameter ≡ true

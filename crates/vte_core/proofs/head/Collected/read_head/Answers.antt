@@ -1,5 +1,5 @@
 -- Each round reads one byte of the head, and what was read adds up (`reads_head-then`).
-use Rattle.vte_core.proofs.Common.{refl, sym, ◌∙◌, arith}
+use Rattle.vte_core.proofs.Common.{refl, sym, ◌∙◌, arith, rules}
 use Rattle.vte_core.proofs.calls.Heads.{reads_head-byte, reads_head-nothing, reads_head-then}
 use Rattle.vte_core.proofs.head.Collected.read_head.Goals as goal
 
@@ -19,7 +19,4 @@ loop-position-preserved c =
     }
 
 pub returns-after-loop-position-clause-reads : goal.returns-after-loop-position-clause-reads
-returns-after-loop-position-clause-reads c =
-    let v = c.loop-position.invariant in
-    let high = v.reads.high in
-    record { head = v.reads; next = rw v.none (omega arith) }
+returns-after-loop-position-clause-reads c = search (rules, arith)

@@ -2,21 +2,13 @@
 -- the end either no byte was read, and the part of the head is the old one, or it is that of parameters.
 use Rattle.vte_core.proofs.Common.{◌≡◌, refl, ◌∙◌, arith, rules, class_of}
 use Rattle.vte_core.proofs.calls.Heads.{progress_after-more, progress_after-none, reads_head-nothing, reads_head-parameter}
-use Rattle.vte_core.proofs.fields.NumberSteps.{counts-digit, counts-separator}
-use Rattle.vte_core.proofs.head.Collected.read_numbers.Goals.{else-loop-position-test, then-loop-position-test+in_default+else-several, in-Some, in_default+then-several+then-byte-eq59}
+use Rattle.vte_core.proofs.fields.Heads.{counts-digit, counts-separator}
+use Rattle.vte_core.proofs.head.Collected.read_numbers.Goals.{in-Some, in_default+then-several+then-byte-eq59}
 use Rattle.vte_core.proofs.head.Collected.read_numbers.Goals as goal
 
 -- No byte is read.
 pub loop-position-init : goal.loop-position-init
-loop-position-init c = record {
-  reads =
-      rw (progress_after-none c.args.reached refl, c.from-number.ensures)
-      (reads_head-nothing c.requires.in_order);
-  count = omega arith;
-  none = refl;
-  small = omega arith;
-  joined = refl;
-}
+loop-position-init c = search (rules, arith, progress_after-none, reads_head-nothing)
 
 -- A digit, or a separator that is no first byte.
 pub loop-position-preserved : goal.loop-position-preserved
@@ -61,30 +53,8 @@ loop-position-preserved c =
 
 -- Some bytes were read: the part of the head is that of parameters.
 pub returns-then-position-from-clause-reads : goal.returns-then-position-from-clause-reads
-returns-then-position-from-clause-reads c =
-    let v = c.loop-position.invariant in
-    let high = v.reads.high in
-    record {
-      head =
-          rw (progress_after-more c.args.reached c.args.from c.loop-position.position c.if-position-from.true)
-          at v.reads;
-      next = elim c.loop-position-test.branch [
-        | else-loop-position-test w ↦ rw (w.next-is, v.none) (omega arith)
-        | then-loop-position-test+in_default+else-several w ↦ rw w.next-is (omega arith, w.byte_at-byte.ensures.value)
-      ];
-    }
+returns-then-position-from-clause-reads c = search (rules, arith, progress_after-more)
 
 -- None was: it stays.
 pub returns-else-position-from-clause-reads : goal.returns-else-position-from-clause-reads
-returns-else-position-from-clause-reads c =
-    let v = c.loop-position.invariant in
-    let high = v.reads.high in
-    let low = v.reads.low in
-    record {
-      head = rw (progress_after-none c.args.reached {from = c.args.from} {to = c.loop-position.position} (omega arith))
-          at v.reads;
-      next = elim c.loop-position-test.branch [
-        | else-loop-position-test w ↦ rw (w.next-is, v.none) (omega arith)
-        | then-loop-position-test+in_default+else-several w ↦ rw w.next-is (omega arith, w.byte_at-byte.ensures.value)
-      ];
-    }
+returns-else-position-from-clause-reads c = search (rules, arith, progress_after-none)

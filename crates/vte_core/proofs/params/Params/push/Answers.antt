@@ -1,7 +1,7 @@
--- A number more joins the last group or begins one (`pushed` of `fields/Groups`): there is room, the last length stays
+-- A number more joins the last group or begins one (`pushed` of `fields/Numbers`): there is room, the last length stays
 -- small, and the lengths still fit.
-use Rattle.vte_core.proofs.Common.{◌<◌, ◌≤◌, ◌+◌, All-push, arith, ap, greatest_number, lit<, count_of}
-use Rattle.vte_core.proofs.fields.Groups.{count_of-cut_by_lengths, pushed}
+use Rattle.vte_core.proofs.Common.{◌<◌, ◌≤◌, ◌+◌, All-push, arith, ap, greatest_number, lit<, count_of, rules}
+use Rattle.vte_core.proofs.fields.Numbers.{count_of-cut_by_lengths, pushed}
 use Rattle.vte_core.proofs.params.Params.push.Goals as goal
 
 -- There is room for the number.
@@ -40,6 +40,4 @@ invariant_of-self c =
 
 -- The groups are the old ones with the number.
 pub returns : goal.returns
-returns c =
-    let all = pushed _ _ _ _ _ c.args.value c.self.invariant.lengths_fit c.take_joined-length.ensures in
-    rw (c.push-2.ensures.items, c.push.ensures.items, c.unwrap_or.ensures, ← c.self.view_is) all.groups
+returns c = search (rules, arith, pushed)

@@ -1,12 +1,10 @@
 -- As many groups are left as lengths.
-use Rattle.vte_core.proofs.Common.{ℕ, length, sym, ◌∙◌, arith, ap, Some}
-use Rattle.vte_core.proofs.fields.Groups.{length-cut_by_lengths}
+use Rattle.vte_core.proofs.Common.{length, arith, ap, rules}
+use Rattle.vte_core.proofs.fields.Numbers.{length-cut_by_lengths}
 use Rattle.vte_core.proofs.params.ParamsIterIterator.size_hint.Goals as goal
 
 pub returns-clause-exact : goal.returns-clause-exact
-returns-clause-exact c =
-    ap (λ (n : ℕ). (n, Some n))
-    (sym (length-cut_by_lengths c.self.inside.lengths.now c.self.inside.numbers.now) ∙ ap length c.self.view_is)
+returns-clause-exact c = search (rules, arith, length-cut_by_lengths)
 
 pub returns-clause-lower : goal.returns-clause-lower
 returns-clause-lower c _ =

@@ -1,21 +1,10 @@
 -- Each round adds ASCII, or one character that is longer or a kept control, to the run (`scans-run`).
-use Rattle.vte_core.proofs.Common.{arith, subst, sym, ◌∙◌, slice_index, IsPrintedAscii}
-use Rattle.vte_core.proofs.bytes.EachLemmas.{each-one, each-both}
-use Rattle.vte_core.proofs.bytes.Printable.{printed-in_range, run-none, run-ascii}
-use Rattle.vte_core.proofs.bytes.SearchLemmas.{scans-run}
+use Rattle.vte_core.proofs.Common.{arith, subst, sym, ◌∙◌, slice_index, IsPrintedAscii, rules}
+use Rattle.vte_core.proofs.bytes.Runs.{each-one, each-both, printed-in_range, run-none, run-ascii, scans-run}
 use Rattle.vte_core.proofs.reader.Reader.find_end_up_to.Goals as goal
 
 pub loop-end-init : goal.loop-end-init
-loop-end-init c = record {
-  scans =
-      record {
-        low = omega arith;
-        high = omega (arith, c.requires.range.in_order, c.requires.range.within);
-        are = run-none c.args.layout c.args.input.bytes.now c.args.from;
-        least = omega arith;
-      };
-  count = omega arith;
-}
+loop-end-init c = search (rules, arith, run-none)
 
 -- ASCII that is printed, as far as it goes.
 pub loop-end-preserved-then-is_printed_ascii : goal.loop-end-preserved-then-is_printed_ascii

@@ -1,20 +1,16 @@
 -- At a byte that is not printed ASCII, a run goes on by a kept control or by one character, of two, three or four bytes
 -- (`run-*`), or it ends. It ends (`ends-*`) if the byte is single, the bytes end too soon, or a byte does not fit: each
 -- test that fails excludes the character that would stand there.
-use Rattle.vte_core.proofs.Common.{◌≡◌, true, refl, sym, ap, ◌∙◌, arith, false≢true, slice_index, is_in, is_layout, second_range, from_to}
-use Rattle.vte_core.proofs.bytes.RunEnds.{ends-single, ends-long, ends-two, ends-three, ends-four}
-use Rattle.vte_core.proofs.bytes.Printable.{run-layout}
+use Rattle.vte_core.proofs.Common.{true, refl, sym, ap, ◌∙◌, arith, false≢true, is_in, from_to, rules}
+use Rattle.vte_core.proofs.bytes.Runs.{ends-single, ends-long, ends-two, ends-three, ends-four, run-layout}
 use Rattle.vte_core.proofs.bytes.Scalars.{in_range-bounds}
-use Rattle.vte_core.proofs.dividing.PrintableCharacters.{run-two, run-three, run-four}
-use Rattle.vte_core.proofs.reader.Reader.find_other_character_end.Goals.{else-layout-via-then-layout+else-is_layout, else-layout-via-else-layout, else-may_begin_three-via-then-may_begin_three+in_ok-get_byte+else-is_continuation, else-may_begin_three-via-else-may_begin_three, else-may_begin_four-via-then-may_begin_four+in_ok-get_byte-2+then-is_continuation-2+in_ok-get_byte-3+else-is_continuation-3 as fourth-misfits, else-may_begin_four-via-then-may_begin_four+in_ok-get_byte-2+else-is_continuation-2, else-may_begin_four-via-else-may_begin_four}
+use Rattle.vte_core.proofs.dividing.Utf8Agrees.{run-two, run-three, run-four}
+use Rattle.vte_core.proofs.reader.Reader.find_other_character_end.Goals.{else-may_begin_four-via-then-may_begin_four+in_ok-get_byte-2+then-is_continuation-2+in_ok-get_byte-3+else-is_continuation-3 as fourth-misfits}
 use Rattle.vte_core.proofs.reader.Reader.find_other_character_end.Goals as goal
 
 -- HT, LF or CR, if the performer keeps them: a run of one byte.
 pub returns-then-is_layout-clause-run : goal.returns-then-is_layout-clause-run
-returns-then-is_layout-clause-run c =
-    let layout : is_layout (slice_index c.args.input.bytes.now c.args.from) ≡ true =
-    ap is_layout (sym c.requires.looked_at) ∙ sym c.is_layout.ensures ∙ c.if-is_layout.true in
-    rw c.if-layout.true (run-layout c.args.input.bytes.now c.args.from _ c.requires.within refl layout)
+returns-then-is_layout-clause-run c = search (rules, arith, run-layout)
 
 -- A character of two bytes, whose second one continues it; after C2 it is no control.
 pub returns-then-is_printed_pair-clause-run : goal.returns-then-is_printed_pair-clause-run
@@ -49,35 +45,20 @@ returns-then-is_continuation-3-clause-run c =
 
 -- A byte that begins no longer character and is not kept: it is no run.
 pub returns-then-not-is_lead-clause-ended : goal.returns-then-not-is_lead-clause-ended
-returns-then-not-is_lead-clause-ended c none =
-    ends-single c.args.layout _ c.args.from c.args.first c.requires.within c.requires.looked_at c.requires.other
-    (sym c.is_lead.ensures ∙ c.if-not-is_lead.true) (λ layout. elim c.else-layout.branch [
-      | else-layout-via-then-layout+else-is_layout w ↦ sym w.is_layout.ensures ∙ w.if-is_layout.false
-      | else-layout-via-else-layout w ↦ absurd (false≢true (sym w.if-layout.false ∙ layout))
-    ])
+returns-then-not-is_lead-clause-ended c none = search (rules, arith, ends-single)
 
 -- The bytes end after the first one, the second or the third: too few for the character.
 pub returns-in_err-second-clause-ended : goal.returns-in_err-second-clause-ended
-returns-in_err-second-clause-ended c none =
-    ends-long c.args.layout _ c.args.from c.args.first c.requires.within c.requires.looked_at
-    (sym c.is_lead.ensures ∙ c.if-not-is_lead.false) (λ more. absurd (omega (arith, more, c.in_err-second.ensures.0)))
+returns-in_err-second-clause-ended c none = search (rules, arith, ends-long)
 
 pub returns-in_err-get_byte-clause-ended : goal.returns-in_err-get_byte-clause-ended
-returns-in_err-get_byte-clause-ended c none =
-    ends-three c.args.layout _ c.args.from c.args.first c.requires.within c.requires.looked_at c.if-first-lt224.false
-    c.if-first-lt240.true (λ more second third. absurd (omega (arith, more, c.in_err-get_byte.ensures.0)))
+returns-in_err-get_byte-clause-ended c none = search (rules, arith, ends-three)
 
 pub returns-in_err-get_byte-2-clause-ended : goal.returns-in_err-get_byte-2-clause-ended
-returns-in_err-get_byte-2-clause-ended c none =
-    ends-four c.args.layout _ c.args.from c.args.first c.requires.within c.requires.looked_at c.if-first-lt240.false
-    (sym c.is_lead.ensures ∙ c.if-not-is_lead.false) (λ more second third fourth.
-    absurd (omega (arith, more, c.in_err-get_byte-2.ensures.0)))
+returns-in_err-get_byte-2-clause-ended c none = search (rules, arith, ends-four)
 
 pub returns-in_err-get_byte-3-clause-ended : goal.returns-in_err-get_byte-3-clause-ended
-returns-in_err-get_byte-3-clause-ended c none =
-    ends-four c.args.layout _ c.args.from c.args.first c.requires.within c.requires.looked_at c.if-first-lt240.false
-    (sym c.is_lead.ensures ∙ c.if-not-is_lead.false) (λ more second third fourth.
-    absurd (omega (arith, more, c.in_err-get_byte-3.ensures.0)))
+returns-in_err-get_byte-3-clause-ended c none = search (rules, arith, ends-four)
 
 -- A second byte that does not continue the first one, or gives a control of C1.
 pub returns-else-is_printed_pair-clause-ended : goal.returns-else-is_printed_pair-clause-ended
@@ -94,39 +75,8 @@ returns-else-is_printed_pair-clause-ended c none =
 
 -- Of three bytes, the third does not continue or the second does not fit the first.
 pub returns-else-may_begin_three-clause-ended : goal.returns-else-may_begin_three-clause-ended
-returns-else-may_begin_three-clause-ended c none =
-    ends-three c.args.layout _ c.args.from c.args.first c.requires.within c.requires.looked_at c.if-first-lt224.false
-    c.if-first-lt240.true (λ more second third. elim c.else-may_begin_three.branch [
-      -- The third.
-      | else-may_begin_three-via-then-may_begin_three+in_ok-get_byte+else-is_continuation w ↦
-          false≢true
-          (sym (sym w.is_continuation.ensures ∙ w.if-is_continuation.false)
-          ∙ ap (is_in (from_to 0x80 0xbf)) w.in_ok-get_byte.ensures.1 ∙ third)
-      -- The second.
-      | else-may_begin_three-via-else-may_begin_three w ↦
-          false≢true
-          (sym (sym c.may_begin_three.ensures ∙ w.if-may_begin_three.false)
-          ∙ ap (is_in (second_range c.args.first)) c.in_ok-second.ensures.1 ∙ second)
-    ])
+returns-else-may_begin_three-clause-ended c none = search (rules, arith, ends-three)
 
 -- Of four bytes, the fourth or third does not continue or the second does not fit the first.
 pub returns-else-may_begin_four-clause-ended : goal.returns-else-may_begin_four-clause-ended
-returns-else-may_begin_four-clause-ended c none =
-    ends-four c.args.layout _ c.args.from c.args.first c.requires.within c.requires.looked_at c.if-first-lt240.false
-    (sym c.is_lead.ensures ∙ c.if-not-is_lead.false) (λ more second third fourth. elim c.else-may_begin_four.branch [
-      -- The fourth.
-      | fourth-misfits w ↦
-          false≢true
-          (sym (sym w.is_continuation-then-is_continuation-2.ensures ∙ w.if-is_continuation-3.false)
-          ∙ ap (is_in (from_to 0x80 0xbf)) w.in_ok-get_byte-3.ensures.1 ∙ fourth)
-      -- The third.
-      | else-may_begin_four-via-then-may_begin_four+in_ok-get_byte-2+else-is_continuation-2 w ↦
-          false≢true
-          (sym (sym w.is_continuation-then-may_begin_four.ensures ∙ w.if-is_continuation-2.false)
-          ∙ ap (is_in (from_to 0x80 0xbf)) w.in_ok-get_byte-2.ensures.1 ∙ third)
-      -- The second.
-      | else-may_begin_four-via-else-may_begin_four w ↦
-          false≢true
-          (sym (sym c.may_begin_four.ensures ∙ w.if-may_begin_four.false)
-          ∙ ap (is_in (second_range c.args.first)) c.in_ok-second.ensures.1 ∙ second)
-    ])
+returns-else-may_begin_four-clause-ended c none = search (rules, arith, ends-four, fourth-misfits)

@@ -1,6 +1,6 @@
 -- A block more.
 use Rattle.vte_core.proofs.Common.{arith}
-use Rattle.vte_core.proofs.bytes.EachLemmas.{each-both, each-block}
+use Rattle.vte_core.proofs.bytes.Runs.{each-both, each-block}
 use Rattle.vte_core.specs.machine.Automaton.{IsPlain}
 use Rattle.vte_core.proofs.reader.Reader.skip_ascii_blocks.Goals as goal
 

@@ -1,7 +1,7 @@
 -- All blocks so far are plain.
 use Rattle.vte_core.proofs.Common.{length, ◌+◌, ◌-◌, ◌≡◌, ◌≤◌, looked}
 use Rattle.vte_core.specs.machine.Automaton.{IsPlain}
-use Rattle.vte_core.specs.machine.Each.{Each}
+use Rattle.vte_core.specs.machine.Scans.{Each}
 use Rattle.vte_core.proofs.reader.Reader.skip_ascii_blocks.Given as goal
 
 abbrev pub invariant-loop-block : goal.invariant-loop-block

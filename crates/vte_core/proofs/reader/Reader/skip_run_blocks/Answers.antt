@@ -1,18 +1,14 @@
 -- A block whose bytes all fit is skipped. The run ends before the character that the last bytes leave open.
 use Rattle.vte_core.proofs.Common.{◌≡◌, ◌≤◌, ◌<◌, ◌+◌, ◌-◌, false, drop, arith, false≢true, ◌∙◌, inl, inr, cases_lt, sym, subst, get_or-drop, looked, rules}
-use Rattle.vte_core.specs.machine.Each.{Each}
-use Rattle.vte_core.proofs.automaton_states.Readings.{run-kept}
-use Rattle.vte_core.proofs.automaton_states.Windows.{above-block, leads-ascii, leads-block, run-before-open, run-none}
+use Rattle.vte_core.specs.machine.Scans.{Each}
+use Rattle.vte_core.proofs.bytes.Runs.{run-none}
+use Rattle.vte_core.proofs.automaton_states.Scanned.{run-kept}
+use Rattle.vte_core.proofs.automaton_states.Windows.{above-block, leads-ascii, leads-block, run-before-open}
 use Rattle.vte_core.proofs.reader.Reader.skip_run_blocks.Goals.{then-is_ascii, else-is_ascii, then-layout, else-layout}
 use Rattle.vte_core.proofs.reader.Reader.skip_run_blocks.Goals as goal
 
 pub returns-then-open_bytes-gt0-clause-scans : goal.returns-then-open_bytes-gt0-clause-scans
-returns-then-open_bytes-gt0-clause-scans c = record {
-  low = omega arith;
-  high = c.requires.within;
-  are = run-none c.args.layout c.args.input.bytes.now c.args.from;
-  least = omega (arith, c.open_bytes.ensures.least);
-}
+returns-then-open_bytes-gt0-clause-scans c = search (rules, arith, run-none)
 
 pub overflow_add-plain : goal.overflow_add-plain
 overflow_add-plain c = omega (arith, c.loop-window.invariant.few, c.loop-window.auto.at-fits)

@@ -1,6 +1,6 @@
 -- The bytes so far lead to a state that the last three of them say, and have no control that is left out.
 use Rattle.vte_core.proofs.Common.{false, length, ◌*◌, ◌+◌, ◌-◌, ◌≡◌, ◌≤◌, ◌<◌, looked}
-use Rattle.vte_core.specs.machine.Each.{Each}
+use Rattle.vte_core.specs.machine.Scans.{Each}
 use Rattle.vte_core.proofs.automaton_states.Windows.{Leads}
 use Rattle.vte_core.proofs.reader.Reader.skip_run_blocks.Given as goal
 

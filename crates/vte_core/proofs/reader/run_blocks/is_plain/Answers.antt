@@ -1,7 +1,7 @@
 -- One byte more that passes.
 use Rattle.vte_core.proofs.Common.{ℕ, arith, nat_tests, and_parts, refl, slice_index, ◌||◌}
 use Rattle.vte_core.specs.machine.Automaton.{IsPlain}
-use Rattle.vte_core.proofs.bytes.EachLemmas.{each-next}
+use Rattle.vte_core.proofs.bytes.Runs.{each-next}
 use Rattle.vte_core.proofs.reader.run_blocks.is_plain.Goals as goal
 
 pub loop-byte-preserved : goal.loop-byte-preserved

@@ -1,15 +1,12 @@
 -- No mark: all eight bytes are printed. Otherwise the lowest mark is at the first that is not (`bytes/EightBytes`).
-use Rattle.std.proofs.Common.{ap, arith, w64, ◌∙◌}
-use Rattle.std.specs.Int.{bit_at}
+use Rattle.vte_core.proofs.Common.{rules}
+use Rattle.std.proofs.Common.{arith, w64}
 use Rattle.std.proofs.lemmas.Nat.Bits.{bit_at-trailing_zeros, bit_at-zero}
 use Rattle.vte_core.proofs.bytes.EightBytes.{prefix-printed, marks-fit}
 use Rattle.vte_core.proofs.reader.run_end.first_unprinted.Goals as goal
 
 pub returns-then-marks-eq0 : goal.returns-then-marks-eq0
-returns-then-marks-eq0 c =
-    let digits = c.from_le_bytes-digits in
-    prefix-printed _ 8 c.fits-word c.told-word digits.type_inv digits.ensures (omega arith)
-    (λ i low. ap (λ n. bit_at n i) c.if-marks-eq0.true ∙ bit_at-zero i)
+returns-then-marks-eq0 c = search (rules, arith, prefix-printed, bit_at-zero)
 
 pub returns : goal.returns
 returns c =

@@ -123,6 +123,68 @@ impl<B: Buffer> Machine<B> {
         position
     }
 
+    /// Reads text as `read_text` does, by characters. Each round has its byte from the one before,
+    /// which takes fewer instructions, but more if the call may stop.
+    #[inline(always)]
+    pub(crate) fn read_characters<
+        P: CountedPerform<G> + ?Sized,
+        G: Granularity,
+        const MAY_STOP: bool,
+    >(
+        &mut self,
+        reader: Reader,
+        performer: &mut P,
+        input: &[u8],
+        from: usize,
+    ) -> usize {
+        let mut position = from;
+        let mut prefix = up_to(input, (from + SHORT_TEXT).min(input.len()));
+        let mut byte = reader.byte_at(input, from);
+        while let Some(next) =
+            self.read_one::<P, G, MAY_STOP>(reader, performer, input, position, byte)
+        {
+            position = next;
+            if MAY_STOP && performer.terminated() {
+                return position;
+            }
+            if position < prefix.len() {
+                byte = reader.byte_at(prefix, position);
+            } else if position < input.len() {
+                prefix = up_to(input, reader.search_text::<MAY_STOP>(input, from, position));
+                byte = reader.byte_at(input, position);
+            } else {
+                return position;
+            }
+        }
+        self.read_sequence::<P, G, MAY_STOP>(reader, performer, input, position)
+    }
+
+    /// Reads what a byte of text begins, which was looked at: a character, a malformed sequence or
+    /// a control. Returns where it ends, or nothing if the byte is ESC, which is left unread.
+    #[inline(always)]
+    fn read_one<P: CountedPerform<G> + ?Sized, G: Granularity, const MAY_STOP: bool>(
+        &mut self,
+        reader: Reader,
+        performer: &mut P,
+        input: &[u8],
+        from: usize,
+        first: u8,
+    ) -> Option<usize> {
+        if is_printed_ascii(first) {
+            performer.print_char(reader, char::from(first));
+        } else if is_lead(first) {
+            let end = self.read_character::<P, G, MAY_STOP>(reader, performer, input, from, first);
+            return Some(end);
+        } else if first >= 0xa0 {
+            reader.report_lone_byte(performer, first);
+        } else if first == ESCAPE {
+            return None;
+        } else {
+            reader.report_lone_byte(performer, first);
+        }
+        Some(from + 1)
+    }
+
     /// Reads what begins with a lead byte, which was looked at, for a performer that takes runs: a
     /// run, a character or a malformed sequence.
     #[inline(always)]

@@ -1,6 +1,6 @@
 -- The digits that are left give what all give.
 use Rattle.vte.proofs.Common.{◌≡◌, ◌<◌, ◌^◌, drop}
-use Rattle.vte_types.specs.Hex.{hex_from, hex_number}
+use Rattle.vte_types.specs.Rgb.{hex_from, hex_number}
 use Rattle.vte.proofs.ansi.calls.color_text.hex_value.Given as goal
 
 abbrev pub invariant-loop-byte : goal.invariant-loop-byte

@@ -1,7 +1,7 @@
 -- The text that is looked up is the name itself.
 use Rattle.vte.proofs.Common.{◌≡◌, ◌∙◌, ap, rules}
 use Rattle.std.specs.Result.{result_ok}
-use Rattle.vte.proofs.Calling.{ok_or-found}
+use Rattle.vte.proofs.Commands.{ok_or-found}
 use Rattle.vte_types.specs.CursorIcon.{icon_of}
 use Rattle.vte.proofs.ansi.calls.command.icon_named.Goals as goal
 

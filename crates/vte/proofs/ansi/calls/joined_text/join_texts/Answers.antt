@@ -1,6 +1,6 @@
 -- A text more is joined, for which there is room (`Joining`), or one that is left out changes nothing.
 use Rattle.vte.proofs.Common.{◌∙◌, ap, arith}
-use Rattle.vte.proofs.Joining.{joins-begin, joins-more, joins-room, joins-same}
+use Rattle.vte.proofs.Commands.{joins-begin, joins-more, joins-room, joins-same}
 use Rattle.vte.proofs.ansi.calls.joined_text.join_texts.Goals as goal
 use Rattle.vte.proofs.ansi.calls.joined_text.join_texts.Goals.{in-Some, in_default}
 

@@ -1,6 +1,6 @@
 -- A command's bytes are all open, and in another state none is.
-use Rattle.vte_core.proofs.Common.{length, ap, sym, ◌∙◌, false≢true}
-use Rattle.vte_core.proofs.calls.Refusals.{none_is_open, stored_is_open}
+use Rattle.vte_core.proofs.Common.{length, ap, sym, ◌∙◌, false≢true, arith, rules}
+use Rattle.vte_core.proofs.calls.Open.{none_is_open, stored_is_open}
 use Rattle.vte_core.proofs.parser.long.LongParser.forget_ended_command.Goals as goal
 use Rattle.vte_core.proofs.parser.long.LongParser.forget_ended_command.Goals.{in-SystemCommand, in_default}
 
@@ -12,7 +12,4 @@ returns-then-not-matches-clause-stored g c = λ stream h. elim c.match-matches.b
 ]
 
 pub returns-else-not-matches-clause-stored : goal.returns-else-not-matches-clause-stored
-returns-else-not-matches-clause-stored g c = λ stream h. elim c.match-matches.branch [
-  | in-SystemCommand v ↦ stored_is_open v.in-SystemCommand.is h
-  | in_default v ↦ absurd (false≢true (sym v.matches-is ∙ c.if-not-matches.false))
-]
+returns-else-not-matches-clause-stored g c = search (rules, arith, stored_is_open)

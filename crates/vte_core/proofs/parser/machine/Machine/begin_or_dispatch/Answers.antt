@@ -1,13 +1,12 @@
 -- By the key after ESC: `P`, `]`, that of an ignored string, or any other, which dispatches. The place after it is that
 -- shape with nothing read.
-use Rattle.vte_core.proofs.Common.{refl, ◌∙◌, arith, sequence_kind}
+use Rattle.vte_core.proofs.Common.{refl, ◌∙◌, arith, sequence_kind, rules}
 use Rattle.vte_core.specs.SequenceKind.{DeviceControl, IgnoredString, SystemCommand}
-use Rattle.vte_core.proofs.bytes.ClassCases.{class-final}
-use Rattle.vte_core.proofs.calls.Arms.{takes-byte}
-use Rattle.vte_core.proofs.calls.CallEnds.{settled-by}
+use Rattle.vte_core.proofs.bytes.Classes.{class-final, other_key}
+use Rattle.vte_core.proofs.calls.Stretches.{takes-byte}
+use Rattle.vte_core.proofs.calls.Progress.{settled-by}
 use Rattle.vte_core.proofs.fields.PlaceOfState.{stands-escape, stands-text_begun}
 use Rattle.vte_core.proofs.places.PlaceLeads.{escape-key, escape-end}
-use Rattle.vte_core.proofs.bytes.PlainKeys.{other_key}
 use Rattle.vte_core.proofs.parser.machine.Machine.begin_or_dispatch.Goals as goal
 
 -- `P`: a device control string.
@@ -47,6 +46,4 @@ returns-else-begins_ignored_string-clause-takes g c = λ s.
     (escape-end (class-final _ c.requires.ends) refl key)
 
 pub returns-else-begins_ignored_string-clause-handles : goal.returns-else-begins_ignored_string-clause-handles
-returns-else-begins_ignored_string-clause-handles g c =
-    let d = c.dispatch_escape.ensures in
-    record { settled = settled-by d.text tt; count = omega arith; least = omega arith; memory = d.memory }
+returns-else-begins_ignored_string-clause-handles g c = search (rules, arith, settled-by)

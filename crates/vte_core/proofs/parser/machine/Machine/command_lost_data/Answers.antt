@@ -1,7 +1,7 @@
 -- Data of a command were dropped if the store says so: by the state, and so the place, of the parser.
-use Rattle.vte_core.proofs.Common.{ℕ, Option, List, [], ◌∷◌, sym, subst, Machine, State, SystemCommand, StandsAtPlace, StandsBy, Place, InText, InSystemCommand, HoldsItems, SaysLoss, left_at}
+use Rattle.vte_core.proofs.Common.{ℕ, Option, List, [], ◌∷◌, sym, Machine, State, SystemCommand, StandsAtPlace, StandsBy, Place, InText, InSystemCommand, HoldsItems, SaysLoss, left_at, arith, rules}
 use Rattle.vte_core.proofs.fields.PlaceOfState.{stands-place}
-use Rattle.vte_core.proofs.fields.StoreLemmas.{loses_held}
+use Rattle.vte_core.proofs.fields.Stores.{loses_held}
 use Rattle.vte_core.proofs.streams.After.{after-left}
 use Rattle.vte_core.proofs.parser.machine.Machine.command_lost_data.Goals as goal
 
@@ -19,9 +19,4 @@ by_place limit parser (InSystemCommand items) s =
 by_place limit parser _ s = tt
 
 pub returns-clause-open : goal.returns-clause-open
-returns-clause-open g c = λ stream h.
-    let parser = c.args.self.now in
-    let limit = g.B.Buffer.limit in
-    let left = after-left h.is_after (stands-place h.stands) in
-    subst (λ left. SaysLoss left c.has_lost_data.result) (sym left)
-    (subst (SaysLoss (left_at limit h.place)) (sym c.has_lost_data.ensures) (by_place limit parser h.place h.stands))
+returns-clause-open g c = search (rules, arith, after-left, stands-place, by_place)

@@ -2,14 +2,13 @@
 -- lemmas `goes-*` say how far it has gone, `completes-*` how it ends there, from the second byte on; `advances-first`
 -- leads from the first. A run that it begins is reported as a text.
 use Rattle.vte_core.proofs.Common.{◌≡◌, ℕ, ◌+◌, ◌<◌, ◌≤◌, length, ap, subst, sym, ◌∙◌, arith, false≢true, slice_index, IsRun}
-use Rattle.vte_core.proofs.bytes.CarriedLemmas.{second-broken, third-broken, fourth-broken, spells-four}
-use Rattle.vte_core.proofs.bytes.Printable.{run-append}
-use Rattle.vte_core.proofs.calls.Characters.{completes-broken, completes-then, completes-whole, goes-nowhere, goes-second, goes-third}
-use Rattle.vte_core.proofs.calls.InsideCharacters.{unfinished-some}
-use Rattle.vte_core.proofs.calls.LeadBytes.{advances-first}
+use Rattle.vte_core.proofs.bytes.Scalars.{second-broken, third-broken, fourth-broken, spells-four}
+use Rattle.vte_core.proofs.bytes.Runs.{run-append}
+use Rattle.vte_core.proofs.calls.Characters.{completes-broken, completes-then, completes-whole, goes-nowhere, goes-second, goes-third, unfinished-some}
+use Rattle.vte_core.proofs.calls.BetweenCharacters.{advances-first}
 use Rattle.vte_core.proofs.calls.Stretches.{advances-if}
 use Rattle.vte_core.proofs.calls.TextRuns.{advances-text}
-use Rattle.vte_core.proofs.dividing.PrintableCharacters.{run-four}
+use Rattle.vte_core.proofs.dividing.Utf8Agrees.{run-four}
 use Rattle.vte_core.proofs.parser.machine.Machine.complete_four.Goals as goal
 
 -- Over plain numbers, where `omega` has little to read.

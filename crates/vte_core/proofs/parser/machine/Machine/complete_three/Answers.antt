@@ -1,8 +1,7 @@
 -- The second and third byte of a character of three: each fits or breaks it, or the bytes of the call end.
-use Rattle.vte_core.proofs.Common.{◌≡◌, ℕ, ◌+◌, refl, sym, ◌∙◌, arith}
-use Rattle.vte_core.proofs.bytes.CarriedLemmas.{second-broken, third-broken, spells-three}
-use Rattle.vte_core.proofs.calls.Characters.{completes-all, completes-broken, completes-whole, goes-nowhere, goes-second}
-use Rattle.vte_core.proofs.calls.InsideCharacters.{unfinished-some}
+use Rattle.vte_core.proofs.Common.{◌≡◌, ℕ, ◌+◌, sym, ◌∙◌, arith, rules}
+use Rattle.vte_core.proofs.bytes.Scalars.{second-broken, third-broken, spells-three}
+use Rattle.vte_core.proofs.calls.Characters.{completes-all, completes-broken, completes-whole, goes-nowhere, goes-second, unfinished-some}
 use Rattle.vte_core.proofs.parser.machine.Machine.complete_three.Goals as goal
 
 -- Over plain numbers, where `omega` has little to read.
@@ -20,10 +19,7 @@ returns-then-not-may_begin_three-clause-completes g c =
 
 -- The call ends after two bytes: still open.
 pub returns-then-from-len-clause-completes : goal.returns-then-from-len-clause-completes
-returns-then-from-len-clause-completes g c =
-    let r = c.requires.may_read in
-    let second = sym c.may_begin_three.ensures ∙ c.if-not-may_begin_three.false in
-    completes-all (goes-second c.args.self.now c.requires.lead.low second r.within r.looked_at) refl (omega arith)
+returns-then-from-len-clause-completes g c = search (rules, arith, completes-all, goes-second)
 
 -- The third byte does not continue: broken after two.
 pub returns-then-not-is_continuation-clause-completes : goal.returns-then-not-is_continuation-clause-completes

@@ -9,15 +9,7 @@ loop-position-init g c =
 
 -- A byte more.
 pub loop-position-preserved : goal.loop-position-preserved
-loop-position-preserved g c =
-    let v = c.loop-position.invariant in
-    record {
-      goes =
-          goes-more v.goes c.in-Unfinished.ensures
-          (omega (arith, c.loop-position-test.true, c.len-position-end.ensures)) c.byte_at.ensures.value;
-      same = v.same;
-      spends = search rules;
-    }
+loop-position-preserved g c = search (rules, arith, goes-more)
 
 -- It ends the character.
 pub returns-in-Whole-clause-completes : goal.returns-in-Whole-clause-completes

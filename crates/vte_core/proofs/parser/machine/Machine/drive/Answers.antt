@@ -1,8 +1,7 @@
 -- Stretches add up: what leads from a position to the next leads from the start. The call ends at a stop, with all
 -- bytes, or where memory is refused.
-use Rattle.vte_core.proofs.Common.{Err, ap, sym, ◌∙◌, arith, rules, err_from_is_err_and}
-use Rattle.vte_core.proofs.calls.States.{may_stop-some}
-use Rattle.vte_core.proofs.calls.CallEnds.{ends-at_stop, ends-with_all}
+use Rattle.vte_core.proofs.Common.{Err, ap, ◌∙◌, arith, rules, err_from_is_err_and}
+use Rattle.vte_core.proofs.calls.Progress.{may_stop-some, ends-at_stop, ends-with_all}
 use Rattle.vte_core.proofs.parser.machine.Machine.drive.Goals as goal
 
 -- The loop begins where the open character was completed.
@@ -13,20 +12,11 @@ loop-position-init g c =
 
 -- The bytes that the state's function reads lead from there to where it ends.
 pub loop-position-preserved : goal.loop-position-preserved
-loop-position-preserved g c =
-    let read = c.in_ok-position.ensures.advances in
-    record {
-      stands_at = λ stream h. read.goes_on _ stream (c.loop-position.invariant.stands_at stream h);
-      settled = read.settled;
-      spends = search rules;
-    }
+loop-position-preserved g c = search (rules, arith)
 
 -- A stop before a byte.
 pub returns-then-terminated-clause-reads : goal.returns-then-terminated-clause-reads
-returns-then-terminated-clause-reads g c =
-    let v = c.loop-position.invariant in
-    ends-at_stop (may_stop-some g.row.MAY_STOP c.if-this-ne0.true)
-    (sym c.terminated.ensures ∙ c.if-terminated.true) v.spends.high v.stands_at
+returns-then-terminated-clause-reads g c = search (rules, arith, ends-at_stop, may_stop-some)
 
 -- All bytes are read.
 pub returns-clause-reads : goal.returns-clause-reads

@@ -2,15 +2,13 @@
 -- have reported nothing of a run (`reports-more`).
 use Rattle.vte_core.proofs.Common.{Err, ap, sym, ◌∙◌, arith, rules, err_from_is_err_and}
 use Rattle.vte_core.proofs.calls.ToRun.{comes-nowhere, comes-to_run, has-data, has-text, outside-text_and_data, settled-text}
-use Rattle.vte_core.proofs.calls.BeforeRun.{reports-more}
+use Rattle.vte_core.proofs.calls.AddedEvents.{reports-more}
 use Rattle.vte_core.proofs.parser.machine.Machine.drive_to_run.Goals.{then-loop-position-test+else-not-terminated, else-loop-position-test}
 use Rattle.vte_core.proofs.parser.machine.Machine.drive_to_run.Goals as goal
 
 -- The loop begins where the open character was completed.
 pub loop-position-init : goal.loop-position-init
-loop-position-init g c =
-    let f = c.finish_character-position.ensures in
-    record { stands_at = f.stands_at; settled = f.settled; outside_runs = f.outside_runs; spends = search rules }
+loop-position-init g c = search (rules, arith)
 
 -- In a text: what the search has found is a run of text, and the machine is between characters.
 pub returns-then-end-position-clause-comes : goal.returns-then-end-position-clause-comes

@@ -1,17 +1,14 @@
 -- What is open is reported first. Then ESC leads to after ESC, and CAN or SUB is executed and leads to a text.
-use Rattle.vte_core.proofs.Common.{[], ◌∷◌, refl, sym, ap, ◌∙◌, rules, Execute, closing_events_at}
-use Rattle.vte_core.proofs.bytes.ClassCases.{ends_by_cancel}
-use Rattle.vte_core.proofs.calls.Arms.{performs-escape, takes-byte}
+use Rattle.vte_core.proofs.Common.{[], ◌∷◌, refl, sym, ap, ◌∙◌, rules, Execute, closing_events_at, arith}
+use Rattle.vte_core.proofs.bytes.Classes.{ends_by_cancel}
+use Rattle.vte_core.proofs.calls.Stretches.{performs-escape, takes-byte}
 use Rattle.vte_core.proofs.fields.PlaceOfState.{stands-place}
-use Rattle.vte_core.proofs.streams.Performing.{after_events-append, takes-performs}
-use Rattle.vte_core.proofs.places.CancelLemmas.{byte-cancels}
-use Rattle.vte_core.proofs.places.StreamLemmas.{cancel_is_no_escape}
+use Rattle.vte_core.proofs.streams.After.{after_events-append, takes-performs}
+use Rattle.vte_core.proofs.places.TextSteps.{byte-cancels, cancel_is_no_escape}
 use Rattle.vte_core.proofs.parser.machine.Machine.end_body.Goals as goal
 
 pub returns-then-byte-eq-ESCAPE-clause-performs : goal.returns-then-byte-eq-ESCAPE-clause-performs
-returns-then-byte-eq-ESCAPE-clause-performs g c = λ place s b.
-    performs-escape c.if-byte-eq-ESCAPE.true refl c.begin_escape.ensures place s
-    (c.report_end.ensures.reported place s b)
+returns-then-byte-eq-ESCAPE-clause-performs g c = search (rules, arith, performs-escape)
 
 pub returns-clause-performs : goal.returns-clause-performs
 returns-clause-performs g c = λ place s b.

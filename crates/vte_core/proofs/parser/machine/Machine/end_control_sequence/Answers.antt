@@ -1,8 +1,8 @@
 -- An ill-shaped head reports nothing. Any other is whole once the last number is settled, and is dispatched.
-use Rattle.vte_core.proofs.Common.{[], ◌∷◌, refl, ap, ◌∙◌, arith, CsiDispatch, head_of, sequence_event, InText}
-use Rattle.vte_core.proofs.bytes.ClassCases.{class-final}
-use Rattle.vte_core.proofs.calls.CallEnds.{settled-by}
-use Rattle.vte_core.proofs.fields.HeadSteps.{dispatched-ready, head-holds, ill_shaped-now}
+use Rattle.vte_core.proofs.Common.{[], ◌∷◌, refl, ap, ◌∙◌, arith, CsiDispatch, head_of, sequence_event, InText, rules}
+use Rattle.vte_core.proofs.bytes.Classes.{class-final}
+use Rattle.vte_core.proofs.calls.Progress.{settled-by}
+use Rattle.vte_core.proofs.fields.Heads.{dispatched-ready, head-holds, ill_shaped-now}
 use Rattle.vte_core.proofs.places.PlaceLeads.{control-dispatched, control-silent}
 use Rattle.vte_core.proofs.fields.PlaceOfState.{stands-text_begun}
 use Rattle.vte_core.proofs.parser.machine.Machine.end_control_sequence.Goals as goal
@@ -35,6 +35,4 @@ returns-clause-takes g c = λ head s.
     }
 
 pub returns-clause-handles : goal.returns-clause-handles
-returns-clause-handles g c =
-    let d = c.dispatch_control_sequence.ensures.dispatches in
-    record { settled = settled-by d.text tt; count = omega arith; least = omega arith; memory = d.memory }
+returns-clause-handles g c = search (rules, arith, settled-by)

@@ -1,15 +1,13 @@
 -- Without an open character the call stands at its start. With one it stands where that is completed.
-use Rattle.vte_core.proofs.Common.{sym, ◌∙◌, false≢true}
-use Rattle.vte_core.proofs.calls.InsideCharacters.{opens-text}
-use Rattle.vte_core.proofs.calls.BeforeRun.{reports-nothing, reports-open}
-use Rattle.vte_core.proofs.calls.CallEnds.{settled-by, settled-nothing, settled-outside, starts-at, starts-inside}
+use Rattle.vte_core.proofs.Common.{sym, ◌∙◌, false≢true, arith, rules}
+use Rattle.vte_core.proofs.calls.Characters.{opens-text}
+use Rattle.vte_core.proofs.calls.AddedEvents.{reports-nothing, reports-open}
+use Rattle.vte_core.proofs.calls.Progress.{settled-by, settled-nothing, settled-outside, starts-at, starts-inside}
 use Rattle.vte_core.proofs.parser.machine.Machine.finish_character.Goals as goal
 
 -- A text without an open character.
 pub returns-then-is_nothing-clause-stands_at : goal.returns-then-is_nothing-clause-stands_at
-returns-then-is_nothing-clause-stands_at g c = λ stream h.
-    starts-at
-    (settled-by c.in-Text.is (settled-nothing c.in-Text.begun (c.is_nothing.ensures.0 c.if-is_nothing.true))) h
+returns-then-is_nothing-clause-stands_at g c = search (rules, arith, starts-at, settled-by, settled-nothing)
 
 -- An open character: what completes it begins inside it.
 pub returns-else-is_nothing-clause-stands_at : goal.returns-else-is_nothing-clause-stands_at

@@ -1,14 +1,11 @@
 -- The byte after ESC by its class: a key, an intermediate, another byte that dispatches, a control, or one that is
 -- dropped. In each case the state is that of the place to which the byte leads.
 use Rattle.vte_core.proofs.Common.{[], refl, sym, ◌∙◌, arith, rules, class_of}
-use Rattle.vte_core.proofs.bytes.ClassCases.{class-control, final_ends_nothing, class-intermediate, left_dispatches, head_ends_nothing}
-use Rattle.vte_core.proofs.bytes.ClassLemmas.{below_final}
-use Rattle.vte_core.proofs.calls.Arms.{performs-in, takes-at_escape, takes-byte}
-use Rattle.vte_core.proofs.calls.CallEnds.{settled-by}
-use Rattle.vte_core.proofs.calls.Sequences.{performs-dropped}
+use Rattle.vte_core.proofs.bytes.Classes.{class-control, final_ends_nothing, class-intermediate, left_dispatches, head_ends_nothing, below_final, below_finals}
+use Rattle.vte_core.proofs.calls.Stretches.{performs-in, takes-at_escape, takes-byte, performs-dropped}
+use Rattle.vte_core.proofs.calls.Progress.{settled-by}
 use Rattle.vte_core.proofs.fields.PlaceOfState.{stands-by, stands-text_begun}
 use Rattle.vte_core.proofs.places.PlaceLeads.{byte-executed, escape-intermediate, escape-end}
-use Rattle.vte_core.proofs.bytes.PlainKeys.{below_finals}
 use Rattle.vte_core.proofs.parser.machine.Machine.read_after_escape.Goals as goal
 
 -- A final byte is a key: what it begins is `begin_or_dispatch`'s.
@@ -52,21 +49,10 @@ returns-then-is_plain_control-clause-performs g c =
 
 -- What is left is DEL and 80 to FF, which is dropped.
 pub returns-else-is_plain_control-clause-performs : goal.returns-else-is_plain_control-clause-performs
-returns-else-is_plain_control-clause-performs g c =
-    performs-dropped c.requires.begun (sym c.is_head_byte.ensures ∙ c.if-is_head_byte.false)
-    (sym c.is_final.ensures ∙ c.if-is_final.false)
-    (sym c.ends_body.ensures ∙ c.if-ends_body.false) (sym c.is_plain_control.ensures ∙ c.if-is_plain_control.false)
+returns-else-is_plain_control-clause-performs g c = search (rules, arith, performs-dropped)
 
 pub returns-then-is_plain_control-clause-handles : goal.returns-then-is_plain_control-clause-handles
-returns-then-is_plain_control-clause-handles g c =
-    record {
-      settled = settled-by c.requires.begun tt;
-      count = omega arith;
-      least = omega arith;
-      memory = search rules;
-    }
+returns-then-is_plain_control-clause-handles g c = search (rules, arith, settled-by)
 
 pub returns-then-is_head_byte-clause-handles : goal.returns-then-is_head_byte-clause-handles
-returns-then-is_head_byte-clause-handles g c =
-    let d = c.dispatch_escape.ensures in
-    record { settled = settled-by d.text tt; count = omega arith; least = omega arith; memory = d.memory }
+returns-then-is_head_byte-clause-handles g c = search (rules, arith, settled-by)

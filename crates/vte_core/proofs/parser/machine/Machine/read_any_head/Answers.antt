@@ -1,10 +1,9 @@
 -- The head first. Then nothing is left, or the next byte ends it: final, CAN, SUB or ESC, a control, or one that is
 -- dropped, by its class.
 use Rattle.vte_core.proofs.Common.{refl, sym, ◌∙◌, rules, class_of}
-use Rattle.vte_core.proofs.bytes.ClassCases.{class-control, final_ends_nothing, left_is_dropped}
-use Rattle.vte_core.proofs.calls.Arms.{takes-byte}
+use Rattle.vte_core.proofs.bytes.Classes.{class-control, final_ends_nothing, left_is_dropped}
+use Rattle.vte_core.proofs.calls.Stretches.{takes-byte, advances-moved}
 use Rattle.vte_core.proofs.calls.Heads.{ControlHead, advances-head, advances-past_head, performs-head}
-use Rattle.vte_core.proofs.calls.Stretches.{advances-moved}
 use Rattle.vte_core.proofs.fields.PlaceOfState.{stands-by}
 use Rattle.vte_core.proofs.places.PlaceLeads.{byte-dropped, byte-executed}
 use Rattle.vte_core.proofs.parser.machine.Machine.read_any_head.Goals.{then-ends_body, else-ends_body+then-is_plain_control, else-ends_body+else-is_plain_control}

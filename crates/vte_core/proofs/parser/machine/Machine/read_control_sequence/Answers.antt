@@ -1,6 +1,6 @@
 -- Numbers first, then a final byte at once, nothing, or the rest of the head.
 use Rattle.vte_core.proofs.Common.{refl, sym, ◌∙◌, rules}
-use Rattle.vte_core.proofs.bytes.ClassCases.{final_ends_nothing}
+use Rattle.vte_core.proofs.bytes.Classes.{final_ends_nothing}
 use Rattle.vte_core.proofs.calls.Heads.{ControlHead, advances-head, advances-past_head, performs-head}
 use Rattle.vte_core.proofs.calls.Stretches.{advances-moved, advances-then}
 use Rattle.vte_core.proofs.parser.machine.Machine.read_control_sequence.Goals as goal

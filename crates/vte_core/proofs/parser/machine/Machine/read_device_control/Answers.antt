@@ -1,7 +1,7 @@
 -- The head first. Then nothing is left, or the next byte hooks, ends the string, or is dropped, by its class.
 use Rattle.vte_core.proofs.Common.{refl, sym, ◌∙◌, rules, class_of}
-use Rattle.vte_core.proofs.bytes.ClassCases.{final_ends_nothing, left_in_head}
-use Rattle.vte_core.proofs.calls.Arms.{takes-byte}
+use Rattle.vte_core.proofs.bytes.Classes.{final_ends_nothing, left_in_head}
+use Rattle.vte_core.proofs.calls.Stretches.{takes-byte}
 use Rattle.vte_core.proofs.calls.Heads.{DeviceHead, advances-head, advances-past_head, match-none, performs-head}
 use Rattle.vte_core.proofs.fields.PlaceOfState.{stands-by}
 use Rattle.vte_core.proofs.places.PlaceLeads.{device-dropped}

@@ -1,24 +1,15 @@
 -- A call that asks goes on by one data byte; one that does not takes all up to the next byte that is not put.
 use Rattle.vte_core.proofs.Common.{refl, sym, ◌∙◌, arith, rules}
-use Rattle.vte_core.proofs.bytes.ClassCases.{data_ends_nothing}
-use Rattle.vte_core.proofs.calls.Arms.{advances-in, takes-in_data, takes-byte}
-use Rattle.vte_core.proofs.calls.Data.{advances-data, first-put}
+use Rattle.vte_core.proofs.bytes.Classes.{data_ends_nothing}
+use Rattle.vte_core.proofs.calls.Stretches.{advances-in, takes-in_data, takes-byte, advances-data, first-put, advances-moved, advances-nothing, advances-part, advances-then}
 use Rattle.vte_core.proofs.fields.PlaceOfState.{stands-by}
-use Rattle.vte_core.proofs.calls.States.{may_stop-none}
-use Rattle.vte_core.proofs.calls.CallEnds.{settled-by}
-use Rattle.vte_core.proofs.calls.Stretches.{advances-moved, advances-nothing, advances-part, advances-then}
+use Rattle.vte_core.proofs.calls.Progress.{may_stop-none, settled-by}
 use Rattle.vte_core.proofs.places.PlaceLeads.{data-put}
 use Rattle.vte_core.proofs.parser.machine.Machine.read_device_data.Goals.{else-this-ne0-via-then-this-ne0+else-terminated, else-this-ne0-via-else-this-ne0}
 use Rattle.vte_core.proofs.parser.machine.Machine.read_device_data.Goals as goal
 
 pub loop-position-init : goal.loop-position-init
-loop-position-init g c =
-    record {
-      advances = advances-nothing (λ _. settled-by c.requires.begun tt);
-      may_go_on = c.requires.may_go_on;
-      begun = c.requires.begun;
-      spends = search rules;
-    }
+loop-position-init g c = search (rules, arith, advances-nothing, settled-by)
 
 -- One data byte, after which a call that may stop was not stopped.
 pub loop-position-preserved : goal.loop-position-preserved

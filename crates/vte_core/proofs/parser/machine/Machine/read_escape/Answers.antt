@@ -1,31 +1,15 @@
 -- ESC once more changes nothing. `[` leads to a head, which is read on; any other byte is one step.
 use Rattle.vte_core.proofs.Common.{refl, arith, rules}
-use Rattle.vte_core.proofs.calls.CallEnds.{settled-by}
-use Rattle.vte_core.proofs.calls.Stretches.{advances-byte, advances-moved, advances-nothing, advances-when, advances-then}
-use Rattle.vte_core.proofs.calls.Sequences.{advances-again, advances-bracket}
+use Rattle.vte_core.proofs.calls.Progress.{settled-by}
+use Rattle.vte_core.proofs.calls.Stretches.{advances-byte, advances-moved, advances-nothing, advances-when, advances-then, advances-again, advances-bracket}
 use Rattle.vte_core.proofs.parser.machine.Machine.read_escape.Goals as goal
 
 pub loop-position-init : goal.loop-position-init
-loop-position-init g c =
-    record {
-      advances = advances-nothing (λ _. settled-by c.requires.begun tt);
-      may_go_on = c.requires.may_go_on;
-      begun = c.requires.begun;
-      spends = search rules;
-    }
+loop-position-init g c = search (rules, arith, advances-nothing, settled-by)
 
 -- ESC once more.
 pub loop-position-preserved : goal.loop-position-preserved
-loop-position-preserved g c =
-    let v = c.loop-position.invariant in
-    record {
-      advances =
-          advances-then v.advances
-          (advances-again v.begun (omega arith) c.byte_at-byte.ensures.value v.may_go_on c.if-byte-ne-ESCAPE.false);
-      may_go_on = v.may_go_on;
-      begun = v.begun;
-      spends = search rules;
-    }
+loop-position-preserved g c = search (rules, arith, advances-then, advances-again)
 
 -- `[` and what follows.
 pub returns-then-byte-eq91-clause-advances : goal.returns-then-byte-eq91-clause-advances

@@ -1,9 +1,8 @@
 -- Bytes of an ignored string lead back to it, one by one (`advances-by`); then it ends, or the bytes do.
-use Rattle.vte_core.proofs.Common.{◌≡◌, ℕ, zero, suc, ◌+◌, ◌-◌, ◌≤◌, length, refl, arith, Machine, IgnoredString, Advances, MayGoOn, AreIgnored, ChunkCall}
-use Rattle.vte_core.proofs.bytes.ClassCases.{ends_not_cancel}
-use Rattle.vte_core.proofs.calls.Arms.{advances-in, takes-in_ignored, takes-byte}
-use Rattle.vte_core.proofs.calls.CallEnds.{settled-by}
-use Rattle.vte_core.proofs.calls.Stretches.{advances-moved, advances-nothing, advances-when, advances-then}
+use Rattle.vte_core.proofs.Common.{◌≡◌, ℕ, zero, suc, ◌+◌, ◌-◌, ◌≤◌, length, refl, arith, Machine, IgnoredString, Advances, MayGoOn, AreIgnored, ChunkCall, rules}
+use Rattle.vte_core.proofs.bytes.Classes.{ends_not_cancel}
+use Rattle.vte_core.proofs.calls.Stretches.{advances-in, takes-in_ignored, takes-byte, advances-moved, advances-nothing, advances-when, advances-then}
+use Rattle.vte_core.proofs.calls.Progress.{settled-by}
 use Rattle.vte_core.proofs.fields.PlaceOfState.{stands-by}
 use Rattle.vte_core.proofs.places.PlaceLeads.{ignored-more}
 use Rattle.vte_core.proofs.parser.machine.Machine.read_ignored_string.Goals as goal
@@ -33,13 +32,7 @@ advances-ignored {i} {j} begun low high are may_go_on =
     (λ k from to. are k from (omega (arith, low, to))) may_go_on)
 
 pub returns-in-None-clause-advances : goal.returns-in-None-clause-advances
-returns-in-None-clause-advances g c =
-    let found = c.find_string_end-end.ensures in
-    advances-ignored c.requires.begun found.scans.low found.scans.high found.scans.are c.requires.may_go_on
+returns-in-None-clause-advances g c = search (rules, arith, advances-ignored)
 
 pub returns-in-Some-clause-advances : goal.returns-in-Some-clause-advances
-returns-in-Some-clause-advances g c =
-    let found = c.find_string_end-end.ensures in
-    advances-then
-    (advances-ignored c.requires.begun found.scans.low found.scans.high found.scans.are c.requires.may_go_on)
-    c.read_end.ensures.advances
+returns-in-Some-clause-advances g c = search (rules, arith, advances-then, advances-ignored)

@@ -1,10 +1,9 @@
 -- The byte after intermediates by its class: another intermediate, a byte that dispatches, one that ends the sequence,
 -- a control, or one that is dropped. In each case the machine is at the place to which the byte leads.
 use Rattle.vte_core.proofs.Common.{refl, sym, ◌∙◌, arith, rules, class_of}
-use Rattle.vte_core.proofs.bytes.ClassCases.{class-control, dispatch_ends_nothing, class-intermediate, left_of_intermediates}
-use Rattle.vte_core.proofs.calls.Arms.{advances-in, takes-in_escape, takes-byte}
-use Rattle.vte_core.proofs.calls.CallEnds.{settled-by}
-use Rattle.vte_core.proofs.calls.Stretches.{advances-byte, advances-nothing, advances-when, advances-then}
+use Rattle.vte_core.proofs.bytes.Classes.{class-control, dispatch_ends_nothing, class-intermediate, left_of_intermediates}
+use Rattle.vte_core.proofs.calls.Stretches.{advances-in, takes-in_escape, takes-byte, advances-byte, advances-nothing, advances-when, advances-then}
+use Rattle.vte_core.proofs.calls.Progress.{settled-by}
 use Rattle.vte_core.proofs.fields.PlaceOfState.{stands-by, stands-text_begun}
 use Rattle.vte_core.proofs.places.PlaceLeads.{byte-dropped, byte-executed, intermediate-end, intermediate-more}
 use Rattle.vte_core.proofs.parser.machine.Machine.read_intermediates.Goals.{then-is_intermediate, else-is_intermediate+else-dispatches_escape+else-ends_body+else-is_plain_control}
@@ -12,13 +11,7 @@ use Rattle.vte_core.proofs.parser.machine.Machine.read_intermediates.Goals as go
 
 -- Nothing is read yet.
 pub loop-position-init : goal.loop-position-init
-loop-position-init g c =
-    record {
-      advances = advances-nothing (λ _. settled-by c.requires.begun tt);
-      may_go_on = c.requires.may_go_on;
-      begun = c.requires.begun;
-      spends = search rules;
-    }
+loop-position-init g c = search (rules, arith, advances-nothing, settled-by)
 
 -- Another intermediate is collected, and DEL or a byte from 80 is dropped: the place stays after intermediates.
 pub loop-position-preserved : goal.loop-position-preserved

@@ -1,9 +1,9 @@
 -- A number first, then a final byte at once, `;` and more numbers, or the rest of the head.
 use Rattle.vte_core.proofs.Common.{◌≡◌, refl, sym, ◌∙◌, rules, class_of}
-use Rattle.vte_core.proofs.bytes.ClassCases.{final_ends_nothing}
+use Rattle.vte_core.proofs.bytes.Classes.{final_ends_nothing}
 use Rattle.vte_core.proofs.calls.Heads.{ControlHead, advances-head, advances-past_head, performs-head, reads_head-byte, reads_head-then}
 use Rattle.vte_core.proofs.calls.Stretches.{advances-moved, advances-then}
-use Rattle.vte_core.proofs.fields.HeadSteps.{holds-parameter}
+use Rattle.vte_core.proofs.fields.Heads.{holds-parameter}
 use Rattle.vte_core.proofs.parser.machine.Machine.read_short_head.Goals as goal
 
 -- A number and a final byte.

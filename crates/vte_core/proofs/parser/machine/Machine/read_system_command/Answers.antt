@@ -1,28 +1,22 @@
 -- Data join the open piece. The byte after them ends the command, or is `;`, BEL or a control: by its class, since data
 -- would have been read.
-use Rattle.vte_core.proofs.Common.{◌≡◌, ◌<◌, length, [], ◌∷◌, ◌++◌, refl, sym, subst, ◌∙◌, arith, ne_eqb, Machine, HoldsItems, IsCommandData}
-use Rattle.vte_core.proofs.bytes.ClassCases.{left_is_control}
-use Rattle.vte_core.proofs.calls.Arms.{advances-in, takes-in_system_command, takes-byte}
+use Rattle.vte_core.proofs.Common.{◌≡◌, ◌<◌, length, [], ◌∷◌, ◌++◌, refl, sym, subst, ◌∙◌, arith, ne_eqb, Machine, HoldsItems, IsCommandData, rules}
+use Rattle.vte_core.proofs.bytes.Classes.{left_is_control}
+use Rattle.vte_core.proofs.calls.Stretches.{advances-in, takes-in_system_command, takes-byte, advances-items, advances-when, advances-then}
 use Rattle.vte_core.proofs.fields.PlaceOfState.{stands-by}
-use Rattle.vte_core.proofs.fields.StoreLemmas.{pieces_held}
-use Rattle.vte_core.proofs.calls.CallEnds.{settled-by}
-use Rattle.vte_core.proofs.calls.Stretches.{advances-items, advances-when, advances-then}
+use Rattle.vte_core.proofs.fields.Stores.{pieces_held}
+use Rattle.vte_core.proofs.calls.Progress.{settled-by}
 use Rattle.vte_core.proofs.places.PlaceLeads.{command-item, command-control, command-bell}
 use Rattle.vte_core.proofs.parser.machine.Machine.read_system_command.Goals.{then-byte-eq59, else-byte-eq59+then-byte-eq-BELL, else-byte-eq59+else-byte-eq-BELL}
 use Rattle.vte_core.proofs.parser.machine.Machine.read_system_command.Goals as goal
 
 -- Only data is left.
 pub returns-in-None-clause-advances : goal.returns-in-None-clause-advances
-returns-in-None-clause-advances g c =
-    advances-items c.requires c.find_command_data_end-end.ensures c.requires.begun c.take_memory.ensures.same
-    c.push_data.ensures.holds
+returns-in-None-clause-advances g c = search (rules, arith, advances-items)
 
 -- CAN, SUB or ESC after the data ends the command.
 pub returns-then-ends_body-clause-advances : goal.returns-then-ends_body-clause-advances
-returns-then-ends_body-clause-advances g c =
-    advances-then
-    (advances-items c.requires c.find_command_data_end-end.ensures c.requires.begun c.take_memory.ensures.same
-    c.push_data.ensures.holds) c.read_end.ensures.advances
+returns-then-ends_body-clause-advances g c = search (rules, arith, advances-then, advances-items)
 
 -- Another byte after the data: `;` ends the piece, BEL the command, and a control is dropped.
 pub returns-clause-advances : goal.returns-clause-advances

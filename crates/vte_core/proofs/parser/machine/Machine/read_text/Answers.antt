@@ -2,7 +2,7 @@
 -- by one of five branches (`read`). Goals after such joins take these three; the others are one branch alone.
 use Rattle.vte_core.proofs.Common.{◌≡◌, ◌+◌, ◌<◌, true, length, sym, ◌∙◌, arith, rules, false≢true, Advances, Text, Nothing}
 use Rattle.vte_core.specs.machine.Prelude.{MayReadByte}
-use Rattle.vte_core.proofs.calls.CallEnds.{settled-by}
+use Rattle.vte_core.proofs.calls.Progress.{settled-by}
 use Rattle.vte_core.proofs.calls.Stretches.{advances-byte, advances-moved, advances-part, advances-then}
 use Rattle.vte_core.proofs.calls.TextRuns.{advances-text, may_go_on-malformed, may_go_on-text}
 use Rattle.vte_core.proofs.calls.BetweenCharacters.{performs-printed, performs-single}

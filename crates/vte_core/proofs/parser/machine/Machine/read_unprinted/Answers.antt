@@ -1,10 +1,10 @@
 -- A longer character is read as one. Otherwise each byte is single (`advances-single`), up to ESC, the end, a stop or a
 -- byte that may begin a run.
 use Rattle.vte_core.proofs.Common.{refl, sym, ◌∙◌, arith, rules}
-use Rattle.vte_core.proofs.calls.CallEnds.{settled-by}
+use Rattle.vte_core.proofs.calls.Progress.{settled-by}
 use Rattle.vte_core.proofs.calls.Stretches.{advances-nothing, advances-then, advances-when}
 use Rattle.vte_core.proofs.calls.BetweenCharacters.{advances-single}
-use Rattle.vte_core.proofs.bytes.RunEnds.{ends-unprinted}
+use Rattle.vte_core.proofs.bytes.Runs.{ends-unprinted}
 use Rattle.vte_core.proofs.parser.machine.Machine.read_unprinted.Goals as goal
 
 -- A byte that begins a longer one: no run begins here, so the character is none that is printed.
@@ -13,22 +13,7 @@ returns-then-is_lead-clause-advances g c = advances-when (refl, c.requires.other
 
 -- The first byte is single: it is no printed ASCII, for no run begins here, and begins no longer one.
 pub loop-byte-init : goal.loop-byte-init
-loop-byte-init g c =
-    let may_read = c.requires.may_read in
-    record {
-      advances = advances-nothing (λ _. settled-by may_read.begun tt);
-      may_read =
-          record {
-            begun = may_read.begun;
-            may_go_on = may_read.may_go_on;
-            within = may_read.within;
-            looked_at = c.byte_at-byte.ensures.value;
-          };
-      other = rw c.byte_at-byte.ensures.value (ends-unprinted _ _ may_read.within c.requires.other);
-      lone = sym c.is_lead.ensures ∙ c.if-is_lead.false;
-      spends = search rules;
-      seen = search rules;
-    }
+loop-byte-init g c = search (rules, arith, advances-nothing, settled-by, ends-unprinted)
 
 -- One more single byte was read, and the next is single too.
 pub loop-byte-preserved : goal.loop-byte-preserved
@@ -53,10 +38,7 @@ loop-byte-preserved g c =
 
 -- The byte was the last one, or the performer was terminated after it.
 pub returns-then-position-len-clause-advances : goal.returns-then-position-len-clause-advances
-returns-then-position-len-clause-advances g c =
-    let v = c.loop-byte.invariant in
-    let reported = c.report_lone_byte.ensures in
-    advances-single v.advances v.may_read c.loop-byte-test.true v.other v.lone reported.control reported.malformed
+returns-then-position-len-clause-advances g c = search (rules, arith, advances-single)
 
 -- The next byte may begin a run or a character.
 pub returns-then-is_printed_ascii-clause-advances : goal.returns-then-is_printed_ascii-clause-advances
@@ -67,17 +49,7 @@ returns-then-is_printed_ascii-clause-advances g c =
 
 -- ESC: the looks at the bytes before it and at the sequence add up.
 pub returns-clause-moves : goal.returns-clause-moves
-returns-clause-moves g c =
-    let v = c.loop-byte.invariant in
-    let m = c.read_sequence.ensures.moves in
-    record {
-      low = omega (arith, v.spends.low, m.low);
-      progress = λ _. omega (arith, v.spends.low, m.progress v.may_read.within);
-      high = m.high;
-      count = omega (arith, v.spends.count, c.read_sequence.ensures.count);
-      least = omega (arith, v.seen, m.least);
-      memory = omega (arith, m.memory);
-    }
+returns-clause-moves g c = search (rules, arith)
 
 pub returns-clause-advances : goal.returns-clause-advances
 returns-clause-advances g c = advances-then c.loop-byte.invariant.advances c.read_sequence.ensures.advances

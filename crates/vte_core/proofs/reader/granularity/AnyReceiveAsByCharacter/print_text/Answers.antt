@@ -2,7 +2,7 @@
 use Rattle.vte_core.proofs.Common.{map, ap, ◌∙◌, Print, after}
 use Rattle.std.proofs.lemmas.Iterator.{YieldsList-from_chars}
 use Rattle.std.proofs.lemmas.Iterator.Consumers.{YieldsList-end}
-use Rattle.vte_core.proofs.bytes.Printable.{same-items}
+use Rattle.vte_core.proofs.bytes.Runs.{same-items}
 use Rattle.vte_core.proofs.reader.granularity.AnyReceiveAsByCharacter.print_text.Goals as goal
 
 pub returns : goal.returns

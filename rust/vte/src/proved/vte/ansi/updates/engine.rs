@@ -4,7 +4,7 @@
 
 use crate::proved::vte::ansi::calls::performer::ProcessorState;
 use crate::proved::vte::ansi::calls::text_buffer::TextBuffer;
-use crate::proved::vte::ansi::updates::hold::{SyncState, MOST_HELD};
+use crate::proved::vte::ansi::updates::hold::{SyncState, MAX_HELD};
 use crate::proved::vte::ansi::updates::parsing::{
     parse_all, parse_until_begin, EventParser, ParseAs,
 };
@@ -121,7 +121,7 @@ impl<P: EventParser, B: TextBuffer, T: Timeout> Engine<P, B, T> {
 
     /// Returns whether there is room to hold this many more bytes.
     fn has_room(&self, count: usize) -> bool {
-        count <= MOST_HELD && self.hold.len() <= MOST_HELD - count
+        count <= MAX_HELD && self.hold.len() <= MAX_HELD - count
     }
 
     /// Parses bytes up to the one that begins an update, a slice at a time, and returns how many.

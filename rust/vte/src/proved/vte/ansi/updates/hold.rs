@@ -8,7 +8,7 @@ use crate::proved::vte::ansi::updates::release::find_release;
 const ROOM: usize = 2_097_152;
 
 /// The most bytes that are held at once: two less, as in `vte`.
-pub(crate) const MOST_HELD: usize = ROOM - 2;
+pub(crate) const MAX_HELD: usize = ROOM - 2;
 
 /// The held bytes, none of which end an update, after those that were released last.
 #[derive(Clone)]

@@ -1,0 +1,248 @@
+-- Early stops. What is reported before a position, and what goes on from there, is what the whole gives
+-- (`goes_on_from`); from one position to the next at most one unit is reported. By what a byte does to an open
+-- character.
+use Rattle.vte_core.proofs.Common.{ℕ, zero, suc, ◌+◌, ◌<◌, ◌≤◌, inl, inr, Option, List, [], ◌++◌, length, sym, subst, arith, AreFromOneByte, IsStart, reported_before, Event, ◌≡◌, add-one, ◌⊎◌, Bool, true, false, if◌then◌else◌, None, ◌∷◌, take, drop, get_or, refl, ap, ◌∙◌, append_assoc, drop-append_seam, cases_Bool, false≢true, append-nil, take_more, take-append-drop, IsAtMostOneShort, breaks, breaks_at, resumed_stream, Print, replacement, added, open_character, open_at, Place, IsAfter, rules}
+use Rattle.vte_core.specs.EarlyStopLaws.{ReportsUnit, ReportsUnits, GoesOnFromPositions, AreReportedAtStart}
+use Rattle.vte_core.proofs.streams.After.{added-nothing, after-open_character}
+use Rattle.vte_core.proofs.places.PlaceLeads.{tiny-both}
+use Rattle.vte_core.proofs.places.TextSteps.{text_at}
+use Rattle.vte_core.proofs.streams.Parts.{added-broken, resumes-after}
+use Rattle.vte_core.proofs.Shapes.{breaks_at-byte, breaks_at-settled, starts-settled, starts-broken}
+use Rattle.vte_core.proofs.streams.StreamSteps.{added-byte, LeadsTo, leads_to, events_grow, bytes_are_brief, opens_silently}
+
+-- ---- what is kept from start to start holds wherever a call stops
+
+-- By induction over positions, a unit at a time.
+
+-- P is to hold of what is reported before each place. It holds of no events, and a unit keeps it.
+-- Before each unit Q holds, which is what the performer answers when it is asked: at first, and at
+-- each start.
+module _ {limit : Option ℕ} (P Q : List Event → Type 0) (stream bytes : List ℕ) (units : ReportsUnits limit)
+    (at_first : P []) (asked_first : Q [])
+    (kept : (before unit : List Event) → P before → Q before → AreFromOneByte limit unit → P (before ++ unit)) where
+  -- by induction on m
+  kept_below : (m i : ℕ) → i < m → i ≤ length bytes
+      → ((j : ℕ) → j < i → IsStart stream bytes j → Q (reported_before limit stream bytes j))
+      → P (reported_before limit stream bytes i)
+  kept_below zero i below within asked = absurd (omega arith)
+  kept_below (suc m) i below within asked =
+      let u : ReportsUnit limit stream bytes i = units stream bytes i within in
+      subst P (sym u.parts) (elim u.begun [
+        | inl none ↦ kept u.before u.unit (subst P (sym none) at_first) (subst Q (sym none) asked_first) u.brief
+        | inr t ↦
+            let earlier : t.start < i = t.earlier in
+            let before = kept_below m t.start (omega arith) (omega arith) (λ j first. asked j (omega arith)) in
+            kept u.before u.unit (subst P (sym t.events_are) before)
+            (subst Q (sym t.events_are) (asked t.start earlier t.starts)) u.brief
+      ])
+
+  pub kept_at : (i : ℕ) → i ≤ length bytes → ((j : ℕ) → j < i → IsStart stream bytes j
+      → Q (reported_before limit stream bytes j))
+      → P (reported_before limit stream bytes i)
+  kept_at i within asked = kept_below (i + 1) i (omega arith) within asked
+
+-- ---- a byte that belongs to an open character
+
+-- it reports at most a short event, and nothing if it leaves the character open
+abbrev ReportsLittle : Option ℕ → List ℕ → ℕ → Type 0
+ReportsLittle limit stream b =
+    IsAtMostOneShort (added limit stream (b ∷ []))
+    × ((open_character (stream ++ b ∷ []) ≡ []) ⊎ (added limit stream (b ∷ []) ≡ []))
+
+reports_little : (limit : Option ℕ) (stream : List ℕ) (b : ℕ) → (open_character stream ≡ [] → ⊥)
+    → breaks (open_character stream) (b ∷ []) ≡ false → ReportsLittle limit stream b
+reports_little limit stream b some unbroken =
+    let a = added-byte limit stream b in
+    let breaks_none : breaks (open_at a.place) (b ∷ []) ≡ false =
+    ap (λ u. breaks u (b ∷ [])) (sym a.begun) ∙ unbroken in
+    elim (a.step.little (text_at a.place (λ none. some (a.begun ∙ none))) breaks_none) [
+      | inl nothing ↦ (rw (a.reported ∙ nothing) tt, inr (a.reported ∙ nothing))
+      | inr last ↦ (rw a.reported last.1, inl (a.ends ∙ last.0))
+    ]
+
+-- ---- what is reported from one position to the next
+
+pub added-append : (limit : Option ℕ) (stream prefix rest : List ℕ)
+    → added limit stream (prefix ++ rest) ≡ added limit stream prefix ++ added limit (stream ++ prefix) rest
+added-append limit stream prefix rest = search (rules, arith, events_grow, append_assoc, drop-append_seam)
+
+tiny-replacement : IsAtMostOneShort (Print replacement ∷ [])
+tiny-replacement = (refl, refl)
+
+-- the bytes after a prefix add what they add to its stream or, after a character that they break,
+-- to the empty one
+pub added_from : (limit : Option ℕ) (stream prefix rest : List ℕ) (broken : Bool)
+    → (broken ≡ true → breaks (open_character (stream ++ prefix)) rest ≡ true)
+    → added limit stream (prefix ++ rest)
+    ≡ (added limit stream prefix ++ (if broken then Print replacement ∷ [] else []))
+    ++ added limit (if broken then [] else stream ++ prefix) rest
+added_from limit stream prefix rest true is =
+    added-append limit stream prefix rest
+    ∙ ap (λ (es : List Event). added limit stream prefix ++ es)
+    (rw append-nil at (added-broken limit (stream ++ prefix) rest [] (is refl)))
+    ∙ sym (append_assoc (added limit stream prefix) (Print replacement ∷ []) (added limit [] rest))
+added_from limit stream prefix rest false is = rw append-nil (added-append limit stream prefix rest)
+
+pub after_from : {limit : Option ℕ} (stream rest : List ℕ) {place : Place} (broken : Bool)
+    → (broken ≡ true → breaks (open_character stream) rest ≡ true)
+    → IsAfter limit ((if broken then [] else stream) ++ rest) place → IsAfter limit (stream ++ rest) place
+after_from {limit} stream rest {place} true is a = resumes-after limit stream rest place (is refl) a
+after_from stream rest false is a = a
+
+ends_from : (stream rest : List ℕ) (broken : Bool) → (broken ≡ true → breaks (open_character stream) rest ≡ true)
+    → open_character (stream ++ rest) ≡ open_character ((if broken then [] else stream) ++ rest)
+ends_from stream rest broken is =
+    let a : LeadsTo None ((if broken then [] else stream) ++ rest) = leads_to in
+    after-open_character
+    (after_from stream rest broken is a.is_after) a.is_place
+    ∙ sym (after-open_character a.is_after a.is_place)
+
+-- what the bytes before a position add, by the last start before it
+record Added (limit : Option ℕ) (stream bytes : List ℕ) (i : ℕ) : Type 0 where
+  before : List Event
+  unit : List Event
+  parts : added limit stream (take i bytes) ≡ before ++ unit
+  brief : AreFromOneByte limit unit
+  tiny : (open_character (stream ++ take i bytes) ≡ [] → ⊥) → IsAtMostOneShort unit
+  begun : (before ≡ []) ⊎ AreReportedAtStart limit stream bytes i before
+
+tiny-opens : (limit : Option ℕ) (s : List ℕ) (b : ℕ) → (open_character (s ++ b ∷ []) ≡ [] → ⊥)
+    → IsAtMostOneShort (added limit s (b ∷ []))
+tiny-opens limit s b some = search (rules, arith, opens_silently, tiny-replacement)
+
+none_or_some : (xs : List ℕ) → (xs ≡ []) ⊎ (xs ≡ [] → ⊥)
+none_or_some [] = inl refl
+none_or_some (x ∷ xs) = inr (λ e. cc)
+
+-- a byte more
+module _ (limit : Option ℕ) (stream bytes : List ℕ) (i : ℕ) (within : i < length bytes) where
+  abbrev here : List ℕ
+  here = stream ++ take i bytes
+
+  abbrev b : ℕ
+  b = get_or bytes i 0
+
+  one : take (i + 1) bytes ≡ take i bytes ++ b ∷ []
+  one = take_more bytes i 0 within
+
+  joined : open_character (stream ++ take (i + 1) bytes) ≡ open_character (here ++ b ∷ [])
+  joined =
+      ap (λ (v : List ℕ). open_character (stream ++ v)) one
+      ∙ ap open_character (sym (append_assoc stream (take i bytes) (b ∷ [])))
+
+  breaks_here : breaks_at stream bytes i ≡ breaks (open_character here) (b ∷ [])
+  breaks_here = breaks_at-byte stream bytes i within refl refl
+
+  -- the position is a start
+  from_start : IsStart stream bytes i → Added limit stream bytes (i + 1)
+  unfolding reported_before resumed_stream
+  from_start starts =
+      let from : List ℕ = resumed_stream stream bytes i in
+      let is : breaks_at stream bytes i ≡ true
+      → breaks (open_character here) (b ∷ []) ≡ true = λ e. sym breaks_here ∙ e in
+      record {
+        before = reported_before limit stream bytes i;
+        unit = added limit from (b ∷ []);
+        parts =
+            ap (added limit stream) one ∙ added_from limit stream (take i bytes) (b ∷ []) (breaks_at stream bytes i) is;
+        brief = bytes_are_brief limit from b;
+        tiny =
+            λ some.
+            tiny-opens limit from b (λ e. some (joined ∙ ends_from here (b ∷ []) (breaks_at stream bytes i) is ∙ e));
+        begun = inr (record { start = i; earlier = omega arith; starts = starts; events_are = refl });
+      }
+
+  -- the byte belongs to an open character
+  from_carried : Added limit stream bytes i → (open_character here ≡ [] → ⊥)
+      → breaks (open_character here) (b ∷ []) ≡ false
+      → Added limit stream bytes (i + 1)
+  from_carried a some unbroken =
+      let little = reports_little limit here b some unbroken in
+      let last : List Event = added limit here (b ∷ []) in
+      record {
+        before = a.before;
+        unit = a.unit ++ last;
+        parts =
+            ap (added limit stream) one ∙ added-append limit stream (take i bytes) (b ∷ [])
+            ∙ ap (λ (es : List Event). es ++ last) a.parts ∙ append_assoc a.before a.unit last;
+        brief = tiny-both limit a.unit last (a.tiny some) little.0;
+        tiny =
+            λ open_there. elim little.1 [
+              | inl none ↦ absurd (open_there (joined ∙ none))
+              | inr nothing ↦ rw (nothing, append-nil) (a.tiny some)
+            ];
+        begun = elim a.begun [
+          | inl none ↦ inl none
+          | inr t ↦
+              inr (record {
+                start = t.start;
+                earlier = (let h : t.start < i = t.earlier in omega arith);
+                starts = t.starts;
+                events_are = t.events_are;
+              })
+        ];
+      }
+
+  added_further : Added limit stream bytes i → Added limit stream bytes (i + 1)
+  added_further a = elim (none_or_some (open_character here)) [
+    | inl none ↦ from_start (starts-settled within none)
+    | inr some ↦ elim (cases_Bool (breaks (open_character here) (b ∷ []))) [
+      | inl broken ↦ from_start (starts-broken within (breaks_here ∙ broken))
+      | inr unbroken ↦ from_carried a some unbroken
+    ]
+  ]
+
+added_to : (limit : Option ℕ) (stream bytes : List ℕ) (i : ℕ) → i ≤ length bytes → Added limit stream bytes i
+added_to limit stream bytes zero within = record {
+  before = [];
+  unit = [];
+  parts = added-nothing limit stream;
+  brief = tt;
+  tiny = λ _. tt;
+  begun = inl refl;
+}
+added_to limit stream bytes (suc i) within =
+    let b : Added limit stream bytes (i + 1) =
+    added_further limit stream bytes i (omega arith) (added_to limit stream bytes i (omega arith)) in
+    rw add-one at b
+
+pub reports_units : (limit : Option ℕ) → ReportsUnits limit
+unfolding reported_before
+reports_units limit stream bytes i within = record {
+  before = a.before;
+  unit = a.unit ++ (if breaks_at stream bytes i then Print replacement ∷ [] else []);
+  parts =
+      ap (λ (es : List Event). es ++ (if breaks_at stream bytes i then Print replacement ∷ [] else [])) a.parts
+      ∙ append_assoc a.before a.unit _;
+  brief = by_break (breaks_at stream bytes i) refl;
+  begun = a.begun;
+}
+  where
+    a : Added limit stream bytes i
+    a = added_to limit stream bytes i within
+
+    by_break : (t : Bool) → breaks_at stream bytes i ≡ t
+        → AreFromOneByte limit (a.unit ++ (if t then Print replacement ∷ [] else []))
+    by_break true e =
+        tiny-both limit a.unit (Print replacement ∷ [])
+        (a.tiny (λ none. false≢true (sym (breaks_at-settled stream bytes i none) ∙ e))) tiny-replacement
+    by_break false e = rw append-nil a.brief
+
+-- ---- what the rest adds
+
+pub breaks_there : (stream bytes : List ℕ) (n : ℕ) → breaks_at stream bytes n ≡ true
+    → breaks (open_character (stream ++ take n bytes)) (drop n bytes) ≡ true
+unfolding breaks_at
+breaks_there stream bytes n broken = broken
+
+-- of what is unread only the next byte counts
+breaks-more : (u unread more : List ℕ) → breaks u unread ≡ true → breaks u (unread ++ more) ≡ true
+breaks-more u unread more is = search (rules, arith)
+
+pub goes_on_from : (limit : Option ℕ) → GoesOnFromPositions limit
+unfolding reported_before resumed_stream
+goes_on_from limit stream bytes more n =
+    ap (λ (v : List ℕ). added limit stream (v ++ more)) (sym (take-append-drop n bytes))
+    ∙ ap (added limit stream) (append_assoc (take n bytes) (drop n bytes) more)
+    ∙ added_from limit stream (take n bytes) (drop n bytes ++ more) (breaks_at stream bytes n)
+    (λ e. breaks-more _ (drop n bytes) more (breaks_there stream bytes n e))

@@ -1,0 +1,296 @@
+-- What a text or a head gives, from its prefix by its definition alone, and what is reported where the next byte
+-- breaks a character.
+use Rattle.vte_core.proofs.Common.{◌≡◌, ℕ, Option, List, [], ◌∷◌, ◌++◌, refl, ap, ◌∙◌, append_assoc, Event, Outcome, report, with_bodies, true, false, arith, nat_tests, list_all, Class, Intermediate, Marker, class_of, Bool, append-nil, is_intermediate, is_marker, is_parameter_text, AreInClass, head_of, head_after, is_well_shaped, IsMarker, ◌≤◌, length, subst, take-append_seam, Print, replacement, NothingToClose, CharacterToClose, leaves, utf8_rows, rows_after_byte, rows_after_bytes, is_well_formed, is_truncated, trailing_count, segments_after, segments, scalar_of, is_control_character, character_event, malformed_event, segment_event, segments_outcome, text_outcome, ◌+◌, ◌<◌, inl, inr, take, drop, get_or, slice_index, drop_more, drop_all, take_all, breaks, breaks_at, IsStart, reported_before, resumed_stream, added, open_character, rules}
+use Rattle.vte_core.proofs.bytes.Classes.{class-intermediate}
+use Rattle.vte_core.proofs.bytes.Utf8.{AtMostOne-first, AtMostOne-rows_after_bytes, rows_after_bytes-append, whole_not_open, open_not_whole, neither_whole_nor_open, allowed_length-none, allowed_length-whole, allowed_length-broken, allowed_length-end, truncated-first}
+
+-- ---- events before an outcome
+
+-- They stay before it: they pass through what follows unchanged.
+
+pub report-append : (es fs : List Event) (outcome : Outcome) → report (es ++ fs) outcome ≡ report es (report fs outcome)
+report-append es fs outcome =
+    ap (λ (all : List Event). record { reported = all; left = outcome.left }) (append_assoc es fs outcome.reported)
+
+pub with_bodies-report : (limit : Option ℕ) (es : List Event) (part : Outcome) (bodies : List (List ℕ))
+    → with_bodies limit (report es part) bodies ≡ report es (with_bodies limit part bodies)
+with_bodies-report limit es part [] = refl
+with_bodies-report limit es part (body ∷ bodies) = search (rules, arith, append_assoc, report-append)
+
+-- ---- heads
+
+-- The parts of a head are cut off its prefix, so a byte more changes only the last part that was reached.
+
+-- the bytes don't begin with one of these classes
+abbrev BeginsWithout : (Class → Bool) → List ℕ → Type 0
+BeginsWithout has [] = Unit {0}
+BeginsWithout has (b ∷ rest) = has (class_of b) ≡ false
+
+parameter_is_no_marker : (k : Class) → is_parameter_text k ≡ true → is_marker k ≡ false
+parameter_is_no_marker Marker h = cc
+parameter_is_no_marker _ h = refl
+
+head_after-parts : (marker parameters rest : List ℕ) → AreInClass is_parameter_text parameters
+    → BeginsWithout is_parameter_text rest
+    → head_after marker (parameters ++ rest)
+    ≡ record { marker = marker; parameter_text = parameters; tail = rest }
+head_after-parts marker [] [] are none = refl
+head_after-parts marker [] (b ∷ rest) are none = rw none refl
+head_after-parts marker (p ∷ parameters) rest are none =
+    search (rules, arith, (head_after-parts marker parameters rest are.1 none))
+
+-- the parts of a head
+pub head_of-parts : (marker parameters rest : List ℕ) → IsMarker marker → AreInClass is_parameter_text parameters
+    → BeginsWithout is_parameter_text rest
+    → (marker ++ parameters ≡ [] → BeginsWithout is_marker rest)
+    → head_of (marker ++ (parameters ++ rest))
+    ≡ record { marker = marker; parameter_text = parameters; tail = rest }
+unfolding head_of
+head_of-parts [] [] [] is are none no_marker = refl
+head_of-parts [] [] (b ∷ rest) is are none no_marker = rw (no_marker refl, none) refl
+head_of-parts [] (p ∷ parameters) rest is are none _ = search (rules, arith, parameter_is_no_marker, head_after-parts)
+head_of-parts (m ∷ []) parameters rest is are none _ = rw is.0 (head_after-parts (m ∷ []) parameters rest are none)
+head_of-parts (m ∷ n ∷ marker) parameters rest is are none _ = absurd is
+
+pub begins-intermediates : (has : Class → Bool) → has Intermediate ≡ false → (intermediates more : List ℕ)
+    → AreInClass is_intermediate intermediates
+    → (intermediates ≡ [] → BeginsWithout has more) → BeginsWithout has (intermediates ++ more)
+begins-intermediates has h [] more are none = none refl
+begins-intermediates has h (b ∷ bytes) more are none = rw (class-intermediate (class_of b) are.0) h
+
+list_all-AreInClass : (bytes : List ℕ) → AreInClass is_intermediate bytes
+    → list_all (λ b. is_intermediate (class_of b)) bytes ≡ true
+list_all-AreInClass [] are = refl
+list_all-AreInClass (b ∷ bytes) are = rw are.0 (list_all-AreInClass bytes are.1)
+
+pub list_all-not : (bytes : List ℕ) (b : ℕ) (more : List ℕ) → is_intermediate (class_of b) ≡ false
+    → list_all (λ b. is_intermediate (class_of b)) (bytes ++ b ∷ more) ≡ false
+list_all-not [] b more h = rw h refl
+list_all-not (a ∷ bytes) b more h = grind (arith, nat_tests, list_all-not bytes b more h)
+
+-- the parts of a head that is well shaped so far
+pub held-parts : (marker parameters intermediates : List ℕ) → IsMarker marker → AreInClass is_parameter_text parameters
+    → AreInClass is_intermediate intermediates
+    → head_of (marker ++ (parameters ++ intermediates))
+    ≡ record { marker = marker; parameter_text = parameters; tail = intermediates }
+held-parts marker parameters intermediates is are these =
+    search (rules, arith, begins-intermediates, head_of-parts, append-nil)
+
+pub held-well_shaped : (marker parameters intermediates : List ℕ) → IsMarker marker
+    → AreInClass is_parameter_text parameters
+    → AreInClass is_intermediate intermediates
+    → is_well_shaped (head_of (marker ++ (parameters ++ intermediates))) ≡ true
+unfolding is_well_shaped
+held-well_shaped marker parameters intermediates is are these = search (rules, arith, held-parts, list_all-AreInClass)
+
+-- ---- texts
+
+-- A well-formed sequence, a maximal subpart or a byte comes off, and the rest is divided as a text of its own.
+
+-- ---- the two tests of a sequence
+
+well_formed_not_truncated : (u : List ℕ) → is_well_formed u ≡ true → is_truncated u ≡ false
+unfolding is_well_formed is_truncated
+well_formed_not_truncated [] whole = refl
+well_formed_not_truncated (a ∷ u) whole =
+    whole_not_open (rows_after_bytes u (rows_after_byte a utf8_rows))
+    (AtMostOne-rows_after_bytes u _ (AtMostOne-first a)) whole
+
+truncated_not_well_formed : (u : List ℕ) → is_truncated u ≡ true → is_well_formed u ≡ false
+unfolding is_well_formed is_truncated
+truncated_not_well_formed [] more = cc
+truncated_not_well_formed (a ∷ u) more =
+    open_not_whole (rows_after_bytes u (rows_after_byte a utf8_rows))
+    (AtMostOne-rows_after_bytes u _ (AtMostOne-first a)) more
+
+-- ---- how far a segment goes
+
+pub trailing_count-whole : (a : ℕ) (u x : List ℕ) → is_well_formed (a ∷ u) ≡ true → trailing_count a (u ++ x) ≡ length u
+unfolding is_well_formed trailing_count
+trailing_count-whole a u x whole = allowed_length-whole (rows_after_byte a utf8_rows) u x (AtMostOne-first a) whole
+
+trailing_count-broken : (a : ℕ) (u : List ℕ) (b : ℕ) (x : List ℕ) → is_truncated (a ∷ u) ≡ true
+    → is_well_formed (a ∷ u ++ b ∷ []) ≡ false → is_truncated (a ∷ u ++ b ∷ []) ≡ false
+    → trailing_count a (u ++ b ∷ x) ≡ length u
+unfolding is_well_formed is_truncated trailing_count
+trailing_count-broken a u b x more whole more_after =
+    search (rules, arith, allowed_length-broken, rows_after_bytes-append, neither_whole_nor_open)
+
+trailing_count-end : (a : ℕ) (u : List ℕ) → is_truncated (a ∷ u) ≡ true → trailing_count a u ≡ length u
+unfolding is_truncated trailing_count
+trailing_count-end a u more = allowed_length-end (rows_after_byte a utf8_rows) u more
+
+trailing_count-lone : (b : ℕ) (x : List ℕ) → is_well_formed (b ∷ []) ≡ false → is_truncated (b ∷ []) ≡ false
+    → trailing_count b x ≡ 0
+unfolding is_well_formed is_truncated trailing_count
+trailing_count-lone b x whole more =
+    rw (neither_whole_nor_open (rows_after_byte b utf8_rows) whole more) (allowed_length-none x)
+
+-- ---- the first segment of a text
+
+segments_after-length : (u x : List ℕ) → segments_after (length u) (u ++ x) ≡ segments x
+segments_after-length [] x = refl
+segments_after-length (a ∷ u) x = segments_after-length u x
+
+pub segments-first : (a : ℕ) (u x : List ℕ) → trailing_count a (u ++ x) ≡ length u
+    → segments (a ∷ u ++ x) ≡ (a ∷ u) ∷ segments x
+segments-first a u x far = rw (far, take-append_seam u x, segments_after-length u x) refl
+
+-- ---- its event
+
+-- a whole segment comes first
+segments_outcome-first : (segment : List ℕ) (more : List (List ℕ)) → is_truncated segment ≡ false
+    → segments_outcome (segment ∷ more) ≡ report (segment_event segment ∷ []) (segments_outcome more)
+segments_outcome-first segment more whole = search (rules, arith)
+
+not_control : (a : ℕ) → 0xc2 ≤ a → is_control_character a ≡ false
+not_control a low = grind (arith, nat_tests)
+
+malformed_event-truncated : (u : List ℕ) → is_truncated u ≡ true → malformed_event u ≡ Print replacement
+unfolding malformed_event
+malformed_event-truncated u more = search (rules, arith, not_control, truncated-first)
+
+segment_event-truncated : (u : List ℕ) → is_truncated u ≡ true → segment_event u ≡ Print replacement
+unfolding segment_event
+segment_event-truncated u more = rw (truncated_not_well_formed u more) (malformed_event-truncated u more)
+
+-- ---- what a text gives, from the prefix
+
+text_outcome-first : (a : ℕ) (u x : List ℕ) → trailing_count a (u ++ x) ≡ length u → is_truncated (a ∷ u) ≡ false
+    → text_outcome (a ∷ u ++ x) ≡ report (segment_event (a ∷ u) ∷ []) (text_outcome x)
+unfolding text_outcome
+text_outcome-first a u x far whole =
+    ap segments_outcome (segments-first a u x far) ∙ segments_outcome-first (a ∷ u) (segments x) whole
+
+pub not_well_formed-nothing : is_well_formed [] ≡ false
+unfolding is_well_formed utf8_rows
+not_well_formed-nothing = refl
+
+pub text_outcome-well_formed : (p x : List ℕ) → is_well_formed p ≡ true
+    → text_outcome (p ++ x) ≡ report (character_event (scalar_of p) ∷ []) (text_outcome x)
+unfolding segment_event
+text_outcome-well_formed p x whole =
+    search (rules, arith, not_well_formed-nothing, text_outcome-first, trailing_count-whole, well_formed_not_truncated)
+
+-- the byte that breaks a character begins anew
+pub text_outcome-broken : (u : List ℕ) (b : ℕ) → is_truncated u ≡ true → is_well_formed (u ++ b ∷ []) ≡ false
+    → is_truncated (u ++ b ∷ []) ≡ false
+    → (x : List ℕ) → text_outcome (u ++ b ∷ x) ≡ report (Print replacement ∷ []) (text_outcome (b ∷ x))
+unfolding text_outcome is_truncated
+text_outcome-broken u b more whole more_after x =
+    search (rules, arith, segments-first, trailing_count-broken, segment_event-truncated)
+
+pub text_outcome-lone : (x : List ℕ) (b : ℕ) → is_well_formed (b ∷ []) ≡ false → is_truncated (b ∷ []) ≡ false
+    → text_outcome (b ∷ x) ≡ report (malformed_event (b ∷ []) ∷ []) (text_outcome x)
+unfolding segment_event
+text_outcome-lone x b whole more = text_outcome-first b [] x (trailing_count-lone b x whole more) more ∙ rw whole refl
+
+-- open bytes alone wait
+pub text_outcome-end : (u : List ℕ) → is_truncated u ≡ true
+    → text_outcome u ≡ leaves (CharacterToClose u)
+unfolding text_outcome is_truncated
+text_outcome-end [] more = cc
+text_outcome-end (a ∷ u) more =
+    ap segments_outcome one_segment ∙ rw more refl
+  where
+    one_segment : segments (a ∷ u) ≡ (a ∷ u) ∷ []
+    one_segment =
+        let same : u ++ [] ≡ u = append-nil u in
+        subst (λ (v : List ℕ). segments (a ∷ v) ≡ (a ∷ u) ∷ []) same
+        (segments-first a u [] (ap (trailing_count a) same ∙ trailing_count-end a u more))
+
+pub text_outcome-nothing : text_outcome [] ≡ leaves NothingToClose
+unfolding text_outcome
+text_outcome-nothing = refl
+
+-- ---- what is reported before a start
+
+-- `reported-X`, `resumed_stream-X` and `starts-X` say of `reported_before`, `resumed_stream` and `IsStart` what holds
+-- if X: the open character is `broken`, none is open (`settled`), or `all` bytes are read. `breaks-X` and `breaks_at-X`
+-- say when.
+
+-- ---- whether a byte breaks the open character
+
+pub breaks-broken : (u : List ℕ) (b : ℕ) → is_truncated u ≡ true → is_well_formed (u ++ b ∷ []) ≡ false
+    → is_truncated (u ++ b ∷ []) ≡ false → breaks u (b ∷ []) ≡ true
+unfolding is_truncated
+breaks-broken u b more whole next = search (rules, arith)
+
+pub breaks-unfinished : (u : List ℕ) (b : ℕ) → is_truncated (u ++ b ∷ []) ≡ true → breaks u (b ∷ []) ≡ false
+breaks-unfinished [] b next = refl
+breaks-unfinished (a ∷ u) b next = rw next refl
+
+pub breaks-whole : (u : List ℕ) (b : ℕ) → is_well_formed (u ++ b ∷ []) ≡ true → breaks u (b ∷ []) ≡ false
+breaks-whole u b whole = search (rules, arith)
+
+pub breaks-no_byte : (u : List ℕ) → breaks u [] ≡ false
+breaks-no_byte [] = refl
+breaks-no_byte (a ∷ u) = refl
+
+-- of what is unread only the next byte counts
+breaks-next : (u : List ℕ) (b : ℕ) (rest : List ℕ) → breaks u (b ∷ rest) ≡ breaks u (b ∷ [])
+breaks-next [] b rest = refl
+breaks-next (a ∷ u) b rest = refl
+
+pub breaks_at-byte : (stream bytes : List ℕ) {u : List ℕ} (i : ℕ) {b : ℕ} → i < length bytes → b ≡ slice_index bytes i
+    → open_character (stream ++ take i bytes) ≡ u
+    → breaks_at stream bytes i ≡ breaks u (b ∷ [])
+unfolding breaks_at
+breaks_at-byte stream bytes {u} i within is ends =
+    rw (ends, drop_more bytes i 0 within, is) (breaks-next u (get_or bytes i 0) (drop (i + 1) bytes))
+
+pub breaks_at-settled : (stream bytes : List ℕ) (i : ℕ) → open_character (stream ++ take i bytes) ≡ []
+    → breaks_at stream bytes i ≡ false
+unfolding breaks_at
+breaks_at-settled stream bytes i ends = rw ends refl
+
+pub breaks_at-all : (stream bytes : List ℕ) (n : ℕ) → length bytes ≤ n → breaks_at stream bytes n ≡ false
+unfolding breaks_at
+breaks_at-all stream bytes n all = search (rules, arith, drop_all, breaks-no_byte)
+
+-- ---- starts
+
+pub starts-settled : {stream bytes : List ℕ} {i : ℕ} → i < length bytes → open_character (stream ++ take i bytes) ≡ []
+    → IsStart stream bytes i
+starts-settled within ends = record { within = within; starts = inl ends }
+
+pub starts-broken : {stream bytes : List ℕ} {i : ℕ} → i < length bytes → breaks_at stream bytes i ≡ true
+    → IsStart stream bytes i
+starts-broken within broken = record { within = within; starts = inr broken }
+
+-- a byte of a character that was begun before it is none
+pub no_start : {stream bytes u : List ℕ} {i b : ℕ} → i < length bytes → b ≡ slice_index bytes i
+    → open_character (stream ++ take i bytes) ≡ u
+    → (u ≡ [] → ⊥) → breaks u (b ∷ []) ≡ false
+    → IsStart stream bytes i → ⊥
+no_start {stream} {bytes} {i} within is ends some whole start = search (rules, arith, breaks_at-byte)
+
+-- ---- what is reported
+
+pub reported-settled : (limit : Option ℕ) (stream bytes : List ℕ) (i : ℕ) → breaks_at stream bytes i ≡ false
+    → reported_before limit stream bytes i ≡ added limit stream (take i bytes)
+unfolding reported_before
+reported-settled limit stream bytes i whole = rw whole (append-nil (added limit stream (take i bytes)))
+
+pub reported-broken : (limit : Option ℕ) (stream bytes : List ℕ) (i : ℕ) → breaks_at stream bytes i ≡ true
+    → reported_before limit stream bytes i ≡ added limit stream (take i bytes) ++ Print replacement ∷ []
+unfolding reported_before
+reported-broken limit stream bytes i broken = rw broken refl
+
+pub reported-all : (limit : Option ℕ) (stream bytes : List ℕ) (n : ℕ) → n ≡ length bytes
+    → reported_before limit stream bytes n ≡ added limit stream bytes
+reported-all limit stream bytes n all = search (rules, arith, reported-settled, breaks_at-all, take_all)
+
+pub resumed_stream-settled : (stream bytes : List ℕ) (n : ℕ) → breaks_at stream bytes n ≡ false
+    → resumed_stream stream bytes n ≡ stream ++ take n bytes
+unfolding resumed_stream
+resumed_stream-settled stream bytes n whole = rw whole refl
+
+pub resumed_stream-broken : (stream bytes : List ℕ) (n : ℕ) → breaks_at stream bytes n ≡ true
+    → resumed_stream stream bytes n ≡ []
+unfolding resumed_stream
+resumed_stream-broken stream bytes n broken = rw broken refl
+
+pub resumed_stream-all : (stream bytes : List ℕ) (n : ℕ) → n ≡ length bytes
+    → resumed_stream stream bytes n ≡ stream ++ bytes
+resumed_stream-all stream bytes n all = search (rules, arith, resumed_stream-settled, breaks_at-all, take_all)

@@ -1,0 +1,374 @@
+-- Runs of text: what their text is, where they end, and the search for their end. By induction over the bytes, and by
+-- the rows of UTF-8.
+use Rattle.vte_core.proofs.Common.{◌≡◌, ℕ, ◌+◌, ◌-◌, ◌<◌, ◌≤◌, inl, inr, List, [], ◌∷◌, length, take, drop, get_or, refl, ap, subst, ◌∙◌, arith, cases_lt, drop_more, take_rest, slice_index, Bool, true, false, ◌++◌, map, sym, nat_tests, get_or-drop, All-append, All-nil, All-cons, All, IsAscii, chars, Print, IsPrintedAscii, ArePrintedAscii, IsUtf8Run, IsRun, from_to, append-nil, encode, IsScalar, after, Event, is_in, is_control_character, is_layout, StaysInRun, run_event, looked, Scans, zero, suc, utf8_rows, false≢true, cases_Bool, and_parts, drop_all, Range, ends_run, is_well_formed, second_range, scalar_of, HasNoRunAt, rules}
+use Rattle.std.proofs.lemmas.List.{length-drop, length-take, get_or-take}
+use Rattle.std.proofs.lemmas.Simd.{get_or-chunk}
+use Rattle.std.specs.Array.{IsFirstChunk}
+use Rattle.vte_core.specs.machine.Scans.{Each}
+use Rattle.std.proofs.Common.{take-add}
+use Rattle.std.proofs.lemmas.List.Elements.{All-from_get_or}
+use Rattle.std.proofs.lemmas.Str.Ascii.{IsAscii-cons, IsAscii-from_reads, IsAscii-nil}
+use Rattle.std.proofs.Math.Seq.{drop-drop}
+use Rattle.std.proofs.lemmas.Str.{IsUtf8-encode, IsUtf8-nil, IsUtf8-append, IsUtf8-from_ascii, chars-nil, chars-append, chars-IsAscii, chars_past_char}
+use Rattle.vte_core.specs.declared.reader.Reader.{Reader}
+use Rattle.vte_core.proofs.bytes.Scalars.{continuation-bounds, in_range-bounds}
+use Rattle.vte_core.proofs.bytes.Utf8.{rows-lone, rows-none, continuation, fits, second_plain, tests-ascii, tests-none, tests-two, tests-three, tests-four}
+
+-- ---- each byte between two positions
+
+-- Of one byte, of two stretches joined, of a block: by cases of where a position lies.
+
+pub one_byte : (bytes : List ℕ) (from b : ℕ) → from < length bytes → b ≡ slice_index bytes from
+    → take (from + 1 - from) (drop from bytes) ≡ b ∷ []
+one_byte bytes from b within is =
+    let e : from + 1 - from ≡ 1 = omega arith in rw (e, drop_more bytes from 0 within, is) refl
+
+pub each-one : (holds : ℕ → Type 0) (bytes : List ℕ) (from : ℕ) → holds (slice_index bytes from)
+    → Each holds bytes from (from + 1)
+each-one holds bytes from one k low high = search (rules, arith)
+
+pub each-both : (holds : ℕ → Type 0) (bytes : List ℕ) (i j k : ℕ) → Each holds bytes i j → Each holds bytes j k
+    → Each holds bytes i k
+each-both holds bytes i j k prefix back m low high = search (rules, arith)
+
+-- one byte more
+pub each-next : (holds : ℕ → Type 0) (bytes : List ℕ) (from end b : ℕ) → Each holds bytes from end
+    → b ≡ slice_index bytes end → holds b → Each holds bytes from (end + 1)
+each-next holds bytes from end b all is one = search (rules, arith)
+
+-- the first bytes of what stands at a position
+pub prefix-block : (bytes block : List ℕ) (from n : ℕ) → from ≤ length bytes
+    → IsFirstChunk (take (length bytes - from) (drop from bytes)) block n
+    → (from + n ≤ length bytes) × (block ≡ take n (drop from bytes))
+prefix-block bytes block from n within first = search (rules, arith, length-take, length-drop, take_rest)
+
+-- the bytes of a block
+pub block-byte : (bytes block : List ℕ) (from n k : ℕ) → block ≡ take n (drop from bytes) → k < n
+    → get_or block k 0 ≡ get_or bytes (from + k) 0
+block-byte bytes block from n k is l = ap (λ x. get_or x k 0) is ∙ get_or-chunk from n bytes k 0 l
+
+-- what holds of its first ones
+pub each-block : (holds : ℕ → Type 0) (bytes block : List ℕ) (from n m : ℕ) → block ≡ take n (drop from bytes) → m ≤ n
+    → Each holds block 0 m
+    → Each holds bytes from (from + m)
+each-block holds bytes block from n m is few all k low high =
+    let e : get_or block (k - from) 0 ≡ get_or bytes k 0 =
+    block-byte bytes block from n (k - from) is (omega (arith, low, high, few)) ∙ ap (λ i. get_or bytes i 0)
+    (let p : from + (k - from) ≡ k = omega (arith, low) in p) in
+    subst holds e (all (k - from) (omega arith) (omega (arith, low, high)))
+
+-- ---- the text of a run
+
+-- Bytes of ASCII, or a character, are well-formed text whose events are theirs, and two runs one after another are a
+-- run.
+
+pub same-items : {xs ys : List ℕ} → map (λ x. x) xs ≡ ys → xs ≡ ys
+same-items {xs = []} e = e
+same-items {xs = x ∷ xs} e = ap (λ t. x ∷ t) (same-items refl) ∙ e
+
+-- ---- what ends a run
+
+pub no_control-stays : (layout : Bool) (c : ℕ) → is_control_character c ≡ false → StaysInRun layout c
+no_control-stays layout c e = search (rules, arith)
+
+pub layout-stays : (c : ℕ) → is_layout c ≡ true → StaysInRun true c
+layout-stays c e = rw e refl
+
+pub layout-is_plain_control : (c : ℕ) → is_layout c ≡ true → is_control_character c ≡ true
+layout-is_plain_control c e = grind (arith, nat_tests)
+
+pub layout-is_ascii : (c : ℕ) → is_layout c ≡ true → c < 0x80
+layout-is_ascii c e = grind (arith, nat_tests)
+
+no_layout : (b : ℕ) → IsPrintedAscii b → is_layout b ≡ false
+no_layout b p = let low = p.0 in let high = p.1 in grind (arith, nat_tests)
+
+pub run_event-printed : (layout : Bool) (b : ℕ) → IsPrintedAscii b → run_event layout b ≡ Print b
+run_event-printed false b p = refl
+run_event-printed true b p = rw (no_layout b p) refl
+
+plain-stays : (layout : Bool) (b : ℕ) → IsPrintedAscii b → StaysInRun layout b
+plain-stays layout b p = search (rules, arith)
+
+-- ---- ASCII
+
+utf8_run-ascii : {layout : Bool} {bytes : List ℕ} → IsAscii bytes → All (StaysInRun layout) bytes
+    → IsUtf8Run layout bytes
+utf8_run-ascii {layout} {bytes} a stay =
+    record {
+      utf8 = IsUtf8-from_ascii bytes a;
+      plain = subst (All (StaysInRun layout)) (sym (chars-IsAscii bytes a)) stay;
+    }
+
+printable-ascii : (layout : Bool) (bytes : List ℕ) (n : ℕ) → ArePrintedAscii bytes 0 n
+    → IsUtf8Run layout (take n bytes)
+printable-ascii layout bytes n are =
+    let printed : (k : ℕ) → k < length (take n bytes) → IsPrintedAscii (get_or (take n bytes) k 0) = λ k l.
+    let below : k < n = omega (arith, l, length-take n bytes) in
+    subst IsPrintedAscii (sym (get_or-take n bytes k 0 below)) (are k (omega arith) below) in
+    utf8_run-ascii
+    (IsAscii-from_reads (take n bytes) (length (take n bytes)) (omega arith) (λ k l. (printed k l).1))
+    (All-from_get_or (StaysInRun layout) (take n bytes) 0 (λ k l. plain-stays layout _ (printed k l)))
+
+pub printable-nil : (layout : Bool) → IsUtf8Run layout []
+printable-nil layout =
+    record {
+      utf8 = IsUtf8-nil;
+      plain =
+          subst (All (StaysInRun layout)) (sym chars-nil) (All-nil (StaysInRun layout));
+    }
+
+pub printable-append : {layout : Bool} {xs ys : List ℕ} → IsUtf8Run layout xs → IsUtf8Run layout ys
+    → IsUtf8Run layout (xs ++ ys)
+printable-append {layout} {xs} {ys} a b = record {
+  utf8 = IsUtf8-append xs ys a.utf8 b.utf8;
+  plain =
+      subst (All (StaysInRun layout)) (sym (chars-append xs ys a.utf8))
+      (All-append (StaysInRun layout) (chars xs) (chars ys) a.plain b.plain);
+}
+
+-- ---- one character
+
+pub chars-encode : (c : ℕ) → IsScalar c → chars (encode c) ≡ c ∷ []
+chars-encode c is =
+    chars_past_char (encode c) [] c (IsUtf8-encode c is) (sym (append-nil (encode c))) ∙ ap (λ cs. c ∷ cs) chars-nil
+
+pub run_one : (layout : Bool) (c : ℕ) → IsScalar c → StaysInRun layout c
+    → All (StaysInRun layout) (chars (encode c))
+run_one layout c is stays = subst (All (StaysInRun layout)) (sym (chars-encode c is))
+    (All-cons (StaysInRun layout) c [] stays (All-nil (StaysInRun layout)))
+
+pub after-character : {V : Type 0} (layout : Bool) (step : V → Event → V) (old : V) (c : ℕ) → IsScalar c
+    → after step old (map (run_event layout) (chars (encode c))) ≡ step old (run_event layout c)
+after-character layout step old c is = ap (λ cs. after step old (map (run_event layout) cs)) (chars-encode c is)
+
+pub run_event-no_control : (layout : Bool) {c : ℕ} → is_control_character c ≡ false → run_event layout c ≡ Print c
+run_event-no_control layout {c} e = grind (arith, nat_tests, layout-is_plain_control c)
+
+-- ---- runs among the bytes
+
+pub printed-in_range : (b : ℕ) → is_in (from_to 0x20 0x7f) b ≡ true → IsPrintedAscii b
+printed-in_range b e = grind (arith, nat_tests)
+
+pub chars-one : (bytes : List ℕ) (from b : ℕ) → from < length bytes → b ≡ slice_index bytes from → IsPrintedAscii b
+    → chars (take (from + 1 - from) (drop from bytes)) ≡ b ∷ []
+chars-one bytes from b within is printed =
+    ap chars (one_byte bytes from b within is) ∙ chars-IsAscii (b ∷ []) (IsAscii-cons b [] printed.1 IsAscii-nil)
+
+-- HT, LF or CR, where these are kept
+pub run-layout : (bytes : List ℕ) (from b : ℕ) → from < length bytes → b ≡ slice_index bytes from → is_layout b ≡ true
+    → IsRun true bytes from (from + 1)
+run-layout bytes from b within is layout =
+    subst (IsUtf8Run true) (sym (one_byte bytes from b within is))
+    (utf8_run-ascii (IsAscii-cons b [] (layout-is_ascii b layout) IsAscii-nil)
+    (All-cons (StaysInRun true) b [] (layout-stays b layout)
+    (All-nil (StaysInRun true))))
+
+pub run-none : (layout : Bool) (bytes : List ℕ) (from : ℕ) → IsRun layout bytes from from
+run-none layout bytes from =
+    subst (λ n. IsUtf8Run layout (take n (drop from bytes))) (let e : 0 ≡ from - from = omega arith in e)
+    (printable-nil layout)
+
+pub run-ascii : (layout : Bool) (bytes : List ℕ) (from to : ℕ) → ArePrintedAscii bytes from to
+    → IsRun layout bytes from to
+run-ascii layout bytes from to are = printable-ascii layout (drop from bytes) (to - from) (λ k low high.
+    subst IsPrintedAscii (sym (get_or-drop from bytes k 0)) (are (from + k) (omega arith) (omega (arith, high))))
+
+pub run-append : (layout : Bool) (bytes : List ℕ) (i j k : ℕ) → i ≤ j → j ≤ k → IsRun layout bytes i j
+    → IsRun layout bytes j k → IsRun layout bytes i k
+run-append layout bytes i j k first second a b =
+    let same : drop (j - i) (drop i bytes) ≡ drop j bytes =
+    drop-drop (j - i) i bytes ∙ ap (λ n. drop n bytes) (let e : i + (j - i) ≡ j = omega (arith, first) in e) in
+    let whole : take (k - i) (drop i bytes) ≡ take (j - i) (drop i bytes) ++ take (k - j) (drop j bytes) =
+    ap (λ n. take n (drop i bytes)) (let e : k - i ≡ j - i + (k - j) = omega (arith, first, second) in e)
+    ∙ take-add (j - i) (k - j) (drop i bytes) ∙ ap (λ x. take (j - i) (drop i bytes) ++ take (k - j) x) same in
+    subst (IsUtf8Run layout) (sym whole)
+    (printable-append a b)
+
+-- ---- a search goes on where another ended
+
+-- Runs join (`run-append`), and a block adds its first bytes.
+
+pub scans-run : {layout : Bool} {bytes : List ℕ} {i j k : ℕ} {s t u : Reader}
+    → Scans (IsRun layout) bytes i j s t → Scans (IsRun layout) bytes j k t u → Scans (IsRun layout) bytes i k s u
+scans-run a b = search (rules, arith, run-append)
+
+-- over a block, of which the first bytes are such
+pub scans-block : (holds : ℕ → Type 0) (bytes : List ℕ) {block : List ℕ} {i j n : ℕ} (m : ℕ)
+    {s t u : Reader} → Scans (Each holds) bytes i j s t
+    → (j + n ≤ length bytes) × (block ≡ take n (drop j bytes)) × (looked u ≡ looked t + n) → m ≤ n
+    → Each holds block 0 m → Scans (Each holds) bytes i (j + m) s u
+scans-block holds bytes m a block few all = search (rules, arith, each-both, each-block)
+
+-- ---- where a run ends
+
+-- No sequence that is printed begins at a position. Of a sequence that would begin there, the rows say the bytes; each
+-- test of the search excludes one row.
+
+-- The bytes from a position on are each in its range.
+abbrev AreIn : List Range → List ℕ → ℕ → Type 0
+AreIn [] bytes i = Unit {0}
+AreIn (range ∷ ranges) bytes i =
+    (i < length bytes) × (is_in range (slice_index bytes i) ≡ true) × AreIn ranges bytes (i + 1)
+
+fits-in : (ranges : List Range) (bytes : List ℕ) (i m : ℕ) → fits ranges (take m (drop i bytes)) ≡ true
+    → AreIn ranges bytes i
+fits-in [] bytes i m fit = tt
+fits-in (range ∷ ranges) bytes i zero fit = absurd (false≢true fit)
+fits-in (range ∷ ranges) bytes i (suc m) fit = elim (cases_lt i (length bytes)) [
+  | inl within ↦
+      let both = and_parts _ _ (rw (drop_more bytes i 0 within) at fit) in
+      (within, both.0, fits-in ranges bytes (i + 1) m both.1)
+  | inr past ↦ absurd (false≢true (rw (drop_all i bytes (omega (arith, past))) at fit))
+]
+
+fits-none : (u : List ℕ) → fits [] u ≡ true → u ≡ []
+fits-none [] fit = refl
+fits-none (b ∷ u) fit = cc
+
+-- one byte, in its range
+record OneIn (range : Range) (bytes : List ℕ) (i m : ℕ) : Type 0 where
+  within : i < length bytes
+  is : is_in range (slice_index bytes i) ≡ true
+  same : take m (drop i bytes) ≡ slice_index bytes i ∷ []
+
+fits-one : (range : Range) (bytes : List ℕ) (i m : ℕ) → fits (range ∷ []) (take m (drop i bytes)) ≡ true
+    → OneIn range bytes i m
+fits-one range bytes i m fit =
+    let in_range = fits-in (range ∷ []) bytes i m fit in
+    record { within = in_range.0; is = in_range.1; same = one range bytes i m in_range.0 fit }
+  where
+    one : (range : Range) (bytes : List ℕ) (i m : ℕ) → i < length bytes
+        → fits (range ∷ []) (take m (drop i bytes)) ≡ true → take m (drop i bytes) ≡ slice_index bytes i ∷ []
+    one range bytes i zero within fit = absurd (false≢true fit)
+    one range bytes i (suc m) within fit =
+        let cut = drop_more bytes i 0 within in
+        ap (take (suc m)) cut ∙ ap (λ x. slice_index bytes i ∷ x) (fits-none _ (and_parts _ _ (rw cut at fit)).1)
+
+module _ (layout : Bool) (bytes : List ℕ) (from a : ℕ) (within : from < length bytes)
+    (is : a ≡ slice_index bytes from) where
+  abbrev later : ℕ → List ℕ
+  later m = take m (drop (from + 1) bytes)
+
+  -- a well-formed sequence there begins with the byte
+  record BeginsHere (n : ℕ) : Type 0 where
+    m : ℕ
+    parts : take n (drop from bytes) ≡ a ∷ later m
+    well : is_well_formed (a ∷ later m) ≡ true
+
+  begins : (n : ℕ) → is_well_formed (take n (drop from bytes)) ≡ true → BeginsHere n
+  unfolding is_well_formed utf8_rows
+  begins zero whole = absurd (false≢true whole)
+  begins (suc m) whole =
+      let parts : take (suc m) (drop from bytes) ≡ a ∷ later m =
+      ap (take (suc m)) (drop_more bytes from 0 within) ∙ ap (λ x. x ∷ later m) (sym is) in
+      record { m = m; parts = parts; well = subst (λ (x : List ℕ). is_well_formed x ≡ true) parts whole }
+
+  control-ends : (c : ℕ) → is_control_character c ≡ true → (layout ≡ true → is_layout c ≡ false)
+      → ends_run layout c ≡ true
+  control-ends c control other = search (rules, arith)
+
+  -- a byte that is neither printed nor kept, and begins no longer sequence
+  pub ends-single : is_in (from_to 0x20 0x7f) a ≡ false → is_in (from_to 0xc2 0xf4) a ≡ false
+      → (layout ≡ true → is_layout a ≡ false) → HasNoRunAt layout bytes from
+  ends-single other lone plain n far whole =
+      let p = begins n whole in
+      elim (cases_lt a 0x80) [
+        | inl low ↦
+            let none = fits-none (later p.m) (sym (tests-ascii a low (later p.m)).is_whole ∙ p.well) in
+            let control : is_control_character a ≡ true = grind (arith, nat_tests) in
+            rw (p.parts, none) (control-ends a control plain)
+        | inr high ↦ elim (cases_lt a 0xc2) [
+          | inl below ↦
+              absurd
+              (false≢true
+              (sym (tests-none a (rows-lone a (omega (arith, high)) below) (later p.m)).is_whole ∙ p.well))
+          | inr above ↦
+              let past : 0xf5 ≤ a = grind (arith, nat_tests) in
+              absurd (false≢true (sym (tests-none a (rows-none a past) (later p.m)).is_whole ∙ p.well))
+        ]
+      ]
+
+  -- a sequence of two that is a control's
+  pub ends-two : 0xc2 ≤ a → a < 0xe0
+      → (from + 1 < length bytes → is_in continuation (slice_index bytes (from + 1)) ≡ true
+      → (a ≡ 0xc2 → 0xa0 ≤ slice_index bytes (from + 1)) → ⊥) → HasNoRunAt layout bytes from
+  ends-two low high none n far whole =
+      let p = begins n whole in
+      let one =
+      fits-one (second_range a) bytes (from + 1) p.m (sym (tests-two a low high (later p.m)).is_whole ∙ p.well) in
+      let b : ℕ = slice_index bytes (from + 1) in
+      let second : is_in continuation b ≡ true =
+      subst (λ range. is_in range b ≡ true)
+      (second_plain a (omega arith) (omega arith) (omega arith) (omega arith)) one.is in
+      let control : (a ≡ 0xc2) × (b < 0xa0) = elim (cases_lt b 0xa0) [
+        | inr up ↦ absurd (none one.within second (λ _. omega (arith, up)))
+        | inl down ↦ elim (cases_lt 0xc2 a) [
+          | inl past ↦ absurd (none one.within second (λ e. absurd (omega (arith, e, past))))
+          | inr first ↦ (omega (arith, first, low), down)
+        ]
+      ] in
+      let bounds = continuation-bounds b second in
+      let number : scalar_of (a ∷ b ∷ []) ≡ b = omega (arith, control.0, bounds.0) in
+      rw (p.parts, one.same, number)
+      (control-ends b (grind (arith, nat_tests, control.1, bounds.0)) (λ _. grind (arith, nat_tests, bounds.0)))
+
+  -- a run ends at a byte E0..EF without a sequence of three
+  pub ends-three : 0xe0 ≤ a → a < 0xf0
+      → (from + 2 < length bytes → is_in (second_range a) (slice_index bytes (from + 1)) ≡ true
+      → is_in continuation (slice_index bytes (from + 2)) ≡ true → ⊥) → HasNoRunAt layout bytes from
+  ends-three low high none n far whole =
+      let p = begins n whole in
+      let those =
+      fits-in (second_range a ∷ continuation ∷ []) bytes (from + 1) p.m
+      (sym (tests-three a low high (later p.m)).is_whole ∙ p.well) in
+      let e : from + 1 + 1 ≡ from + 2 = omega arith in
+      absurd (none (rw e at those.2.0) those.1 (rw e at those.2.1))
+
+  -- a run ends at a byte F0..F4 without a sequence of four
+  pub ends-four : 0xf0 ≤ a → is_in (from_to 0xc2 0xf4) a ≡ true
+      → (from + 3 < length bytes → is_in (second_range a) (slice_index bytes (from + 1)) ≡ true
+      → is_in continuation (slice_index bytes (from + 2)) ≡ true
+      → is_in continuation (slice_index bytes (from + 3)) ≡ true → ⊥) → HasNoRunAt layout bytes from
+  ends-four low lead none n far whole =
+      let p = begins n whole in
+      let high : a < 0xf5 = omega (arith, (in_range-bounds (from_to 0xc2 0xf4) a lead).1) in
+      let those =
+      fits-in (second_range a ∷ continuation ∷ continuation ∷ []) bytes (from + 1) p.m
+      (sym (tests-four a low high (later p.m)).is_whole ∙ p.well) in
+      let e : from + 1 + 1 ≡ from + 2 = omega arith in
+      let f : from + 2 + 1 ≡ from + 3 = omega arith in
+      absurd (none (rw (e, f) at those.2.2.0) those.1 (rw e at those.2.1) (rw (e, f) at those.2.2.1))
+
+  -- no byte follows a first one
+  pub ends-long : is_in (from_to 0xc2 0xf4) a ≡ true → (from + 1 < length bytes → ⊥) → HasNoRunAt layout bytes from
+  ends-long lead none =
+      let bounds = in_range-bounds (from_to 0xc2 0xf4) a lead in
+      elim (cases_lt a 0xe0) [
+        | inl two ↦ ends-two bounds.0 two (λ more continues plain. none more)
+        | inr rest ↦ elim (cases_lt a 0xf0) [
+          | inl three ↦ ends-three (omega (arith, rest)) three (λ more second third. none (omega (arith, more)))
+          | inr four ↦
+              ends-four (omega (arith, four)) lead (λ more second third fourth. none (omega (arith, more)))
+        ]
+      ]
+
+-- with the bytes
+pub ends-all : (layout : Bool) (bytes : List ℕ) (place : ℕ) → length bytes ≤ place → HasNoRunAt layout bytes place
+unfolding is_well_formed utf8_rows
+ends-all layout bytes place all l far whole = search (rules, arith)
+
+-- ASCII that is printed begins a run
+pub ends-unprinted : (bytes : List ℕ) (from : ℕ) → from < length bytes → HasNoRunAt false bytes from
+    → is_in (from_to 0x20 0x7f) (slice_index bytes from) ≡ false
+unfolding is_well_formed utf8_rows
+ends-unprinted bytes from within ended = elim (cases_Bool (is_in (from_to 0x20 0x7f) (slice_index bytes from))) [
+  | inr other ↦ other
+  | inl printed ↦
+      let b : ℕ = slice_index bytes from in
+      let one : take 1 (drop from bytes) ≡ b ∷ [] = ap (take 1) (drop_more bytes from 0 within) in
+      let below : b < 0x80 = grind (arith, nat_tests) in
+      let well : is_well_formed (b ∷ []) ≡ true = (tests-ascii b below []).is_whole in
+      let control : is_control_character b ≡ true = rw one at (ended 1 (omega arith) (rw one well)) in
+      absurd (grind (arith, nat_tests))
+]

@@ -1,0 +1,339 @@
+-- What the rows of UTF-8 say of bytes one after the other. The rows ascend, so after a first byte at most one is left,
+-- and bytes are well formed, truncated or neither by what it still wants.
+use Rattle.vte_core.proofs.Common.{◌≡◌, ◌≢◌, ℕ, suc, ◌+◌, ◌<◌, ◌≤◌, Bool, true, false, not, ◌&&◌, List, [], ◌∷◌, ◌++◌, length, refl, sym, ap, ◌∙◌, arith, inl, inr, nat_le, list_any, false≢true, lt-leb, leb-true, and_left, cases_Bool, and_parts, Range, is_in, utf8_rows, rows_after_byte, rows_after_bytes, is_complete, allowed_length, and_right, cases_lt, nat_tests, from_to, is_well_formed, is_truncated, second_range, rules}
+
+-- ---- one row
+
+abbrev AtMostOne : List (List Range) → Type 0
+AtMostOne [] = Unit {0}
+AtMostOne (row ∷ []) = Unit {0}
+AtMostOne (row ∷ next ∷ rows) = ⊥
+
+-- the rows begin with ranges above n, each above the one before
+abbrev ascends : ℕ → List (List Range) → Bool
+ascends n [] = true
+ascends n ([] ∷ rows) = false
+ascends n ((range ∷ ranges) ∷ rows) =
+    nat_le n range.first && (nat_le range.first range.last && ascends (range.last + 1) rows)
+
+-- a byte and a range
+pub in_range : (range : Range) (b : ℕ) → range.first ≤ b → b ≤ range.last → is_in range b ≡ true
+in_range range b low high = search (rules, arith)
+
+below_range : (range : Range) (b : ℕ) → b < range.first → is_in range b ≡ false
+below_range range b low = and_left _ _ (lt-leb range.first b low)
+
+ascends_parts : (n : ℕ) (range : Range) (ranges : List Range) (rows : List (List Range))
+    → ascends n ((range ∷ ranges) ∷ rows) ≡ true
+    → (n ≤ range.first) × (range.first ≤ range.last) × (ascends (range.last + 1) rows ≡ true)
+ascends_parts n range ranges rows up = search (rules, arith)
+
+-- rows that begin above the byte want nothing after it
+none_after : (n b : ℕ) (rows : List (List Range)) → ascends n rows ≡ true → b < n → rows_after_byte b rows ≡ []
+none_after n b [] up low = refl
+none_after n b ([] ∷ rows) up low = cc
+none_after n b ((range ∷ ranges) ∷ rows) up low =
+    let parts = ascends_parts n range ranges rows up in
+    rw (below_range range b (omega (arith, low, parts.0)))
+    (none_after (range.last + 1) b rows parts.2 (omega (arith, low, parts.0, parts.1)))
+
+AtMostOne-after_rows : (n b : ℕ) (rows : List (List Range)) → ascends n rows ≡ true → AtMostOne (rows_after_byte b rows)
+AtMostOne-after_rows n b [] up = tt
+AtMostOne-after_rows n b ([] ∷ rows) up = cc
+AtMostOne-after_rows n b ((range ∷ ranges) ∷ rows) up =
+    let rest = (ascends_parts n range ranges rows up).2 in
+    elim (cases_Bool (is_in range b)) [
+      | inl e ↦ rw e (later (leb-true _ _ (and_parts _ _ e).1) rest)
+      | inr e ↦ rw e (AtMostOne-after_rows (range.last + 1) b rows rest)
+    ]
+  where
+    later : b ≤ range.last → ascends (range.last + 1) rows ≡ true → AtMostOne (ranges ∷ rows_after_byte b rows)
+    later low up = rw (none_after (range.last + 1) b rows up (omega arith)) tt
+
+pub AtMostOne-first : (b : ℕ) → AtMostOne (rows_after_byte b utf8_rows)
+unfolding utf8_rows
+AtMostOne-first b = AtMostOne-after_rows 0 b utf8_rows refl
+
+AtMostOne-next : (b : ℕ) (rows : List (List Range)) → AtMostOne rows → AtMostOne (rows_after_byte b rows)
+AtMostOne-next b rows one = search (rules, arith)
+
+pub AtMostOne-rows_after_bytes : (bytes : List ℕ) (rows : List (List Range)) → AtMostOne rows
+    → AtMostOne (rows_after_bytes bytes rows)
+AtMostOne-rows_after_bytes [] rows one = one
+AtMostOne-rows_after_bytes (b ∷ bytes) rows one =
+    AtMostOne-rows_after_bytes bytes (rows_after_byte b rows) (AtMostOne-next b rows one)
+
+pub rows_after_bytes-none : (bytes : List ℕ) → rows_after_bytes bytes [] ≡ []
+rows_after_bytes-none [] = refl
+rows_after_bytes-none (b ∷ bytes) = rows_after_bytes-none bytes
+
+pub rows_after_bytes-append : (u v : List ℕ) (rows : List (List Range))
+    → rows_after_bytes (u ++ v) rows ≡ rows_after_bytes v (rows_after_bytes u rows)
+rows_after_bytes-append [] v rows = refl
+rows_after_bytes-append (b ∷ u) v rows = rows_after_bytes-append u v (rows_after_byte b rows)
+
+-- ---- the two tests of what is left
+
+-- some row wants nothing more
+abbrev pub some_whole : List (List Range) → Bool
+some_whole rows = list_any is_complete rows
+
+-- some row wants more
+abbrev pub some_open : List (List Range) → Bool
+some_open rows = list_any (λ row. not (is_complete row)) rows
+
+pub whole_not_open : (rows : List (List Range)) → AtMostOne rows → some_whole rows ≡ true → some_open rows ≡ false
+whole_not_open rows one whole = search (rules, arith)
+
+pub open_not_whole : (rows : List (List Range)) → AtMostOne rows → some_open rows ≡ true → some_whole rows ≡ false
+open_not_whole rows one more = search (rules, arith)
+
+pub neither_whole_nor_open : (rows : List (List Range)) → some_whole rows ≡ false → some_open rows ≡ false → rows ≡ []
+neither_whole_nor_open [] whole more = refl
+neither_whole_nor_open ([] ∷ rows) whole more = cc
+neither_whole_nor_open ((range ∷ ranges) ∷ rows) whole more = cc
+
+-- ---- how many bytes the rows allow
+
+pub allowed_length-none : (bytes : List ℕ) → allowed_length [] bytes ≡ 0
+allowed_length-none [] = refl
+allowed_length-none (b ∷ bytes) = refl
+
+-- of a byte and those after it: no row wants the byte, or it is allowed with what the rows left allow
+pub data Allowed (rows : List (List Range)) (b : ℕ) (bytes : List ℕ) : Type 0 where
+  unwanted : rows_after_byte b rows ≡ [] → allowed_length rows (b ∷ bytes) ≡ 0 → Allowed rows b bytes
+  wanted : rows_after_byte b rows ≢ []
+      → allowed_length rows (b ∷ bytes) ≡ suc (allowed_length (rows_after_byte b rows) bytes) → Allowed rows b bytes
+
+pub allowed : (rows : List (List Range)) (b : ℕ) (bytes : List ℕ) → Allowed rows b bytes
+allowed rows b bytes = search (rules, arith)
+
+-- if such a test holds after bytes, a row was left before them
+some_left : (test : List (List Range) → Bool) → test [] ≡ false → (bytes : List ℕ) (rows : List (List Range))
+    → test (rows_after_bytes bytes rows) ≡ true → rows ≢ []
+some_left test nothing bytes rows is none = search (rules, arith, rows_after_bytes-none)
+
+allowed_length-more : (rows : List (List Range)) (b : ℕ) (bytes : List ℕ) → rows_after_byte b rows ≢ []
+    → allowed_length rows (b ∷ bytes) ≡ suc (allowed_length (rows_after_byte b rows) bytes)
+allowed_length-more rows b bytes some = search (rules, arith)
+
+-- a sequence is allowed whole, and nothing after it
+pub allowed_length-whole : (rows : List (List Range)) (bytes x : List ℕ) → AtMostOne rows
+    → some_whole (rows_after_bytes bytes rows) ≡ true
+    → allowed_length rows (bytes ++ x) ≡ length bytes
+allowed_length-whole rows [] [] one whole = refl
+allowed_length-whole [] [] (c ∷ x) one whole = refl
+allowed_length-whole ([] ∷ []) [] (c ∷ x) one whole = refl
+allowed_length-whole ((range ∷ ranges) ∷ []) [] (c ∷ x) one whole = cc
+allowed_length-whole (row ∷ next ∷ rows) [] (c ∷ x) one whole = absurd one
+allowed_length-whole rows (b ∷ bytes) x one whole =
+    allowed_length-more rows b (bytes ++ x) (some_left some_whole refl bytes _ whole)
+    ∙ ap suc (allowed_length-whole (rows_after_byte b rows) bytes x (AtMostOne-next b rows one) whole)
+
+-- a truncated sequence is allowed whole, and nothing after it that no row wants there
+pub allowed_length-broken : (rows : List (List Range)) (bytes : List ℕ) (b : ℕ) (x : List ℕ)
+    → some_open (rows_after_bytes bytes rows) ≡ true
+    → rows_after_byte b (rows_after_bytes bytes rows) ≡ [] → allowed_length rows (bytes ++ b ∷ x) ≡ length bytes
+allowed_length-broken rows [] b x more none = rw (none, allowed_length)
+allowed_length-broken rows (c ∷ bytes) b x more none =
+    allowed_length-more rows c (bytes ++ b ∷ x) (some_left some_open refl bytes _ more)
+    ∙ ap suc (allowed_length-broken (rows_after_byte c rows) bytes b x more none)
+
+-- a truncated sequence at the end is allowed whole
+pub allowed_length-end : (rows : List (List Range)) (bytes : List ℕ) → some_open (rows_after_bytes bytes rows) ≡ true
+    → allowed_length rows bytes ≡ length bytes
+allowed_length-end rows [] more = refl
+allowed_length-end rows (c ∷ bytes) more =
+    allowed_length-more rows c bytes (some_left some_open refl bytes _ more)
+    ∙ ap suc (allowed_length-end (rows_after_byte c rows) bytes more)
+
+-- ---- a first byte, and short sequences, in numbers
+
+-- By the nine rows.
+
+-- ---- what the rows want after a first byte
+
+pub second_plain : (a : ℕ) → a ≢ 0xe0 → a ≢ 0xed → a ≢ 0xf0 → a ≢ 0xf4 → second_range a ≡ from_to 0x80 0xbf
+unfolding second_range
+second_plain a e0 ed f0 f4 = grind (arith, nat_tests)
+
+-- a byte after the second
+abbrev pub continuation : Range
+continuation = from_to 0x80 0xbf
+
+pub rows-lone : (a : ℕ) → 0x80 ≤ a → a < 0xc2 → rows_after_byte a utf8_rows ≡ []
+unfolding utf8_rows
+rows-lone a low high = grind (arith, nat_tests)
+
+pub rows-none : (a : ℕ) → 0xf5 ≤ a → rows_after_byte a utf8_rows ≡ []
+unfolding utf8_rows
+rows-none a low = grind (arith, nat_tests)
+
+-- ---- the kinds of first bytes
+
+pub data FirstByte (a : ℕ) : Type 0 where
+  ascii : a < 0x80 → FirstByte a
+  lone : rows_after_byte a utf8_rows ≡ [] → FirstByte a
+  of_two : 0xc2 ≤ a → a < 0xe0 → FirstByte a
+  of_three : 0xe0 ≤ a → a < 0xf0 → FirstByte a
+  of_four : 0xf0 ≤ a → a < 0xf5 → FirstByte a
+
+pub first_byte : (a : ℕ) → FirstByte a
+first_byte a =
+    elim (cases_lt a 0x80) [
+      | inl below ↦ ascii below
+      | inr from_80 ↦ elim (cases_lt a 0xc2) [
+        | inl below ↦ lone (rows-lone a from_80 below)
+        | inr from_c2 ↦ elim (cases_lt a 0xe0) [
+          | inl below ↦ of_two from_c2 below
+          | inr from_e0 ↦ elim (cases_lt a 0xf0) [
+            | inl below ↦ of_three from_e0 below
+            | inr from_f0 ↦ elim (cases_lt a 0xf5) [
+              | inl below ↦ of_four from_f0 below
+              | inr from_f5 ↦ lone (rows-none a from_f5)
+            ]
+          ]
+        ]
+      ]
+    ]
+
+-- ---- the two tests of a sequence, by its first byte and the ranges of the others
+
+-- a byte for each range, each in its own
+abbrev pub fits : List Range → List ℕ → Bool
+fits [] [] = true
+fits [] (b ∷ bytes) = false
+fits (range ∷ ranges) [] = false
+fits (range ∷ ranges) (b ∷ bytes) = is_in range b && fits ranges bytes
+
+-- the same for the first ranges, and some are left
+abbrev fits_prefix : List Range → List ℕ → Bool
+fits_prefix [] bytes = false
+fits_prefix (range ∷ ranges) [] = true
+fits_prefix (range ∷ ranges) (b ∷ bytes) = is_in range b && fits_prefix ranges bytes
+
+some_whole-row : (ranges : List Range) (u : List ℕ) → some_whole (rows_after_bytes u (ranges ∷ [])) ≡ fits ranges u
+some_whole-row [] [] = refl
+some_whole-row [] (b ∷ u) = ap some_whole (rows_after_bytes-none u)
+some_whole-row (range ∷ ranges) [] = refl
+some_whole-row (range ∷ ranges) (b ∷ u) = search (rules, arith, (some_whole-row ranges u), rows_after_bytes-none)
+
+some_open-row : (ranges : List Range) (u : List ℕ) → some_open (rows_after_bytes u (ranges ∷ [])) ≡ fits_prefix ranges u
+some_open-row [] [] = refl
+some_open-row [] (b ∷ u) = ap some_open (rows_after_bytes-none u)
+some_open-row (range ∷ ranges) [] = refl
+some_open-row (range ∷ ranges) (b ∷ u) = search (rules, arith, (some_open-row ranges u), rows_after_bytes-none)
+
+-- what the two tests say of bytes
+pub record Tests (bytes : List ℕ) (whole more : Bool) : Type 0 where
+  pub is_whole : is_well_formed bytes ≡ whole
+  pub is_open : is_truncated bytes ≡ more
+
+pub tests-row : (a : ℕ) (ranges : List Range) → rows_after_byte a utf8_rows ≡ ranges ∷ [] → (u : List ℕ)
+    → Tests (a ∷ u) (fits ranges u) (fits_prefix ranges u)
+unfolding is_well_formed is_truncated
+tests-row a ranges same u = search (rules, arith, some_whole-row, some_open-row)
+
+pub tests-none : (a : ℕ) → rows_after_byte a utf8_rows ≡ [] → (u : List ℕ) → Tests (a ∷ u) false false
+unfolding is_well_formed is_truncated
+tests-none a none u = search (rules, arith, rows_after_bytes-none)
+
+pub tests-ascii : (a : ℕ) → a < 0x80 → (u : List ℕ) → Tests (a ∷ u) (fits [] u) false
+unfolding utf8_rows
+tests-ascii a high u = tests-row a [] (grind (arith, nat_tests)) u
+
+pub tests-two : (a : ℕ) → 0xc2 ≤ a → a < 0xe0 → (u : List ℕ)
+    → Tests (a ∷ u) (fits (second_range a ∷ []) u) (fits_prefix (second_range a ∷ []) u)
+unfolding utf8_rows second_range
+tests-two a low high u = tests-row a (second_range a ∷ []) (grind (arith, nat_tests)) u
+
+pub tests-three : (a : ℕ) → 0xe0 ≤ a → a < 0xf0 → (u : List ℕ)
+    → Tests (a ∷ u) (fits (second_range a ∷ continuation ∷ []) u) (fits_prefix (second_range a ∷ continuation ∷ []) u)
+unfolding utf8_rows second_range
+tests-three a low high u = tests-row a (second_range a ∷ continuation ∷ []) (grind (arith, nat_tests)) u
+
+pub tests-four : (a : ℕ) → 0xf0 ≤ a → a < 0xf5 → (u : List ℕ)
+    → Tests (a ∷ u) (fits (second_range a ∷ continuation ∷ continuation ∷ []) u)
+    (fits_prefix (second_range a ∷ continuation ∷ continuation ∷ []) u)
+unfolding utf8_rows second_range
+tests-four a low high u = tests-row a (second_range a ∷ continuation ∷ continuation ∷ []) (grind (arith, nat_tests)) u
+
+-- ---- what a truncated sequence is
+
+pub truncated-first : (a : ℕ) (u : List ℕ) → is_truncated (a ∷ u) ≡ true → (0xc2 ≤ a) × (a < 0xf5)
+truncated-first a u more = elim (first_byte a) [
+  | ascii high ↦ absurd (false≢true (sym (tests-ascii a high u).is_open ∙ more))
+  | lone none ↦ absurd (false≢true (sym (tests-none a none u).is_open ∙ more))
+  | of_two low high ↦ (low, omega arith)
+  | of_three low high ↦ (omega arith, omega arith)
+  | of_four low high ↦ (omega arith, high)
+]
+
+pub record TruncatedTwo (a b : ℕ) : Type 0 where
+  pub low : 0xe0 ≤ a
+  pub high : a < 0xf5
+  pub second : is_in (second_range a) b ≡ true
+
+pub truncated-two : (a b : ℕ) → is_truncated (a ∷ b ∷ []) ≡ true → TruncatedTwo a b
+unfolding is_truncated utf8_rows second_range
+truncated-two a b more = search (rules, arith)
+
+pub record TruncatedThree (a b c : ℕ) : Type 0 where
+  pub low : 0xf0 ≤ a
+  pub high : a < 0xf5
+  pub second : is_in (second_range a) b ≡ true
+  pub third : is_in continuation c ≡ true
+
+pub truncated-three : (a b c : ℕ) → is_truncated (a ∷ b ∷ c ∷ []) ≡ true → TruncatedThree a b c
+unfolding is_truncated utf8_rows second_range
+truncated-three a b c more =
+    record {
+      low = grind (arith, nat_tests);
+      high = grind (arith, nat_tests);
+      second = grind (arith, nat_tests);
+      third = grind (arith, nat_tests);
+    }
+
+-- ---- a byte of ASCII
+
+pub ascii-alone : (b : ℕ) → b < 0x80 → Tests (b ∷ []) true false
+ascii-alone b high = tests-ascii b high []
+
+fits_prefix-long : (ranges : List Range) (u : List ℕ) → length ranges ≤ length u → fits_prefix ranges u ≡ false
+fits_prefix-long [] u long = refl
+fits_prefix-long (range ∷ ranges) [] long = absurd (omega (arith, long))
+fits_prefix-long (range ∷ ranges) (b ∷ u) long = and_right _ _ (fits_prefix-long ranges u (omega (arith, long)))
+
+-- no sequence of four bytes or more is truncated
+pub truncated-long : (a : ℕ) (u : List ℕ) → 3 ≤ length u → is_truncated (a ∷ u) ≡ false
+truncated-long a u long = elim (first_byte a) [
+  | ascii high ↦ (tests-ascii a high u).is_open
+  | lone none ↦ (tests-none a none u).is_open
+  | of_two low high ↦ (tests-two a low high u).is_open ∙ fits_prefix-long (second_range a ∷ []) u (omega (arith, long))
+  | of_three low high ↦
+      (tests-three a low high u).is_open ∙ fits_prefix-long (second_range a ∷ continuation ∷ []) u (omega (arith, long))
+  | of_four low high ↦
+      (tests-four a low high u).is_open ∙ fits_prefix-long (second_range a ∷ continuation ∷ continuation ∷ []) u long
+]
+
+ascii_after-one : (a b : ℕ) → b < 0x80 → Tests (a ∷ b ∷ []) false false
+unfolding is_well_formed is_truncated utf8_rows
+ascii_after-one a b high = search (rules, arith)
+
+ascii_after-two : (a c b : ℕ) → b < 0x80 → Tests (a ∷ c ∷ b ∷ []) false false
+unfolding is_well_formed is_truncated utf8_rows
+ascii_after-two a c b high = search (rules, arith)
+
+ascii_after-three : (a c d b : ℕ) → b < 0x80 → is_well_formed (a ∷ c ∷ d ∷ b ∷ []) ≡ false
+unfolding is_well_formed utf8_rows
+ascii_after-three a c d b high = grind (arith, nat_tests)
+
+-- it belongs to no sequence that others began
+pub ascii-breaks : (u : List ℕ) (b : ℕ) → is_truncated u ≡ true → b < 0x80 → Tests (u ++ b ∷ []) false false
+unfolding is_truncated
+ascii-breaks [] b more high = cc
+ascii-breaks (a ∷ []) b more high = ascii_after-one a b high
+ascii-breaks (a ∷ c ∷ []) b more high = ascii_after-two a c b high
+ascii-breaks (a ∷ c ∷ d ∷ []) b more high = search (rules, arith, ascii_after-three, truncated-long)
+ascii-breaks (a ∷ c ∷ d ∷ e ∷ u) b more high =
+    absurd (false≢true (sym (truncated-long a (c ∷ d ∷ e ∷ u) (omega arith)) ∙ more))

@@ -1,0 +1,167 @@
+-- What a call ensures: the facts of `drive`, put into the contract of each call, of both parsers.
+use Rattle.vte_core.proofs.Common.{◌≡◌, ℕ, ◌+◌, List, Result, arith, Machine, Refused, ReportsOutsideRuns, Bool, None, length, Ok, Err, IfErr, IfOk, refl, false, read_count, ReadsUpTo, Event, ChunkCall, ReadsUntilRefused, true, chunk_call, rules}
+use Rattle.vte_core.specs.machine.Progress.{Costs}
+use Rattle.vte_core.specs.declared.reader.run.Run.{Run}
+use Rattle.vte_core.specs.declared.reader.run.RunRange.{RunRange}
+use Rattle.vte_core.specs.Advance.{ReadsBytes, ReadsUntilTerminated}
+use Rattle.vte_core.specs.AdvanceToRun.{ReadsToRun}
+use Rattle.vte_core.specs.EarlyStop.{NeverStopsBefore}
+use Rattle.vte_core.specs.LongParserCalls.{IsRefusedMemory, ReadsLong}
+use Rattle.vte_core.specs.machine.ToRun.{ComesToRun, IsTaken, bytes_at}
+use Rattle.vte_core.proofs.calls.ToRun.{reads-run, returns-run}
+use Rattle.vte_core.specs.declared.parser.long.LongParser.{LongParser}
+use Rattle.vte_core.specs.LongParser.{HasReadLong}
+use Rattle.vte_core.specs.Looks.{counted}
+use Rattle.vte_core.specs.Parser.{reading}
+use Rattle.vte_core.proofs.calls.Open.{inside-reads, lacks_all, meets_data, refuses-inside, stores_pieces}
+use Rattle.vte_core.proofs.calls.Progress.{ends-performs, ends-reads, ends-reads_all, ends-stops, reads-all}
+
+-- ---- looks
+
+-- A call's looks count for its parser: its reader begins with none, and its looks are added.
+
+pub costs-added : {rate n : ℕ} {Answer B : Type 0} {bytes : List ℕ} {result : Result Answer Refused}
+    {parser next : Machine B} {before after earlier later : ℕ} → before ≡ 0 → later ≡ earlier + after
+    → Costs rate bytes result n parser next before after → Costs rate bytes result n parser next earlier later
+costs-added {result} {earlier} none sum costs = search (rules, arith)
+
+-- ---- with any limit, if no memory is refused
+
+module _ {V B : Type 0} {call : ChunkCall V} {old new : V} {before parser : Machine B} {start end : ℕ} where
+  pub reads-bytes : {read : ℕ} → read ≡ length call.bytes → ReadsUpTo call old new read before parser
+      → Costs 5 call.bytes (Ok read) read before parser start end
+      → ReadsBytes call.step old new call.bytes (reading call.limit before start) (reading call.limit parser end)
+  reads-bytes all reads costs = record {
+    performs = λ stream h. ends-performs all (reads.stands_at stream h);
+    reads = λ stream h. ends-reads_all all (reads.stands_at stream h);
+    count = costs.count;
+    least = omega (arith, all, costs.least);
+  }
+
+  pub reads-until : {read : ℕ} → call.may_stop ≡ true → ReadsUpTo call old new read before parser
+      → Costs 5 call.bytes (Ok read) read before parser start end
+      → ReadsUntilTerminated call.step call.is_terminated read old new call.bytes (reading call.limit before start)
+      (reading call.limit parser end)
+  reads-until does reads costs = record {
+    within = reads.within;
+    stops = λ stream h. ends-stops does reads.within reads.stops (reads.stands_at stream h);
+    reads = λ stream h. ends-reads (reads.stands_at stream h);
+    count = costs.count_if_ok;
+    least = costs.least;
+  }
+
+-- ---- without a limit
+
+module _ {A V : Type 0} {step : V → Event → V} {old new : V} {bytes : List ℕ} {parser next : LongParser A} where
+  is_refused : {may_stop : Bool} {asked : V → Bool} (is_terminated : V → Bool) {rate n : ℕ} {Answer : Type 0}
+      {result : Result Answer Refused}
+      → ReadsUntilRefused (chunk_call may_stop step asked None bytes) old new n parser.machine next.machine
+      → Costs rate bytes result n parser.machine next.machine (counted parser.looks) (counted next.looks)
+      → ((stream : List ℕ) → HasReadLong parser stream
+      → NeverStopsBefore step is_terminated old None stream bytes n)
+      → is_terminated new ≡ false → IsRefusedMemory rate step is_terminated old new bytes parser next n
+  is_refused is_terminated refuses costs earlier not_stopped = record {
+    within = refuses.within;
+    passes =
+        λ stream h. record {
+          performed = (refuses-inside refuses stream h).has_come.performed;
+          earlier = earlier stream h;
+        };
+    not_stopped = not_stopped;
+    reads = λ stream h. inside-reads (refuses-inside refuses stream h);
+    meets = λ stream h. meets_data refuses.refused h;
+    lacks = refuses.refused.lacks;
+    lacks_all = λ stream h. lacks_all refuses stream h costs.memory;
+    count = costs.count;
+    least = costs.least;
+  }
+
+module _ {A V : Type 0} {step : V → Event → V} {is_terminated : V → Bool} {old new : V} {bytes : List ℕ}
+    {parser next : LongParser A} where
+  -- a call that may stop
+  is_refused-asked : {rate n : ℕ} {Answer : Type 0} {result : Result Answer Refused}
+      → ReadsUntilRefused (chunk_call true step is_terminated None bytes) old new n parser.machine next.machine
+      → Costs rate bytes result n parser.machine next.machine (counted parser.looks) (counted next.looks)
+      → IsRefusedMemory rate step is_terminated old new bytes parser next n
+  is_refused-asked refuses costs =
+      is_refused is_terminated refuses costs (λ stream h. (refuses-inside refuses stream h).has_come.earlier refl)
+      (refuses.may_go_on refl)
+
+  -- `advance`
+  pub advance-refused : (refused : Refused) {drove : Result ℕ Refused}
+      → ReadsUntilRefused (chunk_call false step is_terminated None bytes) old new refused.read parser.machine
+      next.machine
+      → Costs 5 bytes drove refused.read parser.machine next.machine (counted parser.looks) (counted next.looks)
+      → ReadsLong 5 step (λ _. false) old new bytes parser next (Err refused) (λ (_ : Unit {0}). ReadsBytes step)
+  advance-refused refused refuses costs = record {
+    reads = tt;
+    refuses = is_refused (λ _. false) refuses costs (λ stream h start before starts. refl) refl;
+    memory = costs.memory;
+    stores = stores_pieces next.machine;
+  }
+
+  pub advance-read : {read : ℕ}
+      → ReadsUpTo (chunk_call false step is_terminated None bytes) old new read parser.machine next.machine
+      → Costs 5 bytes (Ok read) read parser.machine next.machine (counted parser.looks) (counted next.looks)
+      → ReadsLong 5 step (λ _. false) old new bytes parser next (Ok tt) (λ (_ : Unit {0}). ReadsBytes step)
+  advance-read reads costs = record {
+    reads = reads-bytes (reads-all _ _ reads.within reads.asked) reads costs;
+    refuses = tt;
+    memory = costs.memory;
+    stores = stores_pieces next.machine;
+  }
+
+  -- `advance_until_terminated`
+  pub advance-until : (result : Result ℕ Refused)
+      → IfOk result
+      (λ read. ReadsUpTo (chunk_call true step is_terminated None bytes) old new read parser.machine next.machine)
+      → IfErr result
+      (λ refused. ReadsUntilRefused (chunk_call true step is_terminated None bytes) old new refused.read
+      parser.machine next.machine)
+      → Costs 5 bytes result (read_count result) parser.machine next.machine (counted parser.looks)
+      (counted next.looks)
+      → ReadsLong 5 step is_terminated old new bytes parser next result (ReadsUntilTerminated step is_terminated)
+  advance-until (Ok read) reads refuses costs = record {
+    reads = reads-until refl reads costs;
+    refuses = tt;
+    memory = costs.memory;
+    stores = stores_pieces next.machine;
+  }
+  advance-until (Err refused) reads refuses costs = record {
+    reads = tt;
+    refuses = is_refused-asked refuses costs;
+    memory = costs.memory;
+    stores = stores_pieces next.machine;
+  }
+
+  -- `advance_to_run`
+  pub to_run-refused : (refused : Refused) {drove : Result RunRange Refused}
+      → ReadsUntilRefused (chunk_call true step is_terminated None bytes) old new refused.read parser.machine
+      next.machine
+      → Costs 7 bytes drove refused.read parser.machine next.machine (counted parser.looks) (counted next.looks)
+      → ReadsLong 7 step is_terminated old new bytes parser next (Err refused) (ReadsToRun step is_terminated)
+  to_run-refused refused refuses costs = record {
+    reads = tt;
+    refuses = is_refused-asked refuses costs;
+    memory = costs.memory;
+    stores = stores_pieces next.machine;
+  }
+
+  pub to_run-read : (run : Run) {place : RunRange}
+      → ComesToRun (chunk_call true step is_terminated None bytes) old new place parser.machine next.machine
+      → run.start ≡ place.start → run.end ≡ place.end → IsTaken place.kind (bytes_at bytes place) run.taken
+      → Costs 7 bytes (Ok place) place.end parser.machine next.machine (counted parser.looks) (counted next.looks)
+      → ((stream : List ℕ) → HasReadLong parser stream → ReportsOutsideRuns None stream bytes place.start)
+      → ReadsLong 7 step is_terminated old new bytes parser next (Ok run) (ReadsToRun step is_terminated)
+  to_run-read run comes starts ends taken costs others = record {
+    reads = record {
+      returns = returns-run run comes starts ends taken refl;
+      reads = reads-run run comes starts ends taken;
+      outside_runs = λ stream h. rw starts (others stream h);
+      count = rw ends costs.count_if_ok;
+      least = rw ends costs.least;
+    };
+    refuses = tt;
+    memory = costs.memory;
+    stores = stores_pieces next.machine;
+  }

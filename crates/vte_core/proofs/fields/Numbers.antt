@@ -1,0 +1,346 @@
+-- How one byte more changes the numbers of a parameter text, and how lengths cut numbers into groups.
+use Rattle.vte_core.proofs.Common.{◌≡◌, ℕ, suc, ◌+◌, ◌<◌, ◌≤◌, Bool, true, false, List, [], ◌∷◌, ◌++◌, length, take, drop, sum, Option, Some, None, refl, sym, ap, subst, ◌∙◌, arith, length-drop, length-append, get_or, All, take_all, take_more, take-append-le, drop-append-le, append-nil, take-append-drop, All-nil, drop_all, All-cons, All-head, All-tail, All-push, All-pop, All-take, All-drop, sum_by-cons, sum_by_push, sum_by-take-le, Number, with_number, count_of, greatest_number, most_numbers, AreGroups, ◌-◌, ◌*◌, min, map, inl, inr, append_assoc, length-take, fold, filter, slice_split, digit_value, cases_Bool, nat_tests, fold_push, numbers, numbers_of, number_of, is_colon, is_separator, numbers_from, grouped, groups_of, rules}
+use Rattle.std.proofs.lemmas.List.{length-take-le}
+use Rattle.std.specs.Option.{unwrap_or}
+use Rattle.vte_core.specs.machine.Store.{cut_by_lengths, AreLengths, AreFlatGroups, IsTakenOff}
+use Rattle.std.proofs.lemmas.Int.Digits.{digits_value_push}
+use Rattle.std.proofs.lemmas.List.Splits.{slice_split_at, slice_split_none}
+
+-- ---- groups
+
+-- By induction over the lengths, which together are as many as the numbers.
+
+abbrev pub IsFilled : List ℕ → Type 0
+IsFilled group = 0 < length group
+
+abbrev IsSmallNumber : ℕ → Type 0
+IsSmallNumber number = number ≤ greatest_number
+
+abbrev pub AreSmall : List ℕ → Type 0
+AreSmall group = All IsSmallNumber group
+
+abbrev pub numbered : Bool → ℕ → Number
+numbered joined value = record { joined = joined; value = value }
+
+-- no group is longer than all together
+length_le_sum : (lengths : List ℕ) → All (λ n. 0 < n) lengths → length lengths ≤ sum lengths
+length_le_sum [] filled = omega arith
+length_le_sum (n ∷ lengths) filled =
+    let more = length_le_sum lengths (All-tail (λ m. 0 < m) n lengths filled) in
+    omega (arith, more, All-head (λ m. 0 < m) n lengths filled, sum_by-cons (λ (m : ℕ). m) n lengths)
+
+-- the first length takes its part, and the others take up the rest
+sum_rest : (n : ℕ) (lengths numbers : List ℕ) → sum (n ∷ lengths) ≡ length numbers
+    → (n ≤ length numbers) × (sum lengths ≡ length (drop n numbers))
+sum_rest n lengths numbers whole =
+    let apart : sum (n ∷ lengths) ≡ n + sum lengths = sum_by-cons (λ (m : ℕ). m) n lengths in
+    (omega arith, omega (arith, length-drop n numbers))
+
+pub AreLengths-rest : {n : ℕ} {lengths numbers : List ℕ} → AreLengths (n ∷ lengths) numbers
+    → AreLengths lengths (drop n numbers)
+AreLengths-rest {n} {lengths} {numbers} ok = record {
+  whole = (sum_rest n lengths numbers ok.whole).1;
+  filled = All-tail (λ m. 0 < m) n lengths ok.filled;
+}
+
+pub length-cut_by_lengths : (lengths numbers : List ℕ) → length (cut_by_lengths lengths numbers) ≡ length lengths
+length-cut_by_lengths [] numbers = refl
+length-cut_by_lengths (n ∷ lengths) numbers = ap suc (length-cut_by_lengths lengths (drop n numbers))
+
+pub count_of-cut_by_lengths : {lengths numbers : List ℕ} → AreLengths lengths numbers
+    → count_of (cut_by_lengths lengths numbers) ≡ length numbers
+count_of-cut_by_lengths {lengths = []} ok = ok.whole
+count_of-cut_by_lengths {lengths = n ∷ lengths} {numbers} ok =
+    let rest = sum_rest n lengths numbers ok.whole in
+    let more = count_of-cut_by_lengths (AreLengths-rest ok) in
+    omega (
+      arith,
+      rest,
+      more,
+      length-take-le n numbers rest.0,
+      length-drop n numbers,
+      sum_by-cons length (take n numbers)
+          (cut_by_lengths lengths (drop n numbers)),
+    )
+
+filled-cut_by_lengths : {lengths numbers : List ℕ} → AreLengths lengths numbers
+    → All IsFilled (cut_by_lengths lengths numbers)
+filled-cut_by_lengths {lengths = []} ok = All-nil IsFilled
+filled-cut_by_lengths {lengths = n ∷ lengths} {numbers} ok =
+    let rest = sum_rest n lengths numbers ok.whole in
+    All-cons IsFilled (take n numbers) (cut_by_lengths lengths (drop n numbers))
+    (omega (arith, All-head (λ m. 0 < m) n lengths ok.filled, length-take-le n numbers rest.0))
+    (filled-cut_by_lengths (AreLengths-rest ok))
+
+small-cut_by_lengths : (lengths numbers : List ℕ) → AreSmall numbers → All AreSmall (cut_by_lengths lengths numbers)
+small-cut_by_lengths [] numbers small = All-nil AreSmall
+small-cut_by_lengths (n ∷ lengths) numbers small =
+    All-cons AreSmall (take n numbers) (cut_by_lengths lengths (drop n numbers))
+    (All-take IsSmallNumber n numbers small)
+    (small-cut_by_lengths lengths (drop n numbers) (All-drop IsSmallNumber n numbers small))
+
+pub AreGroups-cut_by_lengths : (lengths numbers : List ℕ) → AreFlatGroups lengths numbers
+    → length numbers ≤ most_numbers
+    → AreGroups (cut_by_lengths lengths numbers)
+AreGroups-cut_by_lengths lengths numbers ok few =
+    search (rules, arith, count_of-cut_by_lengths, small-cut_by_lengths, filled-cut_by_lengths)
+
+-- ---- a number more
+
+pub with_number-begins : (groups : List (List ℕ)) (value : ℕ)
+    → with_number groups (numbered false value) ≡ groups ++ (value ∷ []) ∷ []
+with_number-begins [] value = refl
+with_number-begins (group ∷ []) value = refl
+with_number-begins (group ∷ next ∷ groups) value =
+    ap (λ (gs : List (List ℕ)). group ∷ gs) (with_number-begins (next ∷ groups) value)
+
+pub with_number-joins : (groups : List (List ℕ)) (group : List ℕ) (value : ℕ)
+    → with_number (groups ++ group ∷ []) (numbered true value) ≡ groups ++ (group ++ value ∷ []) ∷ []
+with_number-joins [] group value = refl
+with_number-joins (first ∷ []) group value = refl
+with_number-joins (first ∷ next ∷ groups) group value =
+    ap (λ (gs : List (List ℕ)). first ∷ gs) (with_number-joins (next ∷ groups) group value)
+
+-- the groups of a prefix, and one more after them
+cut_by_lengths-push : (lengths numbers : List ℕ) (n : ℕ) (more : List ℕ) → sum lengths ≡ length numbers
+    → length more ≡ n
+    → cut_by_lengths (lengths ++ n ∷ []) (numbers ++ more) ≡ cut_by_lengths lengths numbers ++ more ∷ []
+cut_by_lengths-push [] [] n more whole size = ap (λ (group : List ℕ). group ∷ []) (take_all n more (omega arith))
+cut_by_lengths-push [] (x ∷ numbers) n more whole size = absurd (omega arith)
+cut_by_lengths-push (m ∷ lengths) numbers n more whole size =
+    let rest = sum_rest m lengths numbers whole in
+    rw (
+      take-append-le m numbers more rest.0,
+      drop-append-le m numbers more rest.0,
+      cut_by_lengths-push lengths (drop m numbers) n more rest.1 size,
+    )
+
+sum_push : (lengths : List ℕ) (n : ℕ) → sum (lengths ++ n ∷ []) ≡ sum lengths + n
+sum_push lengths n = sum_by_push (λ (m : ℕ). m) lengths n
+
+-- the last group has what the lengths before its own leave, and more
+cut_by_lengths-last : (rest numbers more : List ℕ) (n m : ℕ) → sum rest + n ≡ length numbers → m ≡ n + length more
+    → cut_by_lengths (rest ++ m ∷ []) (numbers ++ more)
+    ≡ cut_by_lengths rest (take (sum rest) numbers) ++ (drop (sum rest) numbers ++ more) ∷ []
+cut_by_lengths-last rest numbers more n m whole size =
+    let at = sum rest in
+    ap (λ v. cut_by_lengths (rest ++ m ∷ []) (v ++ more)) (sym (take-append-drop at numbers))
+    ∙ ap (cut_by_lengths (rest ++ m ∷ [])) (append_assoc (take at numbers) (drop at numbers) more)
+    ∙ cut_by_lengths-push rest (take at numbers) m (drop at numbers ++ more)
+    (sym (length-take-le at numbers (omega arith)))
+    (omega (arith, length-append (drop at numbers) more, length-drop at numbers))
+
+-- what stands there with the number
+pub record IsPushed (joined : Bool) (lengths rest numbers : List ℕ) (last : Option ℕ) (value : ℕ) : Type 0 where
+  pub room : unwrap_or last 0 + length rest ≤ length numbers
+  pub groups : cut_by_lengths (rest ++ (unwrap_or last 0 + 1) ∷ []) (numbers ++ value ∷ [])
+      ≡ with_number (cut_by_lengths lengths numbers) (numbered joined value)
+  pub lengths_fit : AreLengths (rest ++ (unwrap_or last 0 + 1) ∷ []) (numbers ++ value ∷ [])
+
+cut_by_lengths-more : {joined : Bool} {lengths rest numbers : List ℕ} {last : Option ℕ} {value : ℕ}
+    → sum rest + unwrap_or last 0 ≡ length numbers → All (λ n. 0 < n) rest
+    → cut_by_lengths rest (take (sum rest) numbers) ++ (drop (sum rest) numbers ++ value ∷ []) ∷ []
+    ≡ with_number (cut_by_lengths lengths numbers) (numbered joined value)
+    → IsPushed joined lengths rest numbers last value
+cut_by_lengths-more {rest} {numbers} {last} {value} whole filled same = record {
+  room = omega (arith, length_le_sum rest filled);
+  groups = cut_by_lengths-last rest numbers (value ∷ []) (unwrap_or last 0) (unwrap_or last 0 + 1) whole refl ∙ same;
+  lengths_fit = record {
+    whole = omega (arith, sum_push rest (unwrap_or last 0 + 1), length-append numbers (value ∷ []));
+    filled = All-push (λ m. 0 < m) rest (unwrap_or last 0 + 1) filled (omega arith);
+  };
+}
+
+pushed-alone : {joined : Bool} {lengths rest numbers : List ℕ} {value : ℕ} → AreLengths lengths numbers
+    → lengths ≡ rest ++ []
+    → with_number (cut_by_lengths lengths numbers) (numbered false value)
+    ≡ with_number (cut_by_lengths lengths numbers) (numbered joined value)
+    → IsPushed joined lengths rest numbers None value
+pushed-alone {joined} {lengths} {rest} {numbers} {value} ok parts same =
+    subst (λ rest. IsPushed joined lengths rest numbers None value) (parts ∙ append-nil rest)
+    (cut_by_lengths-more (omega (arith, ok.whole)) ok.filled
+    (rw (
+      take_all (sum lengths) numbers (omega (arith, ok.whole)),
+      drop_all (sum lengths) numbers
+          (omega (arith, ok.whole)),
+    )
+    (sym (with_number-begins (cut_by_lengths lengths numbers) value) ∙ same)))
+
+pub pushed : (joined : Bool) (lengths rest numbers : List ℕ) (last : Option ℕ) (value : ℕ)
+    → AreLengths lengths numbers → IsTakenOff joined lengths rest last → IsPushed joined lengths rest numbers last value
+pushed true lengths rest numbers (Some n) value ok taken =
+    let whole : sum rest + n ≡ length numbers = sym (sum_push rest n) ∙ ap sum (sym taken.parts) ∙ ok.whole in
+    let old = simp append-nil at (cut_by_lengths-last rest numbers [] n n whole (omega arith)) in
+    cut_by_lengths-more whole
+    (All-pop (λ m. 0 < m) lengths rest (Some n) taken.parts ok.filled).0
+    (sym (with_number-joins (cut_by_lengths rest (take (sum rest) numbers)) (drop (sum rest) numbers) value)
+    ∙ ap (λ groups. with_number groups (numbered true value))
+    (sym old ∙ ap (λ those. cut_by_lengths those numbers) (sym taken.parts)))
+pushed true [] rest numbers None value ok taken = pushed-alone ok taken.parts refl
+pushed true (n ∷ lengths) rest numbers None value ok taken = absurd (omega (arith, taken.found refl refl))
+pushed false lengths rest numbers (Some n) value ok taken = let h = taken.alone refl in cc
+pushed false lengths rest numbers None value ok taken =
+    pushed-alone ok taken.parts refl
+
+-- ---- lengths that are added up one after another
+
+-- with one more
+pub sum_take_more : (xs : List ℕ) (i : ℕ) → i < length xs → sum (take (i + 1) xs) ≡ sum (take i xs) + get_or xs i 0
+sum_take_more xs i some = rw (take_more xs i 0 some) (sum_by_push (λ x. x) (take i xs) (get_or xs i 0))
+
+-- the first of them come to no more than all
+pub sum_take_below : (xs : List ℕ) (i : ℕ) → i < length xs → sum (take i xs) + get_or xs i 0 ≤ sum xs
+sum_take_below xs i some = omega (arith, sum_take_more xs i some, sum_by-take-le (λ x. x) xs (i + 1))
+
+pub filled_take_more : (xs : List ℕ) (i : ℕ) → i < length xs → All (λ n. 0 < n) (take i xs) → 0 < get_or xs i 0
+    → All (λ n. 0 < n) (take (i + 1) xs)
+filled_take_more xs i some all first =
+    rw (take_more xs i 0 some) (All-push (λ n. 0 < n) (take i xs) (get_or xs i 0) all first)
+
+-- ---- a byte more
+
+-- A digit changes the last number, a separator begins another. The definition reads from the prefix, so it is first
+-- restated with what came before.
+
+-- ---- the numbers of a text, from its prefix
+
+abbrev pub IsNoSeparator : ℕ → Type 0
+IsNoSeparator b = is_separator b ≡ false
+
+split_numbers : (joined : Bool) (digits text : List ℕ) → All IsNoSeparator digits
+    → numbers_of (joined ∷ map is_colon (filter is_separator text))
+    (map number_of (slice_split is_separator (digits ++ text)))
+    ≡ numbers_from joined digits text
+split_numbers joined digits [] none = rw (append-nil digits, slice_split_none is_separator digits none) refl
+split_numbers joined digits (b ∷ text) none = elim (cases_Bool (is_separator b)) [
+  | inl cuts ↦
+      let rest = split_numbers (is_colon b) [] text (All-nil IsNoSeparator) in
+      rw (slice_split_at is_separator digits b text none cuts, cuts)
+      (ap (λ (l : List Number). numbered joined (number_of digits) ∷ l) rest)
+  | inr stays ↦
+      let rest =
+      split_numbers joined (digits ++ b ∷ []) text (All-push IsNoSeparator digits b none stays) in
+      rw stays (rw (append_assoc digits (b ∷ []) text) at rest)
+]
+
+pub numbers_are : (text : List ℕ) → numbers text ≡ numbers_from false [] text
+unfolding numbers
+numbers_are text = split_numbers false [] text (All-nil IsNoSeparator)
+
+-- ---- the numbers of a longer text
+
+pub is_digit_no_separator : (d : ℕ) → 48 ≤ d → d < 58 → IsNoSeparator d
+is_digit_no_separator d low high = grind (arith, nat_tests)
+
+digit_value_is : (d : ℕ) → 48 ≤ d → d < 58 → digit_value d ≡ d - 48
+digit_value_is d low high = grind (arith, nat_tests)
+
+-- a digit after a number that has stopped at the greatest leaves it there
+pub number_of-push : (digits : List ℕ) (d : ℕ) → 48 ≤ d → d < 58
+    → number_of (digits ++ d ∷ []) ≡ min greatest_number (10 * number_of digits + (d - 48))
+number_of-push digits d low high =
+    omega (arith, digits_value_push 10 digits d, digit_value_is d low high)
+
+abbrev pub IsSmall : Number → Type 0
+IsSmall n = n.value ≤ greatest_number
+
+-- there is one, and each is at most 65,535
+numbers_from-small : (joined : Bool) (digits text : List ℕ)
+    → (0 < length (numbers_from joined digits text)) × All IsSmall (numbers_from joined digits text)
+numbers_from-small joined digits [] = search (rules, arith)
+numbers_from-small joined digits (b ∷ text) =
+    search (
+      rules,
+      arith,
+      (numbers_from-small (is_colon b) [] text),
+      (numbers_from-small joined (digits ++ b ∷ []) text),
+    )
+
+numbers_small : (text : List ℕ) → (0 < length (numbers text)) × All IsSmall (numbers text)
+numbers_small text = rw (numbers_are text) (numbers_from-small false [] text)
+
+-- ---- groups
+
+pub grouped-push : (ns : List Number) (n : Number) → grouped (ns ++ n ∷ []) ≡ with_number (grouped ns) n
+grouped-push ns n = fold_push with_number [] ns n
+
+count_of-with_numbered : (groups : List (List ℕ)) (joined : Bool) (value : ℕ)
+    → count_of (with_number groups (numbered joined value)) ≡ count_of groups + 1
+count_of-with_numbered [] joined value = refl
+count_of-with_numbered (group ∷ []) true value = omega (arith, length-append group (value ∷ []))
+count_of-with_numbered (group ∷ []) false value = omega arith
+count_of-with_numbered (group ∷ next ∷ groups) joined value =
+    search (rules, arith, (count_of-with_numbered (next ∷ groups) joined value), sum_by-cons)
+
+count_of-with_number : (groups : List (List ℕ)) (n : Number) → count_of (with_number groups n) ≡ count_of groups + 1
+count_of-with_number groups n = count_of-with_numbered groups n.joined n.value
+
+count_of-fold : (groups : List (List ℕ)) (ns : List Number)
+    → count_of (fold with_number groups ns) ≡ count_of groups + length ns
+count_of-fold groups [] = omega arith
+count_of-fold groups (n ∷ ns) = omega (arith, count_of-fold (with_number groups n) ns, count_of-with_number groups n)
+
+pub count_of-grouped : (ns : List Number) → count_of (grouped ns) ≡ length ns
+count_of-grouped ns = omega (arith, count_of-fold [] ns)
+
+-- what holds of each group, where a number that begins a group and one that joins it keep it
+record Keeps (Q : List ℕ → Type 0) (R : ℕ → Type 0) : Type 0 where
+  begins : (value : ℕ) → R value → Q (value ∷ [])
+  joins : (group : List ℕ) (value : ℕ) → R value → Q group → Q (group ++ value ∷ [])
+
+All-with_numbered : {Q : List ℕ → Type 0} {R : ℕ → Type 0} (keeps : Keeps Q R) (groups : List (List ℕ))
+    (joined : Bool) (value : ℕ)
+    → R value → All Q groups → All Q (with_number groups (numbered joined value))
+All-with_numbered {Q} keeps [] joined value r all = All-cons Q (value ∷ []) [] (keeps.begins value r) (All-nil Q)
+All-with_numbered {Q} keeps (group ∷ []) true value r all =
+    All-cons Q (group ++ value ∷ []) [] (keeps.joins group value r (All-head Q group [] all)) (All-nil Q)
+All-with_numbered {Q} keeps (group ∷ []) false value r all =
+    All-push Q (group ∷ []) (value ∷ []) all (keeps.begins value r)
+All-with_numbered {Q} keeps (group ∷ next ∷ groups) joined value r all =
+    All-cons Q group (with_number (next ∷ groups) (numbered joined value)) (All-head Q group (next ∷ groups) all)
+    (All-with_numbered keeps (next ∷ groups) joined value r (All-tail Q group (next ∷ groups) all))
+
+All-fold : {Q : List ℕ → Type 0} {R : ℕ → Type 0} (keeps : Keeps Q R) (groups : List (List ℕ)) (ns : List Number)
+    → All (λ n. R n.value) ns → All Q groups → All Q (fold with_number groups ns)
+All-fold keeps groups [] rs all = all
+All-fold {Q} {R} keeps groups (n ∷ ns) rs all =
+    All-fold keeps (with_number groups n) ns (All-tail (λ (m : Number). R m.value) n ns rs)
+    (All-with_numbered keeps groups n.joined n.value (All-head (λ (m : Number). R m.value) n ns rs) all)
+
+any_group : (groups : List (List ℕ)) → 0 < count_of groups → 0 < length groups
+any_group [] some = some
+any_group (group ∷ groups) some = omega arith
+
+-- there is a group, also of an empty text
+pub some_group : (text : List ℕ) → 0 < length (groups_of text)
+unfolding groups_of
+some_group text = search (rules, arith, any_group, count_of-grouped, length-take, numbers_small)
+
+-- no group is empty
+filled-grouped : (ns : List Number) → All IsFilled (grouped ns)
+filled-grouped ns =
+    let keeps : Keeps IsFilled (λ value. Unit {0}) = record {
+      begins = λ value _. omega arith;
+      joins = λ group value _ filled. omega (arith, length-append group (value ∷ []));
+    } in
+    All-fold keeps [] ns (λ k d h. tt) (All-nil IsFilled)
+
+AreGroups-grouped : (ns : List Number) → length ns ≤ most_numbers → All IsSmall ns → AreGroups (grouped ns)
+AreGroups-grouped ns few small =
+    let P : ℕ → Type 0 = λ value. value ≤ greatest_number in
+    let keeps : Keeps (All P) P = record {
+      begins = λ value r. All-cons P value [] r (All-nil P);
+      joins = λ group value r all. All-push P group value all r;
+    } in
+    record {
+      few = omega (arith, count_of-grouped ns);
+      small = All-fold keeps [] ns small (All-nil (All P));
+      filled = filled-grouped ns;
+    }
+
+-- a parameter text gives at most 32 numbers, each up to 65,535
+pub AreGroups-groups_of : (text : List ℕ) → AreGroups (groups_of text)
+unfolding groups_of
+AreGroups-groups_of text =
+    AreGroups-grouped (take most_numbers (numbers text)) (omega (arith, length-take most_numbers (numbers text)))
+    (All-take IsSmall most_numbers (numbers text) (numbers_small text).1)

@@ -1,0 +1,290 @@
+-- What a store holds: how many bytes, and which pieces. The invariant `HoldsItems` says what more items give, and each
+-- byte either joins the last piece, ends it, or is dropped.
+--
+-- `pieces_from-X`: the pieces if X follows; `ends-X`: where pieces end; `keeps-X`: what is kept after X (`HoldsItems`).
+use Rattle.vte_core.proofs.Common.{◌≡◌, ◌≢◌, ℕ, ◌+◌, ◌-◌, ◌≤◌, ◌<◌, zero, suc, true, false, List, [], ◌∷◌, ◌++◌, length, take, drop, Option, Some, None, refl, sym, ap, ◌∙◌, arith, append_assoc, length-append, length-drop, length-take, inl, inr, All, concat, filter, slice_range, drop-append-le, take-append-le, All-head, All-tail, take-nil, cases_Bool, ltb-true, ne_eqb, semicolon, Stored, HoldsItems, PiecesEnd, cut_data, cut_pieces, ends_after, fitting, pieces_from, Bool, loses_data, has_room, is_data_item, nat_tests, kept_after, kept_items, most_pieces, pieces_of, append-nil, take_all, rules}
+use Rattle.std.specs.Prelude.{◌||◌, nat_lt}
+use Rattle.std.proofs.lemmas.List.Elements.{filter-append}
+use Rattle.vte_core.proofs.fields.Pieces.{cut_at_ends}
+use Rattle.std.proofs.lemmas.List.Folds.{concat-append}
+
+abbrev IsDataItem : ℕ → Type 0
+IsDataItem b = b ≢ semicolon
+
+-- ---- the pieces if items follow, item by item
+
+module _ (limit : Option ℕ) (bytes ends : List ℕ) where
+  pieces_from-nothing : pieces_from limit bytes ends [] ≡ cut_pieces bytes ends
+  pieces_from-nothing = rw (append-nil bytes, append-nil ends) refl
+
+  -- without room nothing is kept
+  pub pieces_from-full : has_room limit (length bytes) ≡ false → (more : List ℕ)
+      → pieces_from limit bytes ends more ≡ cut_pieces bytes ends
+  pieces_from-full full [] = pieces_from-nothing
+  pieces_from-full full (item ∷ more) = rw (full, append-nil bytes, append-nil ends) refl
+
+  pieces_from-byte : has_room limit (length bytes) ≡ true → (item : ℕ) → item ≢ semicolon → (more : List ℕ) →
+      pieces_from limit bytes ends (item ∷ more) ≡ pieces_from limit (bytes ++ item ∷ []) ends more
+  pieces_from-byte room item other more = search (rules, arith, ne_eqb, length-append, append_assoc)
+
+fitting-nothing : (limit : Option ℕ) (count : ℕ) → fitting limit count [] ≡ []
+fitting-nothing None count = refl
+fitting-nothing (Some limit) count = take-nil (limit - count)
+
+fitting-room : (limit : Option ℕ) (count b : ℕ) (run : List ℕ) → has_room limit count ≡ true
+    → fitting limit count (b ∷ run) ≡ b ∷ fitting limit (count + 1) run
+fitting-room None count b run room = refl
+fitting-room (Some limit) count b run room =
+    let next : limit - count ≡ suc (limit - (count + 1)) = omega (arith, ltb-true count limit room) in rw next refl
+
+fitting-full : (limit : Option ℕ) (count : ℕ) (run : List ℕ) → has_room limit count ≡ false
+    → fitting limit count run ≡ []
+fitting-full limit count run full = search (rules, arith)
+
+-- data bytes are kept as far as there is room
+pieces_from-run : (limit : Option ℕ) (bytes ends run more : List ℕ) → All IsDataItem run →
+    pieces_from limit bytes ends (run ++ more)
+    ≡ pieces_from limit (bytes ++ fitting limit (length bytes) run) ends more
+pieces_from-run limit bytes ends [] more none = rw (fitting-nothing limit (length bytes), append-nil bytes) refl
+pieces_from-run limit bytes ends (b ∷ run) more none =
+    let rest = pieces_from-run limit (bytes ++ b ∷ []) ends run more (All-tail IsDataItem b run none) in
+    elim (cases_Bool (has_room limit (length bytes))) [
+      | inl room ↦
+          let one = pieces_from-byte limit bytes ends room b (All-head IsDataItem b run none) (run ++ more) in
+          let kept = fitting-room limit (length bytes) b run room in
+          let same : bytes ++ fitting limit (length bytes) (b ∷ run)
+          ≡ (bytes ++ b ∷ []) ++ fitting limit (length (bytes ++ b ∷ [])) run =
+          rw (kept, length-append bytes (b ∷ []), append_assoc bytes (b ∷ [])) refl in
+          rw same (one ∙ rest)
+      | inr full ↦
+          let same = pieces_from-full limit bytes ends full in
+          rw (fitting-full limit (length bytes) (b ∷ run) full, append-nil bytes)
+          (same ((b ∷ run) ++ more) ∙ sym (same more))
+    ]
+
+-- ---- where pieces end
+
+-- a data byte belongs to the piece after the last end
+ends-more : (left start : ℕ) (ends : List ℕ) (count more : ℕ) → length ends < left → PiecesEnd left start ends count
+    → PiecesEnd left start ends (count + more)
+ends-more zero start ends count more few are = absurd (omega arith)
+ends-more (suc left) start [] count more few are = omega arith
+ends-more (suc left) start (end ∷ ends) count more few are =
+    (are.0, ends-more left end ends count more (omega arith) are.1)
+
+ends-push : (left start : ℕ) (ends : List ℕ) (count : ℕ) → length ends < left → PiecesEnd left start ends count
+    → PiecesEnd left start (ends ++ count ∷ []) count
+ends-push zero start ends count few are = absurd (omega arith)
+ends-push (suc zero) start [] count few are = (are, refl)
+ends-push (suc (suc left)) start [] count few are = (are, omega arith)
+ends-push (suc left) start (end ∷ ends) count few are = (are.0, ends-push left end ends count (omega arith) are.1)
+
+ends-within : (left start : ℕ) (ends : List ℕ) (count : ℕ) → PiecesEnd left start ends count → start ≤ count
+ends-within zero start [] count are = omega arith
+ends-within zero start (end ∷ ends) count are = absurd are
+ends-within (suc left) start [] count are = are
+ends-within (suc left) start (end ∷ ends) count are = omega (arith, are.0, ends-within left end ends count are.1)
+
+-- all bytes are in the pieces
+ends-stored : (left start : ℕ) (bytes ends : List ℕ) → PiecesEnd left start ends (length bytes)
+    → start + length (concat (take left (cut_data start bytes ends))) ≡ length bytes
+ends-stored zero start bytes [] are = omega (arith, are)
+ends-stored zero start bytes (end ∷ ends) are = absurd are
+ends-stored (suc left) start bytes [] are = search (rules, arith, take-nil, append-nil, length-drop)
+ends-stored (suc left) start bytes (end ∷ ends) are =
+    search (rules, arith, (ends-stored left end bytes ends are.1), ends-within, length-append, length-take, length-drop)
+
+slice_within : (start end : ℕ) (bytes more : List ℕ) → start ≤ end → end ≤ length bytes
+    → slice_range (bytes ++ more) start end ≡ slice_range bytes start end
+slice_within start end bytes more order within = search (rules, arith, drop-append-le, take-append-le, length-drop)
+
+-- after the last of them further bytes and ends make no difference
+ends-complete : (start : ℕ) (bytes ends more later : List ℕ) → PiecesEnd (length ends) start ends (length bytes) →
+    take (length ends) (cut_data start (bytes ++ more) (ends ++ later)) ≡ take (length ends) (cut_data start bytes ends)
+ends-complete start bytes [] more later are = refl
+ends-complete start bytes (end ∷ ends) more later are =
+    search (rules, arith, (ends-complete end bytes ends more later are.1), slice_within, ends-within)
+
+-- ---- how many data bytes came, and whether some were dropped
+
+data-run : (run : List ℕ) → All IsDataItem run → filter is_data_item run ≡ run
+data-run [] none = refl
+data-run (b ∷ run) none =
+    rw (ne_eqb b semicolon (All-head IsDataItem b run none), data-run run (All-tail IsDataItem b run none)) refl
+
+count-run : (items run : List ℕ) → All IsDataItem run
+    → length (filter is_data_item (items ++ run)) ≡ length (filter is_data_item items) + length run
+count-run items run none =
+    rw (filter-append is_data_item items run, data-run run none) (length-append (filter is_data_item items) run)
+
+count-end : (items : List ℕ)
+    → length (filter is_data_item (items ++ semicolon ∷ [])) ≡ length (filter is_data_item items)
+count-end items = rw (filter-append is_data_item items (semicolon ∷ []), append-nil (filter is_data_item items)) refl
+
+-- The flag of a store that held `before` of `count` data bytes, and holds `after` of them when n
+-- more have come.
+loses-more : (before after count n : ℕ) {old new : Bool} → before ≤ count → before ≤ after → after ≤ before + n
+    → old ≡ nat_lt before count
+    → new ≡ (old || nat_lt (after - before) n) → new ≡ nat_lt after (count + n)
+loses-more before after count n some low high was is = grind (arith, nat_tests, some, low, high, was, is)
+
+length-fitting : (limit : Option ℕ) (count : ℕ) (run : List ℕ) → length (fitting limit count run) ≤ length run
+length-fitting None count run = omega arith
+length-fitting (Some limit) count run = omega (arith, length-take (limit - count) run)
+
+-- ---- a store
+
+pub keeps-nothing : (limit : Option ℕ) (held : Stored) → held.bytes ≡ [] → held.ends ≡ [] → held.lost ≡ false
+    → HoldsItems limit held []
+unfolding pieces_of kept_items
+keeps-nothing limit held no_bytes no_ends none_lost = search (rules, arith, cut_at_ends)
+
+-- no item more counts
+abbrev IsDone : Option ℕ → Stored → Type 0
+IsDone limit held = (more : List ℕ) → pieces_from limit held.bytes held.ends more ≡ cut_pieces held.bytes held.ends
+
+-- after 16 ends
+pub done-complete : {limit : Option ℕ} {held : Stored} {items : List ℕ} → length held.ends ≡ most_pieces
+    → HoldsItems limit held items → IsDone limit held
+done-complete {limit} {held} complete keeps more =
+    let kept = kept_after limit (length held.bytes) more in
+    rw complete at (ends-complete 0 held.bytes held.ends (filter is_data_item kept)
+    (ends_after (length held.bytes) kept) (rw complete keeps.end))
+
+none-counts : {limit : Option ℕ} {held : Stored} {items : List ℕ} (more : List ℕ) → IsDone limit held
+    → HoldsItems limit held items
+    → (later : List ℕ) → pieces_of limit ((items ++ more) ++ later) ≡ pieces_from limit held.bytes held.ends later
+none-counts {items} more done keeps later =
+    rw (append_assoc items more later) (keeps.goes_on (more ++ later) ∙ done (more ++ later) ∙ sym (done later))
+
+-- after 16 ends, data bytes are dropped
+pub keeps-later : (limit : Option ℕ) (old new : Stored) (items run : List ℕ) → length old.ends ≡ most_pieces
+    → All IsDataItem run
+    → new.bytes ≡ old.bytes → new.ends ≡ old.ends
+    → new.lost ≡ (old.lost || nat_lt (length new.bytes - length old.bytes) (length run))
+    → HoldsItems limit old items → HoldsItems limit new (items ++ run)
+keeps-later limit old new items run complete none bytes ends lost keeps =
+    search (rules, arith, none-counts, done-complete, count-run, loses-more)
+
+-- if no more items count, a `;` changes nothing
+pub keeps-done : {limit : Option ℕ} {held : Stored} {items : List ℕ} → IsDone limit held → HoldsItems limit held items
+    → HoldsItems limit held (items ++ semicolon ∷ [])
+keeps-done {items} done keeps = search (rules, arith, none-counts, count-end)
+
+-- data bytes more
+pub keeps-run : (limit : Option ℕ) (old new : Stored) (items run : List ℕ) → length old.ends < most_pieces
+    → All IsDataItem run
+    → new.bytes ≡ old.bytes ++ fitting limit (length old.bytes) run → new.ends ≡ old.ends
+    → new.lost ≡ (old.lost || nat_lt (length new.bytes - length old.bytes) (length run))
+    → HoldsItems limit old items
+    → HoldsItems limit new (items ++ run)
+keeps-run limit old new items run few none bytes ends lost keeps =
+    search (rules, arith, ends-more, length-append, length-fitting, append_assoc, pieces_from-run, count-run)
+
+-- a `;` more
+pub keeps-end : (limit : Option ℕ) (old new : Stored) (items : List ℕ) → length old.ends < most_pieces
+    → has_room limit (length old.bytes) ≡ true
+    → new.bytes ≡ old.bytes → new.ends ≡ old.ends ++ length old.bytes ∷ [] → new.lost ≡ old.lost
+    → HoldsItems limit old items
+    → HoldsItems limit new (items ++ semicolon ∷ [])
+keeps-end limit old new items few room bytes ends lost keeps =
+    search (rules, arith, append_assoc, ends-push, count-end)
+
+-- the pieces, by what a store holds
+pub pieces_held : {limit : Option ℕ} {held : Stored} {items : List ℕ} → HoldsItems limit held items
+    → pieces_of limit items ≡ cut_pieces held.bytes held.ends
+pieces_held {limit} {held} keeps =
+    rw append-nil at (keeps.goes_on [] ∙ pieces_from-nothing limit held.bytes held.ends)
+
+-- all bytes are in them
+pub pieces_stored : {limit : Option ℕ} {held : Stored} {items : List ℕ} → HoldsItems limit held items
+    → length held.bytes ≡ length (concat (pieces_of limit items))
+pieces_stored {held} keeps =
+    rw (pieces_held keeps) (omega (arith, ends-stored most_pieces 0 held.bytes held.ends keeps.end))
+
+-- a store knows whether data bytes were dropped
+pub loses_held : {limit : Option ℕ} {held : Stored} {items : List ℕ} → HoldsItems limit held items
+    → loses_data limit items ≡ held.lost
+unfolding loses_data
+loses_held {limit} {held} {items} keeps = rw (pieces_stored keeps) at (sym keeps.lost)
+
+-- ---- one more data byte of an open command
+
+-- With fewer than 16 `;` the byte joins the last piece, and the others stay.
+
+-- the pieces of held bytes, and those with a byte more
+record ContinuesPiece (start : ℕ) (bytes ends : List ℕ) (byte : ℕ) : Type 0 where
+  pieces : List (List ℕ)
+  last : List ℕ
+  ended : length pieces ≡ length ends
+  before : cut_data start bytes ends ≡ pieces ++ last ∷ []
+  later : cut_data start (bytes ++ byte ∷ []) ends ≡ pieces ++ (last ++ byte ∷ []) ∷ []
+
+piece-goes_on : (left start : ℕ) (bytes ends : List ℕ) (byte : ℕ) → PiecesEnd left start ends (length bytes)
+    → ContinuesPiece start bytes ends byte
+piece-goes_on left start bytes [] byte are =
+    let within = ends-within left start [] (length bytes) are in
+    record {
+      pieces = [];
+      last = drop start bytes;
+      ended = refl;
+      before = refl;
+      later = rw (drop-append-le start bytes (byte ∷ []) within) refl;
+    }
+piece-goes_on zero start bytes (end ∷ ends) byte are = absurd are
+piece-goes_on (suc left) start bytes (end ∷ ends) byte are =
+    let on = piece-goes_on left end bytes ends byte are.1 in
+    let slice = slice_within start end bytes (byte ∷ []) are.0 (ends-within left end ends (length bytes) are.1) in
+    record {
+      pieces = slice_range bytes start end ∷ on.pieces;
+      last = on.last;
+      ended = ap suc on.ended;
+      before = ap (λ pieces. slice_range bytes start end ∷ pieces) on.before;
+      later = rw slice (ap (λ pieces. slice_range bytes start end ∷ pieces) on.later);
+    }
+
+-- An open command with fewer than 16 `;`: a data byte goes to the piece after them.
+pub record IsOpenFor (items : List ℕ) (byte : ℕ) : Type 0 where
+  pub pieces : List (List ℕ)
+  pub last : List ℕ
+  pub few : length pieces < most_pieces
+  pub before : pieces_of None items ≡ pieces ++ last ∷ []
+  pub later : pieces_of None (items ++ byte ∷ []) ≡ pieces ++ (last ++ byte ∷ []) ∷ []
+  pub lost : loses_data None (items ++ byte ∷ []) ≡ loses_data None items
+
+pieces-few : (pieces : List (List ℕ)) (last : List ℕ) → length pieces < most_pieces
+    → take most_pieces (pieces ++ last ∷ []) ≡ pieces ++ last ∷ []
+pieces-few pieces last few =
+    take_all most_pieces (pieces ++ last ∷ []) (omega (arith, length-append pieces (last ∷ [])))
+
+concat-last : (pieces : List (List ℕ)) (last : List ℕ)
+    → length (concat (pieces ++ last ∷ [])) ≡ length (concat pieces) + length last
+concat-last pieces last = rw (concat-append pieces (last ∷ []), append-nil last) (length-append (concat pieces) last)
+
+-- a data byte more that is in a piece isn't dropped
+loss-same : (items : List ℕ) (byte : ℕ) (pieces : List (List ℕ)) (last : List ℕ)
+    → pieces_of None items ≡ pieces ++ last ∷ []
+    → pieces_of None (items ++ byte ∷ []) ≡ pieces ++ (last ++ byte ∷ []) ∷ [] → byte ≢ semicolon
+    → loses_data None (items ++ byte ∷ []) ≡ loses_data None items
+unfolding loses_data
+loss-same items byte pieces last before later other = search (rules, arith, count-run, concat-last, length-append)
+
+pub open_for : {held : Stored} {items : List ℕ} {byte : ℕ} → HoldsItems None held items → length held.ends < most_pieces
+    → byte ≢ semicolon → IsOpenFor items byte
+open_for {held} {items} {byte} keeps few other =
+    let g = piece-goes_on most_pieces 0 held.bytes held.ends byte keeps.end in
+    let some : length g.pieces < most_pieces = omega (arith, g.ended) in
+    let more =
+    keeps.goes_on (byte ∷ []) ∙ pieces_from-byte None held.bytes held.ends refl byte other []
+    ∙ pieces_from-nothing None (held.bytes ++ byte ∷ []) held.ends in
+    let before =
+    pieces_held keeps ∙ ap (take most_pieces) g.before ∙ pieces-few g.pieces g.last some in
+    let later = more ∙ ap (take most_pieces) g.later ∙ pieces-few g.pieces (g.last ++ byte ∷ []) some in
+    record {
+      pieces = g.pieces;
+      last = g.last;
+      few = some;
+      before = before;
+      later = later;
+      lost = loss-same items byte g.pieces g.last before later other;
+    }

@@ -1,0 +1,191 @@
+-- Parts give the events of their stream, because it begins anew at each ESC (`resynchronises`); so it does at a byte
+-- that breaks a character.
+use Rattle.memchr.specs.Find.{NoneBefore, Nowhere, Passes, is_byte}
+use Rattle.std.proofs.lemmas.List.Sums.{passes_at_first, position_or_len_is}
+use Rattle.std.specs.List.{position_or_len}
+use Rattle.vte_core.specs.Parts.{AreCuts, EndsWithEscape, GiveEvents, next_escape, parts_after, parts_at, parts_from, parts_of}
+use Rattle.vte_core.proofs.Common.{◌≡◌, ℕ, ◌+◌, ◌-◌, ◌<◌, zero, suc, min, inl, inr, true, Option, List, [], ◌∷◌, ◌++◌, arith, length, length-drop, Bool, false, take, drop, refl, ap, sym, ◌∙◌, append-nil, cases_lt, drop_all, drop-drop, drop_more, eqb-true, flat_map, get_or-drop, slice_index, slice_range, take_all, take_more, take_rest, take-append-drop, outcome, events, escape, append_assoc, and_parts, false≢true, not-true, drop-append_seam, breaks, Print, replacement, report, added, open_character, Place, InText, IsAfter, open_at, outcome_from, rules}
+use Rattle.vte_core.specs.Outcome.{closing_events}
+use Rattle.vte_core.proofs.streams.After.{added-reads, after-left, events-reported, events-empty, waits-broken, after-open_character}
+use Rattle.vte_core.proofs.places.TextSteps.{reads-escape, outcome-after_nothing}
+use Rattle.vte_core.proofs.streams.StreamSteps.{LeadsTo, events_grow, leads_to, resynchronises}
+use Rattle.vte_core.proofs.fields.PlaceOfState.{IsPlace}
+use Rattle.vte_core.proofs.Shapes.{breaks-no_byte, report-append}
+
+-- ---- an ESC cuts a stream
+
+events-cut : (limit : Option ℕ) (stream : List ℕ) (cut : ℕ) → cut < length stream → slice_index stream cut ≡ escape
+    → events limit stream ≡ events limit (take (cut + 1) stream) ++ events limit (drop cut stream)
+events-cut limit stream cut within is =
+    let later = drop (cut + 1) stream in
+    let rest : drop cut stream ≡ escape ∷ later =
+    drop_more stream cut 0 within ∙ ap (λ b. b ∷ later) is in
+    let part : take (cut + 1) stream ≡ take cut stream ++ escape ∷ [] =
+    take_more stream cut 0 within ∙ ap (λ b. take cut stream ++ b ∷ []) is in
+    ap (events limit) (sym (take-append-drop cut stream) ∙ ap (λ s. take cut stream ++ s) rest)
+    ∙ (resynchronises limit).escape (take cut stream) later
+    ∙ ap (λ s. events limit s ++ events limit (escape ∷ later)) (sym part)
+    ∙ ap (λ s. events limit (take (cut + 1) stream) ++ events limit s) (sym rest)
+
+-- ---- cuts at any ESC
+
+parts_from-events : (limit : Option ℕ) (start : ℕ) (cuts stream : List ℕ) → AreCuts stream start cuts
+    → flat_map (events limit) (parts_from start cuts stream) ≡ events limit (drop start stream)
+parts_from-events limit start [] stream are = append-nil (events limit (drop start stream))
+parts_from-events limit start (cut ∷ cuts) stream are =
+    let before = cut - start in
+    let later = drop start stream in
+    let there : drop cut stream ≡ drop before later =
+    ap (λ n. drop n stream) (omega (arith, are.0)) ∙ sym (drop-drop before start stream) in
+    let is : slice_index later before ≡ escape =
+    get_or-drop start stream before 0 ∙ ap (slice_index stream) (omega (arith, are.0)) ∙ are.2 in
+    ap (λ es. events limit (slice_range stream start (cut + 1)) ++ es)
+    (parts_from-events limit cut cuts stream are.3 ∙ ap (events limit) there)
+    ∙ ap (λ n. events limit (take n later) ++ events limit (drop before later)) (omega (arith, are.0))
+    ∙ sym (events-cut limit later before (omega (arith, are.0, are.1, length-drop start stream)) is)
+
+pub parts_give_events : (limit : Option ℕ) (stream cuts : List ℕ) → AreCuts stream 0 cuts
+    → GiveEvents limit (parts_at cuts stream) stream
+parts_give_events limit stream cuts are = parts_from-events limit 0 cuts stream are
+
+-- ---- the first ESC from a position on
+
+fails : (passes : Bool) → (passes ≡ true → ⊥) → passes ≡ false
+fails passes never = search (rules, arith)
+
+pub escape_found : (from : ℕ) (stream searched : List ℕ) {start distance : ℕ} → start ≡ min from (length stream)
+    → searched ≡ drop start stream → NoneBefore (Passes (is_byte escape) searched) 0 (length searched) distance
+    → Passes (is_byte escape) searched distance
+    → start + distance ≡ next_escape from stream
+escape_found from stream searched {start} {distance} least rest first is =
+    search (rules, arith, position_or_len_is, fails)
+
+pub escape_missing : (from : ℕ) (stream searched : List ℕ) {start : ℕ} → start ≡ min from (length stream)
+    → searched ≡ drop start stream → Nowhere (Passes (is_byte escape) searched) 0 (length searched)
+    → length stream ≡ next_escape from stream
+escape_missing from stream searched {start} least rest none =
+    omega (arith, least, length-drop start stream, ap length rest)
+    ∙ ap (λ n. start + n)
+    (sym (position_or_len_is (is_byte escape) searched (length searched) 0 (omega arith)
+    (λ k below. fails _ (none k (omega arith) below)) (λ lt. absurd (omega arith))))
+    ∙ ap (λ bytes. start + position_or_len (is_byte escape) bytes) rest
+    ∙ ap (λ n. n + position_or_len (is_byte escape) (drop n stream)) least
+
+escape_at : (from : ℕ) (stream : List ℕ) → next_escape from stream < length stream
+    → slice_index stream (next_escape from stream) ≡ escape
+escape_at from stream within = search (rules, arith, passes_at_first, length-drop, get_or-drop, eqb-true)
+
+escape_after : (from : ℕ) (stream : List ℕ) → 0 < from → 0 < length stream → 0 < next_escape from stream
+escape_after from stream some more = omega (arith, some, more)
+
+-- ---- parts of a size
+
+-- the parts after some bytes are those of what remains
+parts_after-drop : (size skip : ℕ) (stream : List ℕ)
+    → parts_after size skip stream ≡ parts_after size 0 (drop skip stream)
+parts_after-drop size zero stream = refl
+parts_after-drop size (suc skip) [] = refl
+parts_after-drop size (suc skip) (b ∷ stream) = parts_after-drop size skip stream
+
+drop-less : (n b : ℕ) (stream : List ℕ) → 0 < n → drop (n - 1) stream ≡ drop n (b ∷ stream)
+drop-less n b stream some = search (rules, arith)
+
+first_part : (size : ℕ) (stream : List ℕ) → 0 < size → 0 < length stream
+    → parts_after size 0 stream
+    ≡ take (next_escape size stream + 1) stream ∷ parts_after size 0 (drop (next_escape size stream) stream)
+first_part size stream j more = search (rules, arith, parts_after-drop, drop-less, escape_after)
+
+take-least : (n : ℕ) (stream : List ℕ) → take (min (length stream) n) stream ≡ take n stream
+take-least n stream = search (rules, arith, take_all)
+
+-- as `next` takes it off
+pub next_part : (size : ℕ) (stream : List ℕ) {cut end : ℕ} → 0 < size → 0 < length stream
+    → cut ≡ next_escape size stream → end ≡ min (length stream) (cut + 1)
+    → parts_after size 0 stream
+    ≡ take end stream ∷ parts_after size 0 (take (length stream - cut) (drop cut stream))
+next_part size stream {cut} {end} some more is least = search (rules, arith, first_part, take_rest, take-least)
+
+parts_after-events : (limit : Option ℕ) (size skip : ℕ) (stream : List ℕ) → 0 < size
+    → flat_map (events limit) (parts_after size skip stream) ≡ events limit (drop skip stream)
+parts_after-events limit size zero [] some = sym (events-empty limit)
+parts_after-events limit size (suc skip) [] some = sym (events-empty limit)
+parts_after-events limit size (suc skip) (b ∷ stream) some = parts_after-events limit size skip stream some
+parts_after-events limit size zero (b ∷ stream) some =
+    let whole = b ∷ stream in
+    let cut = next_escape size whole in
+    ap (λ es. events limit (take (cut + 1) whole) ++ es)
+    (parts_after-events limit size (cut - 1) stream some
+    ∙ ap (events limit) (drop-less cut b stream (escape_after size whole some (omega arith))))
+    ∙ elim (cases_lt cut (length whole)) [
+      | inl within ↦ sym (events-cut limit whole cut within (escape_at size whole within))
+      | inr past ↦
+          ap (λ s. events limit s ++ events limit (drop cut whole)) (take_all (cut + 1) whole (omega (arith, past)))
+          ∙ ap (λ s. events limit whole ++ events limit s) (drop_all cut whole past)
+          ∙ ap (λ es. events limit whole ++ es) (events-empty limit) ∙ append-nil (events limit whole)
+    ]
+
+pub parts_of_events : (limit : Option ℕ) (size : ℕ) (stream : List ℕ) → GiveEvents limit (parts_of size stream) stream
+parts_of_events limit size stream = parts_after-events limit _ 0 stream (omega arith)
+
+-- ---- an ESC at the end
+
+pub ends_with_escape : (limit : Option ℕ) (part : List ℕ) → EndsWithEscape limit part
+ends_with_escape limit part =
+    let a : LeadsTo limit part = leads_to in
+    events_grow limit part (escape ∷ [])
+    ∙ ap (λ es. events limit part ++ es)
+    (added-reads a.is_after (reads-escape a.is_place) tt ∙ ap closing_events (sym (after-left a.is_after a.is_place)))
+    ∙ ap (λ es. es ++ closing_events (outcome limit part).left) (events-reported limit part)
+
+-- ---- a stream goes on after a broken character as one that begins with the byte that broke it
+
+-- the next byte is the first of those that are unread
+outcome_from-broken : (limit : Option ℕ) (place : Place) (b : ℕ) (unread more : List ℕ) → IsPlace place
+    → breaks (open_at place) (b ∷ unread) ≡ true
+    → outcome_from limit place (b ∷ more)
+    ≡ report (Print replacement ∷ []) (outcome_from limit (InText []) (b ∷ more))
+outcome_from-broken limit place b unread more is broken = search (rules, arith, and_parts, waits-broken, not-true)
+
+-- the stream goes on as one that begins with what is unread
+outcome-broken : (limit : Option ℕ) (stream unread more : List ℕ) → breaks (open_character stream) unread ≡ true
+    → outcome limit (stream ++ (unread ++ more))
+    ≡ report (events limit stream ++ Print replacement ∷ []) (outcome limit (unread ++ more))
+outcome-broken limit stream [] more broken = absurd (false≢true (sym (breaks-no_byte (open_character stream)) ∙ broken))
+outcome-broken limit stream (b ∷ unread) more broken =
+    let a = leads_to in
+    let here : breaks (open_at a.place) (b ∷ unread) ≡ true =
+    ap (λ (u : List ℕ). breaks u (b ∷ unread))
+    (sym (after-open_character a.is_after a.is_place)) ∙ broken in
+    a.is_after.goes_on (b ∷ (unread ++ more))
+    ∙ ap (report (events limit stream)) (outcome_from-broken limit a.place b unread (unread ++ more) a.is_place here)
+    ∙ sym
+    (report-append (events limit stream) (Print replacement ∷ [])
+    (outcome_from limit (InText []) (b ∷ (unread ++ more))))
+    ∙ ap (report (events limit stream ++ Print replacement ∷ []))
+    (sym (outcome-after_nothing limit (b ∷ (unread ++ more))))
+
+events-broken : (limit : Option ℕ) (stream unread more : List ℕ) → breaks (open_character stream) unread ≡ true
+    → events limit (stream ++ (unread ++ more))
+    ≡ (events limit stream ++ Print replacement ∷ []) ++ events limit (unread ++ more)
+events-broken limit stream unread more broken = search (rules, arith, events-reported, outcome-broken)
+
+pub added-broken : (limit : Option ℕ) (stream unread more : List ℕ) → breaks (open_character stream) unread ≡ true
+    → added limit stream (unread ++ more) ≡ Print replacement ∷ added limit [] (unread ++ more)
+added-broken limit stream unread more broken =
+    search (rules, arith, events-broken, append_assoc, drop-append_seam, events-empty)
+
+pub resumes-after : (limit : Option ℕ) (stream unread : List ℕ) (place : Place)
+    → breaks (open_character stream) unread ≡ true
+    → IsAfter limit unread place
+    → IsAfter limit (stream ++ unread) place
+resumes-after limit stream unread place broken a = record {
+  goes_on = λ more.
+      let reported = events limit stream ++ Print replacement ∷ [] in
+      let all : events limit (stream ++ unread) ≡ reported ++ events limit unread =
+      rw append-nil at (events-broken limit stream unread [] broken) in
+      ap (outcome limit) (append_assoc stream unread more)
+      ∙ outcome-broken limit stream unread more broken
+      ∙ ap (report reported) (a.goes_on more)
+      ∙ sym (report-append reported (events limit unread) (outcome_from limit place more))
+      ∙ ap (λ es. report es (outcome_from limit place more)) (sym all);
+}

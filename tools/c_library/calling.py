@@ -1,0 +1,91 @@
+"""The functions of the library by ctypes: parsers of both kinds, and processors."""
+import re
+from ctypes import (
+    CFUNCTYPE, Structure, byref, c_size_t, c_uint8, c_uint16, c_uint32, c_uint64, c_void_p,
+    create_string_buffer, sizeof)
+from functools import partial
+
+from c_library.library import BESIDE
+
+TEXT, EXECUTE, HOOK, DATA, UNHOOK, OSC, CSI, ESC = range(8)
+ALL_KINDS, NO_ROOM, ROOMS = 0xFF, 2 ** 64 - 1, (128, 2112)
+# the functions of a table, with their parameters after the first
+FUNCTIONS = re.findall(r"void \(\*(\w+)\)\(void \*user(?:, ([^)]*))?\);",
+                       (BESIDE / "include/vte_handler.h").read_text())
+FUNCTION = CFUNCTYPE(None)
+SIZE_OF_TABLE = len(FUNCTIONS) * sizeof(FUNCTION)
+
+
+class Event(Structure):
+    _fields_ = [*((name, c_uint8) for name in ("kind", "flag", "intermediate_count", "count")),
+                ("intermediates", c_uint8 * 2), ("unused", c_uint16), ("code", c_uint32),
+                ("start", c_uint32)]
+
+
+class Parser:
+    """A parser, with a limit or without. Counts have other values before each call."""
+
+    def __init__(self, library, is_long=False):
+        self.c, self.is_long, self.place = library.functions, is_long, (c_uint64 * 164)()
+        if is_long:
+            self.place = c_void_p(self.c.vte_long_parser_new())
+
+    def __del__(self):
+        if self.is_long:
+            self.c.vte_long_parser_free(self.place)
+
+    def feed(self, sent, kinds=ALL_KINDS, stops=0, rooms=ROOMS):
+        """Returns how many bytes are read, the events, and how many data bytes these have."""
+        counts, events, data = (c_size_t * 2)(77, 77), (Event * rooms[0])(), (c_uint8 * rooms[1])()
+        given = (self.place, sent or None, c_size_t(len(sent)), c_uint32(kinds), c_uint32(stops),
+                 events or None, c_size_t(len(events)))
+        if self.is_long:
+            read = self.c.vte_long_feed(*given, byref(c_void_p()), counts)
+        else:
+            read = self.c.vte_feed(*given, data or None, c_size_t(len(data)), counts)
+        return read, events[:counts[0]], counts[1]
+
+    def strip(self, sent, room):
+        """Returns how many bytes are read, and the text."""
+        written, text = c_size_t(77), create_string_buffer(room) if room else None
+        read = self.c.vte_strip(self.place, sent or None, c_size_t(len(sent)), text, c_size_t(room),
+                                byref(written))
+        return read, text[:written.value] if room else b"?" * written.value
+
+    def open(self):
+        is_open = self.c.vte_long_is_open if self.is_long else self.c.vte_is_open
+        return is_open(self.place) & 0xff
+
+
+def parsers(library):
+    """New parsers of all kinds that the library has."""
+    return [Parser(library, is_long) for is_long in (False, True)[:1 + library.is_whole]]
+
+
+class Processor:
+    """A processor that notes the names of its calls, of a table with so many bytes, which has
+    functions after these, too."""
+
+    def __init__(self, library, size=SIZE_OF_TABLE):
+        self.c, self.made = library.functions, []
+        names = [name for name, _ in FUNCTIONS] + ["later"] * 3
+        self.table = (FUNCTION * len(names))(
+            *(FUNCTION(partial(self.made.append, name)) for name in names))
+        self.place = c_void_p(self.c.vte_processor_new(
+            self.table if size else None, c_size_t(size), None))
+
+    def advance(self, sent):
+        """Returns the status, and how many bytes are read."""
+        read = c_size_t(77)
+        return self.c.vte_processor_advance(self.place, sent or None, c_size_t(len(sent)),
+                                            byref(read)), read.value
+
+    def sync(self):
+        """Returns the status, how many bytes are held, whether an update is pending, and until
+        when."""
+        held = (c_uint64 * 3)(77, 77, 77)
+        status = self.c.vte_processor_sync(self.place, held)
+        return status, held[0], held[1] & 0xff, held[2]
+
+    def call(self, name):
+        return self.c[f"vte_processor_{name}"](self.place)

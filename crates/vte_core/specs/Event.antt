@@ -24,8 +24,7 @@ pub data Event : Type 0 where
 abbrev pub replacement : ℕ
 replacement = 0xfffd
 
--- The value of a performer after a list of events.
-
+-- the value of a performer after a list of events
 abbrev pub after : {V : Type 0} → (V → Event → V) → V → List Event → V
 after step value [] = value
 after step value (event ∷ events) = after step (step value event) events

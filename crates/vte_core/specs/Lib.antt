@@ -22,12 +22,12 @@ pub mod SystemCommand
 -- Streams, and what a parser has read of one.
 pub mod Body
 pub mod Stream
+pub mod Looks
 pub mod Parser
 -- What calls ensure.
-pub mod Looks
+pub mod EarlyStop
 pub mod Advance
 pub mod Open
-pub mod EarlyStop
 pub mod OutsideRuns
 pub mod AdvanceToRun
 -- The same without a limit, where memory may be refused.

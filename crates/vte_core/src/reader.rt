@@ -183,7 +183,7 @@ fn data(bytes: &[u8], from: usize, to: usize) -> &[u8]
 /// # Safety
 ///
 /// The bytes of a run of text must be whole characters, as [`text`] says.
-#[allow(unsafe_code)]
+// cargo: #[allow(unsafe_code)]
 // cargo instead: unsafe fn take_run(bytes: &[u8], range: RunRange) -> Run<'_>
 fn take_run(bytes: &[u8], range: RunRange) -> Run<'_>
     requires range { IsRange bytes.now range.start range.end }
@@ -195,7 +195,7 @@ fn take_run(bytes: &[u8], range: RunRange) -> Run<'_>
         (take (range.end - range.start) (drop range.start bytes.now)) result.taken }
 {
     let taken = match range.kind {
-        // SAFETY: this is what the caller promises.
+        // cargo: // SAFETY: this is what the caller promises.
         RunKind::Text => Taken::Text(text(bytes, range.start, range.end)),
         RunKind::Data => Taken::Data(data(bytes, range.start, range.end)),
         RunKind::Nothing => Taken::Nothing,

@@ -106,7 +106,7 @@ impl<B: Buffer> Machine<B> {
     /// Reads the character of four bytes that begins at a position, whose first two were looked at.
     /// If text is taken in runs, it begins one.
     #[inline(always)]
-    #[allow(unsafe_code)]
+    // cargo: #[allow(unsafe_code)]
     pub(crate) fn complete_four<P: CountedPerform<G>, G: Granularity, const MAY_STOP: bool>(
         &mut self,
         reader: &mut Reader,
@@ -162,7 +162,7 @@ impl<B: Buffer> Machine<B> {
         }
         if G::IN_RUNS {
             let end = reader.find_run_end_for(performer, input, next + 3);
-            // SAFETY: the character at `from` is whole, and the search passes whole characters.
+            // cargo: // SAFETY: the character at `from` is whole, and the search passes whole characters.
             reader.report_text(performer, input, from, end);
             return end;
         }

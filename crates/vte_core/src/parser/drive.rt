@@ -98,15 +98,11 @@ impl<B: Buffer> Machine<B> {
     {
         // A comparison, because the match jumps by a table, which is hard to predict.
         if let State::Text(_) = self.state {
-            return Ok(if MAY_STOP || G::IN_RUNS {
-                self.read_text::<P, G, MAY_STOP>(reader, performer, input, from)
-            } else {
-                self.read_characters::<P, G, MAY_STOP>(reader, performer, input, from)
-            });
+            return Ok(self.read_text::<P, G, MAY_STOP>(reader, performer, input, from));
         }
         Ok(match self.state {
-            // Never: this was tested above.
-            State::Text(_) => self.read_text::<P, G, MAY_STOP>(reader, performer, input, from),
+            // this was tested above
+            State::Text(_) => unreachable!(),
             State::Escape => self.read_escape::<P, G, MAY_STOP>(reader, performer, input, from),
             State::EscapeIntermediate => {
                 self.read_intermediates::<P, G, MAY_STOP>(reader, performer, input, from)

@@ -22,7 +22,7 @@ struct AsciiRun {
 /// Prints the run of ASCII that stands at a position, whose first byte was looked at. If it is
 /// short, that is the first byte alone.
 #[inline(always)]
-#[allow(unsafe_code)]
+// cargo: #[allow(unsafe_code)]
 fn print_ascii<P: CountedPerform<G>, G: Granularity>(
     reader: &mut Reader,
     performer: &mut P,
@@ -47,7 +47,7 @@ fn print_ascii<P: CountedPerform<G>, G: Granularity>(
     let next = reader.get_byte(input, from + 1);
     if reader.begins_ascii_run(input, from, next) {
         let end = reader.find_ascii_run_end(performer, input, from);
-        // SAFETY: ASCII stands at `from`, and the search passes whole characters.
+        // cargo: // SAFETY: ASCII stands at `from`, and the search passes whole characters.
         reader.report_text(performer, input, from, end);
         return AsciiRun { end, next: None };
     }
@@ -60,8 +60,9 @@ fn print_ascii<P: CountedPerform<G>, G: Granularity>(
 }
 
 impl<B: Buffer> Machine<B> {
-    /// Reads text up to an ESC, and then the bytes after that.
-    // cargo: #[inline]
+    /// Reads text up to an ESC, and then the bytes after that. Each way to take text has a loop of
+    /// its own.
+    #[inline(always)]
     pub(crate) fn read_text<P: CountedPerform<G>, G: Granularity, const MAY_STOP: bool>(
         &mut self,
         reader: &mut Reader,
@@ -80,79 +81,73 @@ impl<B: Buffer> Machine<B> {
         ensures moves { MovesWithin 5 0 input.entry.bytes.now from result self.old self.new
             reader.old reader.new }
     {
-        let mut position = from;
-        // The length of `prefix` bounds the position, so that the loop has no test of the index.
-        // Runs are read by words, which find an ESC too.
-        let mut prefix = if G::IN_RUNS {
-            input
+        if G::IN_RUNS {
+            self.read_runs::<P, G, MAY_STOP>(reader, performer, input, from)
+        } else if MAY_STOP {
+            self.read_until_stop(reader, performer, input, from)
         } else {
-            input.up_to((from + SHORT_TEXT).min(input.len()))
-        };
+            self.read_characters(reader, performer, input, from)
+        }
+    }
+
+    /// Reads text for a performer that takes runs. They are read by words, which find an ESC too.
+    // cargo: #[inline]
+    fn read_runs<P: CountedPerform<G>, G: Granularity, const MAY_STOP: bool>(
+        &mut self,
+        reader: &mut Reader,
+        performer: &mut P,
+        input: Input<'_>,
+        from: usize,
+    ) -> usize
+        requires in_runs { G.IN_RUNS ≡ true }
+        requires may_read { MayReadAt
+            (chunk_call MAY_STOP P.step P.is_terminated B.limit input.bytes.now)
+            (P.value_of performer.old) (Text Nothing) self.old from }
+        requires no_stop { MAY_STOP ≡ true → NoCharacterStops P.layout P.step P.is_terminated }
+        ensures advances { Advances ⊥
+            (chunk_call MAY_STOP P.step P.is_terminated B.limit input.entry.bytes.now)
+            (P.value_of performer.old) (P.value_of performer.new) from result self.old self.new }
+        ensures moves { MovesWithin 5 0 input.entry.bytes.now from result self.old self.new
+            reader.old reader.new }
+    {
+        let mut position = from;
         while position < input.len() {
-            while position < prefix.len() {
-                let mut byte = reader.byte_at(prefix, position);
-                if G::IN_RUNS && is_printed_ascii(byte) {
-                    let run = print_ascii(reader, performer, input, position, byte);
-                    position = run.end;
-                    match run.next {
-                        Some(next) => byte = next,
-                        None => continue,
-                    }
-                }
-                // Here `position` is the last byte that was read; the `+= 1` below steps past it,
-                // for all branches without `continue`.
-                if is_printed_ascii(byte) {
-                    performer.print_char(reader, char::from(byte));
-                } else if G::IN_RUNS && byte >= 0xa0 {
-                    // One comparison tells lead bytes and malformed ones from ESC and controls. A
-                    // lead byte may begin a control, which may stop the call; U+FFFD doesn't.
-                    if is_lead(byte) {
-                        position = self.read_at_lead::<P, G, MAY_STOP>(
-                            reader, performer, input, position, byte,
-                        );
-                        if MAY_STOP && performer.terminated() {
-                            return position;
-                        }
-                    } else {
-                        reader.report_lone_byte(performer, byte);
-                        position += 1;
-                    }
-                    continue;
-                } else if is_lead(byte) {
-                    let next = self.read_character::<P, G, MAY_STOP>(
-                        reader, performer, input, position, byte,
-                    );
-                    // A path of its own takes fewer instructions if the call may stop after a
-                    // character, and more otherwise.
-                    if MAY_STOP {
-                        if performer.terminated() {
-                            return next;
-                        }
-                        position = next;
-                        continue;
-                    }
-                    position = next - 1;
-                } else if byte == ESCAPE {
-                    return self.read_sequence::<P, G, MAY_STOP>(reader, performer, input, position);
-                } else {
-                    reader.report_lone_byte(performer, byte);
-                }
-                position += 1;
-                if MAY_STOP && performer.terminated() {
-                    return position;
+            let mut byte = reader.byte_at(input, position);
+            if is_printed_ascii(byte) {
+                let run = print_ascii(reader, performer, input, position, byte);
+                position = run.end;
+                match run.next {
+                    Some(next) => byte = next,
+                    None => continue,
                 }
             }
-            if !G::IN_RUNS && position < input.len() {
-                prefix = input.up_to(reader.search_text::<MAY_STOP>(input, from, position));
+            // One comparison tells lead bytes and malformed ones from ESC and controls.
+            if byte < 0xa0 {
+                if byte == ESCAPE {
+                    return self.read_sequence::<P, G, MAY_STOP>(reader, performer, input, position);
+                }
+                reader.report_lone_byte(performer, byte);
+                position += 1;
+            } else if is_lead(byte) {
+                position = self.read_at_lead::<P, G, MAY_STOP>(
+                    reader, performer, input, position, byte,
+                );
+            } else {
+                // U+FFFD doesn't stop a call: a control may, also one of two bytes.
+                reader.report_lone_byte(performer, byte);
+                position += 1;
+                continue;
+            }
+            if MAY_STOP && performer.terminated() {
+                return position;
             }
         }
         position
     }
 
-    /// Reads text as `read_text` does, by characters. Each round has its byte from the one before,
-    /// which takes fewer instructions, but more if the call may stop.
-    #[inline(always)]
-    pub(crate) fn read_characters<P: CountedPerform<G>, G: Granularity, const MAY_STOP: bool>(
+    /// Reads text character by character, for a call that may stop after each.
+    // cargo: #[inline]
+    fn read_until_stop<P: CountedPerform<G>, G: Granularity>(
         &mut self,
         reader: &mut Reader,
         performer: &mut P,
@@ -161,10 +156,64 @@ impl<B: Buffer> Machine<B> {
     ) -> usize
         requires singly { G.IN_RUNS ≡ false }
         requires may_read { MayReadAt
-            (chunk_call MAY_STOP P.step P.is_terminated B.limit input.bytes.now)
+            (chunk_call true P.step P.is_terminated B.limit input.bytes.now)
             (P.value_of performer.old) (Text Nothing) self.old from }
         ensures advances { Advances ⊥
-            (chunk_call MAY_STOP P.step P.is_terminated B.limit input.entry.bytes.now)
+            (chunk_call true P.step P.is_terminated B.limit input.entry.bytes.now)
+            (P.value_of performer.old) (P.value_of performer.new) from result self.old self.new }
+        ensures moves { MovesWithin 5 0 input.entry.bytes.now from result self.old self.new
+            reader.old reader.new }
+    {
+        let mut position = from;
+        // The length of `prefix` bounds the position, so that the loop has no test of the index.
+        let mut prefix = input.up_to((from + SHORT_TEXT).min(input.len()));
+        while position < input.len() {
+            while position < prefix.len() {
+                let byte = reader.byte_at(prefix, position);
+                if is_printed_ascii(byte) {
+                    performer.print_char(reader, char::from(byte));
+                } else if is_lead(byte) {
+                    position = self.read_character::<P, G, true>(
+                        reader, performer, input, position, byte,
+                    );
+                    // asked here too, which takes fewer instructions
+                    if performer.terminated() {
+                        return position;
+                    }
+                    continue;
+                } else if byte == ESCAPE {
+                    return self.read_sequence::<P, G, true>(reader, performer, input, position);
+                } else {
+                    reader.report_lone_byte(performer, byte);
+                }
+                position += 1;
+                if performer.terminated() {
+                    return position;
+                }
+            }
+            if position < input.len() {
+                prefix = input.up_to(reader.search_text::<true>(input, from, position));
+            }
+        }
+        position
+    }
+
+    /// Reads text character by character, for a call that can't stop. Each round has its byte from
+    /// the one before, which takes fewer instructions, but more if the call may stop.
+    #[inline(always)]
+    fn read_characters<P: CountedPerform<G>, G: Granularity>(
+        &mut self,
+        reader: &mut Reader,
+        performer: &mut P,
+        input: Input<'_>,
+        from: usize,
+    ) -> usize
+        requires singly { G.IN_RUNS ≡ false }
+        requires may_read { MayReadAt
+            (chunk_call false P.step P.is_terminated B.limit input.bytes.now)
+            (P.value_of performer.old) (Text Nothing) self.old from }
+        ensures advances { Advances ⊥
+            (chunk_call false P.step P.is_terminated B.limit input.entry.bytes.now)
             (P.value_of performer.old) (P.value_of performer.new) from result self.old self.new }
         ensures moves { MovesWithin 5 0 input.entry.bytes.now from result self.old self.new
             reader.old reader.new }
@@ -172,29 +221,24 @@ impl<B: Buffer> Machine<B> {
         let mut position = from;
         let mut prefix = input.up_to((from + SHORT_TEXT).min(input.len()));
         let mut byte = reader.byte_at(input, from);
-        while let Some(next) = self.read_one::<P, G, MAY_STOP>(
-            reader, performer, input, position, byte,
-        ) {
+        while let Some(next) = self.read_one(reader, performer, input, position, byte) {
             position = next;
-            if MAY_STOP && performer.terminated() {
-                return position;
-            }
             if position < prefix.len() {
                 byte = reader.byte_at(prefix, position);
             } else if position < input.len() {
-                prefix = input.up_to(reader.search_text::<MAY_STOP>(input, from, position));
+                prefix = input.up_to(reader.search_text::<false>(input, from, position));
                 byte = reader.byte_at(input, position);
             } else {
                 return position;
             }
         }
-        self.read_sequence::<P, G, MAY_STOP>(reader, performer, input, position)
+        self.read_sequence::<P, G, false>(reader, performer, input, position)
     }
 
     /// Reads what a byte of text begins, which was looked at: a character, a malformed sequence or
     /// a control. Returns where it ends, or nothing if the byte is ESC, which is left unread.
     #[inline(always)]
-    fn read_one<P: CountedPerform<G>, G: Granularity, const MAY_STOP: bool>(
+    fn read_one<P: CountedPerform<G>, G: Granularity>(
         &mut self,
         reader: &mut Reader,
         performer: &mut P,
@@ -204,14 +248,14 @@ impl<B: Buffer> Machine<B> {
     ) -> Option<usize>
         requires singly { G.IN_RUNS ≡ false }
         requires may_read { MayReadByte
-            (chunk_call MAY_STOP P.step P.is_terminated B.limit input.bytes.now)
+            (chunk_call false P.step P.is_terminated B.limit input.bytes.now)
             (P.value_of performer.old) (Text Nothing) self.old from first }
         ensures escape { result ≡ None → first ≡ 0x1b }
         ensures unread { result ≡ None → (self.new ≡ self.old)
             × (P.value_of performer.new ≡ P.value_of performer.old)
             × (looked reader.new ≡ looked reader.old) }
         ensures advances { IfSome result (λ end. Advances ⊥
-            (chunk_call MAY_STOP P.step P.is_terminated B.limit input.entry.bytes.now)
+            (chunk_call false P.step P.is_terminated B.limit input.entry.bytes.now)
             (P.value_of performer.old) (P.value_of performer.new) from end self.old self.new) }
         ensures text { IfSome result (λ end. end < length input.entry.bytes.now
             → self.new.state ≡ Text Nothing) }
@@ -221,9 +265,10 @@ impl<B: Buffer> Machine<B> {
         if is_printed_ascii(first) {
             performer.print_char(reader, char::from(first));
         } else if is_lead(first) {
-            let end = self.read_character::<P, G, MAY_STOP>(reader, performer, input, from, first);
+            let end = self.read_character::<P, G, false>(reader, performer, input, from, first);
             return Some(end);
         } else if first >= 0xa0 {
+            // tested before ESC, which takes fewer instructions
             reader.report_lone_byte(performer, first);
         } else if first == ESCAPE {
             return None;
@@ -236,7 +281,7 @@ impl<B: Buffer> Machine<B> {
     /// Reads what begins with a lead byte, which was looked at, for a performer that takes runs: a
     /// run, a character or a malformed sequence.
     #[inline(always)]
-    #[allow(unsafe_code)]
+    // cargo: #[allow(unsafe_code)]
     fn read_at_lead<P: CountedPerform<G>, G: Granularity, const MAY_STOP: bool>(
         &mut self,
         reader: &mut Reader,
@@ -261,7 +306,7 @@ impl<B: Buffer> Machine<B> {
     {
         let end = reader.find_run_end_at_lead(performer, input, from, first);
         if end > from {
-            // SAFETY: the search has passed the character at `from`, and passes whole characters.
+            // cargo: // SAFETY: the search has passed the character at `from`, and passes whole characters.
             reader.report_text(performer, input, from, end);
             return end;
         }

@@ -84,13 +84,13 @@ impl<const OSC_RAW_BUF_SIZE: usize> Parser<OSC_RAW_BUF_SIZE> {
     /// Without a run the call ends with the bytes, or if the performer is terminated, which is
     /// asked as by [`advance_until_terminated`](Self::advance_until_terminated).
     #[must_use = "the bytes after the run are still to be read"]
-    #[allow(unsafe_code)]
+    // cargo: #[allow(unsafe_code)]
     pub fn advance_to_run<'a, P: Perform>(&mut self, performer: &mut P, bytes: &'a [u8]) -> Run<'a>
         ensures { ReadsToRun P.step P.is_terminated result (P.value_of performer.old)
             (P.value_of performer.new) bytes.now (reading_of self.old) (reading_of self.new) }
     {
         let range = self.drive_to_run(performer, Chunk::new(bytes));
-        // SAFETY: `drive_to_run` found the range in these bytes.
+        // cargo: // SAFETY: `drive_to_run` found the range in these bytes.
         take_run(bytes, range)
     }
 }

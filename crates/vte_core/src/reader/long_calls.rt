@@ -78,7 +78,7 @@ impl<A: Allocator> LongParser<A> {
     /// Reads bytes up to a run of text, or of data of a device control string, and the run itself,
     /// which it returns instead of performing it, as
     /// [`Parser::advance_to_run`](crate::Parser::advance_to_run) does.
-    #[allow(unsafe_code)]
+    // cargo: #[allow(unsafe_code)]
     pub fn advance_to_run<'a, P: Perform>(
         &mut self,
         performer: &mut P,
@@ -93,7 +93,7 @@ impl<A: Allocator> LongParser<A> {
             → ReportsOutsideRuns None stream bytes.now refused.read) }
     {
         let range = self.drive_to_run(performer, Chunk::new(bytes))?;
-        // SAFETY: `drive_to_run` found the range in these bytes.
+        // cargo: // SAFETY: `drive_to_run` found the range in these bytes.
         Ok(take_run(bytes, range))
     }
 }

@@ -45,9 +45,72 @@ fn print_ascii<P: CountedPerform<G> + ?Sized, G: Granularity>(
 }
 
 impl<B: Buffer> Machine<B> {
-    /// Reads text up to an ESC, and then the bytes after that.
-    #[inline]
+    /// Reads text up to an ESC, and then the bytes after that. Each way to take text has a loop of
+    /// its own.
+    #[inline(always)]
     pub(crate) fn read_text<P: CountedPerform<G> + ?Sized, G: Granularity, const MAY_STOP: bool>(
+        &mut self,
+        reader: Reader,
+        performer: &mut P,
+        input: &[u8],
+        from: usize,
+    ) -> usize {
+        if G::IN_RUNS {
+            self.read_runs::<P, G, MAY_STOP>(reader, performer, input, from)
+        } else if MAY_STOP {
+            self.read_until_stop(reader, performer, input, from)
+        } else {
+            self.read_characters(reader, performer, input, from)
+        }
+    }
+
+    /// Reads text for a performer that takes runs. They are read by words, which find an ESC too.
+    #[inline]
+    fn read_runs<P: CountedPerform<G> + ?Sized, G: Granularity, const MAY_STOP: bool>(
+        &mut self,
+        reader: Reader,
+        performer: &mut P,
+        input: &[u8],
+        from: usize,
+    ) -> usize {
+        let mut position = from;
+        while position < input.len() {
+            let mut byte = reader.byte_at(input, position);
+            if is_printed_ascii(byte) {
+                let run = print_ascii(reader, performer, input, position, byte);
+                position = run.end;
+                match run.next {
+                    Some(next) => byte = next,
+                    None => continue,
+                }
+            }
+            // One comparison tells lead bytes and malformed ones from ESC and controls.
+            if byte < 0xa0 {
+                if byte == ESCAPE {
+                    return self
+                        .read_sequence::<P, G, MAY_STOP>(reader, performer, input, position);
+                }
+                reader.report_lone_byte(performer, byte);
+                position += 1;
+            } else if is_lead(byte) {
+                position =
+                    self.read_at_lead::<P, G, MAY_STOP>(reader, performer, input, position, byte);
+            } else {
+                // U+FFFD doesn't stop a call: a control may, also one of two bytes.
+                reader.report_lone_byte(performer, byte);
+                position += 1;
+                continue;
+            }
+            if MAY_STOP && performer.terminated() {
+                return position;
+            }
+        }
+        position
+    }
+
+    /// Reads text character by character, for a call that may stop after each.
+    #[inline]
+    fn read_until_stop<P: CountedPerform<G> + ?Sized, G: Granularity>(
         &mut self,
         reader: Reader,
         performer: &mut P,
@@ -56,81 +119,41 @@ impl<B: Buffer> Machine<B> {
     ) -> usize {
         let mut position = from;
         // The length of `prefix` bounds the position, so that the loop has no test of the index.
-        // Runs are read by words, which find an ESC too.
-        let mut prefix = if G::IN_RUNS {
-            input
-        } else {
-            up_to(input, (from + SHORT_TEXT).min(input.len()))
-        };
+        let mut prefix = up_to(input, (from + SHORT_TEXT).min(input.len()));
         while position < input.len() {
             while position < prefix.len() {
-                let mut byte = reader.byte_at(prefix, position);
-                if G::IN_RUNS && is_printed_ascii(byte) {
-                    let run = print_ascii(reader, performer, input, position, byte);
-                    position = run.end;
-                    match run.next {
-                        Some(next) => byte = next,
-                        None => continue,
-                    }
-                }
-                // Here `position` is the last byte that was read; the `+= 1` below steps past it,
-                // for all branches without `continue`.
+                let byte = reader.byte_at(prefix, position);
                 if is_printed_ascii(byte) {
                     performer.print_char(reader, char::from(byte));
-                } else if G::IN_RUNS && byte >= 0xa0 {
-                    // One comparison tells lead bytes and malformed ones from ESC and controls. A
-                    // lead byte may begin a control, which may stop the call; U+FFFD doesn't.
-                    if is_lead(byte) {
-                        position = self.read_at_lead::<P, G, MAY_STOP>(
-                            reader, performer, input, position, byte,
-                        );
-                        if MAY_STOP && performer.terminated() {
-                            return position;
-                        }
-                    } else {
-                        reader.report_lone_byte(performer, byte);
-                        position += 1;
+                } else if is_lead(byte) {
+                    position =
+                        self.read_character::<P, G, true>(reader, performer, input, position, byte);
+                    // asked here too, which takes fewer instructions
+                    if performer.terminated() {
+                        return position;
                     }
                     continue;
-                } else if is_lead(byte) {
-                    let next = self
-                        .read_character::<P, G, MAY_STOP>(reader, performer, input, position, byte);
-                    // A path of its own takes fewer instructions if the call may stop after a
-                    // character, and more otherwise.
-                    if MAY_STOP {
-                        if performer.terminated() {
-                            return next;
-                        }
-                        position = next;
-                        continue;
-                    }
-                    position = next - 1;
                 } else if byte == ESCAPE {
-                    return self
-                        .read_sequence::<P, G, MAY_STOP>(reader, performer, input, position);
+                    return self.read_sequence::<P, G, true>(reader, performer, input, position);
                 } else {
                     reader.report_lone_byte(performer, byte);
                 }
                 position += 1;
-                if MAY_STOP && performer.terminated() {
+                if performer.terminated() {
                     return position;
                 }
             }
-            if !G::IN_RUNS && position < input.len() {
-                prefix = up_to(input, reader.search_text::<MAY_STOP>(input, from, position));
+            if position < input.len() {
+                prefix = up_to(input, reader.search_text::<true>(input, from, position));
             }
         }
         position
     }
 
-    /// Reads text as `read_text` does, by characters. Each round has its byte from the one before,
-    /// which takes fewer instructions, but more if the call may stop.
+    /// Reads text character by character, for a call that can't stop. Each round has its byte from
+    /// the one before, which takes fewer instructions, but more if the call may stop.
     #[inline(always)]
-    pub(crate) fn read_characters<
-        P: CountedPerform<G> + ?Sized,
-        G: Granularity,
-        const MAY_STOP: bool,
-    >(
+    fn read_characters<P: CountedPerform<G> + ?Sized, G: Granularity>(
         &mut self,
         reader: Reader,
         performer: &mut P,
@@ -140,29 +163,24 @@ impl<B: Buffer> Machine<B> {
         let mut position = from;
         let mut prefix = up_to(input, (from + SHORT_TEXT).min(input.len()));
         let mut byte = reader.byte_at(input, from);
-        while let Some(next) =
-            self.read_one::<P, G, MAY_STOP>(reader, performer, input, position, byte)
-        {
+        while let Some(next) = self.read_one(reader, performer, input, position, byte) {
             position = next;
-            if MAY_STOP && performer.terminated() {
-                return position;
-            }
             if position < prefix.len() {
                 byte = reader.byte_at(prefix, position);
             } else if position < input.len() {
-                prefix = up_to(input, reader.search_text::<MAY_STOP>(input, from, position));
+                prefix = up_to(input, reader.search_text::<false>(input, from, position));
                 byte = reader.byte_at(input, position);
             } else {
                 return position;
             }
         }
-        self.read_sequence::<P, G, MAY_STOP>(reader, performer, input, position)
+        self.read_sequence::<P, G, false>(reader, performer, input, position)
     }
 
     /// Reads what a byte of text begins, which was looked at: a character, a malformed sequence or
     /// a control. Returns where it ends, or nothing if the byte is ESC, which is left unread.
     #[inline(always)]
-    fn read_one<P: CountedPerform<G> + ?Sized, G: Granularity, const MAY_STOP: bool>(
+    fn read_one<P: CountedPerform<G> + ?Sized, G: Granularity>(
         &mut self,
         reader: Reader,
         performer: &mut P,
@@ -173,7 +191,7 @@ impl<B: Buffer> Machine<B> {
         if is_printed_ascii(first) {
             performer.print_char(reader, char::from(first));
         } else if is_lead(first) {
-            let end = self.read_character::<P, G, MAY_STOP>(reader, performer, input, from, first);
+            let end = self.read_character::<P, G, false>(reader, performer, input, from, first);
             return Some(end);
         } else if first >= 0xa0 {
             reader.report_lone_byte(performer, first);

@@ -1,13 +1,12 @@
 -- The call stands before this byte of a text. A byte has three looks at most, and one more if it is searched.
-use Rattle.vte_core.proofs.Common.{◌≡◌, ◌+◌, ◌-◌, ◌*◌, ◌<◌, ◌≤◌, ℕ, not, eqb, true, List, length, slice_index, Text, Nothing, looked, Advances, ChunkCall, chunk_call}
+use Rattle.vte_core.proofs.Common.{◌≡◌, ◌+◌, ◌-◌, ◌*◌, ◌<◌, ◌≤◌, ℕ, false, List, length, slice_index, Text, Nothing, looked, Advances, ChunkCall, chunk_call}
 use Rattle.vte_core.specs.machine.Prelude.{MayReadByte}
 use Rattle.vte_core.proofs.parser.machine.Machine.read_characters.Given as goal
 
 -- the call that reads these bytes
 abbrev pub call_at : (g : goal.Over) → List ℕ → ChunkCall g.P.CountedPerform.Value
 call_at g bytes =
-    chunk_call (not (eqb g.row.MAY_STOP 0)) g.P.CountedPerform.step g.P.CountedPerform.is_terminated
-    g.B.Buffer.limit bytes
+    chunk_call false g.P.CountedPerform.step g.P.CountedPerform.is_terminated g.B.Buffer.limit bytes
 
 abbrev pub invariant-loop-next : goal.invariant-loop-next
 invariant-loop-next g l = record {
@@ -24,8 +23,6 @@ invariant-loop-next g l = record {
   -- if the search found an ESC there, it has looked no further
   escape : (k : ℕ) → l.position ≤ k → k < length l.prefix.bytes.now → slice_index l.input.bytes.now k ≡ 0x1b
       → looked l.reader + 4 * l.from ≤ looked l.fn.reader + 3 * l.position + k + 2;
-  -- a call that may stop searches no further than it has read
-  near : not (eqb g.row.MAY_STOP 0) ≡ true → looked l.reader + 5 * l.from ≤ looked l.fn.reader + 5 * l.position + 1;
   least : looked l.fn.reader + l.position + 1 ≤ looked l.reader + l.from;
   memory : l.fn.self.command.capacity ≤ l.self.command.capacity;
 }

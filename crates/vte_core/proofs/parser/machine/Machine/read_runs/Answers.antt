@@ -1,0 +1,161 @@
+-- In a round the call may first print a run of ASCII (`reached`), and then stands before a byte (`at`), which it reads
+-- by one of three branches, of which two join (`read`).
+use Rattle.vte_core.proofs.Common.{◌≡◌, ◌+◌, ◌<◌, length, sym, ◌∙◌, arith, rules, Advances, Text, Nothing}
+use Rattle.vte_core.specs.machine.Prelude.{MayReadByte}
+use Rattle.vte_core.proofs.calls.Progress.{settled-by}
+use Rattle.vte_core.proofs.calls.Stretches.{advances-byte, advances-part, advances-then}
+use Rattle.vte_core.proofs.calls.TextRuns.{advances-text, may_go_on-malformed, may_go_on-text}
+use Rattle.vte_core.proofs.calls.BetweenCharacters.{performs-single}
+use Rattle.vte_core.proofs.parser.machine.Machine.read_runs.Given.{Over}
+use Rattle.vte_core.proofs.parser.machine.Machine.read_runs.Invariants.{call_at}
+use Rattle.vte_core.proofs.parser.machine.Machine.read_runs.Goals.{Joined-is_printed_ascii, then-is_printed_ascii+in-Some, else-is_printed_ascii, Joined-byte-lt160, then-byte-lt160+else-byte-eq-ESCAPE, else-byte-lt160+then-is_lead}
+use Rattle.vte_core.proofs.parser.machine.Machine.read_runs.Goals as goal
+
+-- the call has come past the run of ASCII, if there was one
+reached : (g : Over) (c : Joined-is_printed_ascii g)
+    → Advances ⊥ (call_at g c.args.input.bytes.now) (g.P.CountedPerform.value_of c.args.performer.now)
+    (g.P.CountedPerform.value_of c.if-is_printed_ascii.performer) c.args.from c.if-is_printed_ascii.position
+    c.args.self.now c.loop-position.self
+reached g c =
+    let v = c.loop-position.invariant in
+    elim c.if-is_printed_ascii.branch [
+      | then-is_printed_ascii+in-Some w ↦
+          let run = w.print_ascii-run.ensures in
+          rw (w.performer-is, w.position-is) (advances-then v.advances
+          (advances-text c.requires.no_stop v.may_go_on (v.settled (omega (arith, c.loop-position-test.true)))
+          run.progress run.high run.prints))
+      | else-is_printed_ascii w ↦ rw (w.performer-is, w.position-is) v.advances
+    ]
+
+-- the byte before which it stands then
+at : (g : Over) (c : Joined-is_printed_ascii g) → MayReadByte (call_at g c.args.input.bytes.now)
+    (g.P.CountedPerform.value_of c.if-is_printed_ascii.performer) (Text Nothing) c.loop-position.self
+    c.if-is_printed_ascii.position c.if-is_printed_ascii.byte
+at g c =
+    let v = c.loop-position.invariant in
+    let within : c.loop-position.position < length c.args.input.bytes.now =
+    omega (arith, c.loop-position-test.true) in
+    elim c.if-is_printed_ascii.branch [
+      | then-is_printed_ascii+in-Some w ↦
+          let run = w.print_ascii-run.ensures in
+          let next = rw w.in-Some.is at run.next in
+          rw (w.performer-is, w.position-is, w.byte-is) (record {
+            begun = v.settled within;
+            may_go_on = may_go_on-text (call_at g c.args.input.bytes.now) c.requires.no_stop v.may_go_on run.prints;
+            within = next.0;
+            looked_at = next.1;
+          })
+      | else-is_printed_ascii w ↦ rw (w.performer-is, w.position-is, w.byte-is) (record {
+        begun = v.settled within;
+        may_go_on = v.may_go_on;
+        within = within;
+        looked_at = c.byte_at-byte.ensures.value;
+      })
+    ]
+
+-- A run of ASCII up to the end of what was looked at: its characters, and nothing more in this round.
+pub loop-position-preserved-in-None : goal.loop-position-preserved-in-None
+loop-position-preserved-in-None g c =
+    let v = c.loop-position.invariant in
+    let within : c.loop-position.position < length c.args.input.bytes.now =
+    omega (arith, c.loop-position-test.true) in
+    let run = c.print_ascii-run.ensures in
+    record {
+      advances = advances-then v.advances
+          (advances-text c.requires.no_stop v.may_go_on (v.settled within) run.progress run.high run.prints);
+      may_go_on = may_go_on-text (call_at g c.args.input.bytes.now) c.requires.no_stop v.may_go_on run.prints;
+      settled = λ _. v.settled within;
+      low = search rules;
+      high = search rules;
+      count = search rules;
+      least = search rules;
+      memory = search rules;
+      progress = search rules;
+    }
+
+-- The two functions that read on begin where the call stands.
+pub read_at_lead-position-requires-clause-may_read : goal.read_at_lead-position-requires-clause-may_read
+read_at_lead-position-requires-clause-may_read g c = at g
+    (goal.at.read_at_lead-position-requires-clause-may_read g c).Joined-is_printed_ascii
+
+pub read_sequence-requires-clause-may_read : goal.read_sequence-requires-clause-may_read
+read_sequence-requires-clause-may_read g c =
+    let here = at g (goal.at.read_sequence-requires-clause-may_read g c).Joined-is_printed_ascii in
+    record { begun = here.begun; may_go_on = here.may_go_on; within = here.within }
+
+-- ESC: the run, if any, and the escape sequence.
+pub returns-then-byte-eq-ESCAPE-clause-advances : goal.returns-then-byte-eq-ESCAPE-clause-advances
+returns-then-byte-eq-ESCAPE-clause-advances g c =
+    advances-then (reached g (goal.at.returns-then-byte-eq-ESCAPE-clause-advances g c).Joined-is_printed_ascii)
+    (advances-part c.read_sequence.ensures.advances)
+
+-- A control or malformed byte alone below A0, and what a lead byte begins.
+read : (g : Over) (c : Joined-byte-lt160 g)
+    → MayReadByte (call_at g c.args.input.bytes.now) (g.P.CountedPerform.value_of c.if-is_printed_ascii.performer)
+    (Text Nothing) c.loop-position.self c.if-is_printed_ascii.position c.if-is_printed_ascii.byte
+    → Advances ⊥ (call_at g c.args.input.bytes.now) (g.P.CountedPerform.value_of c.if-is_printed_ascii.performer)
+    (g.P.CountedPerform.value_of c.if-byte-lt160.performer) c.if-is_printed_ascii.position c.if-byte-lt160.position
+    c.loop-position.self c.if-byte-lt160.self
+read g c here = elim c.if-byte-lt160.branch [
+  | then-byte-lt160+else-byte-eq-ESCAPE w ↦
+      let reported = w.report_lone_byte.ensures in
+      rw (w.self-is, w.performer-is, w.position-is) (advances-part
+      (advances-byte here.within here.looked_at here.may_go_on
+      (performs-single here.begun w.if-byte-eq-ESCAPE.false (grind (arith, w.if-byte-lt160.true))
+      reported.control reported.malformed)
+      (settled-by here.begun tt)))
+  | else-byte-lt160+then-is_lead w ↦
+      rw (w.self-is, w.performer-is, w.position-is) (advances-part w.read_at_lead-position.ensures.advances)
+]
+
+-- A stop after these.
+pub returns-then-terminated-clause-advances : goal.returns-then-terminated-clause-advances
+returns-then-terminated-clause-advances g c =
+    let joins = goal.at.returns-then-terminated-clause-advances g c in
+    advances-then (reached g joins.Joined-is_printed_ascii)
+    (read g joins.Joined-byte-lt160 (at g joins.Joined-is_printed_ascii))
+
+-- A round that goes on after these. Only a longer character can change the state, and does so only with the last bytes
+-- of the call.
+pub loop-position-preserved : goal.loop-position-preserved
+loop-position-preserved g c =
+    let joins = goal.at.loop-position-preserved g c in
+    let here = at g joins.Joined-is_printed_ascii in
+    record {
+      advances = advances-then (reached g joins.Joined-is_printed_ascii) (read g joins.Joined-byte-lt160 here);
+      may_go_on = search rules;
+      settled = elim c.if-byte-lt160.branch [
+        | then-byte-lt160+else-byte-eq-ESCAPE w ↦ rw w.self-is (λ _. here.begun)
+        | else-byte-lt160+then-is_lead w ↦ rw (w.self-is, w.position-is) w.read_at_lead-position.ensures.text
+      ];
+      low = search rules;
+      high = search rules;
+      count = search rules;
+      least = search rules;
+      memory = search rules;
+      progress = search rules;
+    }
+
+-- U+FFFD, which is a character, and so doesn't stop the call.
+pub loop-position-preserved-else-is_lead : goal.loop-position-preserved-else-is_lead
+loop-position-preserved-else-is_lead g c =
+    let joins = goal.at.loop-position-preserved-else-is_lead g c in
+    let here = at g joins.Joined-is_printed_ascii in
+    let reported = c.report_lone_byte-else-is_lead.ensures in
+    record {
+      advances = advances-then (reached g joins.Joined-is_printed_ascii) (advances-part
+          (advances-byte here.within here.looked_at here.may_go_on
+          (performs-single here.begun (grind (arith, c.if-byte-lt160.false))
+          (sym c.is_lead.ensures ∙ c.if-is_lead.false) reported.control reported.malformed)
+          (settled-by here.begun tt)));
+      may_go_on = may_go_on-malformed g.P.CountedPerform.layout (call_at g c.args.input.bytes.now)
+          c.requires.no_stop here.may_go_on (omega (arith, c.if-byte-lt160.false))
+          (reported.malformed (omega (arith, c.if-byte-lt160.false)));
+      settled = λ _. here.begun;
+      low = search rules;
+      high = search rules;
+      count = search rules;
+      least = search rules;
+      memory = search rules;
+      progress = search rules;
+    }

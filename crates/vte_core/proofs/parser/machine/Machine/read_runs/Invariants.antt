@@ -1,0 +1,26 @@
+-- The call stands at this position, between characters if bytes are left. A byte has five looks at most.
+use Rattle.vte_core.proofs.Common.{◌≡◌, ◌+◌, ◌-◌, ◌*◌, ◌<◌, ◌≤◌, not, eqb, List, ℕ, length, Text, Nothing, looked, Advances, MayGoOn, ChunkCall, chunk_call}
+use Rattle.vte_core.proofs.parser.machine.Machine.read_runs.Given as goal
+
+-- the call that reads these bytes
+abbrev pub call_at : (g : goal.Over) → List ℕ → ChunkCall g.P.CountedPerform.Value
+call_at g bytes =
+    chunk_call (not (eqb g.row.MAY_STOP 0)) g.P.CountedPerform.step g.P.CountedPerform.is_terminated
+    g.B.Buffer.limit bytes
+
+abbrev pub invariant-loop-position : goal.invariant-loop-position
+invariant-loop-position g l = record {
+  advances : Advances ⊥ (call_at g l.input.bytes.now) (g.P.CountedPerform.value_of l.fn.performer)
+      (g.P.CountedPerform.value_of l.performer) l.from l.position l.fn.self l.self;
+  may_go_on : MayGoOn (call_at g l.input.bytes.now) (g.P.CountedPerform.value_of l.performer);
+  settled : l.position < length l.input.bytes.now → l.self.state ≡ Text Nothing;
+  low : l.from ≤ l.position;
+  high : l.position ≤ length l.input.bytes.now;
+  count : looked l.reader + 5 * l.from ≤ looked l.fn.reader + 5 * l.position;
+  least : looked l.fn.reader + l.position ≤ looked l.reader + l.from;
+  memory : l.fn.self.command.capacity ≤ l.self.command.capacity;
+  progress : l.from ≡ l.position → l.position < length l.input.bytes.now;
+}
+
+abbrev pub decreases-loop-position : goal.decreases-loop-position
+decreases-loop-position g l = length l.input.bytes.now - l.position

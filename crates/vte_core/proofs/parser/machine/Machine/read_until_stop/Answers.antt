@@ -1,0 +1,84 @@
+-- A round reads the byte before which the call stands: what begins with a lead byte by a branch of its own, and a
+-- character, a control or malformed byte alone by two that join.
+use Rattle.vte_core.proofs.Common.{◌≡◌, ◌+◌, ◌<◌, length, slice_index, sym, ◌∙◌, arith, rules, Advances, Text, Nothing}
+use Rattle.vte_core.proofs.calls.Progress.{settled-by}
+use Rattle.vte_core.proofs.calls.Stretches.{advances-byte, advances-part, advances-then}
+use Rattle.vte_core.proofs.calls.BetweenCharacters.{performs-printed, performs-single}
+use Rattle.vte_core.proofs.parser.machine.Machine.read_until_stop.Given.{Over}
+use Rattle.vte_core.proofs.parser.machine.Machine.read_until_stop.Invariants.{call_at}
+use Rattle.vte_core.proofs.parser.machine.Machine.read_until_stop.Goals.{Joined-is_printed_ascii, then-is_printed_ascii, else-is_printed_ascii+else-is_lead+else-byte-eq-ESCAPE}
+use Rattle.vte_core.proofs.parser.machine.Machine.read_until_stop.Goals as goal
+
+read_alone : (g : Over) (c : Joined-is_printed_ascii g)
+    → Advances ⊥ (call_at g c.args.input.bytes.now) (g.P.CountedPerform.value_of c.args.performer.now)
+    (g.P.CountedPerform.value_of c.if-is_printed_ascii.performer) c.args.from (c.loop-position-2.position + 1)
+    c.args.self.now c.loop-position-2.self
+read_alone g c =
+    let v = c.loop-position-2.invariant.stands in
+    let within : c.loop-position-2.position < length c.args.input.bytes.now =
+    omega (arith, c.loop-position.invariant.prefix, c.loop-position-2-test.true) in
+    let looked_at : c.byte_at-byte.result ≡ slice_index c.args.input.bytes.now c.loop-position-2.position =
+    c.byte_at-byte.ensures.value ∙ c.loop-position.invariant.same _ (omega (arith, c.loop-position-2-test.true)) in
+    advances-then v.advances (elim c.if-is_printed_ascii.branch [
+      | then-is_printed_ascii w ↦
+          let printed = sym c.is_printed_ascii.ensures ∙ w.if-is_printed_ascii.true in
+          rw w.performer-is (advances-part (advances-byte within looked_at v.may_go_on
+          (performs-printed (v.settled within) printed w.from.ensures w.print_char.ensures.value)
+          (settled-by (v.settled within) tt)))
+      | else-is_printed_ascii+else-is_lead+else-byte-eq-ESCAPE w ↦
+          let reported = w.report_lone_byte.ensures in
+          rw w.performer-is (advances-part (advances-byte within looked_at v.may_go_on
+          (performs-single (v.settled within) w.if-byte-eq-ESCAPE.false
+          (sym w.is_lead.ensures ∙ w.if-is_lead.false) reported.control reported.malformed)
+          (settled-by (v.settled within) tt)))
+    ])
+
+-- A stop, after what begins with a lead byte and after any other byte.
+pub returns-then-terminated-clause-advances : goal.returns-then-terminated-clause-advances
+returns-then-terminated-clause-advances g c =
+    advances-then c.loop-position-2.invariant.stands.advances (advances-part c.read_character-position.ensures.advances)
+
+pub returns-then-terminated-2-clause-advances : goal.returns-then-terminated-2-clause-advances
+returns-then-terminated-2-clause-advances g c =
+    read_alone g (goal.at.returns-then-terminated-2-clause-advances g c).Joined-is_printed_ascii
+
+-- The next round. Only a longer character can change the state, and does so only with the last bytes of the call.
+pub loop-position-2-preserved-then-is_lead : goal.loop-position-2-preserved-then-is_lead
+loop-position-2-preserved-then-is_lead g c =
+    let read = c.read_character-position.ensures in
+    record {
+      stands = record {
+        advances = advances-then c.loop-position-2.invariant.stands.advances (advances-part read.advances);
+        may_go_on = search rules;
+        settled = λ inside. read.text inside;
+        low = search rules;
+        high = search rules;
+        count = search rules;
+        near = search rules;
+        least = search rules;
+        memory = search rules;
+      };
+      moves = search rules;
+      progress = search rules;
+    }
+
+pub loop-position-2-preserved : goal.loop-position-2-preserved
+loop-position-2-preserved g c =
+    let v = c.loop-position-2.invariant.stands in
+    let within : c.loop-position-2.position < length c.args.input.bytes.now =
+    omega (arith, c.loop-position.invariant.prefix, c.loop-position-2-test.true) in
+    record {
+      stands = record {
+        advances = read_alone g (goal.at.loop-position-2-preserved g c).Joined-is_printed_ascii;
+        may_go_on = search rules;
+        settled = λ _. v.settled within;
+        low = search rules;
+        high = search rules;
+        count = search rules;
+        near = search rules;
+        least = search rules;
+        memory = search rules;
+      };
+      moves = search rules;
+      progress = search rules;
+    }

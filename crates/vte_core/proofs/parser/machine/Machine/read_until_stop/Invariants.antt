@@ -1,0 +1,48 @@
+-- The call stands at this position, between characters if bytes are left. A byte of the text has three looks at most,
+-- and one more if it is searched: a call that may stop searches no further than it has read. Both loops keep that.
+use Rattle.vte_core.proofs.Common.{◌≡◌, ◌+◌, ◌-◌, ◌*◌, ◌<◌, ◌≤◌, ℕ, true, List, Machine, length, slice_index, Text, Nothing, looked, Advances, MayGoOn, ChunkCall, chunk_call}
+use Rattle.vte_core.proofs.parser.machine.Machine.read_until_stop.Given as goal
+
+-- the call that reads these bytes
+abbrev pub call_at : (g : goal.Over) → List ℕ → ChunkCall g.P.CountedPerform.Value
+call_at g bytes =
+    chunk_call true g.P.CountedPerform.step g.P.CountedPerform.is_terminated g.B.Buffer.limit bytes
+
+-- where the call stands, and what it has cost: `prefix` is what may be read before the next search
+pub record StandsInText {B : Type 0} (g : goal.Over) (bytes prefix : List ℕ) (old value : g.P.CountedPerform.Value)
+    (from position : ℕ) (before parser : Machine B) (start looks : ℕ) : Type 0 where
+  pub advances : Advances ⊥ (call_at g bytes) old value from position before parser
+  pub may_go_on : MayGoOn (call_at g bytes) value
+  pub settled : position < length bytes → parser.state ≡ Text Nothing
+  pub low : from ≤ position
+  pub high : position ≤ length bytes
+  pub count : looks + 4 * from ≤ start + 3 * position + length prefix
+  pub near : looks + 5 * from ≤ start + 5 * position
+  pub least : start + position ≤ looks + from
+  pub memory : before.command.capacity ≤ parser.command.capacity
+
+abbrev pub invariant-loop-position-2 : goal.invariant-loop-position-2
+invariant-loop-position-2 g l = record {
+  stands : StandsInText g l.input.bytes.now l.prefix.bytes.now (g.P.CountedPerform.value_of l.fn.performer)
+      (g.P.CountedPerform.value_of l.performer) l.from l.position l.fn.self l.self (looked l.fn.reader)
+      (looked l.reader);
+  moves : l.initial.position ≤ l.position;
+  progress : l.initial.position ≡ l.position → l.position < length l.prefix.bytes.now;
+}
+
+abbrev pub decreases-loop-position-2 : goal.decreases-loop-position-2
+decreases-loop-position-2 g l = length l.prefix.bytes.now - l.position
+
+abbrev pub invariant-loop-position : goal.invariant-loop-position
+invariant-loop-position g l = record {
+  stands : StandsInText g l.input.bytes.now l.prefix.bytes.now (g.P.CountedPerform.value_of l.fn.performer)
+      (g.P.CountedPerform.value_of l.performer) l.from l.position l.fn.self l.self (looked l.fn.reader)
+      (looked l.reader);
+  prefix : length l.prefix.bytes.now ≤ length l.input.bytes.now;
+  same : (k : ℕ) → k < length l.prefix.bytes.now → slice_index l.prefix.bytes.now k ≡ slice_index l.input.bytes.now k;
+  before : l.position < length l.input.bytes.now → l.position < length l.prefix.bytes.now;
+  progress : l.from ≡ l.position → l.position < length l.input.bytes.now;
+}
+
+abbrev pub decreases-loop-position : goal.decreases-loop-position
+decreases-loop-position g l = length l.input.bytes.now - l.position

@@ -153,6 +153,28 @@ def test_each_module_is_named():
     assert failures("# `Two`", name="REVIEWING.md") == ["no source file contains Two"]
 
 
+# a page, and what is wrong with it. `Two` of b imports both `One`
+@pytest.mark.parametrize("page, wanted", [
+    ("- `One` of `crates/a/specs`: ..\n- `One`,\n  `Two` of `crates/b/specs`, not `no`", ""),
+    ("Those of `crates/a/specs`:\n\n- `One`: ..\n\n`crates/b/specs`\n\n- `One`\n- `Two`", ""),
+    ("- `Two` of `crates/b/specs`\n- `One`\n- `One` of `crates/a/specs`",
+     "Two imports One of a, Two imports One of b"),
+    ("- `Two`, `One` of `crates/b/specs`: ..", "Two imports One of a, Two imports One of b"),
+    ("- `One`, `Two` of `crates/a/specs`", "no such module of a: Two"),
+    ("- `One`: ..", "no such module of : One"), ("`Three` is none, as\n- `Three.x` and `one`", "")])
+def test_modules_are_listed_after_those_that_they_import(page, wanted):
+    files = {"crates/a/specs/One.antt": "use Rattle.std.specs.List.{map}",
+             "crates/b/specs/One.antt": "use Rattle.b.specs.machine.One",
+             "crates/b/specs/Two.antt": "use Rattle.b.specs.One.{f}\nuse Rattle.a.specs.One as a\n"
+                                        "use Rattle.b.specs.Two.{g}",
+             "crates/b/specs/machine/One.antt": "", "crates/b/specs/machine.antt": ""}
+    tool = Tool("check_docs", tracked=lambda: list(map(Path, files)))
+    for place, text in files.items():
+        write(place, text)
+    found = tool.parts["failures_of_modules"](page + "\n`One`, `Two`")
+    assert [it.partition(", which")[0] for it in found] == list(filter(None, wanted.split(", ")))
+
+
 @pytest.mark.parametrize("needs, crates, lacking", [
     ("kit", "", "kit"), ("crates", "no", "crates"), ("here crates", "yes", ""),
     ("here kit gone", "", "kit, gone"), ("python3-json here", "", ""),
@@ -181,7 +203,9 @@ def test_the_history(status, said, wanted):
     ("--run", "A.md README.md", 1, ["README.md:5: True", "docs/A.md:5: True",
                                     "tools/README.md:5: True", "3 pages, 3 failures"])])
 def test_which_pages_are_checked(words, faulty, status, told):
-    for place in "README.md", "docs/A.md", "tools/README.md":
+    subprocess.run(["git", "init", "-q"], check=True)
+    write(".gitignore", "out/\n")
+    for place in "README.md", "docs/A.md", "tools/README.md", "out/README.md", "a.py":
         write(place, "")
     tool = Tool("check_docs", failures=lambda page, run: [(5, run)] * (page.path.name in faulty))
     assert tool.run(*words.split()) == (status, "".join(f"{line}\n" for line in told))

@@ -40,7 +40,7 @@ pub(crate) static VECTORS: [UntilVector; 8] = [
         ],
     },
     UntilVector {
-        name: "stop behind an ESC sequence",
+        name: "stop after an ESC sequence",
         stop: Stop::AtEscape,
         before: b"",
         steps: &[Step {

@@ -17,7 +17,7 @@ pub(crate) static VECTORS: [LinesVector; 21] = [
         lines: &[],
     },
     LinesVector {
-        name: "text behind a character completed across calls",
+        name: "text after a character completed across calls",
         size: 1024,
         pieces: &[b"\xc4", b"\xb8a\xf0\x9f\x8e\x89"],
         lines: &["print 0138", "print 0061", "print 1f389"],
@@ -41,13 +41,13 @@ pub(crate) static VECTORS: [LinesVector; 21] = [
         lines: &["print 4fd9", "print fffd"],
     },
     LinesVector {
-        name: "ESC behind an unfinished character",
+        name: "ESC after an unfinished character",
         size: 1024,
         pieces: &[b"\xd8\x1b012"],
         lines: &["print fffd", "esc - false 30", "print 0031", "print 0032"],
     },
     LinesVector {
-        name: "ESC behind three bytes of four",
+        name: "ESC after three bytes of four",
         size: 1024,
         pieces: &[b"\xf0\x9f\x8e\x1bc"],
         lines: &["print fffd", "esc - false 63"],
@@ -71,13 +71,13 @@ pub(crate) static VECTORS: [LinesVector; 21] = [
         lines: &["print fffd", "print fffd"],
     },
     LinesVector {
-        name: "CAN behind an unfinished character",
+        name: "CAN after an unfinished character",
         size: 1024,
         pieces: &[b"\xe4\x18"],
         lines: &["print fffd", "execute 18"],
     },
     LinesVector {
-        name: "CAN behind an unfinished character, two calls",
+        name: "CAN after an unfinished character, two calls",
         size: 1024,
         pieces: &[b"\xe4", b"\x18"],
         lines: &["print fffd", "execute 18"],

@@ -35,13 +35,13 @@ pub(crate) static VECTORS: [LinesVector; 11] = [
         lines: &["esc - false 63"],
     },
     LinesVector {
-        name: "CAN directly behind ESC",
+        name: "CAN directly after ESC",
         size: 1024,
         pieces: &[b"\x1b\x18a"],
         lines: &["execute 18", "print 0061"],
     },
     LinesVector {
-        name: "DEL dropped behind ESC",
+        name: "DEL dropped after ESC",
         size: 1024,
         pieces: &[b"\x1b\x7fc"],
         lines: &["esc - false 63"],
@@ -53,19 +53,19 @@ pub(crate) static VECTORS: [LinesVector; 11] = [
         lines: &["print 0061", "esc 28 false 42", "execute 0a"],
     },
     LinesVector {
-        name: "DEL and 80 dropped behind an intermediate",
+        name: "DEL and 80 dropped after an intermediate",
         size: 1024,
         pieces: &[b"\x1b(\x7f\x80B"],
         lines: &["esc 28 false 42"],
     },
     LinesVector {
-        name: "bracket behind an intermediate is dispatched",
+        name: "bracket after an intermediate is dispatched",
         size: 1024,
         pieces: &[b"\x1b([1"],
         lines: &["esc 28 false 5b", "print 0031"],
     },
     LinesVector {
-        name: "CAN behind an intermediate",
+        name: "CAN after an intermediate",
         size: 1024,
         pieces: &[b"\x1b(\x18B"],
         lines: &["execute 18", "print 0042"],

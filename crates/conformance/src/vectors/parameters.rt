@@ -49,7 +49,7 @@ pub(crate) static VECTORS: [LinesVector; 24] = [
         lines: &["csi [65535] - false 6d"],
     },
     LinesVector {
-        name: "marker behind a digit",
+        name: "marker after a digit",
         size: 1024,
         pieces: &[b"\x1b[1?ma"],
         lines: &["print 0061"],
@@ -67,7 +67,7 @@ pub(crate) static VECTORS: [LinesVector; 24] = [
         lines: &["csi [0] 3f24 true 70"],
     },
     LinesVector {
-        name: "digit behind a CSI intermediate",
+        name: "digit after a CSI intermediate",
         size: 1024,
         pieces: &[b"\x1b[1$2pa"],
         lines: &["print 0061"],
@@ -85,7 +85,7 @@ pub(crate) static VECTORS: [LinesVector; 24] = [
         lines: &["csi [65535;65535] - false 6d"],
     },
     LinesVector {
-        name: "empty number behind a semicolon",
+        name: "empty number after a semicolon",
         size: 1024,
         pieces: &[b"\x1b[4;m"],
         lines: &["csi [4;0] - false 6d"],

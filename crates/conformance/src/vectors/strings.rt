@@ -142,7 +142,7 @@ pub(crate) static VECTORS: [LinesVector; 31] = [
         lines: &["csi [1049] 3f false 68"],
     },
     LinesVector {
-        name: "DCS behind an open CSI",
+        name: "DCS after an open CSI",
         size: 1024,
         pieces: &[b"\x1b[3;1\x1bP1$tx\x9c"],
         lines: &["hook [1] 24 false 74", "put 78", "unhook"],
@@ -204,7 +204,7 @@ pub(crate) static VECTORS: [LinesVector; 31] = [
         lines: &[],
     },
     LinesVector {
-        name: "semicolon behind a full store",
+        name: "semicolon after a full store",
         size: 2,
         pieces: &[b"\x1b]ab;c\x07"],
         lines: &["osc true 1 6162"],

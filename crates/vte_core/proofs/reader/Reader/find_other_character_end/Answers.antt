@@ -1,7 +1,7 @@
 -- At a byte that is not printed ASCII, a run goes on by a kept control or by one character, of two, three or four bytes
 -- (`run-*`), or it ends. It ends (`ends-*`) if the byte is single, the bytes end too soon, or a byte does not fit: each
 -- test that fails excludes the character that would stand there.
-use Rattle.vte_core.proofs.Common.{true, refl, sym, ap, ◌∙◌, arith, false≢true, is_in, from_to, rules}
+use Rattle.vte_core.proofs.Common.{refl, sym, ap, ◌∙◌, arith, false≢true, is_in, from_to, rules}
 use Rattle.vte_core.proofs.bytes.Runs.{ends-single, ends-long, ends-two, ends-three, ends-four, run-layout}
 use Rattle.vte_core.proofs.bytes.Scalars.{in_range-bounds}
 use Rattle.vte_core.proofs.dividing.Utf8Agrees.{run-two, run-three, run-four}

@@ -1,6 +1,6 @@
 -- In a round the call may first print a run of ASCII (`reached`), and then stands before a byte (`at`), which it reads
 -- by one of three branches, of which two join (`read`).
-use Rattle.vte_core.proofs.Common.{◌≡◌, ◌+◌, ◌<◌, length, sym, ◌∙◌, arith, rules, Advances, Text, Nothing}
+use Rattle.vte_core.proofs.Common.{◌<◌, length, sym, ◌∙◌, arith, rules, Advances, Text, Nothing}
 use Rattle.vte_core.specs.machine.Prelude.{MayReadByte}
 use Rattle.vte_core.proofs.calls.Progress.{settled-by}
 use Rattle.vte_core.proofs.calls.Stretches.{advances-byte, advances-part, advances-then}

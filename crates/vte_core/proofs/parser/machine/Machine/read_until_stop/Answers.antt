@@ -1,6 +1,6 @@
 -- A round reads the byte before which the call stands: what begins with a lead byte by a branch of its own, and a
 -- character, a control or malformed byte alone by two that join.
-use Rattle.vte_core.proofs.Common.{◌≡◌, ◌+◌, ◌<◌, length, slice_index, sym, ◌∙◌, arith, rules, Advances, Text, Nothing}
+use Rattle.vte_core.proofs.Common.{◌≡◌, ◌+◌, ◌<◌, length, slice_index, sym, ◌∙◌, arith, rules, Advances}
 use Rattle.vte_core.proofs.calls.Progress.{settled-by}
 use Rattle.vte_core.proofs.calls.Stretches.{advances-byte, advances-part, advances-then}
 use Rattle.vte_core.proofs.calls.BetweenCharacters.{performs-printed, performs-single}

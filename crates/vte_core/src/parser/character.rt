@@ -162,7 +162,8 @@ impl<B: Buffer> Machine<B> {
         }
         if G::IN_RUNS {
             let end = reader.find_run_end_for(performer, input, next + 3);
-            // cargo: // SAFETY: the character at `from` is whole, and the search passes whole characters.
+            // cargo: // SAFETY: the character at `from` is whole, and the search passes whole
+            // cargo: // characters.
             reader.report_text(performer, input, from, end);
             return end;
         }

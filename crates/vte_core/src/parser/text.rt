@@ -306,7 +306,8 @@ impl<B: Buffer> Machine<B> {
     {
         let end = reader.find_run_end_at_lead(performer, input, from, first);
         if end > from {
-            // cargo: // SAFETY: the search has passed the character at `from`, and passes whole characters.
+            // cargo: // SAFETY: the search has passed the character at `from`, and passes whole
+            // cargo: // characters.
             reader.report_text(performer, input, from, end);
             return end;
         }

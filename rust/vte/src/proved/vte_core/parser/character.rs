@@ -122,7 +122,8 @@ impl<B: Buffer> Machine<B> {
         }
         if G::IN_RUNS {
             let end = reader.find_run_end_for(performer, input, next + 3);
-            // SAFETY: the character at `from` is whole, and the search passes whole characters.
+            // SAFETY: the character at `from` is whole, and the search passes whole
+            // characters.
             performer.print_text(reader, unsafe { text(input, from, end) });
             return end;
         }

@@ -194,6 +194,7 @@ impl<B: Buffer> Machine<B> {
             let end = self.read_character::<P, G, false>(reader, performer, input, from, first);
             return Some(end);
         } else if first >= 0xa0 {
+            // tested before ESC, which takes fewer instructions
             reader.report_lone_byte(performer, first);
         } else if first == ESCAPE {
             return None;
@@ -217,7 +218,8 @@ impl<B: Buffer> Machine<B> {
     ) -> usize {
         let end = reader.find_run_end_at_lead(performer, input, from, first);
         if end > from {
-            // SAFETY: the search has passed the character at `from`, and passes whole characters.
+            // SAFETY: the search has passed the character at `from`, and passes whole
+            // characters.
             performer.print_text(reader, unsafe { text(input, from, end) });
             return end;
         }

@@ -473,18 +473,18 @@ def test_the_table_of_c_has_one_order(calls):
 
 # ---- make_vectors
 
-PLAIN, MARK = "crates/conformance/src/log_tests/plain.rt", "// Written by tools/make_vectors."
+PLAIN, MARK = "crates/event_vectors/src/log_tests/plain.rt", "// Written by tools/make_vectors."
 
 
 @pytest.mark.parametrize("old, new, told", [
-    (None, None, "crates/conformance has no table of PlainVector"),
+    (None, None, "crates/event_vectors has no table of PlainVector"),
     ('text: b"\\x0a"', 'text: b"\\x0d"',
      f"these files aren't up to date; run tools/make_vectors:\n  {PLAIN}"),
     ("plain text of nothing", "nothing", f'{PLAIN}: no vector of text has the name "nothing"'),
     ("[PlainVector;", "[Plain;", f"{PLAIN}: 0 tables, and 1 times `{MARK}`"),
     ("// Written by", "// By", f"{PLAIN}: 1 tables, and 0 times `{MARK}`")])
 def test_a_wrong_table_is_refused(folder, old, new, told):
-    for name in "conformance/src", "call_vectors":
+    for name in "event_vectors/src", "call_vectors":
         shutil.copytree(TOOLS.parent / "crates" / name, folder / "crates" / name)
     text = Path(PLAIN).read_text()
     if old is None:

@@ -2,7 +2,7 @@
 -- which states the calls lead. By induction over the list.
 use Rattle.vte.proofs.Common.{◌≡◌, ◌≤◌, ℕ, ◌+◌, ◌-◌, inl, inr, Bool, Option, List, [], ◌∷◌, ◌++◌, length, take, refl, ap, sym, ◌∙◌, arith, append_assoc, length-append, cases_Bool, append-nil, subst, drop_all, take-append-add, take-append_seam, take_all, after, Step, Advance, StopSync, added_calls, Meaning, TakesSteps, calls_after, after_last_end, from_begin_update, hold_turn, AreInOrder, calls, calls_between, calls_with_stops, events, State, TakesTurns, TakesTurnsUntilRefused, between_turns, inside_turn, prefix_to_begin, extend, release, parsing_turn, stop, turn, done, turns, ◌<◌, drop, get_or, append_cancel_right, take-append-drop, Bor, drop_more, take_more, HasAdvanced, HoldsWellAt, HasReplayed, HasTold, HasTaken, IsSteady, TakesAllTurns, given_bytes, true, false, HasParsedAll, IsAt, Replays, StandingPredicate, rules}
 use Rattle.vte.proofs.Performing.{after_calls-append, added_calls-append, calls_whole}
-use Rattle.vte.proofs.turns.EachOnce.{hold_turn-all, hold_turn-rest, is_held, is_stopped, refused-opens, stop_if_due, turn-holds, turn-parses, grows_before, grows_on, replay_grows, stop_well, taken_well, turn_well}
+use Rattle.vte.proofs.turns.EachOnce.{hold_turn-all, hold_turn-rest, is_held, is_stopped, refused-parses, stop_if_due, turn-holds, turn-parses, grows_before, grows_on, replay_grows, stop_well, taken_well, turn_well}
 use Rattle.vte.proofs.updates.Sequences.{cases_Option}
 use Rattle.vte.specs.Refusal.{IsFirstRefused}
 use Rattle.vte.proofs.turns.Slices.{until_refused-grows}
@@ -108,8 +108,8 @@ module _ {V W : Type 0} (m : Meaning V W) (end : State V W) where
         told = rw calls_between-none rest.told;
       })
 
-  tells-open : (state : State V W) (bytes : List ℕ) → TellsAt (parsing_turn m state bytes).state → TellsAt state
-  tells-open state bytes =
+  tells-parsing : (state : State V W) (bytes : List ℕ) → TellsAt (parsing_turn m state bytes).state → TellsAt state
+  tells-parsing state bytes =
       tells-parse (prefix_to_begin m.limit state.parsed bytes)
 
   tells-release : (state : State V W) (kept : List ℕ) → TellsAt (release m state kept) → TellsAt state
@@ -136,7 +136,7 @@ module _ {V W : Type 0} (m : Meaning V W) (end : State V W) where
     | inl held ↦ rw (turn-holds m pending state bytes held) (tells-hold state bytes)
     | inr parses ↦
         rw (turn-parses m pending state bytes parses)
-        (λ rest. tells-due pending state (tells-open (stop_if_due m pending state) bytes rest))
+        (λ rest. tells-due pending state (tells-parsing (stop_if_due m pending state) bytes rest))
   ]
 
   tells-turns : (state next : State V W) (bytes left : List ℕ) → TakesTurns m state bytes next left → TellsAt next
@@ -162,11 +162,11 @@ module _ {V W : Type 0} (m : Meaning V W) (end : State V W) where
   tells-refused state reached steps bytes left taken (between_turns more) =
       tells-steps state reached steps taken (tells-turns reached end bytes left more tells-nothing)
   tells-refused state reached steps bytes left taken (inside_turn {reached = mid} {rest} more pending allowed halts) =
-      let opened = (refused-opens m pending mid end rest left halts).1 in
+      let halted = (refused-parses m pending mid end rest left halts).1 in
       tells-steps state reached steps taken
       (tells-turns reached mid bytes rest more
       (tells-due pending mid
-      (tells-parse opened.prefix (subst (λ state. TellsAt state) opened.state_is tells-nothing))))
+      (tells-parse halted.prefix (subst (λ state. TellsAt state) halted.state_is tells-nothing))))
 
 -- ---- from calls to a list of them
 
@@ -292,7 +292,7 @@ module _ {V W : Type 0} (m : Meaning V W) where
 -- ---- a timeout that is never pending
 
 -- Nothing is ever held, so a list of calls has no stops, and makes the calls of the whole stream. By induction over
--- turns: each one is open, and ends with nothing held.
+-- turns: each one parses, and ends with nothing held.
 
 -- nothing is held, and there was no stop
 record IsPlain {V W : Type 0} (s t : State V W) : Type 0 where

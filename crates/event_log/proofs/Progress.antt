@@ -1,5 +1,5 @@
 -- From what a collector holds to what a run has written: what was collected is appended, and each read that gives
--- something takes a piece off the input (`HasReadPart`), until one fails or gives nothing.
+-- something takes a chunk off the input (`HasReadPart`), until one fails or gives nothing.
 use Rattle.event_log.proofs.Common.{◌≡◌, ℕ, ◌+◌, ◌<◌, ◌≤◌, ◌⊎◌, Bool, true, List, [], ◌++◌, length, Option, Some, None, IfSome, inl, inr, refl, sym, ap, ◌∙◌, usual_limit, append_assoc, append-nil, length-append, arith, flat_map, Event, HasRead, events, Parser, AddsUpTo, HasWritten}
 use Rattle.std.specs.Io.KnownBytes.{Appends, Consumes, IsAtEnd, Keeps}
 use Rattle.event_log.specs.Device.{KeepsWhereTold}
@@ -18,21 +18,21 @@ kept : (after : Option (List ℕ)) (known : List ℕ) → Keeps (Some known) aft
 kept None known h = absurd h
 kept (Some ys) known h = ap Some h
 
-record Left (known piece : List ℕ) (after : Option (List ℕ)) : Type 0 where
+record Left (known chunk : List ℕ) (after : Option (List ℕ)) : Type 0 where
   rest : List ℕ
   told : after ≡ Some rest
-  parts : known ≡ piece ++ rest
+  parts : known ≡ chunk ++ rest
 
-consumed : (after : Option (List ℕ)) (known piece : List ℕ) → Consumes (Some known) after piece → Left known piece after
-consumed None known piece h = absurd h
-consumed (Some ys) known piece h = record { rest = ys; told = refl; parts = h }
+consumed : (after : Option (List ℕ)) (known chunk : List ℕ) → Consumes (Some known) after chunk → Left known chunk after
+consumed None known chunk h = absurd h
+consumed (Some ys) known chunk h = record { rest = ys; told = refl; parts = h }
 
 kept_where_told : (after : Option (List ℕ)) (known : List ℕ) → KeepsWhereTold (Some known) after
     → IfSome after (λ bytes. bytes ≡ known)
 kept_where_told None known h = tt
 kept_where_told (Some ys) known h = h
 
--- ---- a piece
+-- ---- a chunk
 
 -- What was collected is written, and the run goes on with the unread bytes.
 pub written_more : {text_of : Event → List ℕ} {whole : List ℕ → List ℕ} {unread unread_then collected : List ℕ}
@@ -55,18 +55,18 @@ written_more {unread} {collected} {taken_then} h collects appends =
       };
     }
 
--- A piece is still to be given to the parser.
+-- A chunk is still to be given to the parser.
 pub written_before : {text_of : Event → List ℕ} {whole : List ℕ → List ℕ} {parser : Parser 1024}
     {taken : Option (List ℕ)}
-    (piece : List ℕ) → HasWritten text_of whole taken parser []
-    → HasWritten text_of (λ more. whole (piece ++ more)) taken parser piece
-written_before piece h = record {
+    (chunk : List ℕ) → HasWritten text_of whole taken parser []
+    → HasWritten text_of (λ more. whole (chunk ++ more)) taken parser chunk
+written_before chunk h = record {
   written = h.written;
   told = h.told;
   adds_up = record {
     since = h.adds_up.since;
     parsed = h.adds_up.parsed;
-    goes_on = λ more. h.adds_up.goes_on (piece ++ more);
+    goes_on = λ more. h.adds_up.goes_on (chunk ++ more);
   };
 }
 
@@ -112,23 +112,23 @@ module _ {text_of : Event → List ℕ} {input held : List ℕ} {parser : Parser
     many = omega arith;
   }
 
-  pub come_more : {reads : ℕ} {parser_then : Parser 1024} {to_come_then taken_then : Option (List ℕ)} (piece : List ℕ)
-      → HasReadPart text_of input held reads parser to_come taken → Consumes to_come to_come_then piece
-      → 0 < length piece
+  pub come_more : {reads : ℕ} {parser_then : Parser 1024} {to_come_then taken_then : Option (List ℕ)} (chunk : List ℕ)
+      → HasReadPart text_of input held reads parser to_come taken → Consumes to_come to_come_then chunk
+      → 0 < length chunk
       → ((whole : List ℕ → List ℕ) → HasWritten text_of whole taken parser []
-      → HasWritten text_of (λ more. whole (piece ++ more)) taken_then parser_then [])
+      → HasWritten text_of (λ more. whole (chunk ++ more)) taken_then parser_then [])
       → HasReadPart text_of input held (reads + 1) parser_then to_come_then taken_then
-  come_more {to_come_then} piece h consumes some writes =
-      let left = consumed to_come_then h.rest piece (rw h.left at consumes) in
+  come_more {to_come_then} chunk h consumes some writes =
+      let left = consumed to_come_then h.rest chunk (rw h.left at consumes) in
       record {
-        stream = h.stream ++ piece;
+        stream = h.stream ++ chunk;
         rest = left.rest;
         parts = rw (append_assoc, ← left.parts) h.parts;
         left = left.told;
-        whole = λ more. h.whole (piece ++ more);
-        is = λ more. rw append_assoc (h.is (piece ++ more));
+        whole = λ more. h.whole (chunk ++ more);
+        is = λ more. rw append_assoc (h.is (chunk ++ more));
         written = writes h.whole h.written;
-        many = omega (arith, h.many, length-append h.stream piece);
+        many = omega (arith, h.many, length-append h.stream chunk);
       }
 
   -- All that was read is written.

@@ -15,7 +15,7 @@ use crate::recorder::Recorder;
 use vte_core::laws;
 
 /// The most bytes that are read at once.
-const PIECE: usize = 4096;
+const CHUNK: usize = 4096;
 
 /// Reads to the end, and writes one line per event.
 ///
@@ -67,7 +67,7 @@ fn run_with<C: Collector, R: Source, W: Sink>(
 {
     laws::empty_stream();
     let mut parser = RunParser::new();
-    let mut room = [0; PIECE];
+    let mut room = [0; CHUNK];
     for _ in 0..u64::MAX {
         let Ok(count) = reader.read(&mut room) else {
             return Err(Fault::Read);

@@ -55,7 +55,7 @@ static LONG_VECTORS: [UnlimitedVector; 2] = [
 /// Streams whose events need none.
 static SHORT_VECTORS: [UnlimitedVector; 2] = [
     UnlimitedVector {
-        name: "bytes behind the sixteenth separator",
+        name: "bytes after the sixteenth separator",
         bytes: RepeatedBytes {
             front: b"\x1b];;;;;;;;;;;;;;;;",
             unit: b"a",

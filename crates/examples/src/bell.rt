@@ -1,4 +1,4 @@
-//! A performer that asks for an early stop where the bell rings.
+//! A performer that asks for an early stop when the bell rings.
 ghost use Rattle.examples.specs.Bell.{rung_after};
 ghost use Rattle.std.specs.Prelude.{◌≡◌, false};
 ghost use Rattle.vte_core.specs.Event.{after};

@@ -6,11 +6,11 @@ pub mod Numbers
 pub mod EscapeCalls
 -- Those of control sequences.
 pub mod SelectedValues
+pub mod Split
 pub mod Colors
 pub mod Rendition
 pub mod ControlCalls
 -- Those of operating system commands.
-pub mod Split
 pub mod CommandCalls
 -- Those of all events.
 pub mod Calls

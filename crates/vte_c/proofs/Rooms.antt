@@ -5,7 +5,7 @@ use Rattle.std.proofs.Math.Bool.{or-false, or_assoc}
 use Rattle.std.proofs.lemmas.List.Folds.{list_any-append}
 use Rattle.vte_core.proofs.places.PlaceLeads.{short_bounded}
 use Rattle.vte_core.proofs.streams.After.{after_events-append}
-use Rattle.vte_c.proofs.Continuing.{kinds-append, kinds_of_none}
+use Rattle.vte_c.proofs.Continuations.{kinds-append, kinds_of_none}
 
 -- ---- how long the data of an event are
 

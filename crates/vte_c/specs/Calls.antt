@@ -4,8 +4,7 @@ use Rattle.vte_core.specs.Event.{Event}
 use Rattle.vte_core.specs.Saved.{HasReadSaved}
 use Rattle.vte_core.specs.Stream.{added, usual_limit}
 use Rattle.vte_core.specs.declared.parser.saved.Saved.{Saved}
-use Rattle.vte_c.specs.Record.{data_kind, events_in, kinds_in, least_data, least_events, text_kind}
-use Rattle.vte_c.specs.Text.{least_text}
+use Rattle.vte_c.specs.Record.{data_kind, events_in, kinds_in, least_data, least_events, least_text, text_kind}
 use Rattle.vte_c.specs.Told.{AreEncoded, AreOthers, HasStripped, HasTold, HaveOtherKinds, StopsAtKind, is_stop, no_room, fed_count}
 use Rattle.vte_c.specs.declared.event.VteEvent.{VteEvent}
 use Rattle.vte_c.specs.declared.feed.VteCounts.{VteCounts}

@@ -5,10 +5,12 @@ use Rattle.vte_core.specs.Event.{Event}
 use Rattle.vte_core.specs.Parser.{HasRead}
 use Rattle.vte_core.specs.Stream.{added, usual_limit}
 use Rattle.vte_core.specs.declared.parser.Parser.{Parser}
-use Rattle.vte_c.specs.Events.{Room}
-use Rattle.vte_c.specs.Record.{Item, data_kind, has, item_data, item_events, records_from, reported, text_kind}
-use Rattle.vte_c.specs.Told.{AreOthers, AreReadable, HaveOtherKinds, StopsAtKind, is_stop}
+use Rattle.vte_core.specs.declared.parser.saved.Saved.{Saved}
+use Rattle.vte_c.specs.Events.{Room, room_of}
+use Rattle.vte_c.specs.Record.{Item, data_kind, events_in, has, item_data, item_events, kinds_in, records_from, reported, text_kind}
+use Rattle.vte_c.specs.Told.{AreEncoded, AreOthers, AreReadable, HasTold, HaveOtherKinds, StopsAtKind, is_stop}
 use Rattle.vte_c.specs.declared.event.VteEvent.{VteEvent}
+use Rattle.vte_c.specs.declared.events.Events.{Events}
 
 -- The events are the first of those of another list.
 pub record AreFirst (events all : List Event) : Type 0 where
@@ -81,3 +83,20 @@ pub record HasReadOn (old new : Room) (parser : Parser 1024) (since bytes : List
   pub next : List ℕ
   pub reads : HasRead parser next
   pub goes : ReadsOn old new since next bytes from n
+
+-- A call read the first n bytes and wrote their events into the caller's buffers, where they are
+-- found whatever follows the bytes.
+pub record HasFed (old new : Events) (parser : Saved) (told : List Event)
+    (stream bytes rest : List ℕ) (n : ℕ) : Type 0 where
+  pub events_name : new.events.ghost_name ≡ old.events.ghost_name
+  pub area_name : new.area.ghost_name ≡ old.area.ghost_name
+  pub progress : HaveOtherKinds (room_of old).stops (kinds_in new.count new.events.now) →
+      0 < length bytes → 0 < n
+  pub first : StopsAtKind (room_of old).stops (kinds_in new.count new.events.now)
+  pub encodes : (more : List ℕ) →
+      AreEncoded (events_in new.count new.events.now (bytes ++ more) new.area.now)
+      new.count new.used new.events.now (bytes ++ more) new.area.now
+  pub tells : (more : List ℕ) →
+      HasTold (room_of old).kinds parser
+      (told ++ events_in new.count new.events.now (bytes ++ more) new.area.now)
+      stream (drop n bytes ++ rest)

@@ -52,12 +52,16 @@ may_have_lost _ = false
 abbrev pub most_added : ℕ
 most_added = 1092
 
--- The least room: how many records the caller's buffer must have, and how many data bytes its area.
+-- The least room: how many records the caller's buffer must have, how many data bytes its area, and
+-- how many bytes of text the buffer of `vte_strip`.
 abbrev pub least_events : ℕ
 least_events = 4
 
 abbrev pub least_data : ℕ
 least_data = 2112
+
+abbrev pub least_text : ℕ
+least_text = 16
 
 -- ---- the record of an event
 

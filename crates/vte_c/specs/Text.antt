@@ -1,7 +1,10 @@
 -- The caller's buffer for text, and how an event changes it.
-use Rattle.std.specs.Prelude.{◌≡◌, ◌≤◌, ℕ, ◌+◌, Bool, true, false, ◌&&◌, List, [], ◌++◌, length, take, if◌then◌else◌, nat_le}
+use Rattle.std.specs.Prelude.{◌≡◌, ◌≤◌, ℕ, ◌+◌, Bool, true, false, ◌&&◌, List, [], ◌++◌, length, drop, take, if◌then◌else◌, nat_le}
 use Rattle.event_log.specs.Plain.{plain_text_of}
 use Rattle.vte_core.specs.Event.{Event}
+use Rattle.vte_core.specs.declared.parser.saved.Saved.{Saved}
+use Rattle.vte_c.specs.Record.{least_text}
+use Rattle.vte_c.specs.Told.{HasStripped}
 use Rattle.vte_c.specs.declared.text.Text.{Text}
 
 -- What was written, how much that is, how much there is room for, whether all had room, and which
@@ -32,13 +35,16 @@ with_text room text =
 abbrev pub with_text_of : TextRoom → Event → TextRoom
 with_text_of room event = with_text room (plain_text_of event)
 
--- The least room: how many bytes the caller's buffer must have.
-abbrev pub least_text : ℕ
-least_text = 16
-
 -- An empty room that has at least the least size.
 pub record StartsText (room : TextRoom) : Type 0 where
   pub text : room.text ≡ []
   pub used : room.used ≡ 0
   pub size : least_text ≤ room.size
   pub fits : room.fits ≡ true
+
+-- A call read the first n bytes and wrote their text into the caller's buffer.
+pub record StripsMore (old new : Text) (parser : Saved) (text stream bytes rest : List ℕ)
+    (n : ℕ) : Type 0 where
+  pub name : new.room.ghost_name ≡ old.room.ghost_name
+  pub number : new.used ≡ length (take new.used new.room.now)
+  pub strips : HasStripped parser (text ++ take new.used new.room.now) stream (drop n bytes ++ rest)

@@ -9,11 +9,8 @@ use Rattle.vte_core.specs.Saved.{HasReadSaved}
 use Rattle.vte_core.specs.Stream.{added, events, usual_limit}
 use Rattle.vte_core.specs.Text.{HasNoControls}
 use Rattle.vte_core.specs.declared.parser.saved.Saved.{Saved}
-use Rattle.vte_c.specs.Events.{room_of}
-use Rattle.vte_c.specs.Record.{Run, TextRun, DataRun, Item, Single, InInput, events_in, has, item_data, item_events, kind_of, kinds_in, records_from, reported, without_loss}
+use Rattle.vte_c.specs.Record.{Run, TextRun, DataRun, Item, Single, InInput, has, item_data, item_events, kind_of, records_from, reported, without_loss}
 use Rattle.vte_c.specs.declared.event.VteEvent.{VteEvent}
-use Rattle.vte_c.specs.declared.events.Events.{Events}
-use Rattle.vte_c.specs.declared.text.Text.{Text}
 
 -- The parser has read the stream except for the unread bytes at its end. What was given of its
 -- events, followed by what is given of those that the unread and more bytes add, is what is given
@@ -95,27 +92,3 @@ pub record AreEncoded (events : List Event) (count used : ℕ) (records : List V
   pub recorded : map without_loss (take count records) ≡ records_from 0 items
   pub size : used ≡ length (flat_map item_data items)
   pub held : take used area ≡ flat_map item_data items
-
--- A call read the first n bytes and wrote their events into the caller's buffers, where they are
--- found whatever follows the bytes.
-pub record HasFed (old new : Events) (parser : Saved) (told : List Event)
-    (stream bytes rest : List ℕ) (n : ℕ) : Type 0 where
-  pub events_name : new.events.ghost_name ≡ old.events.ghost_name
-  pub area_name : new.area.ghost_name ≡ old.area.ghost_name
-  pub progress : HaveOtherKinds (room_of old).stops (kinds_in new.count new.events.now) →
-      0 < length bytes → 0 < n
-  pub first : StopsAtKind (room_of old).stops (kinds_in new.count new.events.now)
-  pub encodes : (more : List ℕ) →
-      AreEncoded (events_in new.count new.events.now (bytes ++ more) new.area.now)
-      new.count new.used new.events.now (bytes ++ more) new.area.now
-  pub tells : (more : List ℕ) →
-      HasTold (room_of old).kinds parser
-      (told ++ events_in new.count new.events.now (bytes ++ more) new.area.now)
-      stream (drop n bytes ++ rest)
-
--- A call read the first n bytes and wrote their text into the caller's buffer.
-pub record StripsMore (old new : Text) (parser : Saved) (text stream bytes rest : List ℕ)
-    (n : ℕ) : Type 0 where
-  pub name : new.room.ghost_name ≡ old.room.ghost_name
-  pub number : new.used ≡ length (take new.used new.room.now)
-  pub strips : HasStripped parser (text ++ take new.used new.room.now) stream (drop n bytes ++ rest)

@@ -8,9 +8,14 @@ ghost use Rattle.vte_c.specs.Record.{data_of, group_bytes, has, has_most, least_
 use crate::event::{self, VteEvent, count_byte, has};
 use vte_core::{Params, Perform, Run, Taken};
 
-/// The most data bytes of one event: 16 pieces of together 1,024 bytes, each after four with its
-/// length.
-pub(crate) const MAX_DATA: usize = 1088;
+/// The most pieces of a command.
+const MAX_PIECES: usize = 16;
+
+/// The most bytes of all pieces of a command, which is the limit of the parser.
+const MAX_PIECE_BYTES: usize = 1024;
+
+/// The most data bytes of one event: of a command, each piece after four bytes with its length.
+pub(crate) const MAX_DATA: usize = MAX_PIECE_BYTES + 4 * MAX_PIECES;
 
 /// The most data bytes of what one byte of a stream adds: an event, and a character after it.
 const MAX_ADDED: usize = MAX_DATA + 4;
@@ -20,7 +25,7 @@ const MAX_ADDED: usize = MAX_DATA + 4;
 fn has_most(pieces: usize, size: usize) -> bool
     ensures { result ≡ has_most pieces size }
 {
-    pieces >= 16 || size >= 1024
+    pieces >= MAX_PIECES || size >= MAX_PIECE_BYTES
 }
 
 /// Returns the bytes of a group with one number.
@@ -51,8 +56,8 @@ pub(crate) struct Events<'a> {
     // whether a command came of which the parser wasn't asked yet, and the place of its record
     paused: bool,
     command: usize,
-    // From how many events on the room is full: from none on once one that stops was written, in a
-    // pause, and if the area has little room left.
+    // from how many events on the room is full: from none on once one that stops was written, in a
+    // pause, and if the area has little room left
     full_count: usize,
     ghost size_limit: { size ≡ min (length area.now) (2 ^ 32 - 1) },
     ghost used_limit: { used ≤ size },

@@ -6,8 +6,8 @@ ghost use Rattle.vte_core.specs.Saved.{HasReadSaved};
 ghost use Rattle.vte_core.specs.Stream.{added, usual_limit};
 ghost use Rattle.vte_c.specs.Calls.{Feeds};
 ghost use Rattle.vte_c.specs.Events.{Starts, is_full, room_of};
-ghost use Rattle.vte_c.specs.Feeding.{AreOthersIn, HasReadOn, HaveOtherRecords, StopsAtNone};
-ghost use Rattle.vte_c.specs.Told.{HasFed, HasTold};
+ghost use Rattle.vte_c.specs.Feeding.{AreOthersIn, HasFed, HasReadOn, HaveOtherRecords, StopsAtNone};
+ghost use Rattle.vte_c.specs.Told.{HasTold};
 
 use crate::event::VteEvent;
 use crate::events::Events;

@@ -12,8 +12,7 @@ ghost use Rattle.vte_core.specs.Saved.{HasReadSaved};
 ghost use Rattle.vte_core.specs.Stream.{IsFinished, IsUnfinished, usual_limit};
 ghost use Rattle.vte_c.specs.Calls.{Feeds, Strips};
 ghost use Rattle.vte_c.specs.OpenCode.{open_code};
-ghost use Rattle.vte_c.specs.Record.{least_data, least_events};
-ghost use Rattle.vte_c.specs.Text.{least_text};
+ghost use Rattle.vte_c.specs.Record.{least_data, least_events, least_text};
 
 // cargo instead: pub(crate) mod event;
 // cargo instead: pub(crate) use event::VteEvent;

@@ -1,8 +1,8 @@
 //! From bytes to the text that is left without the sequences.
 ghost use Rattle.std.specs.Prelude.{◌≡◌, ◌<◌, ◌≤◌, ◌+◌, ◌-◌, ◌++◌, ℕ, List, true, false, drop, length, take};
 ghost use Rattle.vte_c.specs.Calls.{Strips};
-ghost use Rattle.vte_c.specs.Told.{HasStripped, StripsMore};
-ghost use Rattle.vte_c.specs.Text.{StartsText, TextRoom, text_room_of, with_text, with_text_of};
+ghost use Rattle.vte_c.specs.Told.{HasStripped};
+ghost use Rattle.vte_c.specs.Text.{StartsText, StripsMore, TextRoom, text_room_of, with_text, with_text_of};
 
 use crate::feed::NO_ROOM;
 use vte_core::{Params, Parser, Perform, PerformText, Saved, laws};

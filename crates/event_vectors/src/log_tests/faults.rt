@@ -4,7 +4,7 @@ use super::FailingReadVector;
 
 pub(crate) static VECTORS: [FailingReadVector; 2] = [
     FailingReadVector {
-        name: "reader that fails behind two pieces",
+        name: "reader that fails after two chunks",
         reads: &[b"a", b"\x0a"],
         lines: &["print 0061", "execute 0a"],
     },

@@ -1,7 +1,7 @@
 -- A processor stands where its engine does, so it does what the engine ensures.
 use Rattle.vte.proofs.Common.{ℕ, List, length, Result, Ok, Err, arith, Bor, Refused, EngineView, Meaning, State, usual_limit, HasAdvanced, HasParsedAndHolds, HasTaken, IsAt, ReadsInTurns, EngineReads, StandingPredicate, EngineStandsAt, ◌≡◌, refl, rules, limited_parser_view, engine_view, HasTextRoom, HasParsedAndHoldsWithin, EngineStops, StopsSync, bounded_engine_view, stop, [], ◌+◌, ◌-◌, ◌<◌, ◌++◌, ap, length-append, counts_data, AdvancesLong, HasMemory, HasParsedAndHoldsLong, LacksMemoryLong, drop, length-drop, long_engine_view}
 use Rattle.vte_core.specs.declared.parser.Parser.{Parser}
-use Rattle.vte.proofs.replays.Tellings.{plain_call}
+use Rattle.vte.proofs.replays.WithoutUpdates.{plain_call}
 use Rattle.vte.proofs.turns.EngineTurns.{has_advanced, taken-to}
 use Rattle.vte.specs.declared.ansi.processor.Processor.{Processor}
 use Rattle.vte.specs.declared.ansi.calls.joined_text.TheConstants.{TEXT_ROOM}

@@ -30,8 +30,8 @@ abbrev pub stop_if_due : {V W : Type 0} → Meaning V W → Bool → State V W �
 stop_if_due m pending s = if is_stopped pending s then stop m s else s
 
 -- A parsing turn, after a stop if need be, was refused memory.
-abbrev pub OpensAndHalts : {V W : Type 0} → Meaning V W → Bool → State V W → List ℕ → State V W → List ℕ → Type 0
-OpensAndHalts m pending s bytes t left =
+abbrev pub ParsesAndHalts : {V W : Type 0} → Meaning V W → Bool → State V W → List ℕ → State V W → List ℕ → Type 0
+ParsesAndHalts m pending s bytes t left =
     (is_held pending s bytes ≡ false) × ParsingTurnIsRefused m (stop_if_due m pending s) bytes t left
 
 module _ {V W : Type 0} (m : Meaning V W) where
@@ -43,13 +43,13 @@ module _ {V W : Type 0} (m : Meaning V W) where
       → turn m pending s r ≡ parsing_turn m (stop_if_due m pending s) r
   turn-parses pending s r parses = search (rules, arith)
 
-  pub refused-opens : (pending : Bool) (s t : State V W) (r left : List ℕ) → TurnIsRefused m pending s r t left
-      → OpensAndHalts m pending s r t left
-  refused-opens pending s t r left o = search (rules, arith)
+  pub refused-parses : (pending : Bool) (s t : State V W) (r left : List ℕ) → TurnIsRefused m pending s r t left
+      → ParsesAndHalts m pending s r t left
+  refused-parses pending s t r left o = search (rules, arith)
 
-  pub refused-by_open : (pending : Bool) (s t : State V W) (r left : List ℕ) → OpensAndHalts m pending s r t left
+  pub refused-by_parsing : (pending : Bool) (s t : State V W) (r left : List ℕ) → ParsesAndHalts m pending s r t left
       → TurnIsRefused m pending s r t left
-  refused-by_open pending s t r left o = search (rules, arith)
+  refused-by_parsing pending s t r left o = search (rules, arith)
 
 -- ---- each byte once
 
@@ -168,9 +168,9 @@ module _ {V W : Type 0} (m : Meaning V W) where
 
   -- ---- a parsing turn
 
-  open_well : (s : State V W) (r : List ℕ) → s.held ≡ []
+  parsing_well : (s : State V W) (r : List ℕ) → s.held ≡ []
       → (IsSteady m.timeout → IsOutsideUpdate m.timeout s.held s.timeout) → HoldsWellAt m (parsing_turn m s r).state
-  open_well s r nothing outside =
+  parsing_well s r nothing outside =
       let f = prefix-is m.limit s.parsed r in
       record {
         no_end = rw nothing refl;
@@ -247,7 +247,7 @@ module _ {V W : Type 0} (m : Meaning V W) where
         (hold_well s r h (rw yes at allowed) (grind (arith, nat_tests, length-append s.held r)))
     | inr parses ↦
         rw (turn-parses m pending s r parses)
-        (open_well (stop_if_due m pending s) r (stop_if_due_none m pending s)
+        (parsing_well (stop_if_due m pending s) r (stop_if_due_none m pending s)
         (stop_if_due_outside pending s allowed h))
   ]
 

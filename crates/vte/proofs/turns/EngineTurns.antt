@@ -1,8 +1,8 @@
 -- From turns to a call: what the private functions ensure of parser, hold and handler is put together into `HasTurned`
 -- and `HasHalted`, and the loop over turns into `TakesTurns` and `TakesTurnsUntilRefused`.
 use Rattle.vte.proofs.Common.{◌≡◌, ℕ, ◌+◌, ◌-◌, ◌<◌, ◌≤◌, Bool, true, List, [], ◌++◌, length, take, drop, refl, ap, sym, ◌∙◌, arith, length-drop, append_assoc, Result, Ok, Err, append_cancel_right, drop_all, drop-drop, take_all, take-append-drop, Refused, ProcessorState, Engine, Meaning, held_of, rules, false, MatchResult, EndsTurn, inside_turn, HasAdvanced, EngineIsAt, HasTaken, EngineView, KeepsMemory, EngineHasMemory, EngineReads, EngineStops, EngineIsAtKeeping, EndsParsingTurn, HasHalted, HasParsedPrefix, HasParsedWithoutBegin, ArePartsAt, ArePartsAtKeeping, ArePartsAtWithMemory, HasTurned, State, TakesTurnsUntilRefused, TakesTurns, all_bytes, turn, hold_turn, parse, stop, between_turns, done, LacksMemoryForSome, Reserves}
-use Rattle.vte.proofs.turns.EachOnce.{grown_bytes, refused-by_open, is_held, stop_if_due, turn-holds, turn-parses}
-use Rattle.vte.proofs.turns.Slices.{until_refused-all, open-halts, takes-one, until_refused-grows, until_refused-on, until_refused-well, taken_on}
+use Rattle.vte.proofs.turns.EachOnce.{grown_bytes, refused-by_parsing, is_held, stop_if_due, turn-holds, turn-parses}
+use Rattle.vte.proofs.turns.Slices.{until_refused-all, parsing-halts, takes-one, until_refused-grows, until_refused-on, until_refused-well, taken_on}
 
 -- an engine stands where its parts do
 module _ {P B T A V W : Type 0} {view : EngineView P B T W} {engine : Engine P B T A} {value : V} {s : State V W}
@@ -99,9 +99,9 @@ ends_turn {m} {s} {bytes} pending allowed parses keeps (Ok read) less e = record
       record {
         pending = pending;
         allowed = allowed;
-        progress = e.opened.progress;
-        rest = rw (turn-parses m pending s bytes parses) e.opened.rest;
-        is_at = rw (turn-parses m pending s bytes parses) (after-next keeps e.opened.is_at);
+        progress = e.parsed.progress;
+        rest = rw (turn-parses m pending s bytes parses) e.parsed.rest;
+        is_at = rw (turn-parses m pending s bytes parses) (after-next keeps e.parsed.is_at);
       };
   halted = tt;
 }
@@ -110,7 +110,8 @@ ends_turn {m} {s} {bytes} pending allowed parses keeps (Err refused) less e = re
   halted = record {
     next = parse m (stop_if_due m pending s) (take refused.read bytes);
     takes = inside_turn done pending allowed
-        (refused-by_open m pending s _ bytes _ (parses, open-halts m (stop_if_due m pending s) bytes e.halted less));
+        (refused-by_parsing m pending s _ bytes _
+        (parses, parsing-halts m (stop_if_due m pending s) bytes e.halted less));
     is_at = after-next keeps e.halted.is_at;
   };
 }

@@ -3,7 +3,7 @@
 -- `ParsingTurnIsRefused` says how far it came.
 use Rattle.vte.proofs.Common.{◌≡◌, ℕ, ◌+◌, ◌-◌, ◌<◌, ◌≤◌, inl, Bool, true, false, nat_lt, List, [], ◌∷◌, ◌++◌, length, take, drop, refl, ap, sym, subst, ◌∙◌, arith, length-append, length-drop, append_assoc, drop-append-add, take-add, nat_tests, append-nil, drop_all, length-take-le, take-append-drop, take_all, take_at, added, IsSteady, begin_count, IsOutsideUpdate, Meaning, HoldsWellAt, HasHalted, HasParsedPrefix, HasParsedWithoutBegin, HasTakenParsingTurn, TakesAllTurns, ParsingTurn, ParsingTurnIsRefused, State, TakesTurnsUntilRefused, TakesTurns, prefix_to_begin, between_turns, done, kind_of, parsing_turn, parse, turn, turns, inside_turn, length-take, Engine, IsAdded, held_of, released_of, still_held, set_times, EngineIsAt, EngineView, EngineIsAtKeeping, ArePartsAt, ArePartsAtKeeping, ArePartsAtWithMemory, after_last_end, extend, from_begin_update, hold_turn, release, inr, stop, with_held, rules}
 use Rattle.vte.proofs.Performing.{after_calls-append, added_calls-append, added_calls-nothing, set_times-add}
-use Rattle.vte.proofs.turns.EachOnce.{Progresses, grows_on, stop_if_due_grows, stop_if_due_none, parse_grows, turns_grow, OpensAndHalts, refused-opens, stop_if_due, turn-parses, taken_well, hold_turn-all, hold_turn-rest}
+use Rattle.vte.proofs.turns.EachOnce.{Progresses, grows_on, stop_if_due_grows, stop_if_due_none, parse_grows, turns_grow, ParsesAndHalts, refused-parses, stop_if_due, turn-parses, taken_well, hold_turn-all, hold_turn-rest}
 use Rattle.vte.proofs.updates.Prefixes.{begin_count-added, prefix-after, prefix-all, prefix-more, prefix-some, begin_count-nothing, begin_count-none}
 use Rattle.std.proofs.lemmas.List.{nil_from_length}
 use Rattle.vte.proofs.updates.Sequences.{cases_Option, stays_held, suffix-length}
@@ -50,13 +50,13 @@ module _ {V W : Type 0} {m : Meaning V W} {s : State V W} {bytes : List ℕ} {n 
   begin-whole = at.count ∙ ap length prefix-whole
 
 module _ {V W : Type 0} (m : Meaning V W) (s : State V W) (bytes : List ℕ) where
-  pub open-nothing : {IsNowAt : State V W → Type 0} → IsNowAt s → HasParsedWithoutBegin m s bytes 0 IsNowAt
-  open-nothing at = record { none_begin = begin_count-nothing m.limit s.parsed; is_at = rw (parse-nothing m s) at }
+  pub parsing-nothing : {IsNowAt : State V W → Type 0} → IsNowAt s → HasParsedWithoutBegin m s bytes 0 IsNowAt
+  parsing-nothing at = record { none_begin = begin_count-nothing m.limit s.parsed; is_at = rw (parse-nothing m s) at }
 
-  pub open-all : {read : ℕ} {IsNowAt : State V W → Type 0} → HasParsedWithoutBegin m s bytes read IsNowAt
+  pub parsing-all : {read : ℕ} {IsNowAt : State V W → Type 0} → HasParsedWithoutBegin m s bytes read IsNowAt
       → length bytes ≤ read
       → HasTakenParsingTurn m s bytes read IsNowAt
-  open-all {read} o all =
+  parsing-all {read} o all =
       let whole = take_all read bytes all in
       let none : begin_count (added m.limit s.parsed bytes) ≡ 0 = rw whole at o.none_begin in
       let is : prefix_to_begin m.limit s.parsed bytes ≡ bytes =
@@ -69,11 +69,11 @@ module _ {V W : Type 0} (m : Meaning V W) (s : State V W) (bytes : List ℕ) whe
       }
 
   -- a slice in which no update begins is parsed whole
-  pub open-more : {slice : List ℕ} {read n : ℕ} {b : Bool} {old new : State V W → Type 0} (k : ℕ)
+  pub parsing-more : {slice : List ℕ} {read n : ℕ} {b : Bool} {old new : State V W → Type 0} (k : ℕ)
       → HasParsedWithoutBegin m s bytes read old → slice ≡ take k (drop read bytes)
       → HasParsedPrefix m (parse m s (take read bytes)) slice n b new → b ≡ false
       → HasParsedWithoutBegin m s bytes (read + n) new
-  open-more {slice} {read} {n} k o is at uncut =
+  parsing-more {slice} {read} {n} k o is at uncut =
       let all = prefix-whole at uncut in
       let zero : begin_count (added m.limit (s.parsed ++ take read bytes) slice) ≡ 0 =
       rw all at (begins-none at uncut) in
@@ -89,11 +89,11 @@ module _ {V W : Type 0} (m : Meaning V W) (s : State V W) (bytes : List ℕ) whe
       }
 
   -- an update begins in the slice
-  pub open-ends : {slice : List ℕ} {read n : ℕ} {b : Bool} {old new : State V W → Type 0} (k : ℕ)
+  pub parsing-ends : {slice : List ℕ} {read n : ℕ} {b : Bool} {old new : State V W → Type 0} (k : ℕ)
       → HasParsedWithoutBegin m s bytes read old → read ≤ length bytes
       → slice ≡ take k (drop read bytes) → HasParsedPrefix m (parse m s (take read bytes)) slice n b new → b ≡ true
       → HasTakenParsingTurn m s bytes (read + n) new
-  open-ends {slice} {read} {n} k o inside is at begun =
+  parsing-ends {slice} {read} {n} k o inside is at begun =
       let prefix = prefix_to_begin m.limit (s.parsed ++ take read bytes) slice in
       let test : nat_lt 0 (begin_count (added m.limit (s.parsed ++ take read bytes) prefix)) ≡ true =
       sym at.begins_is ∙ begun in
@@ -115,10 +115,10 @@ module _ {V W : Type 0} (m : Meaning V W) (s : State V W) (bytes : List ℕ) whe
         is_at = rw (all, ← parse-append m s (take read bytes) prefix) at.is_at;
       }
 
-  pub open-halts : {read : ℕ} {IsNowAt : State V W → Type 0} → HasParsedWithoutBegin m s bytes read IsNowAt
+  pub parsing-halts : {read : ℕ} {IsNowAt : State V W → Type 0} → HasParsedWithoutBegin m s bytes read IsNowAt
       → read < length bytes
       → ParsingTurnIsRefused m s bytes (parse m s (take read bytes)) (drop read bytes)
-  open-halts {read} o less = search (rules, arith, take-append-drop, length-drop)
+  parsing-halts {read} o less = search (rules, arith, take-append-drop, length-drop)
 
 -- ---- a turn that is refused memory
 
@@ -157,7 +157,7 @@ module _ {V W : Type 0} (m : Meaning V W) where
 
   -- ---- what is parsed and held then
 
-  halts-grows : (pending : Bool) {s t : State V W} {bytes left : List ℕ} → OpensAndHalts m pending s bytes t left
+  halts-grows : (pending : Bool) {s t : State V W} {bytes left : List ℕ} → ParsesAndHalts m pending s bytes t left
       → Progresses s t bytes left
   halts-grows pending {s} (parses, h) =
       rw h.state_is
@@ -169,16 +169,16 @@ module _ {V W : Type 0} (m : Meaning V W) where
   until_refused-grows (between_turns taken) = turns_grow m taken
   until_refused-grows {t} {left} (inside_turn {reached = u} {rest} taken pending allowed halts) =
       grows_on (turns_grow m taken)
-      (halts-grows pending (refused-opens m pending u t rest left halts))
+      (halts-grows pending (refused-parses m pending u t rest left halts))
 
   -- outside an update, and with nothing held
   halts-outside : (pending : Bool) (s t : State V W) (bytes left : List ℕ) → IsSteady m.timeout → HoldsWellAt m s
       → m.timeout.allows s.timeout pending
-      → OpensAndHalts m pending s bytes t left → IsOutsideUpdate m.timeout t.held t.timeout
+      → ParsesAndHalts m pending s bytes t left → IsOutsideUpdate m.timeout t.held t.timeout
   halts-outside pending s t bytes left steady well allowed (parses, h) = search (rules, arith)
 
   halts-held : (pending : Bool) (s t : State V W) (bytes left : List ℕ)
-      → OpensAndHalts m pending s bytes t left → t.held ≡ []
+      → ParsesAndHalts m pending s bytes t left → t.held ≡ []
   halts-held pending s t bytes left (parses, h) = ap (λ t. t.held) h.state_is ∙ stop_if_due_none m pending s
 
   pub until_refused-well : {s t : State V W} {bytes left : List ℕ} → TakesTurnsUntilRefused m s bytes t left
@@ -186,7 +186,7 @@ module _ {V W : Type 0} (m : Meaning V W) where
       → HoldsWellAt m t
   until_refused-well (between_turns taken) well = taken_well m taken well
   until_refused-well {t} {left} (inside_turn {reached = u} {rest} taken pending allowed halts) well =
-      let opens = refused-opens m pending u t rest left halts in
+      let opens = refused-parses m pending u t rest left halts in
       let nothing = halts-held pending u t rest left opens in
       record {
         no_end = rw nothing refl;
@@ -199,7 +199,7 @@ module _ {V W : Type 0} (m : Meaning V W) where
 
   -- ---- the unread bytes in a further call
 
-  halts-goes_on : (pending : Bool) (s t : State V W) (bytes left : List ℕ) → OpensAndHalts m pending s bytes t left
+  halts-goes_on : (pending : Bool) (s t : State V W) (bytes left : List ℕ) → ParsesAndHalts m pending s bytes t left
       → turn m false t left ≡ turn m pending s bytes
   halts-goes_on pending s t bytes left (parses, h) =
       let none : kind_of false (length t.held) (length left) ≡ ParsingTurn =
@@ -208,7 +208,7 @@ module _ {V W : Type 0} (m : Meaning V W) where
 
   halted-turn_goes_on : (pending : Bool) {s t end : State V W} {bytes left : List ℕ}
       → m.timeout.allows s.timeout pending
-      → OpensAndHalts m pending s bytes t left
+      → ParsesAndHalts m pending s bytes t left
       → IsOutsideUpdate m.timeout t.held t.timeout → TakesTurns m t left end [] → TakesTurns m s bytes end []
   halted-turn_goes_on pending allowed h out done = absurd (omega (arith, h.1.some_left))
   halted-turn_goes_on pending {s} {t} {end} {bytes} {left = b ∷ left} allowed h out (turns other allows more) =
@@ -223,7 +223,7 @@ module _ {V W : Type 0} (m : Meaning V W) where
       → TakesTurnsUntilRefused m s bytes t left → TakesAllTurns m t left end → TakesAllTurns m s bytes end
   halted-goes_on s t end bytes left steady well (between_turns taken) more = taken_on s t end bytes left [] taken more
   halted-goes_on s t end bytes left steady well (inside_turn {reached = u} {rest} taken pending allowed halts) more =
-      let opens = refused-opens m pending u t rest left halts in
+      let opens = refused-parses m pending u t rest left halts in
       let out = halts-outside pending u t rest left steady (taken_well m taken well) allowed opens
       in
       taken_on s u end bytes rest [] taken (halted-turn_goes_on pending allowed opens out more)

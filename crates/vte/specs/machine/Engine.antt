@@ -102,5 +102,5 @@ module _ {V W : Type 0} (meaning : Meaning V W) (state : State V W) (bytes : Lis
   -- How a parsing turn ends, if memory for it may be refused.
   pub record EndsParsingTurn (result : Result ℕ Refused) (IsNowAt : State V W → Type 0)
       : Type 0 where
-    pub opened : IfOk result (λ read. HasTakenParsingTurn read IsNowAt)
+    pub parsed : IfOk result (λ read. HasTakenParsingTurn read IsNowAt)
     pub halted : IfErr result (λ refused. HasParsedWithoutBegin refused.read IsNowAt)

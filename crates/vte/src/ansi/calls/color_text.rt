@@ -17,7 +17,7 @@ pub(crate) fn xparse_color(text: &[u8]) -> Option<Rgb>
     color_by_thirds(strip_word(text, b"#")?)
 }
 
-/// Returns the color of three numbers with `/` between them.
+/// Returns the colour of three numbers with `/` between them.
 #[tactic(auto, using(crate::proofs::Commands::fourth_part))]
 fn color_by_parts(text: &[u8]) -> Option<Rgb>
     ensures { result ≡ color_of_parts (split_by 0x2f text.now) }
@@ -35,7 +35,7 @@ fn color_by_parts(text: &[u8]) -> Option<Rgb>
     })
 }
 
-/// Returns the color of digits in three parts of the same length.
+/// Returns the colour of digits in three parts of the same length.
 fn color_by_thirds(digits: &[u8]) -> Option<Rgb>
     ensures { result ≡ color_of_thirds digits.now }
 {

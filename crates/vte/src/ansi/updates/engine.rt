@@ -205,7 +205,7 @@ impl<P: EventParser + Drop, B: TextBuffer + Drop, T: Timeout + Drop, A: Allocato
         requires none { held_of self.old.hold ≡ [] }
         ensures within { MatchResult result (λ read. read ≤ length bytes.now)
             (λ refused. refused.read < length bytes.now) }
-        ensures opened { LeadOn (engine_view P.limit P.reading B.room T.value_of) self.old
+        ensures parsed { LeadOn (engine_view P.limit P.reading B.room T.value_of) self.old
             self.new (H.value_of handler.old) (H.value_of handler.new)
             (λ s. EndsParsingTurn (meaning_of P.limit H.step T.set T.clear T.allows) s bytes.now
             result) }

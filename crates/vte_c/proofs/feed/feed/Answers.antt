@@ -1,7 +1,7 @@
 -- The caller's counts and slices are those of the room (`counts_are`). So what `read_into` ensures, of the bytes that
 -- 32 bits can count, holds for the caller.
 use Rattle.vte_c.proofs.Common.{Event, HasTold, List, [], append_assoc, arith, drop, drop-append-le, length, length-take, fed_count, rules, sym, take, take-append-drop, take-take, ℕ, ◌++◌, ◌<◌, ◌∙◌, ◌≡◌, ◌≤◌}
-use Rattle.vte_c.proofs.Found.{counts_are, counted}
+use Rattle.vte_c.proofs.ReadBack.{counts_are, counted}
 use Rattle.vte_c.proofs.feed.feed.Goals as goal
 
 pub returns : goal.returns

@@ -1,5 +1,5 @@
 -- The parser is restored before and saved after, so what `read_all` ensures holds for what is saved (`fed`).
-use Rattle.vte_c.proofs.Found.{fed}
+use Rattle.vte_c.proofs.ReadBack.{fed}
 use Rattle.vte_c.proofs.feed.read_into.Goals as goal
 
 pub returns-clause-stops : goal.returns-clause-stops

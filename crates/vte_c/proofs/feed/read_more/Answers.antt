@@ -2,7 +2,7 @@
 -- (`further`).
 use Rattle.vte_c.proofs.Common.{List, arith, drop, length, length-drop, room_of, resumed_stream, take, take_all, ℕ, ◌++◌, ◌-◌, ◌≡◌, ◌≤◌, usual_limit}
 use Rattle.vte_core.specs.AdvanceToRun.{run_bytes}
-use Rattle.vte_c.proofs.Going.{Laws, further, goes-to-run}
+use Rattle.vte_c.proofs.CallSteps.{Laws, further, goes-to-run}
 use Rattle.vte_c.proofs.feed.read_more.Goals as goal
 
 pub returns : goal.returns

@@ -1,8 +1,8 @@
 -- The text of a chunk has at most eight bytes for each of its own, so there is room for it (`written_more`). All chunks
 -- together have the text of all bytes read.
 use Rattle.vte_c.proofs.Common.{TextRoom, added, ap, arith, drop, flat_map-append, length, length-drop, length-take, plain_text, plain_text_of, refl, sym, take, take-add, usual_limit, take_all, text_room_of, ◌*◌, ◌++◌, ◌+◌, ◌-◌, ◌<◌, ◌∙◌, ◌≡◌, ◌≤◌}
-use Rattle.vte_c.proofs.Found.{given_more}
-use Rattle.vte_c.proofs.Continuing.{continues-added}
+use Rattle.vte_c.proofs.ReadBack.{given_more}
+use Rattle.vte_c.proofs.Continuations.{continues-added}
 use Rattle.event_log.proofs.Lengths.{text_grows_slowly}
 use Rattle.vte_c.proofs.Stripping.{written_more, written_nothing}
 use Rattle.vte_c.proofs.text.read_into.Goals as goal

@@ -1,6 +1,6 @@
 -- The caller's slice and count are those of the room, so what `read_into` ensures holds for the caller.
 use Rattle.vte_c.proofs.Common.{ap, arith, length, length-take, fed_count, rules, sym, ℕ, ◌≡◌, ◌≤◌}
-use Rattle.vte_c.proofs.Found.{counted}
+use Rattle.vte_c.proofs.ReadBack.{counted}
 use Rattle.vte_c.proofs.text.strip.Goals as goal
 
 pub returns : goal.returns

@@ -4,9 +4,14 @@
 use crate::proved::vte_c::event::{self, count_byte, has, VteEvent};
 use vte::{Params, Perform, Run, Taken};
 
-/// The most data bytes of one event: 16 pieces of together 1,024 bytes, each after four with its
-/// length.
-pub(crate) const MAX_DATA: usize = 1088;
+/// The most pieces of a command.
+const MAX_PIECES: usize = 16;
+
+/// The most bytes of all pieces of a command, which is the limit of the parser.
+const MAX_PIECE_BYTES: usize = 1024;
+
+/// The most data bytes of one event: of a command, each piece after four bytes with its length.
+pub(crate) const MAX_DATA: usize = MAX_PIECE_BYTES + 4 * MAX_PIECES;
 
 /// The most data bytes of what one byte of a stream adds: an event, and a character after it.
 const MAX_ADDED: usize = MAX_DATA + 4;
@@ -14,7 +19,7 @@ const MAX_ADDED: usize = MAX_DATA + 4;
 /// Returns whether a command has the most pieces, or with their lengths the most data bytes that a
 /// parser with a limit keeps. Any other has lost no data.
 fn has_most(pieces: usize, size: usize) -> bool {
-    pieces >= 16 || size >= 1024
+    pieces >= MAX_PIECES || size >= MAX_PIECE_BYTES
 }
 
 /// Returns the bytes of a group with one number.
@@ -42,8 +47,8 @@ pub(crate) struct Events<'a> {
     // whether a command came of which the parser wasn't asked yet, and the place of its record
     paused: bool,
     command: usize,
-    // From how many events on the room is full: from none on once one that stops was written, in a
-    // pause, and if the area has little room left.
+    // from how many events on the room is full: from none on once one that stops was written, in a
+    // pause, and if the area has little room left
     full_count: usize,
 }
 

@@ -8,7 +8,7 @@ use crate::proved::event_log::plain::Plain;
 use crate::proved::event_log::recorder::Recorder;
 
 /// The most bytes that are read at once.
-const PIECE: usize = 4096;
+const CHUNK: usize = 4096;
 
 /// Reads to the end, and writes one line per event.
 ///
@@ -37,7 +37,7 @@ fn run_with<C: Collector, R: Source, W: Sink>(
     writer: &mut W,
 ) -> Result<(), Fault> {
     let mut parser = RunParser::new();
-    let mut room = [0; PIECE];
+    let mut room = [0; CHUNK];
     for _ in 0..u64::MAX {
         let count = match reader.read(&mut room) {
             Ok(count) => count,

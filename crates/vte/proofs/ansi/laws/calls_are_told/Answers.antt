@@ -1,5 +1,5 @@
 -- Each law is a lemma on lists of calls.
-use Rattle.vte.proofs.replays.Tellings.{refused_told, replay_append, replay_only_one, replay_well, steps_told}
+use Rattle.vte.proofs.replays.ReplayedSteps.{refused_told, replay_append, replay_only_one, replay_well, steps_told}
 use Rattle.vte.proofs.ansi.laws.calls_are_told.Goals as goal
 
 pub returns-clause-told : goal.returns-clause-told

@@ -1,6 +1,6 @@
 -- A room's records leave out whether data was lost, so they stay as they are (`loss_unseen`).
 use Rattle.vte_c.proofs.Common.{length, length-set, map, refl, set, take, without_loss, ◌≡◌}
-use Rattle.vte_c.proofs.Found.{loss_unseen}
+use Rattle.vte_c.proofs.ReadBack.{loss_unseen}
 use Rattle.vte_c.proofs.events.Events.add_loss.Goals as goal
 
 pub returns-then-self-place-eq-OSC : goal.returns-then-self-place-eq-OSC

@@ -12,7 +12,7 @@ pub(crate) fn xparse_color(text: &[u8]) -> Option<Rgb> {
     color_by_thirds(strip_word(text, b"#")?)
 }
 
-/// Returns the color of three numbers with `/` between them.
+/// Returns the colour of three numbers with `/` between them.
 fn color_by_parts(text: &[u8]) -> Option<Rgb> {
     let (r, after_r) = split_at_first(text, b'/');
     let (g, after_g) = split_at_first(after_r?, b'/');
@@ -27,7 +27,7 @@ fn color_by_parts(text: &[u8]) -> Option<Rgb> {
     })
 }
 
-/// Returns the color of digits in three parts of the same length.
+/// Returns the colour of digits in three parts of the same length.
 fn color_by_thirds(digits: &[u8]) -> Option<Rgb> {
     let count = digits.len() / 3;
     if digits.len() != 3 * count {

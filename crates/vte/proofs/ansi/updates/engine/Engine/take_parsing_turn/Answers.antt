@@ -1,7 +1,7 @@
--- Slices in which no update begins add up to a longer prefix (`open-more`). The turn ends with the slice in which one
--- begins, with the last byte, or where memory is refused.
+-- Slices in which no update begins add up to a longer prefix (`parsing-more`). The turn ends with the slice in which
+-- one begins, with the last byte, or where memory is refused.
 use Rattle.vte.proofs.Common.{refl, sym, arith, ◌∙◌}
-use Rattle.vte.proofs.turns.Slices.{begin-whole, open-all, open-ends, open-more, open-nothing, slice_size}
+use Rattle.vte.proofs.turns.Slices.{begin-whole, parsing-all, parsing-ends, parsing-more, parsing-nothing, slice_size}
 use Rattle.vte.proofs.turns.EngineTurns.{kept-next, next-at, slice_parsed}
 use Rattle.vte.proofs.ansi.updates.engine.Engine.take_parsing_turn.Goals as goal
 use Rattle.vte.proofs.ansi.updates.engine.Engine.take_parsing_turn.Goals.{then-begins-via-then-begins, then-begins-via-else-begins+then-read-bytes}
@@ -12,21 +12,21 @@ loop-slice-init g c =
     record {
       within = omega arith;
       some = λ some. some;
-      reaches = λ s at. (omega arith, open-nothing _ s c.args.bytes.now (next-at at));
+      reaches = λ s at. (omega arith, parsing-nothing _ s c.args.bytes.now (next-at at));
     }
 
 -- Memory was refused for a slice: the processor stands before it.
-pub returns-then-not-reserve-clause-opened : goal.returns-then-not-reserve-clause-opened
-returns-then-not-reserve-clause-opened g c = λ s at.
+pub returns-then-not-reserve-clause-parsed : goal.returns-then-not-reserve-clause-parsed
+returns-then-not-reserve-clause-parsed g c = λ s at.
     let o = (c.loop-slice.invariant.reaches s at).1 in
     record {
-      opened = tt;
+      parsed = tt;
       halted = record { none_begin = o.none_begin; is_at = kept-next c.reserve.ensures.reserved o.is_at };
     }
 
 -- A slice in which an update begins ends the turn there; one that has the last byte, and begins none, ends it too.
-pub returns-then-begins-clause-opened : goal.returns-then-begins-clause-opened
-returns-then-begins-clause-opened g c = λ s at.
+pub returns-then-begins-clause-parsed : goal.returns-then-begins-clause-parsed
+returns-then-begins-clause-parsed g c = λ s at.
     let o = (c.loop-slice.invariant.reaches s at).1 in
     let slice =
     slice_size c.args.bytes.now c.loop-slice.read c.loop-slice.invariant.within
@@ -37,14 +37,14 @@ returns-then-begins-clause-opened g c = λ s at.
       -- An update begins.
       | then-begins-via-then-begins w ↦
           record {
-            opened = open-ends _ s c.args.bytes.now _ o c.loop-slice.invariant.within refl e
+            parsed = parsing-ends _ s c.args.bytes.now _ o c.loop-slice.invariant.within refl e
                 w.if-begins.true;
             halted = tt;
           }
       -- None does, and all bytes are read.
       | then-begins-via-else-begins+then-read-bytes w ↦
           record {
-            opened = open-all _ s c.args.bytes.now (open-more _ s c.args.bytes.now _ o refl e w.if-begins.false)
+            parsed = parsing-all _ s c.args.bytes.now (parsing-more _ s c.args.bytes.now _ o refl e w.if-begins.false)
                 (omega (arith, w.if-read-bytes.true));
             halted = tt;
           }
@@ -82,12 +82,12 @@ loop-slice-preserved g c =
               before.some
                   c.loop-slice-test.true,
             ),
-            open-more _ s c.args.bytes.now _ o.1 refl e c.if-begins.false,
+            parsing-more _ s c.args.bytes.now _ o.1 refl e c.if-begins.false,
           );
     }
 
 -- The loop ends with all bytes read.
-pub returns-clause-opened : goal.returns-clause-opened
-returns-clause-opened g c = λ s at.
+pub returns-clause-parsed : goal.returns-clause-parsed
+returns-clause-parsed g c = λ s at.
     let o = c.loop-slice.invariant.reaches s at in
-    record { opened = open-all _ s c.args.bytes.now o.1 (omega (arith, o.0, c.loop-slice-test.false)); halted = tt }
+    record { parsed = parsing-all _ s c.args.bytes.now o.1 (omega (arith, o.0, c.loop-slice-test.false)); halted = tt }

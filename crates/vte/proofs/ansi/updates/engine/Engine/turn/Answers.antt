@@ -1,5 +1,5 @@
 -- By the timeout's answer: the bytes are held while an update is pending and there is room. Otherwise it is stopped if
--- it is pending or bytes are held, and the turn is an open one.
+-- it is pending or bytes are held, and the turn parses.
 use Rattle.vte.proofs.Common.{◌≡◌, ◌<◌, length, refl, sym, ◌∙◌, arith, nat_tests, nat_le, most_held, held_of, inr, true, false, and-false, ◌+◌, meaning_of, engine_view, EngineIsAtKeeping}
 use Rattle.vte.proofs.turns.EachOnce.{is_held, is_stopped, stop_if_due}
 use Rattle.vte.proofs.turns.Slices.{halted-nothing}
@@ -7,7 +7,7 @@ use Rattle.vte.proofs.turns.EngineTurns.{after-next, ends_turn, kept-next, next-
 use Rattle.vte.proofs.ansi.updates.engine.Engine.turn.Goals as goal
 use Rattle.vte.proofs.ansi.updates.engine.Engine.turn.Goals.{else-pending-via-else-pending, else-pending-via-then-pending+else-has_room, else-pending-2+else-len-gt0, then-pending-2, then-pending-2-via-else-pending-2+then-len-gt0, then-pending-2-via-then-pending-2}
 
--- A parsing turn: the bytes are not to be held, and what was pending or held is stopped first, as `opened` says.
+-- A parsing turn: the bytes are not to be held, and what was pending or held is stopped first, as `parsed` says.
 pub returns-clause-turned : goal.returns-clause-turned
 returns-clause-turned g c = λ s at.
     let pending = c.pending_timeout-pending.result in
@@ -44,7 +44,7 @@ returns-clause-turned g c = λ s at.
     ends_turn pending
     (rw at.stands.timeout_is at c.pending_timeout-pending.ensures) parses here.memory _
     c.take_parsing_turn.ensures.within
-    (c.take_parsing_turn.ensures.opened _ here.engine_at)
+    (c.take_parsing_turn.ensures.parsed _ here.engine_at)
 
 -- A hold turn: an update is pending, and there is room for all bytes and memory for them.
 pub returns-then-has_room-clause-turned : goal.returns-then-has_room-clause-turned

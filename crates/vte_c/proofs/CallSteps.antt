@@ -7,7 +7,7 @@ use Rattle.vte_core.specs.declared.reader.run.Run.{Run as Returned}
 use Rattle.vte_core.specs.declared.reader.run.Taken.{Taken}
 use Rattle.vte_core.specs.declared.reader.run.Taken.TheVariants.{Text, Data, Nothing}
 use Rattle.vte_core.proofs.EarlyStops.{kept_at}
-use Rattle.vte_c.proofs.Continuing.{items_others, others_append, others_before, others_earlier, others_front, others_reported, runs_other, continues-added, continues-call, continues-nothing, continues-then}
+use Rattle.vte_c.proofs.Continuations.{items_others, others_append, others_before, others_earlier, others_front, others_reported, runs_other, continues-added, continues-call, continues-nothing, continues-then}
 use Rattle.vte_c.proofs.Rooms.{event_passed, event_written, items-nothing, items-run, items-then, items-unit_more, items_of, paused_after, resumed_free, resumed_same, unmet, unpaused}
 
 -- ---- a run of the input

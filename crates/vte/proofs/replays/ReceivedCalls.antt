@@ -1,0 +1,163 @@
+-- What the handler receives by a list of calls, first by what is done in a state, then by the rest of the list
+-- (`tells-replay`). By induction over the list: the calls before a stop are those of the bytes up to it, and positions
+-- of later stops only grow.
+use Rattle.vte.proofs.Common.{◌≡◌, ◌≤◌, ℕ, ◌+◌, ◌-◌, inl, inr, Bool, Option, List, [], ◌∷◌, ◌++◌, length, take, refl, ap, sym, ◌∙◌, arith, append_assoc, length-append, cases_Bool, append-nil, subst, drop_all, take-append-add, take-append_seam, take_all, after, Step, Advance, StopSync, added_calls, Meaning, TakesSteps, calls_after, after_last_end, from_begin_update, hold_turn, AreInOrder, calls, calls_between, calls_with_stops, events, State, TakesTurns, TakesTurnsUntilRefused, between_turns, inside_turn, prefix_to_begin, extend, release, parsing_turn, stop, turn, done, turns}
+use Rattle.vte.proofs.Performing.{after_calls-append, added_calls-append}
+use Rattle.vte.proofs.turns.EachOnce.{hold_turn-all, hold_turn-rest, is_held, is_stopped, refused-parses, stop_if_due, turn-holds, turn-parses}
+use Rattle.vte.proofs.updates.Sequences.{cases_Option}
+
+-- ---- the calls between two positions
+
+calls_between-none : (limit : Option ℕ) (stream : List ℕ) (position : ℕ)
+    → calls_between limit stream position position ≡ []
+calls_between-none limit stream position =
+    let seen = calls (events limit (take position stream)) in drop_all (length seen) seen (omega arith)
+
+in_order-sooner : (parsed prefix positions : List ℕ) (to : ℕ) → AreInOrder (length (parsed ++ prefix)) positions to
+    → AreInOrder (length parsed) positions to
+in_order-sooner parsed prefix [] to order = omega (arith, order, length-append parsed prefix)
+in_order-sooner parsed prefix (position ∷ positions) to (from, order) =
+    (omega (arith, from, length-append parsed prefix), order)
+
+-- a prefix is parsed, and then the rest
+module _ (limit : Option ℕ) (parsed prefix : List ℕ) where
+  abbrev both : List ℕ
+  both = parsed ++ prefix
+
+  calls_between-append : (rest : List ℕ) (position : ℕ) → length both ≤ position
+      → calls_between limit (both ++ rest) (length parsed) position
+      ≡ added_calls limit parsed prefix ++ calls_between limit (both ++ rest) (length both) position
+  calls_between-append rest position from =
+      let past = position - length both in
+      let is : position ≡ length both + past = omega (arith, from) in
+      let first : take (length parsed) (both ++ rest) ≡ parsed =
+      ap (take (length parsed)) (append_assoc parsed prefix rest) ∙ take-append_seam parsed (prefix ++ rest) in
+      let more = take past rest in
+      rw (is, first, take-append-add both rest past, take-append_seam both rest)
+      (ap (λ all. calls_after (events limit parsed) (events limit all)) (append_assoc parsed prefix more)
+      ∙ added_calls-append limit parsed prefix more)
+
+  pub calls_between-whole : calls_between limit both (length parsed) (length both) ≡ added_calls limit parsed prefix
+  calls_between-whole = rw (take-append_seam parsed prefix, take_all (length both) both (omega arith)) refl
+
+  -- bytes before the first stop
+  calls_with_stops-later : (rest positions : List ℕ) {all : List ℕ} → all ≡ both ++ rest
+      → AreInOrder (length both) positions (length all)
+      → calls_with_stops limit all (length parsed) positions
+      ≡ added_calls limit parsed prefix ++ calls_with_stops limit all (length both) positions
+  calls_with_stops-later rest [] is from = rw is (calls_between-append rest _ (rw is at from))
+  calls_with_stops-later rest (position ∷ positions) is (from, order) =
+      rw (is, calls_between-append rest position from) (append_assoc (added_calls limit parsed prefix) _ _)
+
+-- ---- from a state to the end of a list of calls
+
+module _ {V W : Type 0} (m : Meaning V W) (end : State V W) where
+  -- what the handler is still told if bytes were parsed, with these stops, and its value is this
+  pub record HasStillToTell (parsed stops : List ℕ) (value : V) : Type 0 where
+    pub more : List ℕ
+    pub parsed_is : end.parsed ≡ parsed ++ more
+    pub positions : List ℕ
+    pub stops_are : end.stops ≡ stops ++ positions
+    pub in_order : AreInOrder (length parsed) positions (length end.parsed)
+    pub told : end.handler ≡ after m.step value (calls_with_stops m.limit end.parsed (length parsed) positions)
+
+  abbrev TellsAt : State V W → Type 0
+  TellsAt state = HasStillToTell state.parsed state.stops state.handler
+
+  tells-nothing : TellsAt end
+  tells-nothing = record {
+    more = [];
+    parsed_is = sym (append-nil end.parsed);
+    positions = [];
+    stops_are = sym (append-nil end.stops);
+    in_order = omega arith;
+    told = rw calls_between-none refl;
+  }
+
+  tells-parse : {parsed : List ℕ} (prefix : List ℕ) {stops : List ℕ} {value : V}
+      → HasStillToTell (parsed ++ prefix) stops (after m.step value (added_calls m.limit parsed prefix))
+      → HasStillToTell parsed stops value
+  tells-parse {parsed} prefix rest = record {
+    more = prefix ++ rest.more;
+    parsed_is = rest.parsed_is ∙ append_assoc parsed prefix rest.more;
+    positions = rest.positions;
+    stops_are = rest.stops_are;
+    in_order = in_order-sooner parsed prefix rest.positions _ rest.in_order;
+    told =
+        rw (
+          calls_with_stops-later m.limit parsed prefix rest.more rest.positions rest.parsed_is rest.in_order,
+          after_calls-append,
+        ) rest.told;
+  }
+
+  tells-stop : (state : State V W) → TellsAt (stop m state) → TellsAt state
+  tells-stop state rest =
+      let position = length (state.parsed ++ state.held) in
+      tells-parse state.held (record {
+        more = rest.more;
+        parsed_is = rest.parsed_is;
+        positions = position ∷ rest.positions;
+        stops_are = rest.stops_are ∙ append_assoc state.stops (position ∷ []) rest.positions;
+        in_order = (omega arith, rest.in_order);
+        told = rw calls_between-none rest.told;
+      })
+
+  tells-parsing : (state : State V W) (bytes : List ℕ) → TellsAt (parsing_turn m state bytes).state → TellsAt state
+  tells-parsing state bytes =
+      tells-parse (prefix_to_begin m.limit state.parsed bytes)
+
+  tells-release : (state : State V W) (kept : List ℕ) → TellsAt (release m state kept) → TellsAt state
+  tells-release state [] = tells-stop state
+  tells-release state (byte ∷ kept) = tells-parse _
+
+  tells-hold : (state : State V W) (bytes : List ℕ) → TellsAt (hold_turn m state bytes) → TellsAt state
+  tells-hold state bytes = elim (cases_Option (after_last_end (state.held ++ bytes))) [
+    | inl none ↦ rw (hold_turn-all m state bytes none) (λ rest. rest)
+    | inr some ↦
+        rw (hold_turn-rest m state bytes some.1)
+        (tells-release (extend m state bytes) (from_begin_update some.0))
+  ]
+
+  tells-due : (pending : Bool) (state : State V W) → TellsAt (stop_if_due m pending state) → TellsAt state
+  tells-due pending state = elim (cases_Bool (is_stopped pending state)) [
+    | inl stopped ↦ rw stopped (tells-stop state)
+    | inr none ↦ rw none (λ rest. rest)
+  ]
+
+  tells-turn : (pending : Bool) (state : State V W) (bytes : List ℕ) → TellsAt (turn m pending state bytes).state
+      → TellsAt state
+  tells-turn pending state bytes = elim (cases_Bool (is_held pending state bytes)) [
+    | inl held ↦ rw (turn-holds m pending state bytes held) (tells-hold state bytes)
+    | inr parses ↦
+        rw (turn-parses m pending state bytes parses)
+        (λ rest. tells-due pending state (tells-parsing (stop_if_due m pending state) bytes rest))
+  ]
+
+  tells-turns : (state next : State V W) (bytes left : List ℕ) → TakesTurns m state bytes next left → TellsAt next
+      → TellsAt state
+  tells-turns state next bytes left done rest = rest
+  tells-turns state next (byte ∷ bytes) left (turns pending allowed more) rest =
+      tells-turn pending state (byte ∷ bytes) (tells-turns _ next _ left more rest)
+
+  tells-steps : (state next : State V W) (steps : List Step) → TakesSteps m state steps next → TellsAt next
+      → TellsAt state
+  tells-steps state next [] same = rw same (λ rest. rest)
+  tells-steps state next (Advance bytes ∷ steps) (reached, (advances, more)) =
+      λ rest. tells-turns state reached bytes.now [] advances (tells-steps reached next steps more rest)
+  tells-steps state next (StopSync ∷ steps) more =
+      λ rest. tells-stop state (tells-steps (stop m state) next steps more rest)
+
+  pub tells-replay : (state : State V W) (steps : List Step) → TakesSteps m state steps end → TellsAt state
+  tells-replay state steps taken = tells-steps state end steps taken tells-nothing
+
+  -- the last call was refused memory
+  pub tells-refused : (state reached : State V W) (steps : List Step) (bytes left : List ℕ)
+      → TakesSteps m state steps reached → TakesTurnsUntilRefused m reached bytes end left → TellsAt state
+  tells-refused state reached steps bytes left taken (between_turns more) =
+      tells-steps state reached steps taken (tells-turns reached end bytes left more tells-nothing)
+  tells-refused state reached steps bytes left taken (inside_turn {reached = mid} {rest} more pending allowed halts) =
+      let halted = (refused-parses m pending mid end rest left halts).1 in
+      tells-steps state reached steps taken
+      (tells-turns reached mid bytes rest more
+      (tells-due pending mid
+      (tells-parse halted.prefix (subst (λ state. TellsAt state) halted.state_is tells-nothing))))

@@ -1,0 +1,104 @@
+-- With a timeout that is never pending, the handler receives the calls of the whole stream (`replays_all`,
+-- `plain_call`): nothing is ever held, so there are no stops. By induction over turns: each one parses, and ends with
+-- nothing held.
+use Rattle.vte.proofs.Common.{◌≡◌, ℕ, List, [], ◌∷◌, ◌++◌, refl, ap, sym, ◌∙◌, append-nil, after, Step, Advance, StopSync, added_calls, Meaning, TakesSteps, calls, events, State, turn, done, turns, Bor, HasAdvanced, HasReplayed, TakesAllTurns, given_bytes, true, false, HasParsedAll, IsAt, Replays, StandingPredicate}
+use Rattle.vte.proofs.Performing.{after_calls-append, calls_whole}
+use Rattle.vte.specs.ProcessorCalls.{AreAdvances, IsNeverPending, ParsesAll}
+use Rattle.vte.proofs.replays.ReceivedCalls.{calls_between-whole}
+use Rattle.vte.proofs.replays.ReplayedSteps.{advance_runs}
+
+-- nothing is held, and there was no stop
+record IsPlain {V W : Type 0} (s t : State V W) : Type 0 where
+  pub none_held : t.held ≡ []
+  pub no_stop : t.stops ≡ s.stops
+
+module _ {V W : Type 0} (m : Meaning V W) (never : IsNeverPending m.timeout.allows) where
+  plain_advances : (s t : State V W) (r : List ℕ) → TakesAllTurns m s r t → s.held ≡ [] → IsPlain s t
+  plain_advances s t [] done none = record { none_held = none; no_stop = refl }
+  plain_advances s t (b ∷ r) (turns true allowed more) none =
+      absurd (let e : true ≡ false = never s.timeout true allowed in cc)
+  plain_advances s t (b ∷ r) (turns false allowed more) none =
+      let first = (turn m false s (b ∷ r)).state in
+      let held : first.held ≡ [] = rw none refl in
+      let no_stop : first.stops ≡ s.stops = rw none refl in
+      let rest = plain_advances _ t _ more held in
+      record { none_held = rest.none_held; no_stop = rest.no_stop ∙ no_stop }
+
+  plain_run : (s t : State V W) (steps : List Step) → TakesSteps m s steps t → AreAdvances steps → s.held ≡ []
+      → IsPlain s t
+  plain_run s t [] same only none = rw (← same) (record { none_held = none; no_stop = refl })
+  plain_run s t (Advance bytes ∷ steps) (next, (a, r)) only none =
+      let first = plain_advances s next bytes.now a none in
+      let rest = plain_run next t steps r only first.none_held in
+      record { none_held = rest.none_held; no_stop = rest.no_stop ∙ first.no_stop }
+  plain_run s t (StopSync ∷ steps) r only none = absurd only
+
+-- ---- from the beginning of the stream on
+
+module _ {V W : Type 0} {Before : StandingPredicate W} (old : V) {stream : List ℕ}
+    (all : HasParsedAll Before stream) where
+  abbrev here : State V W
+  here = record { parsed = stream; stops = []; held = []; timeout = all.timeout; handler = old }
+
+  is_here : IsAt Before old here
+  is_here = record { stands = all.stands; handler_is = refl }
+
+  module _ (m : Meaning V W) (never : IsNeverPending m.timeout.allows) {After : StandingPredicate W} {new : V}
+      (steps : List Step) (only : AreAdvances steps)
+      (told : HasReplayed m here steps (IsAt After new)) where
+    plain : IsPlain here told.next
+    plain = plain_run m never here told.next steps told.takes only refl
+
+    more_is : told.tells.more ≡ given_bytes steps
+    more_is =
+        sym (told.tells.each_once ∙ ap (λ held. told.tells.more ++ held) plain.none_held ∙ append-nil told.tells.more)
+
+    parsed_all : told.next.parsed ≡ stream ++ given_bytes steps
+    parsed_all = told.tells.parsed_is ∙ ap (λ more. stream ++ more) more_is
+
+    plain_follows : (start : V) → old ≡ after m.step start (calls (events m.limit stream))
+        → new ≡ after m.step start (calls (events m.limit (stream ++ given_bytes steps)))
+    plain_follows start was =
+        told.is_at.handler_is
+        ∙ told.tells.handler_is
+        ∙ rw (
+          ← told.tells.stops_are,
+          plain.no_stop,
+          parsed_all,
+          calls_between-whole m.limit stream (given_bytes steps),
+          was,
+        )
+        (sym
+        (after_calls-append m.step start (calls (events m.limit stream))
+        (added_calls m.limit stream (given_bytes steps))))
+        ∙ ap (after m.step start) (sym (calls_whole m.limit stream (given_bytes steps)))
+
+    plain_parses : HasParsedAll After (stream ++ given_bytes steps)
+    plain_parses = record {
+      timeout = told.next.timeout;
+      stands = rw (parsed_all, plain.none_held) at told.is_at.stands;
+    }
+
+-- ---- what calls ensure then
+
+module _ {V W : Type 0} (m : Meaning V W) {Before After : StandingPredicate W} {old new : V} where
+  plain_calls : (steps : List Step)
+      → ((s : State V W) → IsAt Before old s → HasReplayed m s steps (IsAt After new))
+      → IsNeverPending m.timeout.allows → AreAdvances steps → ParsesAll m Before After old new (given_bytes steps)
+  plain_calls steps told never only = record {
+    follows = λ start stream all. plain_follows old all m never steps only (told _ (is_here old all)) start;
+    parses_all = λ stream all. plain_parses old all m never steps only (told _ (is_here old all));
+  }
+
+  pub replays_all : {steps : List Step}
+      → ((s : State V W) → IsAt Before old s → HasReplayed m s steps (IsAt After new))
+      → Replays m Before After old new steps
+  replays_all {steps} told = record { told = told; plain = plain_calls steps told }
+
+  -- a call is a list of one
+  pub plain_call : (bytes : Bor (List ℕ))
+      → ((s : State V W) → IsAt Before old s → HasAdvanced m s bytes.now (IsAt After new))
+      → IsNeverPending m.timeout.allows → ParsesAll m Before After old new bytes.now
+  plain_call bytes advances never =
+      let r = replays_all {steps = Advance bytes ∷ []} (λ s at. advance_runs m (advances s at)) in
+      rw append-nil at (r.plain never tt)

@@ -9,8 +9,8 @@ from concurrent.futures import ThreadPoolExecutor
 from pathlib import Path
 
 sys.path.insert(0, str(Path(__file__).resolve().parent.parent / "tools"))
-from building import builder
-from generating import streams
+from lib.building import builder
+from lib.generating import streams
 
 # The sides: ours as rt proves and builds it, the same text in the crates of rust/, and the crate,
 # these two in the best build (fat link-time optimization) and in cargo's default release profile.

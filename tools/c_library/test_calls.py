@@ -4,9 +4,9 @@ from functools import cache
 from itertools import islice
 
 import pytest
-from generating.calls import TRAIT, calls_of
-from generating.files import TOP
-from generating.vectors import all_vectors, bytes_of, lines_of
+from lib.generating.calls import TRAIT, calls_of
+from lib.generating.files import TOP
+from lib.generating.vectors import all_vectors, bytes_of, lines_of
 from tests.missing import miss, need
 
 from c_library.calling import FUNCTIONS

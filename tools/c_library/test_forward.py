@@ -3,8 +3,8 @@ import random
 import re
 
 import pytest
-from generating import streams
-from judging import definition, house
+from lib.generating import streams
+from lib.judging import definition, house
 
 from c_library.library import EXAMPLES, HERE, SANITIZERS, at_once, output_of
 from c_library.test_examples import assert_ends_by_errors, assert_slow, program

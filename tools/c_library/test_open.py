@@ -1,8 +1,8 @@
 """What is open, at each byte of vectors and of hostile streams."""
 import pytest
-from generating.hostile_streams import hostile_stream
-from generating.vectors import bytes_of, vectors
-from judging.open_ends import open_at_end
+from lib.generating.hostile_streams import hostile_stream
+from lib.generating.vectors import bytes_of, vectors
+from lib.judging.open_ends import open_at_end
 
 from c_library.calling import OSC, parsers
 from c_library.library import at_once

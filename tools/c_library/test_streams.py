@@ -1,9 +1,9 @@
 """Vectors and streams, by the C programs: however a stream is cut, they write the same."""
-from building import builder
-from generating.hostile_streams import OF_TEXT, hostile_stream
-from generating.streams import recorded
-from generating.vectors import bytes_of, lines_of, vectors
-from judging import definition, house
+from lib.building import builder
+from lib.generating.hostile_streams import OF_TEXT, hostile_stream
+from lib.generating.streams import recorded
+from lib.generating.vectors import bytes_of, lines_of, vectors
+from lib.judging import definition, house
 
 from c_library.library import at_once, output_of
 

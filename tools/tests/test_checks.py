@@ -10,8 +10,8 @@ from pathlib import Path
 from types import SimpleNamespace
 
 import pytest
-from building import builder
-from erasing.plan import Plan
+from lib.building import builder
+from lib.erasing.plan import Plan
 
 from tests.missing import miss
 from tests.support import TOOLS, Tool, run_here, write
@@ -595,7 +595,7 @@ def test_contents_of_a_release(monkeypatch):
                                    "resolve": {"root": "ours", "nodes": nodes}}))
     for name in "a.crate", "b.deb", "c.whl":
         write(f"out/{name}", "")
-    assert run_here("releasing/contents", "out", "1.2.3", "manifest", cargo="cat described",
+    assert run_here("lib/releasing/contents", "out", "1.2.3", "manifest", cargo="cat described",
                     rustc="echo rustc 1.99.0; echo host: here") == (0, [])
     told = json.loads(Path("out/naqshuve-1.2.3.spdx.json").read_text())
     assert told["creationInfo"]["created"] == "1970-01-02T00:00:00Z"

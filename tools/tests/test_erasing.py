@@ -2,11 +2,11 @@
 import re
 
 import pytest
-from erasing.crate import Failure, erase, write_crate
-from erasing.patterns import rewrite
-from erasing.plan import Plan
-from erasing.source import Source
-from erasing.tokens import Refused, split
+from lib.erasing.crate import Failure, erase, write_crate
+from lib.erasing.patterns import rewrite
+from lib.erasing.plan import Plan
+from lib.erasing.source import Source
+from lib.erasing.tokens import Refused, split
 
 from tests.support import Tool, write
 

@@ -64,7 +64,7 @@ def checkout(folder, monkeypatch):
     for place in ("bin", "temporary", "crates/vtlog/src", "crates/vtlog/proofs",
                   "crates/vte_core/src", "crates/vte_core/specs", "crates/event_log/src"):
         (top / place).mkdir(parents=True)
-    for place in "vtlog", "crates/vtlog/src/main.rt", "tools/building/cargo_product":
+    for place in "vtlog", "crates/vtlog/src/main.rt", "tools/lib/building/cargo_product":
         (top / place).parent.mkdir(parents=True, exist_ok=True)
         shutil.copy(TOP / place, top / place)
     for tool in USED:
@@ -149,7 +149,7 @@ def test_where_cargo_puts_what_it_makes(checkout, monkeypatch, place, variables)
     write("p/Cargo.toml", '[package]\nname = "p"\nversion = "0.0.0"\n[workspace]\n')
     write("p/src/main.rs", "fn main() {}\n")
     words = "rustc --quiet --offline --manifest-path p/Cargo.toml -- -Copt-level=0"
-    made = subprocess.check_output(["tools/building/cargo_product", *words.split()], text=True)
+    made = subprocess.check_output(["tools/lib/building/cargo_product", *words.split()], text=True)
     assert made == f"{checkout}/{place.replace('HOST', host)}debug/p\n"
     assert subprocess.run([made[:-1]]).returncode == 0
 

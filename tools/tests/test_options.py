@@ -11,7 +11,7 @@ from types import SimpleNamespace
 
 import pytest
 from c_library import conftest
-from generating.streams import generate
+from lib.generating.streams import generate
 
 from tests.support import TOOLS, Tool, run_here, write
 

@@ -7,7 +7,7 @@ use std::str::Chars;
 const FILES: [&str; 3] = [
     include_str!("../../../../vectors/events.json"),
     include_str!("../../../../vectors/calls.json"),
-    include_str!("../../../../tools/generating/private_vectors.json"),
+    include_str!("../../../../tools/lib/generating/private_vectors.json"),
 ];
 /// Streams with more bytes than this aren't cut at every place.
 pub const MAX_CUT: usize = 2048;

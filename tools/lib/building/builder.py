@@ -1,0 +1,123 @@
+"""Builds programs to measure or compare: by rt those of crates/, by cargo programs over the crate
+`vte` 0.15.0, or over ours in rust/vte.
+
+Crates come from Debian's next release, by tools/next_release. Two profiles: `fat` has link-time
+optimization over everything and one codegen unit, which is what a terminal ships with; `release`
+is cargo's default release profile.
+"""
+import functools
+import os
+import re
+import shutil
+import subprocess
+import sys
+from pathlib import Path
+
+TOOLS = Path(__file__).resolve().parents[2]
+OURS, KEPT = TOOLS.parent / "rust" / "vte", TOOLS.parent / "rust" / "target"
+CARGO_PRODUCT = TOOLS / "lib" / "building" / "cargo_product"
+PROFILES = {
+    "fat": {"LTO": "fat", "CODEGEN_UNITS": "1"},
+    "release": {"LTO": "false", "CODEGEN_UNITS": "16"},
+    "checked": {"OPT_LEVEL": "1", "DEBUG_ASSERTIONS": "true"},
+}
+MANIFEST = """\
+[package]
+name = "peer"
+version = "0.0.0"
+edition = "2024"
+[[bin]]
+name = "peer"
+path = "MAIN"
+[workspace]
+[dependencies]
+arrayvec = "*"
+vte = { SOURCE, default-features = false, features = ["ansi", "std"] }
+"""
+# where the code of a placed program begins, and the bytes that its functions are aligned to
+CODE_START, ALIGNMENT = 0x200000, 16
+
+
+def stop(message):
+    sys.exit(f"{Path(sys.argv[0]).name}: {message}")
+
+
+def proved_program(crate, words=()):
+    """A program of crates/, proved and built, which runs it with these words: now, unless it is
+    newer than all sources there, as after `rt ci`."""
+    crates = TOOLS.parent / "crates"
+    program = crates / crate / "out" / crate
+    sources = [TOOLS.parent / "crates.txt", *crates.glob("*/src/**/*"),
+               *crates.glob("*/specs/**/*"), *crates.glob("*/proofs/**/*")]
+    newest = max(file.stat().st_mtime for file in sources)
+    if not program.exists() or program.stat().st_mtime <= newest:
+        print(f"proving and building {crate} (a first build takes minutes) ..", file=sys.stderr)
+        run(["rt", "run", *["--"] * bool(words), *words], crate, folder=crates / crate)
+    return program
+
+
+@functools.cache
+def crates():
+    """The environment in which cargo finds crates."""
+    cache = Path(os.environ.get("XDG_CACHE_HOME") or Path.home() / ".cache") / "naqshuve"
+    said = run([TOOLS / "next_release", cache], "crates of Debian's next release")
+    home = re.search(r"CARGO_HOME=(\S+)", said.decode())
+    return {"CARGO_HOME": home[1]} if home else {}
+
+
+def environment(folder, profile):
+    """The environment in which cargo builds into a folder."""
+    return {**os.environ, **crates(), "CARGO_TARGET_DIR": str(folder / "target"),
+            **{f"CARGO_PROFILE_RELEASE_{name}": value for name, value in PROFILES[profile].items()}}
+
+
+def placed_peers(is_ours, folder, profile, count):
+    """Builds tools/peer over the crate, or over ours, into a folder, without warnings: so many
+    times, each with its code at another place."""
+    folder, room = Path(folder), KEPT / f"peer_{profile}{'_ours' * is_ours}"
+    source = f'path = "{OURS}"' if is_ours else 'version = "=0.15.0"'
+    manifest = MANIFEST.replace("SOURCE", source).replace("MAIN", f"{TOOLS}/peer/src/main.rs")
+    for place in folder, room:
+        place.mkdir(parents=True, exist_ok=True)
+    (room / "Cargo.toml").write_text(manifest)
+    # only ours has runs of text
+    flags = ["--cap-lints", "allow", *["--cfg", "runs"] * is_ours]
+    programs = []
+    # four places take each function once to each part of a line of 64 bytes that it can begin at
+    for place in range(count):
+        start = f"link-arg=-Wl,-Ttext={CODE_START + ALIGNMENT * place:#x}"
+        words = ["rustc", "--release", "--manifest-path", room / "Cargo.toml", "--", *flags]
+        made = run([CARGO_PRODUCT, *words, "-C", start], "tools/peer", environment(room, profile))
+        programs.append(shutil.copy(made.decode().rstrip("\n"), folder / f"peer_{place}"))
+    return programs
+
+
+def c_program(source, folder):
+    """Builds a program in C with cargo's C library, and with libvterm if it is here."""
+    run([TOOLS / "build_c_library", "--cargo", folder], "the C library")
+    includes = [f"-I{TOOLS.parent / place}" for place in ("crates/vte_c/include",
+                                                          "rust/vte_c/include")]
+    words = ["cc", "-O2", "-std=c99", "-pedantic-errors", *includes, source, folder / "libvte_c.a"]
+    if has_libvterm():
+        words += ["-DLIBVTERM", "-lvterm"]
+    run([*words, "-o", folder / source.stem], source.name)
+    return folder / source.stem
+
+
+def has_libvterm():
+    """Whether Debian's package libvterm-dev is here."""
+    return Path("/usr/include/vterm.h").exists()
+
+
+def run(words, what, environment=None, folder=None):
+    """Runs a command and returns what it prints, or ends the program with that if it fails."""
+    try:
+        done = subprocess.run(words, cwd=folder, stdin=subprocess.DEVNULL, capture_output=True,
+                              env=environment)
+    except FileNotFoundError:
+        stop(f"{words[0]} isn't installed, or isn't in the PATH")
+    if done.returncode != 0:
+        sys.stderr.buffer.write(done.stderr[-6000:])
+        sys.stderr.buffer.write(done.stdout[-6000:])
+        stop(f"{what}: {words[0]} failed with status {done.returncode}")
+    return done.stdout

@@ -1,0 +1,124 @@
+"""Imports, and the roots of paths: a crate's own modules, Rust's std and the prelude."""
+from collections import Counter
+
+from lib.erasing.passes import add_above
+from lib.erasing.tokens import WORD
+
+# What is by hand in a crate for cargo, as marks name it.
+BY_HAND = ("adapter::", "prelude::")
+# Modules of std that Rust's `core` has with the same meaning.
+OF_CORE = {"cmp", "fmt", "iter", "marker", "mem", "ops", "str", "time"}
+
+
+def words_of_code(source):
+    """How often each word stands in a file outside its imports."""
+    imports = {place for at, end in source.items()
+               if source.is_word(source.without_visibility(at), "use") for place in range(at, end)}
+    return Counter(token.text for place, token in enumerate(source.tokens) if place not in imports)
+
+
+def renamed(source, at, path, crate, plan):
+    root, _, rest = path.partition("::")
+    if root == "std":
+        module, _, rest = rest.partition("::")
+        if module not in OF_CORE and module not in plan.of_std:
+            source.refuse(f"unknown module of std: {module}", at)
+        root = f"core::{module}" if module in OF_CORE else plan.of_std[module]
+        source.used.add((module, root))
+    elif not (root == "crate" and rest.startswith(BY_HAND)):
+        roots = {**plan.modules, **plan.other_crates, "crate": plan.modules[crate]}
+        source.used.add((root, roots.get(root)))
+        root = roots.get(root, root)
+    return f"{root}::{rest}" if rest else root
+
+
+def rename_paths(source, crate, plan):
+    """Renames the roots of paths outside of imports. Links in docs stay."""
+    imports_str = any(path.endswith("std::str") for at, end in source.items()
+                      for _, path in imported(source, at, end))
+    for at in reversed(range(len(source.tokens))):
+        before = source.before(at)
+        is_inner = source.is_sign(before, ":") and source.is_sign(before - 1, ":")
+        if source.kind(at) != WORD or source.words(at, 3)[1:] != [":", ":"] or is_inner \
+                or source.is_word(before, "use"):
+            continue
+        if source.text(at) == "str" and not imports_str:
+            # as a method of the type it is newer than our oldest Rust
+            source.replace(at, at, "core::str")
+        else:
+            source.replace(at, at, renamed(source, at, source.text(at), crate, plan))
+
+
+def imported(source, at, end):
+    """The names that an item imports, if it does: pairs of a visibility and a path."""
+    word = source.without_visibility(at)
+    if not source.is_word(word, "use"):
+        return []
+    path = "".join(token.text for token in source.tokens[word + 1:end] if not token.is_blank)
+    root, _, listed = path.rstrip("},").partition("{")
+    return [(source.between(at, word - 1), root + name) for name in listed.split(",")]
+
+
+def settle_imports(source, crate, plan, before):
+    """Imports of names that aren't used any more go; what is used now is imported from its home."""
+    used, known = words_of_code(source), set()
+    for at, end in source.items():
+        if not (names := imported(source, at, end)):
+            continue
+        paths = []
+        for visibility, path in names:
+            name = path.rpartition("::")[2]
+            source.used.add((path, plan.imports.get(path)))
+            if visibility or used[name] or not before[name]:
+                paths.append(plan.imports.get(path) or renamed(source, at, path, crate, plan))
+                known.add(name)
+        if paths:
+            source.replace(at, end, _lines(names[0][0], paths))
+        else:
+            source.cut(source.attached(at), end)
+    needed = [it for it in plan.names() if it[0] not in known and _uses(source, it[0])]
+    source.used.update(needed)
+    homes = _join(source, [f"{home}::{name}" for name, home in needed])
+    if homes:
+        *_, first = None, *(at for at, end in source.items() if imported(source, at, end))
+        if first is None:
+            add_above(source, _lines("", homes))
+        else:
+            source.insert(source.attached(first), _lines("", homes) + "\n")
+
+
+def _join(source, homes):
+    """Adds paths to the imports of their modules. Returns those whose modules have none."""
+    for at, end in source.items():
+        names = imported(source, at, end)
+        modules = {path.rpartition("::")[0] for visibility, path in names if not visibility}
+        joined = [home for home in homes if home.rpartition("::")[0] in modules]
+        # one with an attribute has a condition
+        if joined and not source.is_sign(source.before(at), "]"):
+            source.replace(at, end, _lines("", [path for _, path in names] + joined))
+            homes = [home for home in homes if home not in joined]
+    return homes
+
+
+def _uses(source, name):
+    """Whether a file uses a type or calls a function of another module."""
+    places = source.places(name)
+    if any(source.is_word(source.before(at), "fn", "struct", "trait", "enum") for at in places):
+        return False
+    for at in places:
+        before, following = source.text(source.before(at)), source.text(source.after(at))
+        is_generic = following == ":" and source.words(at, 4)[3] == "<"
+        if before != "." and (name[0].isupper() or following in ("(", "!") or is_generic):
+            return True
+    return False
+
+
+def _lines(visibility, paths):
+    """The imports of these paths: one for each module."""
+    groups = {}
+    for path in paths:
+        root, sign, name = path.rpartition("::")
+        groups.setdefault(root + sign, []).append(name)
+    listed = {root: names[0] if len(names) == 1 else "{" + ", ".join(sorted(names)) + "}"
+              for root, names in groups.items()}
+    return "\n".join(f"{visibility}use {root}{names};" for root, names in listed.items())

@@ -1,0 +1,118 @@
+"""Marks: comments beside a line of crates/ that say what cargo's form of it is.
+
+    // proof: ..            a comment that cargo's form hasn't, with the lines that go on
+    // cargo: TEXT          TEXT stands here
+    // cargo instead: TEXT  the same, and the next line, if it is no such mark, isn't there
+    // cargo lacks: WHY     the item, member or statement that follows isn't there
+    // cargo defaults: WHY  the method that follows, or each of the trait, does nothing or says no
+
+TEXT is erased as the rest of its file is. Examples of docs in "```rattle" aren't there.
+"""
+import re
+from collections import Counter
+
+from lib.erasing.tokens import COMMENT
+
+MARK = re.compile(r"// (?:(proof): .+|cargo(?: (instead))?:(?: (.*))?|cargo (lacks|defaults): .+)")
+LIKE_MARK = re.compile(r"//[/!]? *(?:[Pp]roof|[Cc]argo(?: \w+)?):")
+ITEMS = {"const", "enum", "fn", "impl", "mod", "static", "struct", "trait", "type", "use"}
+
+
+def _mark(source, at):
+    """The kind and the text of the mark at a place, or twice None."""
+    text = source.text(at).rstrip()
+    if source.kind(at) != COMMENT or not LIKE_MARK.match(text):
+        return None, None
+    if not (found := MARK.fullmatch(text)):
+        source.refuse(f"unknown mark: {text}", at)
+    return found[1] or found[2] or found[4] or "adds", found[3] or ""
+
+
+def put_lines(source):
+    """Takes out comments about proofs, and puts in the lines of marks. Returns how often each word
+    stood in the lines that these replace."""
+    marks = {at: _mark(source, at) for at in range(len(source.tokens))}
+    replaced = Counter()
+    for at, (kind, text) in reversed(marks.items()):
+        if kind == "proof":
+            source.cut(at, _comment_end(source, at))
+        if kind == "instead" and marks[at + 2][0] != "instead":
+            end = _line_end(source, at + 2)
+            replaced.update(token.text for token in source.tokens[at + 2:end + 1])
+            del source.tokens[at + 1:end + 1]
+        if kind == "adds" and text.endswith("! {"):
+            # rustfmt leaves the text of a macro as it is
+            end = next(place for place in marks if place > at and marks[place][0])
+            _indent(source, at + 1, end)
+        if text:
+            source.replace(at, at, text)
+        elif kind == "instead":
+            source.cut(at, at)
+    return replaced
+
+
+def _indent(source, first, last):
+    for at in range(first, last):
+        if "\n" in source.text(at):
+            source.tokens[at] = source.tokens[at]._replace(text=f"{source.text(at)}    ")
+
+
+def _line_end(source, at):
+    end = at
+    while source.kind(end + 1) and "\n" not in source.text(end + 1):
+        end += 1
+    return end
+
+
+def _comment_end(source, at):
+    while source.text(at + 1).count("\n") == 1 and source.text(at + 2).startswith("// ") \
+            and not _mark(source, at + 2)[0]:
+        at += 2
+    return at
+
+
+def item_below(source, at):
+    """The place of what follows a mark, after attributes."""
+    at = source.after(at)
+    while source.is_sign(at, "#"):
+        at = source.after(source.attribute_end(at))
+    return at
+
+
+def drop_lacking(source):
+    """Takes out what cargo's form hasn't, which are laws too, and the exports of modules that it
+    hasn't. Returns these modules."""
+    places = [item_below(source, at) for at in range(len(source.tokens))
+              if _mark(source, at)[0] == "lacks"]
+    modules = set()
+    for at in sorted(places + source.places("mod laws"), reverse=True):
+        word = source.without_visibility(at)
+        if source.is_word(word, "mod"):
+            modules.add(source.text(source.after(word)))
+        source.cut(source.attached(source.with_visibility(at)), _end(source, word))
+    for at in (at for module in modules for at in source.places(f"use {module}")):
+        start = source.with_visibility(at)
+        source.cut(source.attached(start), source.item_end(start))
+    return modules
+
+
+def _end(source, at):
+    """The end of an item, a member or a statement."""
+    if source.text(at) in ITEMS:
+        return source.item_end(at)
+    while not source.is_sign(at, ",;"):
+        at = source.match(at) + 1
+    return at
+
+
+def give_defaults(source):
+    """Gives bodies to methods that needn't be implemented."""
+    for at in reversed(range(len(source.tokens))):
+        if _mark(source, at)[0] != "defaults":
+            continue
+        start = item_below(source, at)
+        for place in range(source.item_end(start), start - 1, -1):
+            if source.is_word(place, "fn") and source.is_sign(end := source.item_end(place), ";"):
+                says_no = source.is_word(source.before(end), "bool")
+                source.replace(end, end, " {\nfalse\n}" if says_no else " {}")
+        source.cut(at, at)

@@ -1,0 +1,118 @@
+"""What patterns can't say: contracts, ghosts, attributes, clones and examples."""
+from lib.erasing.tokens import CLAUSE, COMMENT, GHOST, SPACE, WORD
+
+# The derives that Rust knows by the same name. `Drop` isn't one: it says that values may be let go.
+DERIVES = {"Clone", "Copy", "Debug", "Default", "Eq", "Hash", "Ord", "PartialEq", "PartialOrd"}
+SERDE = {"Serialize", "Deserialize"}
+# The attributes that mean to rustc what they mean to Rattle.
+KEPT_ATTRIBUTES = {"allow", "cfg", "default", "doc", "inline", "must_use", "repr"}
+INLINE = "#[inline]"
+
+
+def drop_ghosts(source):
+    """Removes contracts, with the comments above them, ghost members and imports, with their docs.
+    """
+    for at in reversed(range(len(source.tokens))):
+        if source.kind(at) == CLAUSE:
+            start = source.before(at) + 1
+            source.replace(start, at + (source.kind(at + 1) == SPACE),
+                           "" if source.is_sign(source.after(at), ";") else " ")
+        elif source.kind(at) == GHOST:
+            source.cut(source.attached(source.with_visibility(at)), at)
+
+
+def sort_attributes(source):
+    """Tactics go, tests go with their items, derives keep what Rust can derive. Any other attribute
+    is refused.
+
+    Returns the names of the modules of tests.
+    """
+    tests = set()
+    for at in source.places("#[cfg(test)]"):
+        item = source.without_visibility(source.after(source.attribute_end(at)))
+        if source.is_word(item, "mod"):
+            tests.add(source.text(source.after(item)))
+        source.cut(at, source.item_end(item))
+    for at in source.places("#"):
+        if (end := source.attribute_end(at)) is None:
+            continue
+        name, *rest = [source.text(place) for place in range(at, end) if source.kind(place) == WORD]
+        if name == "tactic" or "no_mangle" in rest:
+            source.cut(at, end)
+        elif name == "derive":
+            _derive(source, at, end, rest)
+        elif name not in KEPT_ATTRIBUTES:
+            source.refuse(f"unknown attribute: {name}", at)
+    return tests
+
+
+def _derive(source, at, end, names):
+    if unknown := set(names) - DERIVES - SERDE - {"Drop"}:
+        source.refuse(f"unknown derive: {', '.join(unknown)}", at)
+    plain, serde = (", ".join(name for name in names if name in known)
+                    for known in (DERIVES, SERDE))
+    lines = [f"#[derive({plain})]"] * bool(plain)
+    lines += [f'#[cfg_attr(feature = "serde", derive({serde}))]'] * bool(serde)
+    if lines:
+        source.replace(at, end, "\n".join(lines))
+    else:
+        source.cut(at, end)
+
+
+def derive_clones(source):
+    """Clones can be refused memory in Rattle. Here they are derived: rustc copies the same fields,
+    and those that are vectors have as much memory."""
+    for at in source.places("Clone for"):
+        first, end = next((first, end) for first, end in source.items() if first < at < end)
+        name = source.text(source.after(source.after(at)))
+        source.cut(source.attached(first), end)
+        for struct in source.places(f"struct {name}"):
+            source.insert(source.with_visibility(struct), "#[derive(Clone)]\n")
+
+
+def join_derives(source):
+    """The derives of an item stand in one attribute."""
+    for at in source.places("#[derive"):
+        above = next((place for place in range(at - 1, source.attached(at) - 1, -1)
+                      if source.words(place, 3) == ["#", "[", "derive"]), None)
+        if above is not None:
+            end = source.attribute_end(at)
+            names = source.between(at + 4, source.before(source.before(end)))
+            source.cut(at, end)
+            source.insert(source.before(source.attribute_end(above)), f", {names}")
+
+
+def inline(source):
+    """The functions of an impl whose only parameter is the allocator, which goes, may still be
+    inlined into other crates."""
+    for at in source.places("impl<A: Allocator>"):
+        for place in range(source.item_end(at), at, -1):
+            before = source.before(place)
+            start = source.with_visibility(before if source.is_word(before, "const") else place)
+            is_generic = source.is_sign(source.after(source.after(place)), "<")
+            above = source.attached(start)
+            is_said = "inline" in source.between(above, start)
+            if source.is_word(place, "fn") and not is_generic and not is_said:
+                source.insert(source.solid(above), f"{INLINE}\n")
+
+
+def complete_examples(source):
+    """The examples of docs take no allocator. Those for Rattle go, with the empty line before."""
+    fences = [at for at, token in enumerate(source.tokens) if token.text[3:].strip()[:3] == "```"]
+    if len(fences) % 2:
+        source.refuse("an example that isn't closed", fences[-1])
+    for opened, closed in reversed([*zip(fences[::2], fences[1::2])]):
+        if source.text(opened).endswith("```rattle"):
+            is_apart = source.text(opened - 2) == source.text(opened)[:3]
+            source.cut(opened - 2 * is_apart, closed)
+            continue
+        for at in range(opened, closed):
+            text = source.text(at).replace("(alloc)", "()")
+            source.tokens[at] = source.tokens[at]._replace(text=text)
+
+
+def add_above(source, lines):
+    """Puts lines above the first item."""
+    at = [*source.items()][-1][0]
+    is_apart = not source.is_word(source.without_visibility(at), "use", "mod")
+    source.insert(source.attached(at), lines + "\n" * (1 + is_apart))

@@ -1,0 +1,106 @@
+"""Patterns over the tokens of a file, and what stands in their place.
+
+A pattern is Rust in which `$x` stands for one token, or for a bracket with what is in it; `$$x` for
+any number of these without `;`, and `$$$x` for any number, the fewest that fit. Blanks and comments
+don't count.
+"""
+from functools import lru_cache
+
+from lib.erasing.source import CLOSING
+from lib.erasing.tokens import COMMENT, split
+
+
+@lru_cache(maxsize=None)
+def _parts(pattern):
+    """The parts of a pattern: pairs of a number of `$`, and a name or a text."""
+    parts, count = [], 0
+    for token in split(pattern):
+        if token.text == "$":
+            count += 1
+        elif not token.is_blank:
+            parts.append((count, token.text))
+            count = 0
+    return tuple(parts)
+
+
+def find(source, at, pattern):
+    """The last place of a pattern that begins at a place, and the texts of its names; None if it
+    doesn't fit, or a comment would be lost."""
+    found = None if source.tokens[at].is_blank else _fit(source, at, _parts(pattern), {})
+    if found is None:
+        return None
+    end, places = found
+    kept = {place for first, last in places.values() for place in range(first, last + 1)}
+    if any(source.kind(place) == COMMENT and place not in kept for place in range(at, end)):
+        return None
+    return end, {name: source.between(*ends).strip() for name, ends in places.items()}
+
+
+def _fit(source, at, parts, places):
+    end = source.before(at)
+    for index, (count, name) in enumerate(parts):
+        if count == 0:
+            if source.text(at) != name:
+                return None
+            end, at = at, source.after(at)
+        elif count == 1:
+            if (end := _element_end(source, at)) is None:
+                return None
+            places, at = {**places, name: (at, end)}, source.after(end)
+        else:
+            return _fit_run(source, at, parts[index:], places)
+    return end, places
+
+
+def _fit_run(source, at, parts, places):
+    (count, name), rest = parts[0], parts[1:]
+    # the comments before it are its own
+    last = source.before(at)
+    first = last + 1
+    while True:
+        if found := _fit(source, at, rest, {**places, name: (first, last)}):
+            return found
+        end = _element_end(source, at)
+        if end is None or count == 2 and source.is_sign(at, ";"):
+            return None
+        last, at = end, source.after(end)
+
+
+def _element_end(source, at):
+    """The last place of one token, or of a bracket; None at the end of what is around it."""
+    if source.kind(at) is None or source.is_sign(at, CLOSING):
+        return None
+    return source.match(at)
+
+
+def rewrite(source, pattern, by, holds=lambda names: True):
+    """Puts `by`, a text with names or a function of them, in the place of each match, from the last
+    on, if it holds of its names. Returns how many there were.
+
+    An empty text takes out the comments above, too.
+    """
+    count, ((is_name, first), *_) = 0, _parts(pattern)
+    places = [at for at, token in enumerate(source.tokens) if is_name or token.text == first]
+    for at in places[::-1]:
+        if (found := find(source, at, pattern)) and holds(found[1]):
+            made = by(found[1]) if callable(by) else filled(by, found[1])
+            if made:
+                source.replace(at, found[0], made)
+            else:
+                source.cut(source.attached(at), found[0])
+            count += 1
+    if count:
+        source.used.add((pattern, by))
+    return count
+
+
+def filled(by, names):
+    """A text with the texts of names in the place of `$x`."""
+    made, is_name = [], False
+    for token in split(by):
+        if token.text == "$":
+            is_name = True
+        else:
+            made.append(names[token.text] if is_name else token.text)
+            is_name = False
+    return "".join(made)

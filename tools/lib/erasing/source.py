@@ -1,0 +1,154 @@
+"""The tokens of one file, with the ways to find items and to change them."""
+from lib.erasing.tokens import COMMENT, MARK, SPACE, Refused, Token, split
+
+OPENING, CLOSING = "([{", ")]}"
+
+
+class Source:
+    """A file that is being erased.
+
+    Places are indices of tokens. A place outside the file has the text "" and no kind.
+    """
+
+    def __init__(self, text):
+        self.tokens = split(text)
+        self.used = set()  # the entries of the plan (Plan.entries) that were of use here
+
+    def text(self, at):
+        return self.tokens[at].text if 0 <= at < len(self.tokens) else ""
+
+    def kind(self, at):
+        return self.tokens[at].kind if 0 <= at < len(self.tokens) else None
+
+    def between(self, first, last):
+        """The text from one place to another, which it has too."""
+        return "".join(token.text for token in self.tokens[first : last + 1])
+
+    def is_sign(self, at, signs):
+        """Whether one of these marks stands at a place, and not in a string or comment."""
+        return self.kind(at) == MARK and self.text(at) in signs
+
+    def is_word(self, at, *words):
+        return self.text(at) in words
+
+    def refuse(self, message, at=0):
+        raise Refused(message, self.tokens[at].line if self.tokens else 1)
+
+    # Finding
+
+    def solid(self, at, step=1):
+        """The first place from `at` on, by `step`, that is neither space nor comment."""
+        while self.kind(at) in (SPACE, COMMENT):
+            at += step
+        return at
+
+    def after(self, at):
+        return self.solid(at + 1)
+
+    def before(self, at):
+        return self.solid(at - 1, -1)
+
+    def words(self, at, count):
+        """The texts of the next `count` solid tokens."""
+        texts = []
+        for _ in range(count):
+            texts.append(self.text(at))
+            at = self.after(at)
+        return texts
+
+    def match(self, at):
+        """The bracket that belongs to the one at a place, or the place if there is none."""
+        depth, step = 0, 1 if self.text(at) in OPENING else -1
+        for place in range(at, len(self.tokens) if step > 0 else -1, step):
+            depth += self.is_sign(place, OPENING) - self.is_sign(place, CLOSING)
+            if depth == 0:
+                return place
+        return self.refuse("unclosed bracket", at)
+
+    def item_end(self, at):
+        """The end of the item at a place: its `;`, or the brace that closes its block."""
+        start, word = at, self.without_visibility(at)
+        has_block = self.text(self.after(word)) == "fn" or not self.is_word(
+            word, "use", "static", "const", "type")
+        while at < len(self.tokens):
+            if has_block and self.is_sign(at, "{"):
+                return self.match(at)
+            if self.is_sign(at, ";"):
+                return at
+            at = (self.match(at) if self.is_sign(at, OPENING) else at) + 1
+        return self.refuse("unclosed item", start)
+
+    def without_visibility(self, at):
+        if self.text(at) == "pub":
+            at = self.after(at)
+            if self.is_sign(at, "("):
+                at = self.after(self.match(at))
+        return at
+
+    def with_visibility(self, at):
+        before = self.before(at)
+        if self.is_sign(before, ")"):
+            return self.before(self.match(before))
+        return before if self.text(before) == "pub" else at
+
+    def attribute_end(self, at):
+        """The `]` of the attribute at a place, or None if an item begins there."""
+        bracket = self.after(at)
+        if self.is_sign(bracket, "!"):
+            bracket = self.after(bracket)
+        return self.match(bracket) if self.is_sign(bracket, "[") else None
+
+    def items(self):
+        """The first and last places of the items at the top of the file, the last one first."""
+        found, at = [], self.solid(0)
+        while at < len(self.tokens):
+            if (end := self.attribute_end(at)) is None:
+                end = self.item_end(at)
+                found.append((at, end))
+            at = self.after(end)
+        return reversed(found)
+
+    def places(self, front):
+        """The places of what begins with these words, the last one first."""
+        wanted = [token.text for token in split(front) if not token.is_blank]
+        found = [at for at, token in enumerate(self.tokens) if token.text == wanted[0]
+                 and self.words(at, len(wanted)) == wanted]
+        return found[::-1]
+
+    def attached(self, at):
+        """Where the comments and attributes begin that stand right above what is at a place."""
+        start = at
+        while True:
+            place = start - 1
+            if self.kind(place) == SPACE and self.text(place).count("\n") <= 1:
+                place -= 1
+            begins_line = place == 0 or "\n" in self.text(place - 1)
+            is_of_file = self.text(place).startswith("//!")
+            if self.kind(place) == COMMENT and not is_of_file and begins_line:
+                start = place
+            elif self.is_sign(place, "]") and self.is_sign(self.match(place) - 1, "#"):
+                start = self.match(place) - 1
+            else:
+                return start
+
+    # Changing
+
+    def cut(self, start, end):
+        """Takes tokens out. Of the blank lines on both sides the greater number stays."""
+        del self.tokens[start : end + 1]
+        if self.kind(start - 1) == SPACE and self.kind(start) == SPACE:
+            counts = [self.text(at).count("\n") for at in (start - 1, start)]
+            del self.tokens[start - 1 if counts[0] < counts[1] else start]
+
+    def replace(self, start, end, text):
+        """Puts other text in the place of tokens."""
+        line = self.tokens[start].line
+        self.tokens[start : end + 1] = [Token(token.kind, token.text, line)
+                                        for token in split(text)]
+
+    def insert(self, at, text):
+        self.replace(at, at - 1, text)
+
+    def written(self):
+        """The text of the file as it is now."""
+        return self.between(0, len(self.tokens)).strip("\n") + "\n"

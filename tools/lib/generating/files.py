@@ -1,0 +1,43 @@
+"""Writes files of this repository that are made from others, or checks that they are up to date;
+and the parser of arguments that tools have."""
+import argparse
+import re
+import sys
+from pathlib import Path
+
+TOP = Path(__file__).resolve().parents[3]
+
+
+def parser_of(about, **how):
+    """A parser of arguments, whose help is the text about a tool, line by line."""
+    layout = argparse.RawDescriptionHelpFormatter
+    return argparse.ArgumentParser(description=about, formatter_class=layout, **how)
+
+
+def write_or_check(about, make, top=TOP):
+    """Writes the files that aren't up to date, or with --check ends the program with their names.
+    `make` yields the path of each below `top`, and its text, or None for one that is to go."""
+    parser = parser_of(about)
+    parser.add_argument("--check", action="store_true", help="only check that files are up to date")
+    is_check = parser.parse_args().check
+    stale = {name: text for name, text in make() if not is_current(top / name, text)}
+    if is_check and stale:
+        names = "".join(f"\n  {name}" for name in sorted(stale))
+        sys.exit(f"these files aren't up to date; run tools/{parser.prog}:{names}")
+    for name, text in stale.items():
+        place = top / name
+        if text is None:
+            place.unlink()
+        else:
+            place.parent.mkdir(parents=True, exist_ok=True)
+            place.write_text(text)
+    if not is_check:
+        print(f"{len(stale)} files are written")
+
+
+def is_current(place, text):
+    """Whether a file has a text, but for the layout of Rattle, which is that of `rt fmt`."""
+    if text is None or not place.exists():
+        return False
+    layout = r"[\s,]" if place.suffix == ".rt" else ""
+    return re.sub(layout, "", place.read_text()) == re.sub(layout, "", text)

@@ -1,0 +1,56 @@
+"""The streams on which a parser is judged: vectors, recorded, random and hostile ones, in pieces.
+"""
+import random
+from typing import NamedTuple
+
+from lib.generating.hostile_streams import OF_TEXT, hostile_stream
+from lib.generating.random_text import cut_at_random
+from lib.generating.vectors import pieces_of, vectors
+from lib.generating.streams import recorded
+
+SOURCES = ("vectors", "random", "recorded")
+
+
+class Case(NamedTuple):
+    """A stream in pieces, and where it comes from."""
+
+    name: str
+    pieces: list
+
+
+def from_vectors():
+    """The streams of all vectors but those of texts, which are no streams."""
+    for vector in vectors():
+        if "text" not in vector or "pieces" in vector:
+            yield Case(f"vector {vector['id']}", pieces_of(vector))
+
+
+def from_recordings(seed):
+    """Recorded streams: as they came, and in random pieces."""
+    for name, pieces in recorded():
+        yield Case(f"recorded stream {name}", pieces)
+        chance = random.Random(f"recorded/{seed}/{name}")
+        share = chance.choice([0.003, 0.03, 0.3])
+        cut = cut_at_random(chance, b"".join(pieces), share)
+        yield Case(f"recorded stream {name} in random pieces", cut)
+
+
+def from_generators(seed, count):
+    """Hostile streams, of all and mostly of text, in turn. One depends on the seed and its number.
+    """
+    for number in range(count):
+        if number % 2:
+            yield Case(f"stream {number} of seed {seed}, mostly text",
+                       hostile_stream(f"text/{seed}", number, OF_TEXT))
+        else:
+            yield Case(f"stream {number} of seed {seed}", hostile_stream(seed, number))
+
+
+def all_cases(sources, seed, count):
+    """The cases of these sources, the short ones first."""
+    if "vectors" in sources:
+        yield from from_vectors()
+    if "random" in sources:
+        yield from from_generators(seed, count)
+    if "recorded" in sources:
+        yield from from_recordings(seed)

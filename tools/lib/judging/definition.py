@@ -1,0 +1,301 @@
+"""docs/EVENTS.md in Python, with house rules: the steps of a stream, each with its rules and its
+lines.
+
+`vtlog` is the reference. This says which rule gives an event, and what the events are under the
+rules of another house; the judge checks it against `vtlog` on every stream for which it asks it.
+"""
+import re
+from collections import namedtuple
+from itertools import accumulate
+
+from lib.judging.house import DEFAULT
+
+# a stream is read as a text with a character for each byte
+ESC, BEL, ST = "\x1b", "\x07", "\x9c"
+# what ends any sequence and string, beside ESC: CAN and SUB
+ENDS = "\x18\x1a"
+WELL_SHAPED = re.compile("([<-?]?)([0-;]*)([ -/]*)")
+# Unicode's table of well-formed sequences, and the fronts of these; or any byte
+PIECE = re.compile("[\xc2-\xdf][\x80-\xbf]?|[\xe1-\xec\xee\xef][\x80-\xbf]{0,2}"
+                   "|\xe0([\xa0-\xbf][\x80-\xbf]?)?|\xed([\x80-\x9f][\x80-\xbf]?)?"
+                   "|\xf0([\x90-\xbf][\x80-\xbf]{0,2})?|\xf4([\x80-\x8f][\x80-\xbf]{0,2})?"
+                   "|[\xf1-\xf3][\x80-\xbf]{0,3}|.", re.S)
+# before the name of a rule about a limit that isn't at work, but would be for a parser with a lower
+# one
+NEAR = "near:"
+# so many readings may have looked at a byte that comes after them: that of a character looks at
+# four bytes, and that of a sequence at two bytes after it
+LOOKAHEAD = 3
+
+
+# what some bytes of a stream mean: the rules at work, the place of the bytes, the lines of events
+Step = namedtuple("Step", "rules start end lines", defaults=[()])
+
+
+def lines_of(stream, house=DEFAULT):
+    return [line for step in steps_of(stream, house) for line in step.lines]
+
+
+def steps_of(stream, house=DEFAULT):
+    return [step for steps in iter(Reader(stream.decode("latin-1"), house).read_next, [])
+            for step in steps]
+
+
+def piece_at(text, place, house):
+    """The piece of text at a place, and whether it is a well-formed character."""
+    first = text[place]
+    if first < "\x80" or house.encoding == "bytes":
+        return first, True
+    piece = PIECE.match(text, place)[0]
+    return piece, len(piece) == length_by(first)
+
+
+def length_by(first):
+    """The length of a character as far as its first byte gives it alone."""
+    return 2 + (first >= "\xe0") + (first >= "\xf0")
+
+
+def execute(character):
+    return f"execute {ord(character):02x}"
+
+
+def executed(end):
+    """The lines of what ended a sequence: CAN and SUB have one."""
+    return (execute(end),) if end and end in ENDS else ()
+
+
+def hex_of(text):
+    return text.encode("latin-1").hex() or "-"
+
+
+class Reader:
+    """Reads the steps of a text: those of a character, of a sequence, of a string, or of a byte of
+    a device control string at a time."""
+
+    def __init__(self, text, house, state=(False, False)):
+        self.text, self.house, self.steps, self.place = text, house, [], 0
+        # whether ESC has just ended a string, of which a backslash makes it the terminator; and
+        # whether data of a device control string come
+        self.is_open, self.is_hooked = state
+
+    @property
+    def state(self):
+        return self.is_open, self.is_hooked
+
+    def read_next(self):
+        """The steps of what stands at the place; none at the end."""
+        self.steps = []
+        if self.place < len(self.text):
+            is_body = self.text[self.place] == ESC
+            (self.device_byte if self.is_hooked else self.body if is_body else self.character)(
+                self.place)
+        return self.steps
+
+    def add(self, rules, start, end, *lines):
+        self.steps.append(Step(tuple(rules), start, end, lines))
+        self.place = end
+
+    def first(self, wanted, start):
+        """The first place of a character that is wanted, or that ends any sequence and string."""
+        found = re.compile(f"[{wanted}{ESC}{ENDS}]").search(self.text, start)
+        return found.start() if found else len(self.text)
+
+    def at(self, place):
+        return self.text[place:place + 1]
+
+    # ---- text
+
+    def character(self, start):
+        piece, is_whole = piece_at(self.text, start, self.house)
+        house, end = self.house, start + len(piece)
+        if not is_whole:
+            if "\x80" <= piece < "\xa0":
+                lines = {"execute": [execute(piece)], "replace": ["print fffd"], "drop": []}
+                return self.add(["c1-byte"], start, end, *lines[house.c1_bytes])
+            return self.malformed(start, piece)
+        code = ord(piece if len(piece) == 1 else piece.encode("latin-1").decode())
+        shown = f"print {code:04x}"
+        if code < 0x20:
+            self.add(["control"], start, end, execute(piece))
+        elif code == 0x7F:
+            self.add(["delete"], start, end, *[shown] * (house.delete == "print"))
+        elif len(piece) == 2 and code < 0xA0:
+            lines = {"execute": [execute(chr(code))], "print": [shown], "drop": []}
+            self.add(["c1-character"], start, end, *lines[house.c1_characters])
+        else:
+            self.add(["text"], start, end, shown)
+
+    def malformed(self, start, piece):
+        end = start + len(piece)
+        begun = "\xc2" <= piece[0] <= "\xf4"
+        # whether its bytes are those of a character but for their values
+        length = length_by(piece)
+        is_formed = "\xc0" <= piece[0] < "\xf8" and re.fullmatch(
+            f"[\x80-\xbf]{{{length - 1}}}", self.text[start + 1:start + length])
+        is_cut_short = begun and self.at(end) in ("", ESC, *ENDS)
+        lines = {"subparts": ["print fffd"], "bytes": ["print fffd"] * len(piece), "drop": []}
+        # at the end of the stream it is open
+        is_told = end < len(self.text) or not begun
+        self.add(["unfinished" if is_cut_short else "malformed",
+                  *["surrogate" if piece[0] == "\xed" else "overlong"] * bool(is_formed)],
+                 start, end, *lines[self.house.malformed] * is_told)
+
+    # ---- sequences
+
+    def body(self, escape):
+        """What ESC begins."""
+        was_open, self.is_open = self.is_open, False
+        if was_open and self.at(escape + 1) == "\\":
+            lines = ["esc - false 5c"] * (self.house.terminator == "event")
+            return self.add(["escape-sequence", "terminator"], escape, escape + 2, *lines)
+        key = self.final(escape, escape + 1, " -~")
+        if key:
+            {"[": self.control_sequence, "P": self.device_control, "]": self.system_command,
+             **dict.fromkeys("X^_", self.ignored_string),
+             }.get(self.text[key], self.escape_sequence)(escape, key)
+
+    def final(self, escape, start, wanted, dropped="dropped-in-sequence"):
+        """The place of a final byte, or None if the sequence ends without one: by the next ESC, or
+        CAN or SUB. Until then C0 is executed, or dropped as what isn't in a head."""
+        end = self.first(wanted, start)
+        for place, byte in enumerate(self.text[start:end], start):
+            if byte < " " and dropped == "dropped-in-sequence":
+                self.add(["control-in-sequence"], place, place + 1, execute(byte))
+            elif not " " <= byte < "\x7f":
+                self.add([dropped], place, place + 1)
+        last = self.at(end)
+        if last in ("", ESC):
+            self.add(["restart"], escape, end)
+            self.is_open = dropped != "dropped-in-sequence"
+        elif last in ENDS:
+            self.add(["cancel"], escape, end + 1, execute(last))
+        else:
+            return end
+        return None
+
+    def escape_sequence(self, escape, key):
+        final = self.final(escape, key, "0-~")
+        if final:
+            collected = re.sub("[^ -/]", "", self.text[key:final])
+            rules = {"intermediates": collected, "many-intermediates": len(collected) > 2}
+            self.add(["escape-sequence", *filter(rules.get, rules)], escape, final + 1,
+                     f"esc {hex_of(collected[:2])} {str(len(collected) > 2).lower()} "
+                     f"{hex_of(self.text[final])}")
+
+    def control_sequence(self, escape, key):
+        final = self.final(escape, key + 1, "@-~")
+        if final:
+            rules, lines = self.head("csi", "control-sequence", key + 1, final)
+            self.add(rules or ["malformed-head"], escape, final + 1, *lines)
+
+    def head(self, method, rule, start, final):
+        """The rules and the line of a head, without what is dropped or executed in it; none if it
+        is malformed."""
+        house, text = self.house, re.sub("[^ -?]", "", self.text[start:final])
+        shape = WELL_SHAPED.fullmatch(text)
+        if not shape or house.colon == "refuses" and ":" in text:
+            return [], []
+        marker, parameters, intermediates = shape.groups()
+        numbers, collected = re.split("[:;]", parameters), marker + intermediates
+        too_many = house.numbers is not None and len(numbers) > house.numbers
+        rules = {"parameters": parameters, "empty-number": "" in numbers,
+                 "intermediates": collected, "colon": ":" in parameters,
+                 "largest": any(number_of(number, 0x10000) == "65536" for number in numbers),
+                 "numbers": too_many or len(numbers) > 32, "many-intermediates": len(collected) > 2,
+                 NEAR + "largest": max(map(len, numbers)) > 2, NEAR + "numbers": len(numbers) > 2}
+        ignore = str(len(collected) > 2 or too_many).lower()
+        line = (f"{method} [{shown_groups(parameters, house)}] {hex_of(collected[:2])} {ignore} "
+                f"{hex_of(self.text[final])}")
+        return [rule, *filter(rules.get, rules)], [line]
+
+    # ---- strings
+
+    def device_control(self, escape, key):
+        final = self.final(escape, key + 1, "@-~", "dropped-in-device-head")
+        if final:
+            rules, lines = self.head("hook", "device-control", key + 1, final)
+            if not rules:
+                return self.dropped_string(escape, final + 1, "malformed-device-head")
+            self.add(rules, escape, final + 1, *lines)
+            self.is_hooked = True
+
+    def device_byte(self, start):
+        """A byte of data, or the end. If that is ESC, it also begins what comes next."""
+        byte = self.text[start]
+        if byte < "\x7f" and byte not in ESC + ENDS:
+            self.add(["device-data"], start, start + 1, f"put {hex_of(byte)}")
+        elif byte in ESC + ENDS or byte == ST and self.house.device_9c == "ends":
+            is_ended = byte == ESC and self.at(start + 1) == "\\"
+            rule = "byte-9c" if byte == ST else "device-end" if is_ended else "device-cut-short"
+            self.add([rule], start, start + 1, "unhook", *executed(byte))
+            self.is_hooked, self.is_open = False, byte == ESC
+            self.place -= self.is_open
+        else:
+            rule = "byte-9c" if byte == ST else "dropped-in-device-data"
+            self.add([rule], start, start + 1)
+
+    def ignored_string(self, escape, key):
+        self.dropped_string(escape, key + 1, "ignored-string")
+
+    def dropped_string(self, escape, start, rule):
+        """A string of which nothing is told, up to ESC, CAN or SUB."""
+        stop = self.first(ST * (self.house.ignored_9c == "ends"), start)
+        last, text = self.at(stop), self.text[start:stop]
+        has_other = rule == "ignored-string" and re.search("[^\x08-\x0d -~]", text)
+        self.add([rule, *["byte-9c"] * (ST in text + last),
+                  *["dropped-in-ignored-string"] * bool(has_other)], escape, stop)
+        if last not in ("", ESC):
+            self.add(["cancel"], stop, stop + 1, *executed(last))
+        self.is_open = last == ESC
+
+    def system_command(self, escape, key):
+        house = self.house
+        stop = self.first(BEL * (house.bell == "ends") + ST * (house.command_9c == "ends"), key + 1)
+        for place, byte in enumerate(self.text[key + 1:stop], key + 1):
+            if byte < " ":
+                rule = "command-bell" if byte == BEL else "control-in-command"
+                self.add([rule], place, place + 1)
+        items, last = re.sub("[\0-\x1f]", "", self.text[key + 1:stop]), self.at(stop)
+        kept, pieces = command_pieces(items, house)
+        is_cut_short = self.at(stop + 1) != "\\" if last == ESC else last in ENDS
+        data = len(items) - items.count(";")
+        rules = {"limit": kept < len(items) or data > 1024,
+                 "pieces": len(pieces) > (16 if house.pieces is None else min(house.pieces, 16)),
+                 NEAR + "limit": data > 16, NEAR + "pieces": len(pieces) > 4,
+                 "byte-9c": ST in items + last, "command-bytes": re.search("[\x7f-\xff]", items),
+                 "command-bell": last == BEL, "empty-command": not items,
+                 "command-cut-short": is_cut_short}
+        if not last:
+            rules = {name: rules[name] for name in ("byte-9c", "command-bytes")}
+        is_dropped = not last or house.empty_commands == "drop" and not items or (
+            is_cut_short and "drop" == (
+                house.escaped_commands if last == ESC else house.cancelled_commands))
+        shown = pieces[:house.pieces]
+        line = f"osc {str(last == BEL).lower()} {len(shown)} {' '.join(map(hex_of, shown))}"
+        self.add(["command", *filter(rules.get, rules)], escape, stop + (last not in ("", ESC)),
+                 *[line] * (not is_dropped), *executed(last))
+        self.is_open = last == ESC
+
+
+def number_of(digits, largest):
+    """A number in decimal, which has any number of digits if there is no largest one."""
+    digits, most = digits.lstrip("0") or "0", str(largest)
+    is_kept = largest is None or (len(digits), digits) < (len(most), most)
+    return digits if is_kept else most
+
+
+def shown_groups(parameters, house):
+    """The groups of a parameter text, as a line shows them."""
+    text = parameters if house.colon == "joins" else parameters.replace(":", ";")
+    parts = re.split("([:;])", text)
+    kept = len(parts) if house.numbers is None else 2 * house.numbers - 1
+    return "".join(part if index % 2 else number_of(part, house.largest)
+                   for index, part in enumerate(parts[:kept]))
+
+
+def command_pieces(items, house):
+    """How many of the items of a command are kept, and their pieces."""
+    counts = accumulate((item != ";" for item in items), initial=0)
+    kept = "".join(item for item, count in zip(items, counts)
+                   if house.limit is None or count < house.limit)
+    return len(kept), kept.split(";")

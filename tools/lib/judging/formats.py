@@ -1,0 +1,65 @@
+"""What a run found, for other programs: JSON, and JUnit with a test per rule."""
+import json
+from xml.etree import ElementTree
+
+from lib.judging.candidate import mark_of, plain
+from lib.judging.classes import BETWEEN, level_of, rule_of
+from lib.judging.report import shown_case, shown_finding
+from lib.judging.rules import ALONE, CUT, RULES
+
+TESTS = {**RULES, **ALONE, BETWEEN: CUT}
+
+
+def finding_object(finding, again):
+    rule = rule_of(finding.name)[-1]
+    pieces, reference, candidate, before = finding.difference
+    case = shown_case(finding.difference)
+    first = "first" if finding.name == "not-deterministic" else "reference"
+    return {"class": finding.name, "rule": finding.rule,
+            "kind": mark_of(candidate) or finding.name.partition("/")[2],
+            "level": level_of(finding.name), "source": rule.source, "says": rule.says,
+            "page": rule.page, "pieces": [piece.hex() for piece in pieces],
+            "before": [[piece.hex() for piece in stream] for stream in before],
+            "case": case, "again": again(case),
+            first: reference, "yours": candidate, "found_in": finding.found_in.name,
+            "smallest": finding.is_smallest, "streams": finding.streams, "new": finding.is_new}
+
+
+def as_json(result, seed, again):
+    findings = [finding_object(finding, again) for finding in result.findings.values()]
+    return json.dumps({"version": 2, "seed": seed, "streams": result.streams,
+                       "different": result.different, "unassigned": result.unexplained,
+                       "ended_early": result.ended_early or None, "new": len(result.new()),
+                       "findings": findings}, indent=1)
+
+
+def tests(result, again):
+    """The name of each test, whether it is new that it fails, and what is told if it does."""
+    for name, rule in TESTS.items():
+        found = [it for it in result.findings.values() if rule_of(it.name)[-1] is rule]
+        found.sort(key=lambda finding: not finding.is_new)
+        told = "\n\n".join(shown_finding(finding, again) for finding in found)
+        yield name, bool(found and found[0].is_new), told
+    left = result.unexplained
+    yield "each difference has a class", left > 0, f"{left} streams have none" * (left > 0)
+    is_partial = not result.streams or bool(result.ended_early)
+    yield "all streams are judged", is_partial, f"{result.streams} were" * is_partial
+
+
+def as_junit(result, seed, again):
+    suite = ElementTree.Element("testsuite", name=f"judge, seed {plain(seed)}")
+    for name, is_new, told in tests(result, again):
+        case = ElementTree.SubElement(suite, "testcase", classname="judge", name=name)
+        if told:
+            message = told.splitlines()[0] if is_new else "known"
+            kind = "failure" if is_new else "skipped"
+            ElementTree.SubElement(case, kind, message=message).text = told
+    if result.ended_early:
+        ElementTree.SubElement(suite, "system-out").text = f"ended early: {result.ended_early}"
+    for count, kind in ("tests", "testcase"), ("failures", "failure"), ("skipped", "skipped"):
+        suite.set(count, str(len(list(suite.iter(kind)))))
+    text = ElementTree.tostring(suite, encoding="unicode")
+    return f'<?xml version="1.0" encoding="UTF-8"?>\n{text}'
+
+
+FORMATS = {"json": as_json, "junit": as_junit}

@@ -1,0 +1,110 @@
+"""How differences are printed: the smallest case, both answers, the rule, and the sum."""
+from itertools import groupby
+
+from lib.judging.candidate import mark_of
+from lib.judging.classes import level_of, rule_of
+from lib.judging.kinds import KINDS, first_difference
+
+MAX_LINES, LONGEST = 6, 120
+
+
+def shown_bytes(pieces):
+    """The pieces in hex, with `|` at each cut and `*` after a byte that is repeated, as --case
+    reads."""
+    runs = [[(byte, len(list(run))) for byte, run in groupby(piece)] for piece in pieces]
+    return " | ".join(" ".join(f"{byte:02x}" + f"*{times}" * (times > 1) for byte, times in piece)
+                      for piece in runs)
+
+
+def bytes_shown(text):
+    """The pieces that shown_bytes shows. Raises ValueError."""
+    words = [[word.partition("*") for word in piece.split()] for piece in text.split("|")]
+    return [b"".join(bytes.fromhex(byte) * int(times or 1) for byte, _, times in piece)
+            for piece in words]
+
+
+def shown_case(difference):
+    """The streams that a program is to get, with `/` between two."""
+    return " / ".join(map(shown_bytes, [*difference.before, difference.pieces]))
+
+
+def case_shown(text):
+    """The streams that shown_case shows. Raises ValueError."""
+    return list(map(bytes_shown, text.split("/")))
+
+
+def shown_text(pieces):
+    """The front of the pieces, as Python shows bytes."""
+    text = " | ".join(repr(piece)[2:-1] for piece in pieces)
+    return text if len(text) <= 200 else f"{text[:150]} .."
+
+
+def shown_lines(lines, at=0):
+    """Some lines in a row, the first of them around a place, or that there are none."""
+    more = [f".. ({len(lines)} lines)", *lines[-1:] * bool(mark_of(lines))]
+    shown = [shown_line(line, 0 if index else at) for index, line in enumerate(lines[:MAX_LINES])]
+    return " / ".join(shown + more * (len(lines) > MAX_LINES)) or "(no event)"
+
+
+def shown_line(line, at=0):
+    """A line, or the part of a long one about a place."""
+    start = max(0, min(at - LONGEST // 2, len(line) - LONGEST))
+    end = start + LONGEST
+    return ".. " * (start > 0) + line[start:end] + " .." * (end < len(line))
+
+
+def shown_answers(one, other):
+    """Both answers as they are shown: from their first difference on if they or its lines are long.
+    """
+    same = first_difference(one, other)
+    longest = max([len(line) for line in one[same:same + 1] + other[same:same + 1]], default=0)
+    if max(len(one), len(other)) > MAX_LINES or longest > LONGEST:
+        one, other = one[same:], other[same:]
+    at = first_difference(one[0], other[0]) if one and other else 0
+    shown = shown_lines(one, at), shown_lines(other, at)
+    # long lines of which one begins as the other look the same
+    is_front = longest > LONGEST and one and other and at in (len(one[0]), len(other[0]))
+    return (f"{len(one[0])} characters: {shown[0]}",
+            f"{len(other[0])} characters: {shown[1]}") if is_front else shown
+
+
+def shown_finding(finding, again):
+    """A finding in lines. `again` gives the command that judges a case alone."""
+    kind = finding.name.partition("/")[2]
+    size, found_size = (sum(map(len, it.pieces)) for it in (finding.difference, finding.found_in))
+    title = "NEW  " if finding.is_new else "KNOWN"
+    shrunk = "shrunk from" if finding.is_smallest else "not shrunk to the end, from"
+    names = ("yours", "then") if finding.name == "not-deterministic" else ("reference", "yours")
+    answers = zip(names, shown_answers(*finding.difference[1:3]))
+    before = f"{len(finding.difference.before)} others, then " * bool(finding.difference.before)
+    lines = [f"{title} {finding.name}: {size} bytes, {shrunk} {found_size} of "
+             f"{finding.found_in.name}",
+             f"  input      {before}{shown_text(finding.difference.pieces)}",
+             *(f"  {name:10} {answer}" for name, answer in answers)]
+    lines += [f"  kind       {KINDS[kind]}"] if kind else []
+    for rule in rule_of(finding.name):
+        lines += [f"  rule       {rule.says} ({rule.page})",
+                  f"  source     {rule.source}"]
+    return "\n".join([*lines, f"  level      {level_of(finding.name)}",
+                      f"  known      {'no' if finding.is_new else 'yes'}",
+                      f"  again      {again(shown_case(finding.difference))}"])
+
+
+def shown_sum(result, seed):
+    """The table of classes, and the line about all of them."""
+    lines = []
+    if result.findings:
+        width = max(map(len, result.findings))
+        lines.append(f"{'class':{width}}  level    streams  smallest  known")
+        for finding in sorted(result.findings.values(), key=lambda each: -each.streams):
+            size = sum(map(len, finding.difference.pieces))
+            level = level_of(finding.name)
+            lines.append(f"{finding.name:{width}}  {level:7}  {finding.streams:7}  {size:8}  "
+                         f"{'no' if finding.is_new else 'yes'}")
+    if result.unexplained:
+        lines.append(f"{result.unexplained} of the streams that differ weren't assigned to a class")
+    if result.ended_early:
+        lines.append(f"ended early: {result.ended_early}")
+    return "\n".join([*lines, f"{result.streams} streams, {result.different} differ; "
+                      f"{len(result.findings)} classes, {len(result.new())} of them new; "
+                      f"seed {seed}"])

@@ -1,0 +1,24 @@
+import sys
+
+import pytest
+from lib.judging.reference import NoReference, find_vtlog
+from support import TOOLS, run
+from tests.missing import miss
+
+
+@pytest.fixture(scope="session")
+def vtlog():
+    try:
+        return find_vtlog()
+    except NoReference as error:
+        miss(str(error))
+
+
+@pytest.fixture(scope="session")
+def judge(vtlog):
+    """Runs tools/judge, whose status must be the wanted one. Returns its output."""
+    def judged(wanted, *words):
+        status, output = run(sys.executable, "-B", TOOLS / "judge", "--vtlog", vtlog, *words)
+        assert status == wanted, output
+        return output
+    return judged

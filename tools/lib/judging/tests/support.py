@@ -1,0 +1,50 @@
+"""What the tests of the judge and of the vectors share."""
+import json
+import subprocess
+from pathlib import Path
+from types import SimpleNamespace
+
+from lib.judging import definition, house, views
+from lib.judging.judgement import Judge
+from tests.support import write
+
+TOOLS = Path(__file__).resolve().parents[3]
+VECTORS = TOOLS.parent / "vectors"
+TOY = Path(__file__).with_name("toy.py")
+NAMES = ["events", "calls"]
+FILES = [json.loads((VECTORS / f"{name}.json").read_text()) for name in NAMES]
+EVENTS = FILES[0]["vectors"] + FILES[0]["long"]
+
+
+def run(*words, **how):
+    """The status and the output of a program."""
+    done = subprocess.run(list(map(str, words)), stdout=subprocess.PIPE, stderr=subprocess.STDOUT,
+                          text=True, **how)
+    return done.returncode, done.stdout
+
+
+def program_in(folder, line):
+    """A program in a folder, of a line for the shell."""
+    return write(folder / "program", f"#!/bin/sh\n{line}\n", 0o755)
+
+
+class Side:
+    """A function of the pieces of a stream, and of the streams before it, as a program."""
+
+    takes_pieces, batch, at_once, deadline = True, 50, 1, None
+
+    def __init__(self, answer):
+        self.answer = answer
+
+    def answers(self, streams):
+        return [self.answer(pieces, streams[:index]) for index, pieces in enumerate(streams)]
+
+    def answer_aloud(self, pieces):
+        self.answers([pieces])
+
+
+def judge_of(answer, **given):
+    """A judge of a function, or of a side. The definition is the reference."""
+    defined = SimpleNamespace(answers=lambda streams: [*map(definition.lines_of, streams)])
+    side = answer if isinstance(answer, Side) else Side(answer)
+    return Judge(defined, side, views.View(), house.DEFAULT, **given)

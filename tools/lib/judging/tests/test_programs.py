@@ -1,0 +1,175 @@
+"""Tests of tools/judge on programs."""
+import json
+import os
+import re
+import shlex
+import subprocess
+import sys
+
+import pytest
+from lib.judging import candidate
+from lib.judging.cases import from_recordings
+from support import TOOLS, TOY, program_in, run
+from tests.support import wait_until
+
+
+def toy(fault=None, pieces=True, once=False):
+    """The arguments for the toy parser: those of the judge, and its command."""
+    framed = ["--pieces"] * pieces
+    command = [sys.executable, TOY, *framed, *["--once"] * once, *[fault] * bool(fault)]
+    return [*framed, *command]
+
+
+@pytest.fixture
+def judge_toy(judge):
+    """Runs tools/judge on the toy parser, and on forty streams if no other words say so."""
+    def judged(wanted, *words, **how):
+        few = ["--timeout", 120, "--streams", "random", "--count", 40]
+        return judge(wanted, *few, *words, *toy(**how))
+    return judged
+
+
+def processes(word):
+    """The processes that have a word among their arguments, without tools/judge."""
+    _, told = run("ps", "-ww", "-eo", "args")
+    return [line for line in told.splitlines() if line.endswith(word)
+            and "tools/judge " not in line]
+
+
+@pytest.mark.parametrize("words, fault", [
+    ("--house delete=drop --house bell=drop", "largest=9999"),
+    ("--leave-out largest,delete --untold ignore,bell --memory 999", "colon=separates"),
+    ("", "stateful")])
+def test_a_finding_can_be_shown_again(judge, judge_toy, words, fault):
+    output = judge_toy(1, "--seconds", 600, *words.split(), fault=fault)
+    name = re.search(r"^NEW +(\S+):", output, re.M)[1]
+    again = shlex.split(re.search(r"^  again +tools/judge (.*)$", output, re.M)[1])
+    assert {"--pieces", "--vtlog", "--timeout", "120.0", *words.split()} <= {*again}
+    assert f"NEW   {name}:" in judge(1, *again)
+
+
+@pytest.mark.parametrize("status, words, how, told", [
+    *((0, "", how, "40 streams, 0 differ; 0 classes")
+      for how in ({}, {"once": True}, {"pieces": False})),
+    (1, "--count 0", {}, "0 streams"), (0, "--house delete=drop --house bell=drop", {}, ""),
+    (0, "--leave-out delete", {"fault": "delete=drop"}, "0 differ"),
+    (0, "--leave-out delete --case '61 7f'", {"fault": "delete=drop"}, "no difference: print 0061"),
+    *((status, "--case '1b 5b 39 31*4 61'", {"fault": fault, "pieces": False}, told)
+      for status, fault, told in ((0, None, "csi [65535]"), (1, "largest=9999", "csi [9999]"))),
+    (1, "--case 'c3 | a9'", {"fault": "divided"}, "NEW   cut:text/"),
+    (1, "--case '62 / 0e / 61'", {"fault": "stateful"}, "NEW   kept-state"),
+    (0, "--format json --case 61", {}, '"different": 0'),
+    (0, "--format junit", {}, '<testsuite name="judge, seed 1"'), (0, "--seed 7", {}, "; seed 7"),
+    (1, "--seed 7", {"fault": "largest=9"}, "of seed 7"),
+    (0, "--streams recorded", {}, f"{len([*from_recordings('1')])} streams, 0 differ"),
+    (0, "--timeout 99.5", {}, "0 differ"), (1, "--timeout 0 --case 61", {}, "/hang:"),
+    (1, "--memory 0 --case 61", {}, "(memory: more than 0 MiB)"),
+    (0, "--case 61", {"fault": "stateful"}, "no difference")])
+def test_statuses(judge_toy, status, words, how, told):
+    assert told in judge_toy(status, *shlex.split(words), **how)
+
+
+def test_nothing_but_json_is_printed(judge_toy):
+    words = ["--format", "json", "--case", "1b 5b 39 31*4 61"]
+    told = json.loads(judge_toy(1, *words, fault="largest=9999"))
+    assert [finding["class"] for finding in told["findings"]] == ["largest/numbers"]
+
+
+# a command of the shell, whether it reads framed pieces, what it may take, and how its answer ends
+@pytest.mark.parametrize("line, takes_pieces, limits, mark", [
+    *((line, takes_pieces, limits, mark) for takes_pieces in (False, True)
+      for line, limits, mark in (
+          ("exit 3", {}, "(crash: status 3)"), ("kill -9 $$", {}, "(crash: signal 9)"),
+          ("sleep 9", {"timeout": 0.5}, candidate.HANG), ("yes", {}, "(output: more than 32 MiB)"),
+          ("sleep 60", {"memory": 0}, "(memory: more than 0 MiB)"),
+          (f"exec {sys.executable} -c 'a = b\"a\" * (99 << 20); import time; time.sleep(60)'",
+           {"memory": 50}, "(memory: more than 50 MiB)"))),
+    ("echo print 0061", True, {}, candidate.EXIT), ("printf end", True, {}, candidate.NO_LINE_FEED),
+    ("printf 'end\\r\\n'", True, {}, "(protocol: its lines end in CR LF)"),
+    *((line, True, {}, "(protocol: it prints more than it was asked for)")
+      for line in ("yes end", "echo end; echo execute 07"))])
+def test_a_program_that_fails_has_a_mark(line, takes_pieces, limits, mark):
+    side = candidate.Program(["sh", "-c", line], takes_pieces, **{"timeout": 600, **limits})
+    [answer] = side.answers([[b"a" * 100000]])  # of a long one the front is kept
+    side.close()
+    assert answer[-1] == mark and len(answer) < 10000
+
+
+# of one case, and of the first stream, which ends the judge if it has no answer
+@pytest.mark.parametrize("words, first, is_shown", [
+    ("--case 61", "b", True), ("--streams random", "b", True),
+    ("--streams random --count 2", "a", False)])
+def test_where_standard_error_is_shown(judge, words, first, is_shown):
+    said = judge(1, *words.split(), "sh", "-c",
+                 f'echo wh""y >&2; [ "$(cat)" = {first} ] && echo print 0061 || exit 3')
+    assert "(crash: status 3)" in said and ("why" in said) == is_shown
+
+
+def test_a_program_that_does_not_answer_at_all(judge):
+    said = judge(1, "echo", "hello")
+    assert "NEW   protocol:" in said and "ended early: the program doesn't answer" in said
+    assert "1 streams, 1 differ; 1 classes, 1 of them new" in said
+    judge(1, "--pieces", "--seconds", 0.5, "sleep", "9")
+
+
+def test_nothing_survives_the_judge(vtlog):
+    mark = f"sleep 7532.{os.getpid()}"
+    # it hangs once most of what it prints was read, so that the guard was told of it
+    words = ["--vtlog", vtlog, "--timeout", "600", "sh", "-c", "yes | head -c 200000; exec $MARK"]
+    running = subprocess.Popen([sys.executable, TOOLS / "judge", *words],
+                               stdout=subprocess.DEVNULL, env={**os.environ, "MARK": mark})
+    try:
+        wait_until(lambda: processes(mark) and running.poll() is None)
+    finally:
+        running.kill()
+        running.wait()
+    wait_until(lambda: not processes(mark), "the program has outlived the judge")
+
+
+@pytest.mark.parametrize("takes_pieces", [True, False])
+def test_the_children_of_a_program_are_ended(takes_pieces):
+    mark = f"sleep 7531.{os.getpid()}"
+    side = candidate.Program(["sh", "-c", f"{mark} & echo end; read line"], takes_pieces, 600)
+    side.answers([[b"a"]])
+    wait_until(lambda: not processes(mark))
+    side.close()
+
+
+def test_the_time_is_over_for_a_reference_too(judge, tmp_path):
+    """The reference wakes up long after the end, also if the machine is busy."""
+    vtlog = program_in(tmp_path, f"sleep 100; touch {tmp_path}/awake; sleep 3600")
+    said = judge(1, "--vtlog", vtlog, "--seconds", 1, *toy())
+    assert "ended early: the time was over" in said and not (tmp_path / "awake").exists()
+
+
+def test_closed_standard_output(vtlog):
+    words = ["--vtlog", vtlog, "--count", 4, "--streams", "random", *toy(pieces=False)]
+    reading, writing = os.pipe()
+    os.close(reading)
+    done = subprocess.run([sys.executable, TOOLS / "judge", *map(str, words)], stdout=writing,
+                          stderr=subprocess.PIPE)
+    os.close(writing)
+    assert (done.returncode, done.stderr) == (1, b"")
+
+
+def test_known_differences_are_passed(judge_toy, tmp_path):
+    known, of_case = tmp_path / "known", ["--case", "1b 5b 39 31*4 61"]
+    known.write_text("largest  # as our screen does\n")
+    judge_toy(0, "--known", known, *of_case, fault="largest=9999")
+    for status, words in (1, []), (0, ["--known", known]):
+        judge_toy(status, *words, "--write-known", known, *of_case, fault="largest=9999")
+        assert known.read_text() == "largest/numbers\n"
+
+
+@pytest.mark.parametrize("words, message", [
+    ("", "COMMAND is missing"), ("no-such-program", "not a program"),
+    ("--house bell=x cat", "bell is one of"), ("--house limit=x cat", "limit is a number"),
+    ("--house pieces=0 cat", "pieces is a number from 1"), ("--house numbers=0 cat", "numbers is"),
+    ("--house x=1 cat", "unknown house"), ("--leave-out x cat", "unknown class"),
+    ("--leave-out largest/numbers cat", "unknown class"), ("--untold x cat", "unknown word"),
+    ("--streams x cat", "unknown kind"), ("--known /no/file cat", "No such file"),
+    ("--case 6 cat", "invalid case"), ("--vtlog /no/vtlog cat", "judge: not a program"),
+    ("--vtlog /usr/bin/cat cat", "judge: /usr/bin/cat isn't vtlog"),
+    ("--write-known /no/file cat", "No such file")])
+def test_usage(judge, words, message):
+    assert message in judge(2, *words.split())

@@ -1,0 +1,153 @@
+"""Tests of vectors/: the files, and the runners in each language."""
+import hashlib
+import json
+import os
+import re
+import shutil
+import sys
+
+import my_parser
+import pytest
+from heads import head_of
+from lib.generating.vectors import bytes_of, lines_of
+from lib.judging import definition
+from lib.judging.house import House
+from support import EVENTS, FILES, NAMES, VECTORS, run
+from tests.missing import miss, need
+
+each_file = pytest.mark.parametrize("file", FILES, ids=NAMES)
+# how many vectors of each list are in place, and a sum of their ids: new ones stand at its end
+RELEASED = [(198, "2ab134ab7ac8190f"), (6, "ba7ddb15de71999a"),
+            (636, "b0c14a0e851373f5"), (1, "a188b83b953547bb")]
+
+
+def test_ids_stay_and_differ():
+    ids = [[vector["id"] for vector in file[name]]
+           for file in FILES for name in ("vectors", "long")]
+    sums = [hashlib.sha256(" ".join(some[:count]).encode()).hexdigest()[:16]
+            for some, (count, _) in zip(ids, RELEASED)]
+    assert sums == [wanted for _, wanted in RELEASED]
+    assert len({*sum(ids, [])}) == sum(map(len, ids))
+
+
+@each_file
+def test_heads_follow_from_vectors(file):
+    """Where a head is wrong, this prints the right one."""
+    for vector in file["vectors"] + file["long"]:
+        head = head_of(vector, file["rules"])
+        assert {name: vector.get(name) for name in head} == head, (
+            f"{vector['id']}: {json.dumps(head)}")
+
+
+@each_file
+def test_rules_are_those_of_the_vectors(file):
+    used = {name for vector in file["vectors"] + file["long"] for name in vector["rules"]}
+    assert used == file["rules"].keys()
+    events = FILES[0]["rules"]
+    assert all(rule == events.get(name, rule) for name, rule in file["rules"].items())
+
+
+@pytest.mark.parametrize("name", NAMES)
+def test_a_vector_is_a_line(name):
+    lines = (VECTORS / f"{name}.json").read_text().splitlines()
+    file = FILES[NAMES.index(name)]
+    wanted = [json.dumps(vector) for vector in file["vectors"] + file["long"]]
+    assert [line.rstrip(",") for line in lines if line.startswith('{"id": ')] == wanted
+
+
+@each_file
+def test_files_match_the_schema(file):
+    try:
+        import jsonschema
+    except ImportError:
+        miss("there is no python3-jsonschema")
+    jsonschema.validate(file, json.loads((VECTORS / "schema.json").read_text()))
+
+
+@pytest.mark.parametrize("vector", EVENTS, ids=lambda it: it["id"])
+def test_definition_gives_the_vectors(vector):
+    stream = b"".join(map(bytes_of, vector["pieces"]))
+    lines = definition.lines_of(stream, House(limit=vector["limit"]))
+    assert "\n".join(lines) == "\n".join(lines_of(vector["events"]))
+
+
+# in each language what builds the runner and what runs it, and how the example ignores pieces that
+# are as long as $SKIP, and fails without $SKIP
+RUNNERS = {
+    "py": ("", f"{sys.executable} -B run.py",
+           [('b"".join(pieces)',
+             'b"".join(it for it in pieces if len(it) != len(__import__("os").environ["SKIP"]))')]),
+    "c": ("cc -Wall -Wextra -Werror run.c my_parser.c", "./a.out",
+          [("#include <stdio.h>", "#include <stdio.h>\n#include <stdlib.h>\n#include <string.h>"),
+           ("i < length;", 'i < length && length != strlen(getenv("SKIP"));')]),
+    "js": ("", "node run.js my_parser.js",
+           [("Buffer.concat(pieces)",
+             "Buffer.concat(pieces.filter((it) => it.length != process.env.SKIP.length))")]),
+    "go": ("go build -o runner run.go my_parser.go", "./runner",
+           [('import "fmt"', 'import ("fmt"; "os")'),
+            ("range pieces {", 'range pieces { if it, is := os.LookupEnv("SKIP"); !is { panic(is) }'
+             " else if len(piece) == len(it) { continue }")]),
+}
+
+
+@pytest.fixture(params=RUNNERS)
+def language(request):
+    command = next(filter(None, RUNNERS[request.param][:2])).split()[0]
+    need(command, f"vectors/run.{request.param} needs a language that isn't here")
+    return request.param
+
+
+def built(folder, suffix, changes=()):
+    """Builds a runner and its example in a folder, with some texts replaced."""
+    for name in (f"run.{suffix}", "events.json"):
+        shutil.copy(VECTORS / name, folder)
+    example = (VECTORS / "examples" / f"my_parser.{suffix}").read_text()
+    for old, new in changes:
+        assert example.count(old) == 1
+        example = example.replace(old, new)
+    (folder / f"my_parser.{suffix}").write_text(example)
+    status, said = run("sh", "-c", RUNNERS[suffix][0], cwd=folder)
+    assert status == 0, said
+
+
+def test_a_runner_tries_each_way(language, tmp_path):
+    """A vector as it is, in one piece and byte by byte: it is wrong if pieces of one of these
+    lengths are ignored, and this cut is printed. One that fails is named."""
+    built(tmp_path, language, RUNNERS[language][2])
+    vector = dict(EVENTS[0], id="abcd", pieces=["6162", [{"repeat": "63", "times": 2}]],
+                  events=["print 0061", "print 0062", {"repeat": "print 0063", "times": 2}])
+    text = '{"vectors": [\n],\n"long": [\n' + json.dumps(vector) + "\n]}\n"
+    (tmp_path / "events.json").write_text(text)
+    for skip, cut in (("aaa", None), ("aa", "6162.*6363"), ("aaaa", "61626363"),
+                      ("a", "61.*62.*63.*63"), (None, "")):
+        given = {name: it for name, it in {**os.environ, "SKIP": skip}.items() if it is not None}
+        command = f"{RUNNERS[language][1]} <events.json"
+        status, said = run("sh", "-c", command, cwd=tmp_path, env=given)
+        assert status == int(cut is not None), said
+        assert re.search("^0 of 1" if cut is None else f"abcd.*{cut}", said), said
+
+
+LEFT_OUT = {"py": "delete", "c": "differs", "js": "colon", "go": "should"}
+
+
+def test_a_runner_counts_what_is_wrong(language, tmp_path):
+    """The example gets all vectors wrong but those of text and C0. Nothing tried is no success."""
+    built(tmp_path, language)
+    levels = {name: rule["level"] for name, rule in FILES[0]["rules"].items()}
+
+    def words_of(vector):
+        own = {levels[rule] for rule in vector["rules"]}
+        strongest = next((it for it in ("must", "should", "differs") if it in own), "must")
+        return {vector["level"], f"strongest={strongest}", *vector["rules"], *vector["house"]}
+
+    for left_out in LEFT_OUT[language], "strongest=should strongest=differs":
+        status, said = run("sh", "-c", f"{RUNNERS[language][1]} {left_out} <events.json",
+                           cwd=tmp_path)
+        some = [vector for vector in EVENTS if vector["limit"] == 1024
+                and not words_of(vector) & {*left_out.split()}]
+        wrong = sum("\n".join(my_parser.parse_pieces(map(bytes_of, vector["pieces"])))
+                    != "\n".join(lines_of(vector["events"])) for vector in some)
+        assert 1 < len(some) < len(EVENTS)
+        assert status == 1 and re.search(rf"(?m)^{wrong} of {len(some)} wrong$", said), said
+    none = run("sh", "-c", f"{RUNNERS[language][1]} must should differs <events.json", cwd=tmp_path)
+    assert none[0] == 1 and none[1].startswith("0 of 0 wrong\n")

@@ -4,8 +4,8 @@ from functools import cache
 from itertools import islice
 
 import pytest
+from lib.files import TOP
 from lib.generating.calls import TRAIT, calls_of
-from lib.generating.files import TOP
 from lib.generating.vectors import all_vectors, bytes_of, lines_of
 from tests.missing import miss, need
 

@@ -4,7 +4,7 @@ import json
 import re
 from pathlib import Path
 
-from lib.generating.files import TOP
+from lib.files import TOP
 
 
 def vectors():

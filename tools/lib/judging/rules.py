@@ -15,7 +15,7 @@ depends on a cut, and malformed text that is read as characters, or with the byt
 import json
 from typing import NamedTuple
 
-from lib.generating.files import TOP
+from lib.files import TOP
 
 MUST, SHOULD, DIFFERS = LEVELS = ("must", "should", "differs")
 

@@ -1,11 +1,11 @@
-"""Writes files of this repository that are made from others, or checks that they are up to date;
-and the parser of arguments that tools have."""
+"""What the programs of tools/ and bench/ share: the top of this repository, their parser of
+arguments, and how files that are made from others are written or checked."""
 import argparse
 import re
 import sys
 from pathlib import Path
 
-TOP = Path(__file__).resolve().parents[3]
+TOP = Path(__file__).resolve().parents[2]
 
 
 def parser_of(about, **how):

@@ -34,6 +34,6 @@ pub use Rattle.vte_c.specs.Record.{DataRun, InInput, Item, Run, Single, TextRun,
 unfoldable pub use Rattle.vte_c.specs.Record.{event_in, events_of, has, without_loss}
 pub use Rattle.vte_c.specs.Text.{TextRoom, text_room_of, with_text_of}
 unfoldable pub use Rattle.vte_c.specs.Text.{with_text}
-pub use Rattle.vte_c.specs.Told.{AreEncoded, AreOthers, AreReadable, HasGiven, HasTold, HaveOtherKinds, IsRunOfKind, IsRunAt, StopsAtKind, is_stop, no_room, fed_count}
+pub use Rattle.vte_c.specs.Reported.{AreEncoded, AreOthers, AreReadable, HasGiven, HasReported, HaveOtherKinds, IsRunOfKind, IsRunAt, StopsAtKind, is_stop, no_room, fed_count}
 pub use Rattle.vte_c.specs.declared.event.VteEvent.{VteEvent}
 pub use Rattle.vte_c.specs.declared.events.Events.{Events}

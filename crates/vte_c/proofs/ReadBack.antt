@@ -1,6 +1,6 @@
 -- A caller finds in its buffers the records and data of the items that a call wrote, and reads their events back from
 -- them. More bytes after the input change nothing.
-use Rattle.vte_c.proofs.Common.{AreGroups, AreReadable, Bool, CsiDispatch, DataRun, EscDispatch, Event, Hook, InInput, IsBounded, Item, List, OscDispatch, Print, Put, Run, usual_limit, Single, TextRun, VteEvent, [], add-zero, ap, append_assoc, arith, cases_Bool, concat, count_byte, count_of, data_of, drop, drop-append_seam, drop-drop, eqb-true, event_in, events_of, false, flag_byte, flat_map, get_or, group_bytes, groups_in, inl, inr, intermediates_in, item_data, item_events, kinds_of, length, length-append, map, map-set_same, min, numbers_in, piece_bytes, pieces_in, record_at, records_from, refl, run_events, run_kind, run_record, set, sum_by-cons, sym, take, take-append-drop, take-append_seam, take-map, true, two_bytes, with_intermediates, with_loss, without_loss, ℕ, ◌%◌, ◌*◌, ◌++◌, ◌+◌, ◌/◌, ◌==◌, ◌∙◌, ◌∷◌, ◌≡◌, ◌≤◌, Execute, HasGiven, HasReadSaved, Saved, Unhook, added, append-nil, events, has, kind_of, nat_tests, no_room, fed_count, reported, ◌<◌, AreEncoded, Events, HasFed, HasReadOn, HasItems, HasRead, HasTold, HaveOtherRecords, IsRunAt, Parser, Room, Starts, drop-append-le, events_in, filter-append, length-drop, length-map, length-take, room_of, take-append-le}
+use Rattle.vte_c.proofs.Common.{AreGroups, AreReadable, Bool, CsiDispatch, DataRun, EscDispatch, Event, Hook, InInput, IsBounded, Item, List, OscDispatch, Print, Put, Run, usual_limit, Single, TextRun, VteEvent, [], add-zero, ap, append_assoc, arith, cases_Bool, concat, count_byte, count_of, data_of, drop, drop-append_seam, drop-drop, eqb-true, event_in, events_of, false, flag_byte, flat_map, get_or, group_bytes, groups_in, inl, inr, intermediates_in, item_data, item_events, kinds_of, length, length-append, map, map-set_same, min, numbers_in, piece_bytes, pieces_in, record_at, records_from, refl, run_events, run_kind, run_record, set, sum_by-cons, sym, take, take-append-drop, take-append_seam, take-map, true, two_bytes, with_intermediates, with_loss, without_loss, ℕ, ◌%◌, ◌*◌, ◌++◌, ◌+◌, ◌/◌, ◌==◌, ◌∙◌, ◌∷◌, ◌≡◌, ◌≤◌, Execute, HasGiven, HasReadSaved, Saved, Unhook, added, append-nil, events, has, kind_of, nat_tests, no_room, fed_count, reported, ◌<◌, AreEncoded, Events, HasFed, HasReadOn, HasItems, HasRead, HasReported, HaveOtherRecords, IsRunAt, Parser, Room, Starts, drop-append-le, events_in, filter-append, length-drop, length-map, length-take, room_of, take-append-le}
 use Rattle.std.specs.Char.{encode_utf8}
 use Rattle.vte_core.proofs.bytes.Runs.{chars-encode}
 use Rattle.vte_c.proofs.Rooms.{few_groups, length_numbers, length-records}
@@ -277,7 +277,7 @@ module _ (old new : Events) (input : List ℕ) (items : List Item) (starts : Sta
 
 pub fed : {old new : Events} {parser : Parser 1024} {saved : Saved} {told : List Event} {stream bytes rest : List ℕ}
     {n : ℕ} → Starts (room_of old)
-    → {before : Saved} (h : HasTold (room_of old).kinds before told stream (bytes ++ rest))
+    → {before : Saved} (h : HasReported (room_of old).kinds before told stream (bytes ++ rest))
     → HasReadOn (room_of old) (room_of new) parser h.since bytes 0 n
     → ((since : List ℕ) → HasRead parser since → HasReadSaved saved since)
     → (HaveOtherRecords (room_of old).stops (room_of new).events → 0 < length bytes → 0 < n)

@@ -5,7 +5,7 @@ use Rattle.vte_core.specs.Saved.{HasReadSaved}
 use Rattle.vte_core.specs.Stream.{added, usual_limit}
 use Rattle.vte_core.specs.declared.parser.saved.Saved.{Saved}
 use Rattle.vte_c.specs.Record.{data_kind, events_in, kinds_in, least_data, least_events, least_text, text_kind}
-use Rattle.vte_c.specs.Told.{AreEncoded, AreOthers, HasStripped, HasTold, HaveOtherKinds, StopsAtKind, is_stop, no_room, fed_count}
+use Rattle.vte_c.specs.Reported.{AreEncoded, AreOthers, HasStripped, HasReported, HaveOtherKinds, StopsAtKind, is_stop, no_room, fed_count}
 use Rattle.vte_c.specs.declared.event.VteEvent.{VteEvent}
 use Rattle.vte_c.specs.declared.feed.VteCounts.{VteCounts}
 
@@ -28,12 +28,12 @@ pub record Feeds (kinds stops : ℕ) (parser next : Saved) (bytes : List ℕ)
   pub within : fed_count result ≤ length bytes
   -- Whatever was told of these kinds before, what is written now comes next, and nothing else.
   pub exact : (told : List Event) (stream rest : List ℕ) →
-      HasTold kinds parser told stream (bytes ++ rest) →
-      HasTold kinds next (told ++ events_in counts.events events bytes area) stream
+      HasReported kinds parser told stream (bytes ++ rest) →
+      HasReported kinds next (told ++ events_in counts.events events bytes area) stream
       (drop (fed_count result) bytes ++ rest)
   -- The records and the data are the encoding of these events, and the counts are theirs.
   pub encoded : (told : List Event) (stream rest : List ℕ) →
-      HasTold kinds parser told stream (bytes ++ rest) →
+      HasReported kinds parser told stream (bytes ++ rest) →
       AreEncoded (events_in counts.events events bytes area)
       counts.events counts.bytes events bytes area
   -- Whatever the parser's bytes are, what was written is in the buffers.
@@ -45,12 +45,12 @@ pub record Feeds (kinds stops : ℕ) (parser next : Saved) (bytes : List ℕ)
       → FeedsNothing parser next old_events events old_area area counts result
   -- With enough room, it reads at least one byte, unless it writes a record among the stops.
   pub progress : (told : List Event) (stream rest : List ℕ) →
-      HasTold kinds parser told stream (bytes ++ rest) →
+      HasReported kinds parser told stream (bytes ++ rest) →
       least_events ≤ length old_events → least_data ≤ length old_area →
       HaveOtherKinds stops (kinds_in counts.events events) → 0 < length bytes → 0 < result
   -- If a record among the stops is written, at most one follows it.
   pub first : (told : List Event) (stream rest : List ℕ) →
-      HasTold kinds parser told stream (bytes ++ rest) →
+      HasReported kinds parser told stream (bytes ++ rest) →
       StopsAtKind stops (kinds_in counts.events events)
   -- Unless text or data stop, a record among the stops came with the last byte that was read: no
   -- shorter prefix of the bytes adds one.

@@ -8,7 +8,7 @@ use Rattle.vte_core.specs.declared.parser.Parser.{Parser}
 use Rattle.vte_core.specs.declared.parser.saved.Saved.{Saved}
 use Rattle.vte_c.specs.Events.{Room, room_of}
 use Rattle.vte_c.specs.Record.{Item, data_kind, events_in, has, item_data, item_events, kinds_in, records_from, reported, text_kind}
-use Rattle.vte_c.specs.Told.{AreEncoded, AreOthers, AreReadable, HasTold, HaveOtherKinds, StopsAtKind, is_stop}
+use Rattle.vte_c.specs.Reported.{AreEncoded, AreOthers, AreReadable, HasReported, HaveOtherKinds, StopsAtKind, is_stop}
 use Rattle.vte_c.specs.declared.event.VteEvent.{VteEvent}
 use Rattle.vte_c.specs.declared.events.Events.{Events}
 
@@ -97,6 +97,6 @@ pub record HasFed (old new : Events) (parser : Saved) (told : List Event)
       AreEncoded (events_in new.count new.events.now (bytes ++ more) new.area.now)
       new.count new.used new.events.now (bytes ++ more) new.area.now
   pub tells : (more : List ℕ) →
-      HasTold (room_of old).kinds parser
+      HasReported (room_of old).kinds parser
       (told ++ events_in new.count new.events.now (bytes ++ more) new.area.now)
       stream (drop n bytes ++ rest)

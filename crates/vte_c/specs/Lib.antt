@@ -4,7 +4,7 @@ pub mod Feeding
 pub mod OpenCode
 pub mod Record
 pub mod Text
-pub mod Told
+pub mod Reported
 -- Definitions of the libraries below that the contracts use.
 pub use Rattle.event_log.specs.Plain
 pub use Rattle.vte_core.specs.Event

@@ -4,7 +4,7 @@ use Rattle.event_log.specs.Plain.{plain_text_of}
 use Rattle.vte_core.specs.Event.{Event}
 use Rattle.vte_core.specs.declared.parser.saved.Saved.{Saved}
 use Rattle.vte_c.specs.Record.{least_text}
-use Rattle.vte_c.specs.Told.{HasStripped}
+use Rattle.vte_c.specs.Reported.{HasStripped}
 use Rattle.vte_c.specs.declared.text.Text.{Text}
 
 -- What was written, how much that is, how much there is room for, whether all had room, and which

@@ -7,7 +7,7 @@ ghost use Rattle.vte_core.specs.Stream.{added, usual_limit};
 ghost use Rattle.vte_c.specs.Calls.{Feeds};
 ghost use Rattle.vte_c.specs.Events.{Starts, is_full, room_of};
 ghost use Rattle.vte_c.specs.Feeding.{AreOthersIn, HasFed, HasReadOn, HaveOtherRecords, StopsAtNone};
-ghost use Rattle.vte_c.specs.Told.{HasTold};
+ghost use Rattle.vte_c.specs.Reported.{HasReported};
 
 use crate::event::VteEvent;
 use crate::events::Events;
@@ -75,7 +75,7 @@ fn read_into(saved: &mut Saved, bytes: &[u8], room: &mut Events<'_>) -> usize
         StopsAtNone (room_of room.old) → (i : ℕ) → i < result →
         AreOthersIn (room_of room.old) (added usual_limit stream (take i bytes.now)) }
     ensures feeds { (told : List Event) (stream rest : List ℕ) →
-        HasTold (room_of room.old).kinds saved.old told stream (bytes.now ++ rest) →
+        HasReported (room_of room.old).kinds saved.old told stream (bytes.now ++ rest) →
         HasFed room.old room.new saved.new told stream bytes.now rest result }
 {
     let mut parser = Parser::new();

@@ -6,22 +6,23 @@ ghost use Rattle.vte_core.specs.Saved.{IsZero};
 ghost use Rattle.vte_core.specs.Stream.{events, usual_limit};
 ghost use Rattle.vte_core.specs.declared.parser.saved.Saved.{Saved};
 ghost use Rattle.vte_c.specs.Record.{reported};
-ghost use Rattle.vte_c.specs.Told.{HasStripped, HasTold};
+ghost use Rattle.vte_c.specs.Reported.{HasStripped, HasReported};
 
 use vte_core::Saved;
 
 /// Calls of `vte_feed` report exactly the events of the stream of the kinds asked for, in order.
 pub fn events_are_told()
     // A parser of zeros has reported nothing of the empty stream.
-    ensures starts { (kinds : ℕ) (parser : Saved) → IsZero parser → HasTold kinds parser [] [] [] }
+    ensures starts { (kinds : ℕ) (parser : Saved) → IsZero parser
+        → HasReported kinds parser [] [] [] }
     // More bytes may come at any time, after those that are still unread.
     ensures more { (kinds : ℕ) (parser : Saved) (told : List Event) (stream unread bytes : List ℕ) →
-        HasTold kinds parser told stream unread →
-        HasTold kinds parser told (stream ++ bytes) (unread ++ bytes) }
+        HasReported kinds parser told stream unread →
+        HasReported kinds parser told (stream ++ bytes) (unread ++ bytes) }
     // Once all are read, exactly these events of the stream have been reported, with 1,024 data
     // bytes of a command.
     ensures all { (kinds : ℕ) (parser : Saved) (told : List Event) (stream : List ℕ) →
-        HasTold kinds parser told stream [] →
+        HasReported kinds parser told stream [] →
         told ≡ reported kinds (events usual_limit stream) }
     // Eight kinds are all.
     ensures every { (events : List Event) → reported 255 events ≡ events }

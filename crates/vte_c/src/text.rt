@@ -1,7 +1,7 @@
 //! From bytes to the text that is left without the sequences.
 ghost use Rattle.std.specs.Prelude.{◌≡◌, ◌<◌, ◌≤◌, ◌+◌, ◌-◌, ◌++◌, ℕ, List, true, false, drop, length, take};
 ghost use Rattle.vte_c.specs.Calls.{Strips};
-ghost use Rattle.vte_c.specs.Told.{HasStripped};
+ghost use Rattle.vte_c.specs.Reported.{HasStripped};
 ghost use Rattle.vte_c.specs.Text.{StartsText, StripsMore, TextRoom, text_room_of, with_text, with_text_of};
 
 use crate::feed::NO_ROOM;

@@ -1,6 +1,6 @@
 -- The caller's counts and slices are those of the room (`counts_are`). So what `read_into` ensures, of the bytes that
 -- 32 bits can count, holds for the caller.
-use Rattle.vte_c.proofs.Common.{Event, HasTold, List, [], append_assoc, arith, drop, drop-append-le, length, length-take, fed_count, rules, sym, take, take-append-drop, take-take, ℕ, ◌++◌, ◌<◌, ◌∙◌, ◌≡◌, ◌≤◌}
+use Rattle.vte_c.proofs.Common.{Event, HasReported, List, [], append_assoc, arith, drop, drop-append-le, length, length-take, fed_count, rules, sym, take, take-append-drop, take-take, ℕ, ◌++◌, ◌<◌, ◌∙◌, ◌≡◌, ◌≤◌}
 use Rattle.vte_c.proofs.ReadBack.{counts_are, counted}
 use Rattle.vte_c.proofs.feed.feed.Goals as goal
 
@@ -18,11 +18,11 @@ returns c =
     counted read.result (omega (arith, within, length-take m bytes, c.min-end.ensures)) in
     let feeds =
     λ (told : List Event) (stream rest : List ℕ)
-    (h : HasTold c.args.kinds c.args.parser.now told stream (bytes ++ rest)).
+    (h : HasReported c.args.kinds c.args.parser.now told stream (bytes ++ rest)).
     read.ensures.feeds told stream (drop m bytes ++ rest) (rw (kinds, ← append_assoc (take m bytes), whole) h) in
     let are =
     λ (told : List Event) (stream rest : List ℕ)
-    (h : HasTold c.args.kinds c.args.parser.now told stream (bytes ++ rest)).
+    (h : HasReported c.args.kinds c.args.parser.now told stream (bytes ++ rest)).
     let fed = feeds told stream rest h in
     counts_are room c.min.result c.min-2.result (fed.encodes [])
     (c.events-1.given.1.1 (sym (fed.events_name ∙ c.new-room.ensures.same_events)))

@@ -24,8 +24,8 @@ pub record HasGiven {A : Type 0} (of : List Event → List A) (parser : Saved) (
       ≡ of (events usual_limit (stream ++ more))
 
 -- The events of these kinds were reported.
-abbrev pub HasTold : ℕ → Saved → List Event → List ℕ → List ℕ → Type 0
-HasTold kinds parser told stream unread = HasGiven (reported kinds) parser told stream unread
+abbrev pub HasReported : ℕ → Saved → List Event → List ℕ → List ℕ → Type 0
+HasReported kinds parser told stream unread = HasGiven (reported kinds) parser told stream unread
 
 -- The text of the events was written.
 abbrev pub HasStripped : Saved → List ℕ → List ℕ → List ℕ → Type 0

@@ -14,17 +14,17 @@ struct UntilVector {
     name: &'static str,
     stop: Stop,
     before: &'static [u8],
-    steps: &'static [Step],
+    calls: &'static [ExpectedCall],
 }
 
 /// A call, and the lines of the events that it reports.
-struct Step {
-    call: Call,
+struct ExpectedCall {
+    method: Method,
     bytes: &'static [u8],
     lines: &'static [&'static str],
 }
 
-enum Call {
+enum Method {
     Advance,
     UntilTerminated { answer: usize },
 }
@@ -35,16 +35,16 @@ fn until_terminated(rt: HostRuntime) -> Result<(), Fail> {
         let mut parser = Parser::<1024>::new_with_size();
         let mut lines = EventLines::new(rt.alloc(), vector.stop);
         parser.advance(&mut lines, vector.before);
-        for step in vector.steps {
+        for call in vector.calls {
             lines.clear();
-            match step.call {
-                Call::Advance => parser.advance(&mut lines, step.bytes),
-                Call::UntilTerminated { answer } => {
-                    let read = parser.advance_until_terminated(&mut lines, step.bytes);
+            match call.method {
+                Method::Advance => parser.advance(&mut lines, call.bytes),
+                Method::UntilTerminated { answer } => {
+                    let read = parser.advance_until_terminated(&mut lines, call.bytes);
                     assert_eq!(rt; read, answer, "{}", vector.name);
                 }
             }
-            let want = joined_lines(rt.alloc(), step.lines)?;
+            let want = joined_lines(rt.alloc(), call.lines)?;
             assert_eq!(rt; lines.text(), Some(want.as_str()), "{}", vector.name);
         }
     }

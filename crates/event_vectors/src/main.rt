@@ -12,9 +12,9 @@ mod events;
 mod feed;
 mod frames;
 #[cfg(test)]
-mod fronts;
-#[cfg(test)]
 mod log_tests;
+#[cfg(test)]
+mod prefixes;
 #[cfg(test)]
 mod prepared_memory;
 #[cfg(test)]

@@ -1,9 +1,9 @@
 //! Vectors: streams with the lines of their events, worked out by hand. `tools/make_vectors` writes
 //! the tables.
 
+mod basics;
 mod characters;
 mod cuts;
-mod first_path;
 pub(crate) mod long;
 mod parameters;
 mod strings;
@@ -14,7 +14,7 @@ use std::alloc::{AllocError, Global};
 /// whole table.
 pub(crate) fn tables() -> [&'static [LinesVector]; 5] {
     [
-        &first_path::VECTORS,
+        &basics::VECTORS,
         &parameters::VECTORS,
         &characters::VECTORS,
         &strings::VECTORS,

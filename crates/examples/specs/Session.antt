@@ -17,7 +17,7 @@ abbrev pub start : State Bool Bool
 start = record { parsed = []; stops = []; held = []; timeout = false; handler = false }
 
 -- The session has taken these calls.
-pub record HasTaken (session : Session) (steps : List Step) : Type 0 where
+pub record HasMade (session : Session) (steps : List Step) : Type 0 where
   pub state : State Bool Bool
   pub takes : TakesSteps meaning start steps state
   pub is_at : IsAt (HasParsedAndHolds (λ timeout. timeout.pending) session.processor)

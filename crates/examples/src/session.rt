@@ -1,6 +1,6 @@
 //! A struct that keeps a processor and its handler, and knows over several calls whether the
 //! terminal was to ring.
-ghost use Rattle.examples.specs.Session.{HasTaken, RangBy};
+ghost use Rattle.examples.specs.Session.{HasMade, RangBy};
 ghost use Rattle.std.specs.Prelude.{List, [], ◌++◌, ◌∷◌, IfOk};
 ghost use Rattle.vte.specs.Processor.{given_bytes};
 ghost use Rattle.vte.specs.ProcessorCalls.{held_in};
@@ -25,7 +25,7 @@ impl Session {
     ///
     /// `AllocError` if there is no memory for the processor.
     pub fn new(alloc: Global) -> Result<Self, AllocError>
-        ensures { IfOk result (λ session. HasTaken session []) }
+        ensures { IfOk result (λ session. HasMade session []) }
     {
         let page = ByCall(Page {
             text: String::new(alloc),
@@ -40,8 +40,8 @@ impl Session {
 
     /// Reads more of the stream.
     pub fn read(&mut self, bytes: &[u8])
-        ensures { (steps : List Step) → HasTaken self.old steps
-            → HasTaken self.new (steps ++ Advance bytes.entry ∷ []) }
+        ensures { (steps : List Step) → HasMade self.old steps
+            → HasMade self.new (steps ++ Advance bytes.entry ∷ []) }
     {
         laws::calls_are_told::<ByCall<Page>, UntilEnded>();
         self.processor.advance(&mut self.page, bytes);
@@ -49,8 +49,8 @@ impl Session {
 
     /// Ends an update that has expired.
     pub fn end_update(&mut self)
-        ensures { (steps : List Step) → HasTaken self.old steps
-            → HasTaken self.new (steps ++ StopSync ∷ []) }
+        ensures { (steps : List Step) → HasMade self.old steps
+            → HasMade self.new (steps ++ StopSync ∷ []) }
     {
         laws::calls_are_told::<ByCall<Page>, UntilEnded>();
         self.processor.stop_sync(&mut self.page);
@@ -58,7 +58,7 @@ impl Session {
 
     /// Whether the terminal was to ring.
     pub fn has_rung(&self) -> bool
-        ensures { (steps : List Step) → HasTaken self.now steps
+        ensures { (steps : List Step) → HasMade self.now steps
             → RangBy (given_bytes steps) (held_in self.now.processor) result }
     {
         laws::calls_are_told::<ByCall<Page>, UntilEnded>();

@@ -34,7 +34,7 @@ LacksMemory parser bytes from = LacksMemoryAt parser.machine.command bytes from
 abbrev pub LacksMemoryForMore : {A : Type 0} → LongParser A → ℕ → Type 0
 LacksMemoryForMore parser more = memory_of parser < length parser.machine.command.bytes + more
 
--- How many bytes a call read that may stop early.
+-- How many bytes a call read that may be refused memory.
 abbrev pub read_count : Result ℕ Refused → ℕ
 read_count (Ok read) = read
 read_count (Err refused) = refused.read

@@ -1,7 +1,7 @@
 //! Early stops.
 // Written by tools/make_vectors.
 
-use super::{Call, Step, UntilVector};
+use super::{ExpectedCall, Method, UntilVector};
 use test_lines::Stop;
 
 pub(crate) static VECTORS: [UntilVector; 8] = [
@@ -9,14 +9,14 @@ pub(crate) static VECTORS: [UntilVector; 8] = [
         name: "stop at an unfinished character found malformed",
         stop: Stop::AtPrint,
         before: b"",
-        steps: &[
-            Step {
-                call: Call::UntilTerminated { answer: 2 },
+        calls: &[
+            ExpectedCall {
+                method: Method::UntilTerminated { answer: 2 },
                 bytes: b"\xe4\xbfa",
                 lines: &["print fffd"],
             },
-            Step {
-                call: Call::Advance,
+            ExpectedCall {
+                method: Method::Advance,
                 bytes: b"a",
                 lines: &["print 0061"],
             },
@@ -26,14 +26,14 @@ pub(crate) static VECTORS: [UntilVector; 8] = [
         name: "stop inside a run of text",
         stop: Stop::AtPrint,
         before: b"",
-        steps: &[
-            Step {
-                call: Call::UntilTerminated { answer: 1 },
+        calls: &[
+            ExpectedCall {
+                method: Method::UntilTerminated { answer: 1 },
                 bytes: b"ab",
                 lines: &["print 0061"],
             },
-            Step {
-                call: Call::UntilTerminated { answer: 0 },
+            ExpectedCall {
+                method: Method::UntilTerminated { answer: 0 },
                 bytes: b"b",
                 lines: &[],
             },
@@ -43,8 +43,8 @@ pub(crate) static VECTORS: [UntilVector; 8] = [
         name: "stop after an ESC sequence",
         stop: Stop::AtEscape,
         before: b"",
-        steps: &[Step {
-            call: Call::UntilTerminated { answer: 2 },
+        calls: &[ExpectedCall {
+            method: Method::UntilTerminated { answer: 2 },
             bytes: b"\x1bcab",
             lines: &["esc - false 63"],
         }],
@@ -53,8 +53,8 @@ pub(crate) static VECTORS: [UntilVector; 8] = [
         name: "begun character carried on without a question",
         stop: Stop::Reached,
         before: b"\xe4",
-        steps: &[Step {
-            call: Call::UntilTerminated { answer: 2 },
+        calls: &[ExpectedCall {
+            method: Method::UntilTerminated { answer: 2 },
             bytes: b"\xbf\x99a",
             lines: &["print 4fd9"],
         }],
@@ -63,8 +63,8 @@ pub(crate) static VECTORS: [UntilVector; 8] = [
         name: "begun character found malformed at the first byte",
         stop: Stop::Reached,
         before: b"\xe4",
-        steps: &[Step {
-            call: Call::UntilTerminated { answer: 0 },
+        calls: &[ExpectedCall {
+            method: Method::UntilTerminated { answer: 0 },
             bytes: b"a",
             lines: &["print fffd"],
         }],
@@ -73,8 +73,8 @@ pub(crate) static VECTORS: [UntilVector; 8] = [
         name: "no bytes, terminated from the start",
         stop: Stop::Reached,
         before: b"",
-        steps: &[Step {
-            call: Call::UntilTerminated { answer: 0 },
+        calls: &[ExpectedCall {
+            method: Method::UntilTerminated { answer: 0 },
             bytes: b"",
             lines: &[],
         }],
@@ -83,8 +83,8 @@ pub(crate) static VECTORS: [UntilVector; 8] = [
         name: "no bytes, never terminated",
         stop: Stop::Never,
         before: b"",
-        steps: &[Step {
-            call: Call::UntilTerminated { answer: 0 },
+        calls: &[ExpectedCall {
+            method: Method::UntilTerminated { answer: 0 },
             bytes: b"",
             lines: &[],
         }],
@@ -93,8 +93,8 @@ pub(crate) static VECTORS: [UntilVector; 8] = [
         name: "unfinished character counts as read",
         stop: Stop::Never,
         before: b"",
-        steps: &[Step {
-            call: Call::UntilTerminated { answer: 2 },
+        calls: &[ExpectedCall {
+            method: Method::UntilTerminated { answer: 2 },
             bytes: b"\xe4\xbf",
             lines: &[],
         }],

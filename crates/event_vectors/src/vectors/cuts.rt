@@ -1,4 +1,4 @@
-//! Streams: every cut, front and fault.
+//! Streams: every cut, prefix and fault.
 // Written by tools/make_vectors.
 
 use super::LinesVector;

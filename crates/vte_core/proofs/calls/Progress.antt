@@ -18,10 +18,6 @@ use Rattle.vte_core.proofs.Shapes.{breaks_at-all, breaks_at-settled, breaks_at-b
 use Rattle.vte_core.proofs.bytes.Runs.{one_byte}
 use Rattle.vte_core.proofs.EarlyStops.{added_from, after_from, breaks_there, goes_on_from}
 
--- ---- the place of a state
-
--- By cases of the state, of which all but one are absurd.
-
 -- ---- between characters
 
 text-by_place : {B : Type 0} (limit : Option ℕ) (parser : Machine B) (place : Place)

@@ -101,7 +101,9 @@ impl Reader {
         }
     }
 
-    /// Finds where the run ends that has come to a position, for a performer.
+    /// Finds where the run ends that has come to a position after other characters than ASCII, for a
+    /// performer.
+    // Its loop is that of `find_end_up_to`, but blocks begin later once the run has had ASCII.
     #[inline(never)]
     pub(crate) fn find_run_end_for<P: CountedPerform<G>, G: Granularity>(
         &mut self,

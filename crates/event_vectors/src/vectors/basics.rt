@@ -1,4 +1,4 @@
-//! Streams: first path.
+//! Streams: basics.
 // Written by tools/make_vectors.
 
 use super::LinesVector;
@@ -11,7 +11,7 @@ pub(crate) static VECTORS: [LinesVector; 11] = [
         lines: &[],
     },
     LinesVector {
-        name: "three ESC intermediates, two handed out",
+        name: "three ESC intermediates, two reported",
         size: 1024,
         pieces: &[b"\x1b()*B"],
         lines: &["esc 2829 true 42"],

@@ -1,4 +1,4 @@
-//! A stream that breaks off starts over at CAN and at ESC.
+//! A stream that breaks off starts over at CAN and at ESC, after each of its prefixes.
 
 use crate::feed::{Text, feed_new};
 use crate::vectors::{LinesVector, tables};
@@ -13,45 +13,45 @@ const BROKEN_OFF: usize = 64;
 fn lines_of(
     rt: &(impl Abort + AllocGlobal),
     size: usize,
-    front: &[u8],
+    prefix: &[u8],
     back: &[u8],
 ) -> Result<EventLines, Fail> {
     let mut lines = EventLines::new(rt.alloc(), Stop::Never);
     assert!(rt;
-        feed_new(size, &mut lines, Text::Characters, &[front, back]),
+        feed_new(size, &mut lines, Text::Characters, &[prefix, back]),
         "no parser has the store size {size}"
     );
     Ok(lines)
 }
 
-/// `front` and `back` give what `front` and `start` give, followed by `line`.
+/// `prefix` and `back` give what `prefix` and `start` give, followed by `line`.
 fn assert_resyncs(
     rt: &(impl Abort + AllocGlobal),
     size: usize,
-    front: &[u8],
+    prefix: &[u8],
     [start, back]: [&[u8]; 2],
     line: &str,
 ) -> Result<(), Fail> {
-    let begun = lines_of(rt, size, front, start)?;
+    let begun = lines_of(rt, size, prefix, start)?;
     let mut want = String::from_str(rt.alloc(), begun.text().unwrap_or("refused"))?;
     want.push_str(line)?;
-    let whole = lines_of(rt, size, front, back)?;
-    assert_eq!(rt; whole.text(), Some(want.as_str()), "{front:?}");
+    let whole = lines_of(rt, size, prefix, back)?;
+    assert_eq!(rt; whole.text(), Some(want.as_str()), "{prefix:?}");
     Ok(())
 }
 
-fn assert_fronts(rt: &(impl Abort + AllocGlobal), vector: &LinesVector) -> Result<(), Fail> {
+fn assert_prefixes(rt: &(impl Abort + AllocGlobal), vector: &LinesVector) -> Result<(), Fail> {
     let bytes = vector.bytes(rt.alloc())?;
     if bytes.len() > BROKEN_OFF {
         return Ok(());
     }
     for place in 0..=bytes.len() {
-        let (front, _) = bytes.split_at(place);
-        assert_resyncs(rt, vector.size, front, [b"\x18", b"\x18z"], "print 007a\n")?;
+        let (prefix, _) = bytes.split_at(place);
+        assert_resyncs(rt, vector.size, prefix, [b"\x18", b"\x18z"], "print 007a\n")?;
         assert_resyncs(
             rt,
             vector.size,
-            front,
+            prefix,
             [b"\x1b", b"\x1bc"],
             "esc - false 63\n",
         )?;
@@ -59,20 +59,20 @@ fn assert_fronts(rt: &(impl Abort + AllocGlobal), vector: &LinesVector) -> Resul
     Ok(())
 }
 
-fn assert_fronts_of_vectors(
+fn assert_prefixes_of_vectors(
     rt: &(impl Abort + AllocGlobal),
     vectors: &[LinesVector],
 ) -> Result<(), Fail> {
     for vector in vectors {
-        assert_fronts(rt, vector)?;
+        assert_prefixes(rt, vector)?;
     }
     Ok(())
 }
 
 #[test]
-fn each_front_and_a_new_beginning(rt: HostRuntime) -> Result<(), Fail> {
+fn each_prefix_and_a_new_beginning(rt: HostRuntime) -> Result<(), Fail> {
     for table in tables() {
-        assert_fronts_of_vectors(&rt, table)?;
+        assert_prefixes_of_vectors(&rt, table)?;
     }
     Ok(())
 }

@@ -246,7 +246,7 @@ def differences(source, written, place="c/mod.rs"):
     ("fn f<const N: u8>() -> *const u8 { N }", "fn f<const N: u8>() -> *const u8 { N }", ""),
     ("fn f() { g(&mut reader, Chunk::new(a), input.up_to(b)); }",
      "fn f() { g(reader, a, up_to(input, b)); }", ""),
-    ("fn f() { let (mut reader, input) = chunk.open(); self.looks.add(reader); g(); }",
+    ("fn f() { let (mut reader, input) = chunk.into_reader(); self.looks.add(reader); g(); }",
      "fn f() { let reader = Reader {}; g(); }", ""),
     ("fn f() { g(text(a, b.c)); take_run(a); }",
      "fn f() { g(unsafe { text(a, b.c) }); unsafe { take_run(a) }; }", ""),

@@ -184,7 +184,7 @@ impl<const OSC_RAW_BUF_SIZE: usize> Parser<OSC_RAW_BUF_SIZE> {
             (P.value_of performer.new) chunk.entry.bytes.now (reading_of self.old)
             (reading_of self.new) }
     {
-        let (mut reader, input) = chunk.open();
+        let (mut reader, input) = chunk.into_reader();
         let result = self
             .machine
             .drive::<P, G, MAY_STOP>(&mut reader, performer, input);

@@ -81,7 +81,7 @@ impl<'a> Chunk<'a> {
     }
 
     /// Returns the call's reader, which has taken no looks, and what it reads.
-    pub(crate) fn open(self) -> (Reader, Input<'a>)
+    pub(crate) fn into_reader(self) -> (Reader, Input<'a>)
         ensures looks { looked result.0 ≡ 0 }
         ensures bytes { result.1.bytes.now ≡ self.entry.bytes.now }
     {

@@ -11,7 +11,7 @@ READER = [
     ("impl Reader { $$$f }",
      lambda names: f"impl Reader {{ {names['f'].replace('&mut self', 'self')} }}"),
     ("Input<'_>", "&[u8]"), ("chunk: Chunk<'_>,", "input: &[u8],"), ("Chunk::new($x)", "$x"),
-    ("let (mut reader, input) = chunk.open();", "let reader = Reader {};"),
+    ("let (mut reader, input) = chunk.into_reader();", "let reader = Reader {};"),
     ("let result = $$e; self.looks.add(reader); result", "$e"), ("self.looks.add(reader);", ""),
     ("input.up_to(", "up_to(input, "), ("input.bytes", "input"),
     # inlined by rustc before LLVM sees its caller, it would move a branch of the loop over text

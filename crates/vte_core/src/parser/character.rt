@@ -161,7 +161,7 @@ impl<B: Buffer> Machine<B> {
             return next + 2;
         }
         if G::IN_RUNS {
-            let end = reader.find_run_end_for(performer, input, next + 3);
+            let end = reader.find_other_run_end(performer, input, next + 3);
             // cargo: // SAFETY: the character at `from` is whole, and the search passes whole
             // cargo: // characters.
             reader.report_text(performer, input, from, end);

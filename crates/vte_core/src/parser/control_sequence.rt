@@ -83,14 +83,18 @@ impl<B: Buffer> Machine<B> {
         ensures moves { MovesWithin 4 0 input.entry.bytes.now from result self.old self.new
             reader.old reader.new }
     {
-        self.read_control_sequence::<P, G, MAY_STOP>(reader, performer, input, reached, from)
+        self.continue_control_sequence::<P, G, MAY_STOP>(reader, performer, input, reached, from)
     }
 
     /// Goes on with a control sequence whose head has come so far: by numbers with `;` between
     /// them, and by a final byte right after them. If calls have one byte each, most bytes of
     /// sequences come this way.
     #[inline(always)]
-    pub(crate) fn read_control_sequence<P: CountedPerform<G>, G: Granularity, const MAY_STOP: bool>(
+    pub(crate) fn continue_control_sequence<
+        P: CountedPerform<G>,
+        G: Granularity,
+        const MAY_STOP: bool,
+    >(
         &mut self,
         reader: &mut Reader,
         performer: &mut P,

@@ -72,7 +72,7 @@ impl<B: Buffer> Machine<B> {
             if byte == b'[' {
                 self.collected.begin_head();
                 self.state = State::ControlSequence(HeadProgress::Entry);
-                // `read_control_sequence` may look at a byte twice.
+                // `continue_control_sequence` may look at a byte twice.
                 return self.read_any_head::<P, G, MAY_STOP>(
                     reader,
                     performer,

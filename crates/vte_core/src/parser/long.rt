@@ -196,7 +196,7 @@ impl<A: Allocator> LongParser<A> {
         ensures costs { Costs 5 chunk.entry.bytes.now result (read_count result) self.old.machine
             self.new.machine (counted self.old.looks) (counted self.new.looks) }
     {
-        let (mut reader, input) = chunk.open();
+        let (mut reader, input) = chunk.into_reader();
         let result = self
             .machine
             .drive::<P, G, MAY_STOP>(&mut reader, performer, input);
@@ -225,7 +225,7 @@ impl<A: Allocator> LongParser<A> {
         ensures outside_runs { (stream : List ℕ) → HasReadLong self.old stream
             → ReportsOutsideRuns None stream chunk.entry.bytes.now (read_before_range result) }
     {
-        let (mut reader, input) = chunk.open();
+        let (mut reader, input) = chunk.into_reader();
         let result = self.machine.drive_to_run(&mut reader, performer, input);
         self.looks.add(reader);
         result

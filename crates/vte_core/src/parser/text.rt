@@ -129,7 +129,7 @@ impl<B: Buffer> Machine<B> {
                 reader.report_lone_byte(performer, byte);
                 position += 1;
             } else if is_lead(byte) {
-                position = self.read_at_lead::<P, G, MAY_STOP>(
+                position = self.read_run_at_lead::<P, G, MAY_STOP>(
                     reader, performer, input, position, byte,
                 );
             } else {
@@ -221,7 +221,7 @@ impl<B: Buffer> Machine<B> {
         let mut position = from;
         let mut prefix = input.up_to((from + SHORT_TEXT).min(input.len()));
         let mut byte = reader.byte_at(input, from);
-        while let Some(next) = self.read_one(reader, performer, input, position, byte) {
+        while let Some(next) = self.read_byte_of_text(reader, performer, input, position, byte) {
             position = next;
             if position < prefix.len() {
                 byte = reader.byte_at(prefix, position);
@@ -238,7 +238,7 @@ impl<B: Buffer> Machine<B> {
     /// Reads what a byte of text begins, which was looked at: a character, a malformed sequence or
     /// a control. Returns where it ends, or nothing if the byte is ESC, which is left unread.
     #[inline(always)]
-    fn read_one<P: CountedPerform<G>, G: Granularity>(
+    fn read_byte_of_text<P: CountedPerform<G>, G: Granularity>(
         &mut self,
         reader: &mut Reader,
         performer: &mut P,
@@ -282,7 +282,7 @@ impl<B: Buffer> Machine<B> {
     /// run, a character or a malformed sequence.
     #[inline(always)]
     // cargo: #[allow(unsafe_code)]
-    fn read_at_lead<P: CountedPerform<G>, G: Granularity, const MAY_STOP: bool>(
+    fn read_run_at_lead<P: CountedPerform<G>, G: Granularity, const MAY_STOP: bool>(
         &mut self,
         reader: &mut Reader,
         performer: &mut P,

@@ -25,7 +25,7 @@ impl<const OSC_RAW_BUF_SIZE: usize> Parser<OSC_RAW_BUF_SIZE> {
         ensures count { counted self.new.looks ≤ counted self.old.looks + 7 * result.end + 8 }
         ensures least { counted self.old.looks + result.end ≤ counted self.new.looks }
     {
-        let (mut reader, input) = chunk.open();
+        let (mut reader, input) = chunk.into_reader();
         let result = self.machine.drive_to_run(&mut reader, performer, input);
         self.looks.add(reader);
         match result {
@@ -95,7 +95,7 @@ impl<B: Buffer> Machine<B> {
         Ok(RunRange::empty(position))
     }
 
-    /// Reads text at which no run begins: what one lead byte begins; or controls and malformed bytes
+    /// Reads text at which no run begins: what a lead byte begins, or controls and malformed bytes
     /// up to the next lead byte or printed ASCII, and an escape sequence that follows them.
     fn read_unprinted<P: CountedPerform<ByCharacter>>(
         &mut self,

@@ -54,7 +54,7 @@ impl Reader {
         ensures count { looked self.new + 4 * from + 4 ≤ looked self.old + 4 * result }
         ensures grows { looked self.old ≤ looked self.new }
     {
-        let end = self.find_end_by_words(input, from + 4);
+        let end = self.find_ascii_end_by_words(input, from + 4);
         self.find_run_end(input, end, performer.keeps_layout())
     }
 
@@ -86,14 +86,14 @@ impl Reader {
             Some(second) if is_continuation(second) => match self.get_byte(input, from + 2) {
                 Some(third) if first < 0xe0 => {
                     if is_lead(third) && is_printed_pair(first, second) {
-                        self.find_run_end_for(performer, input, from + 2)
+                        self.find_other_run_end(performer, input, from + 2)
                     } else {
                         from
                     }
                 }
                 Some(third)
                     if first < 0xf0 && is_continuation(third) && may_begin_three(first, second) => {
-                    self.find_run_end_for(performer, input, from + 3)
+                    self.find_other_run_end(performer, input, from + 3)
                 }
                 _ => from,
             },
@@ -101,11 +101,11 @@ impl Reader {
         }
     }
 
-    /// Finds where the run ends that has come to a position after other characters than ASCII, for a
-    /// performer.
-    // Its loop is that of `find_end_up_to`, but blocks begin later once the run has had ASCII.
+    /// Finds where the run ends that has come to a position after a character that isn't ASCII, for
+    /// a performer.
+    // Its loop is that of `find_run_end_up_to`, but blocks begin later once the run has had ASCII.
     #[inline(never)]
-    pub(crate) fn find_run_end_for<P: CountedPerform<G>, G: Granularity>(
+    pub(crate) fn find_other_run_end<P: CountedPerform<G>, G: Granularity>(
         &mut self,
         performer: &P,
         input: Input<'_>,
@@ -146,7 +146,7 @@ impl Reader {
         ensures count { looked self.new + 4 * from ≤ looked self.old + 4 * result + 4 }
     {
         let to = input.len().min(from + SHORT_RUN);
-        let end = self.find_end_up_to(input, from, to, layout);
+        let end = self.find_run_end_up_to(input, from, to, layout);
         if end < to || end == input.len() {
             end
         } else {
@@ -156,7 +156,13 @@ impl Reader {
 
     /// Finds where the run ends that has come to a position, or where it comes to or past another.
     #[inline(always)]
-    fn find_end_up_to(&mut self, input: Input<'_>, from: usize, to: usize, layout: bool) -> usize
+    fn find_run_end_up_to(
+        &mut self,
+        input: Input<'_>,
+        from: usize,
+        to: usize,
+        layout: bool,
+    ) -> usize
         requires range { IsRange input.bytes.now from to }
         ensures scans { Scans (IsRun layout) input.entry.bytes.now from result self.old self.new }
         ensures ended { result < to → HasNoRunAt layout input.entry.bytes.now result }
@@ -187,11 +193,11 @@ impl Reader {
         requires within { from ≤ length input.bytes.now }
         ensures scans { Scans (IsRun layout) input.entry.bytes.now from result self.old self.new }
         ensures ended { HasNoRunAt layout input.entry.bytes.now result }
-        // 66 as in `skip_run_blocks`, and 12 as in `find_end_up_to`.
+        // 66 as in `skip_run_blocks`, and 12 as in `find_run_end_up_to`.
         ensures count { 3 * looked self.new + 11 * from ≤ 3 * looked self.old + 11 * result + 78 }
     {
         let end = self.skip_run_blocks(input, from, layout);
-        self.find_end_up_to(input, end, input.len(), layout)
+        self.find_run_end_up_to(input, end, input.len(), layout)
     }
 
     /// Finds where the character ends that stands at a position and is no printed ASCII, if a run
@@ -248,7 +254,10 @@ impl Reader {
     {
         match self.get_byte(input, from) {
             Some(second) if is_printed_ascii(second) => match self.get_byte(input, from + 1) {
-                Some(third) if is_printed_ascii(third) => self.find_end_by_words(input, from + 2),
+                Some(third) if is_printed_ascii(third) => self.find_ascii_end_by_words(
+                    input,
+                    from + 2,
+                ),
                 _ => from + 1,
             },
             _ => from,
@@ -258,7 +267,7 @@ impl Reader {
     /// Finds the first byte from a position on that is no printed ASCII, or where fewer than eight
     /// bytes are left.
     #[inline(always)]
-    fn find_end_by_words(&mut self, input: Input<'_>, from: usize) -> usize
+    fn find_ascii_end_by_words(&mut self, input: Input<'_>, from: usize) -> usize
         requires { from ≤ length input.bytes.now }
         ensures scans { Scans ArePrintedAscii input.entry.bytes.now from result self.old self.new }
         ensures count { looked self.new + from ≤ looked self.old + result + 8 }

@@ -1,5 +1,5 @@
 // Written by tools/erase from crates/vte_core/src/parser.rt: edit that one.
-//! The parser of a stream, as its callers see it.
+//! The parser with a limit, as its callers see it, and what it is made of.
 
 mod character;
 mod control_sequence;

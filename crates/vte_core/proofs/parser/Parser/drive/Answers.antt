@@ -7,12 +7,12 @@ use Rattle.vte_core.proofs.parser.Parser.drive.Goals as goal
 pub returns-in-Ok-clause-all : goal.returns-in-Ok-clause-all
 returns-in-Ok-clause-all g c = λ never.
     let d = rw c.in-Ok.is at c.drive-result.ensures.reads in
-    rw (← c.open-reader.ensures.bytes)
+    rw (← c.into_reader-reader.ensures.bytes)
     (reads-bytes (reads-all _ _ d.within (λ left. sym never ∙ d.asked left)) d
-    (costs-added c.open-reader.ensures.looks c.add.ensures (rw c.in-Ok.is at c.drive-result.ensures.costs)))
+    (costs-added c.into_reader-reader.ensures.looks c.add.ensures (rw c.in-Ok.is at c.drive-result.ensures.costs)))
 
 pub returns-in-Ok-clause-stops : goal.returns-in-Ok-clause-stops
 returns-in-Ok-clause-stops g c = λ may_stop.
-    rw (← c.open-reader.ensures.bytes)
+    rw (← c.into_reader-reader.ensures.bytes)
     (reads-until may_stop (rw c.in-Ok.is at c.drive-result.ensures.reads)
-    (costs-added c.open-reader.ensures.looks c.add.ensures (rw c.in-Ok.is at c.drive-result.ensures.costs)))
+    (costs-added c.into_reader-reader.ensures.looks c.add.ensures (rw c.in-Ok.is at c.drive-result.ensures.costs)))

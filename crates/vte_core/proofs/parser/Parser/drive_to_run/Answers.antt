@@ -5,8 +5,8 @@ use Rattle.vte_core.proofs.parser.Parser.drive_to_run.Goals as goal
 pub returns-in-Ok : goal.returns-in-Ok
 returns-in-Ok g c =
     let d = c.drive_to_run-result.ensures in
-    let costs = costs-added c.open-reader.ensures.looks c.add.ensures (rw c.in-Ok.is at d.costs) in
-    rw (← c.open-reader.ensures.bytes) (record {
+    let costs = costs-added c.into_reader-reader.ensures.looks c.add.ensures (rw c.in-Ok.is at d.costs) in
+    rw (← c.into_reader-reader.ensures.bytes) (record {
       comes = rw c.in-Ok.is at d.comes;
       outside_runs = λ stream h. rw c.in-Ok.is at d.outside_runs stream h;
       count = costs.count_if_ok;

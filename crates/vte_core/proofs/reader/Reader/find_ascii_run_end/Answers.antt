@@ -5,9 +5,9 @@ use Rattle.vte_core.proofs.reader.Reader.find_ascii_run_end.Goals as goal
 
 pub returns-clause-run : goal.returns-clause-run
 returns-clause-run g c =
-    let ascii = c.find_end_by_words-end.ensures in
+    let ascii = c.find_ascii_end_by_words-end.ensures in
     let rest = c.find_run_end.ensures in
-    run-append g.P.CountedPerform.layout c.args.input.bytes.now c.args.from c.find_end_by_words-end.result
+    run-append g.P.CountedPerform.layout c.args.input.bytes.now c.args.from c.find_ascii_end_by_words-end.result
     c.find_run_end.result (omega (arith, ascii.scans.low)) rest.scans.low
     (run-ascii g.P.CountedPerform.layout _ _ _ (each-both IsPrintedAscii _ _ _ _ c.requires.printed ascii.scans.are))
     (rw c.keeps_layout.ensures at rest.scans.are)

@@ -4,7 +4,7 @@ use Rattle.vte_core.proofs.bytes.Runs.{ends-all, scans-run}
 use Rattle.vte_core.proofs.reader.Reader.find_run_end.Goals as goal
 
 pub returns-else-end-len-clause-scans : goal.returns-else-end-len-clause-scans
-returns-else-end-len-clause-scans c = scans-run c.find_end_up_to-end.ensures.scans
+returns-else-end-len-clause-scans c = scans-run c.find_run_end_up_to-end.ensures.scans
     c.find_run_end_by_blocks.ensures.scans
 
 pub returns-then-end-len-clause-ended : goal.returns-then-end-len-clause-ended

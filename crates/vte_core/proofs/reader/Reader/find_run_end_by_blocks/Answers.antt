@@ -4,7 +4,7 @@ use Rattle.vte_core.proofs.bytes.Runs.{ends-all, scans-run}
 use Rattle.vte_core.proofs.reader.Reader.find_run_end_by_blocks.Goals as goal
 
 pub returns-clause-scans : goal.returns-clause-scans
-returns-clause-scans c = scans-run c.skip_run_blocks-end.ensures.scans c.find_end_up_to.ensures.scans
+returns-clause-scans c = scans-run c.skip_run_blocks-end.ensures.scans c.find_run_end_up_to.ensures.scans
 
 pub returns-clause-ended : goal.returns-clause-ended
 returns-clause-ended c = search (rules, arith, ends-all)

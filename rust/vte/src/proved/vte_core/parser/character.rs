@@ -121,7 +121,7 @@ impl<B: Buffer> Machine<B> {
             return next + 2;
         }
         if G::IN_RUNS {
-            let end = reader.find_run_end_for(performer, input, next + 3);
+            let end = reader.find_other_run_end(performer, input, next + 3);
             // SAFETY: the character at `from` is whole, and the search passes whole
             // characters.
             performer.print_text(reader, unsafe { text(input, from, end) });

@@ -73,8 +73,9 @@ impl<B: Buffer> Machine<B> {
             State::EscapeIntermediate => {
                 self.read_intermediates::<P, G, MAY_STOP>(reader, performer, input, from)
             }
-            State::ControlSequence(progress) => self
-                .read_control_sequence::<P, G, MAY_STOP>(reader, performer, input, progress, from),
+            State::ControlSequence(progress) => self.continue_control_sequence::<P, G, MAY_STOP>(
+                reader, performer, input, progress, from,
+            ),
             State::DeviceControl(progress) => {
                 self.read_device_control::<P, G, MAY_STOP>(reader, performer, input, progress, from)
             }

@@ -93,8 +93,8 @@ impl<B: Buffer> Machine<B> {
                 reader.report_lone_byte(performer, byte);
                 position += 1;
             } else if is_lead(byte) {
-                position =
-                    self.read_at_lead::<P, G, MAY_STOP>(reader, performer, input, position, byte);
+                position = self
+                    .read_run_at_lead::<P, G, MAY_STOP>(reader, performer, input, position, byte);
             } else {
                 // U+FFFD doesn't stop a call: a control may, also one of two bytes.
                 reader.report_lone_byte(performer, byte);
@@ -163,7 +163,7 @@ impl<B: Buffer> Machine<B> {
         let mut position = from;
         let mut prefix = up_to(input, (from + SHORT_TEXT).min(input.len()));
         let mut byte = reader.byte_at(input, from);
-        while let Some(next) = self.read_one(reader, performer, input, position, byte) {
+        while let Some(next) = self.read_byte_of_text(reader, performer, input, position, byte) {
             position = next;
             if position < prefix.len() {
                 byte = reader.byte_at(prefix, position);
@@ -180,7 +180,7 @@ impl<B: Buffer> Machine<B> {
     /// Reads what a byte of text begins, which was looked at: a character, a malformed sequence or
     /// a control. Returns where it ends, or nothing if the byte is ESC, which is left unread.
     #[inline(always)]
-    fn read_one<P: CountedPerform<G> + ?Sized, G: Granularity>(
+    fn read_byte_of_text<P: CountedPerform<G> + ?Sized, G: Granularity>(
         &mut self,
         reader: Reader,
         performer: &mut P,
@@ -208,7 +208,7 @@ impl<B: Buffer> Machine<B> {
     /// run, a character or a malformed sequence.
     #[inline(always)]
     #[allow(unsafe_code)]
-    fn read_at_lead<P: CountedPerform<G> + ?Sized, G: Granularity, const MAY_STOP: bool>(
+    fn read_run_at_lead<P: CountedPerform<G> + ?Sized, G: Granularity, const MAY_STOP: bool>(
         &mut self,
         reader: Reader,
         performer: &mut P,

@@ -69,8 +69,8 @@ impl<B: Buffer> Machine<B> {
         Ok(RunRange::empty(position))
     }
 
-    /// Reads a character that isn't printed or a malformed sequence, or controls and what is
-    /// malformed up to where a run may begin, or an escape sequence.
+    /// Reads text at which no run begins: what a lead byte begins, or controls and malformed bytes
+    /// up to the next lead byte or printed ASCII, and an escape sequence that follows them.
     fn read_unprinted<P: CountedPerform<ByCharacter> + ?Sized>(
         &mut self,
         reader: Reader,

@@ -35,7 +35,7 @@ impl Reader {
         input: &[u8],
         from: usize,
     ) -> usize {
-        let end = self.find_end_by_words(input, from + 4);
+        let end = self.find_ascii_end_by_words(input, from + 4);
         self.find_run_end(input, end, performer.keeps_layout())
     }
 
@@ -57,7 +57,7 @@ impl Reader {
             Some(second) if is_continuation(second) => match self.get_byte(input, from + 2) {
                 Some(third) if first < 0xe0 => {
                     if is_lead(third) && is_printed_pair(first, second) {
-                        self.find_run_end_for(performer, input, from + 2)
+                        self.find_other_run_end(performer, input, from + 2)
                     } else {
                         from
                     }
@@ -65,7 +65,7 @@ impl Reader {
                 Some(third)
                     if first < 0xf0 && is_continuation(third) && may_begin_three(first, second) =>
                 {
-                    self.find_run_end_for(performer, input, from + 3)
+                    self.find_other_run_end(performer, input, from + 3)
                 }
                 _ => from,
             },
@@ -73,9 +73,11 @@ impl Reader {
         }
     }
 
-    /// Finds where the run ends that has come to a position, for a performer.
+    /// Finds where the run ends that has come to a position after a character that isn't ASCII, for
+    /// a performer.
+    // Its loop is that of `find_run_end_up_to`, but blocks begin later once the run has had ASCII.
     #[inline(never)]
-    pub(crate) fn find_run_end_for<P: CountedPerform<G> + ?Sized, G: Granularity>(
+    pub(crate) fn find_other_run_end<P: CountedPerform<G> + ?Sized, G: Granularity>(
         self,
         performer: &P,
         input: &[u8],
@@ -107,7 +109,7 @@ impl Reader {
     #[inline(always)]
     pub(crate) fn find_run_end(self, input: &[u8], from: usize, layout: bool) -> usize {
         let to = input.len().min(from + SHORT_RUN);
-        let end = self.find_end_up_to(input, from, to, layout);
+        let end = self.find_run_end_up_to(input, from, to, layout);
         if end < to || end == input.len() {
             end
         } else {
@@ -117,7 +119,7 @@ impl Reader {
 
     /// Finds where the run ends that has come to a position, or where it comes to or past another.
     #[inline(always)]
-    fn find_end_up_to(self, input: &[u8], from: usize, to: usize, layout: bool) -> usize {
+    fn find_run_end_up_to(self, input: &[u8], from: usize, to: usize, layout: bool) -> usize {
         let mut end = from;
         while end < to {
             let byte = self.byte_at(input, end);
@@ -137,7 +139,7 @@ impl Reader {
     #[inline(never)]
     fn find_run_end_by_blocks(self, input: &[u8], from: usize, layout: bool) -> usize {
         let end = self.skip_run_blocks(input, from, layout);
-        self.find_end_up_to(input, end, input.len(), layout)
+        self.find_run_end_up_to(input, end, input.len(), layout)
     }
 
     /// Finds where the character ends that stands at a position and is no printed ASCII, if a run
@@ -180,7 +182,9 @@ impl Reader {
     fn find_ascii_end(self, input: &[u8], from: usize) -> usize {
         match self.get_byte(input, from) {
             Some(second) if is_printed_ascii(second) => match self.get_byte(input, from + 1) {
-                Some(third) if is_printed_ascii(third) => self.find_end_by_words(input, from + 2),
+                Some(third) if is_printed_ascii(third) => {
+                    self.find_ascii_end_by_words(input, from + 2)
+                }
                 _ => from + 1,
             },
             _ => from,
@@ -190,7 +194,7 @@ impl Reader {
     /// Finds the first byte from a position on that is no printed ASCII, or where fewer than eight
     /// bytes are left.
     #[inline(always)]
-    fn find_end_by_words(self, input: &[u8], from: usize) -> usize {
+    fn find_ascii_end_by_words(self, input: &[u8], from: usize) -> usize {
         let mut end = from;
         while let Some(word) = self.get_block::<8>(input, end) {
             if let Some(position) = first_unprinted(&word) {

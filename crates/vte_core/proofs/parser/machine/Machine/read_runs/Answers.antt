@@ -74,9 +74,9 @@ loop-position-preserved-in-None g c =
     }
 
 -- The two functions that read on begin where the call stands.
-pub read_at_lead-position-requires-clause-may_read : goal.read_at_lead-position-requires-clause-may_read
-read_at_lead-position-requires-clause-may_read g c = at g
-    (goal.at.read_at_lead-position-requires-clause-may_read g c).Joined-is_printed_ascii
+pub read_run_at_lead-position-requires-clause-may_read : goal.read_run_at_lead-position-requires-clause-may_read
+read_run_at_lead-position-requires-clause-may_read g c = at g
+    (goal.at.read_run_at_lead-position-requires-clause-may_read g c).Joined-is_printed_ascii
 
 pub read_sequence-requires-clause-may_read : goal.read_sequence-requires-clause-may_read
 read_sequence-requires-clause-may_read g c =
@@ -105,7 +105,7 @@ read g c here = elim c.if-byte-lt160.branch [
       reported.control reported.malformed)
       (settled-by here.begun tt)))
   | else-byte-lt160+then-is_lead w ↦
-      rw (w.self-is, w.performer-is, w.position-is) (advances-part w.read_at_lead-position.ensures.advances)
+      rw (w.self-is, w.performer-is, w.position-is) (advances-part w.read_run_at_lead-position.ensures.advances)
 ]
 
 -- A stop after these.
@@ -126,7 +126,7 @@ loop-position-preserved g c =
       may_go_on = search rules;
       settled = elim c.if-byte-lt160.branch [
         | then-byte-lt160+else-byte-eq-ESCAPE w ↦ rw w.self-is (λ _. here.begun)
-        | else-byte-lt160+then-is_lead w ↦ rw (w.self-is, w.position-is) w.read_at_lead-position.ensures.text
+        | else-byte-lt160+then-is_lead w ↦ rw (w.self-is, w.position-is) w.read_run_at_lead-position.ensures.text
       ];
       low = search rules;
       high = search rules;

@@ -3,8 +3,8 @@ use Rattle.vte_core.proofs.Common.{sym, ◌∙◌, arith}
 use Rattle.vte_core.proofs.calls.BetweenCharacters.{performs-printed, performs-single}
 use Rattle.vte_core.proofs.calls.Progress.{settled-by}
 use Rattle.vte_core.proofs.calls.Stretches.{advances-byte, advances-part}
-use Rattle.vte_core.proofs.parser.machine.Machine.read_one.Goals.{then-is_printed_ascii, else-is_printed_ascii+else-is_lead+then-first-ge160, else-is_printed_ascii+else-is_lead+else-first-ge160+else-first-eq-ESCAPE}
-use Rattle.vte_core.proofs.parser.machine.Machine.read_one.Goals as goal
+use Rattle.vte_core.proofs.parser.machine.Machine.read_byte_of_text.Goals.{then-is_printed_ascii, else-is_printed_ascii+else-is_lead+then-first-ge160, else-is_printed_ascii+else-is_lead+else-first-ge160+else-first-eq-ESCAPE}
+use Rattle.vte_core.proofs.parser.machine.Machine.read_byte_of_text.Goals as goal
 
 pub returns-clause-advances : goal.returns-clause-advances
 returns-clause-advances g c =

@@ -1,6 +1,6 @@
 -- All bytes so far are a run, with 11 looks for three bytes at most.
 use Rattle.vte_core.proofs.Common.{length, ◌*◌, ◌+◌, ◌-◌, ◌≤◌, looked, IsRun, Scans}
-use Rattle.vte_core.proofs.reader.Reader.find_end_up_to.Given as goal
+use Rattle.vte_core.proofs.reader.Reader.find_run_end_up_to.Given as goal
 
 abbrev pub invariant-loop-end : goal.invariant-loop-end
 invariant-loop-end l = record {

@@ -3,7 +3,7 @@ use Rattle.vte_core.proofs.Common.{refl, sym, ◌∙◌, rules}
 use Rattle.vte_core.proofs.bytes.Classes.{final_ends_nothing}
 use Rattle.vte_core.proofs.calls.Heads.{ControlHead, advances-head, advances-past_head, performs-head}
 use Rattle.vte_core.proofs.calls.Stretches.{advances-moved, advances-then}
-use Rattle.vte_core.proofs.parser.machine.Machine.read_control_sequence.Goals as goal
+use Rattle.vte_core.proofs.parser.machine.Machine.continue_control_sequence.Goals as goal
 
 -- Numbers and a final byte.
 pub returns-then-is_final : goal.returns-then-is_final

@@ -193,6 +193,27 @@ pub scans-run : {layout : Bool} {bytes : List ℕ} {i j k : ℕ} {s t u : Reader
     → Scans (IsRun layout) bytes i j s t → Scans (IsRun layout) bytes j k t u → Scans (IsRun layout) bytes i k s u
 scans-run a b = search (rules, arith, run-append)
 
+-- by printed ASCII: one byte, and what follows it
+pub scans-ascii : {layout : Bool} {bytes : List ℕ} {i j k byte : ℕ} {s t u v : Reader}
+    → Scans (IsRun layout) bytes i j s t → byte ≡ slice_index bytes j → looked u ≡ looked t + 1
+    → is_in (from_to 0x20 0x7f) byte ≡ true → Scans ArePrintedAscii bytes (j + 1) k u v
+    → Scans (IsRun layout) bytes i k s v
+scans-ascii {bytes} {j} {byte} a is count printed more =
+    let first : IsPrintedAscii (slice_index bytes j) = subst IsPrintedAscii is (printed-in_range byte printed) in
+    scans-run a (record {
+      low = omega (arith, more.low);
+      high = more.high;
+      are = run-ascii _ _ _ _ (each-both IsPrintedAscii _ _ _ _ (each-one IsPrintedAscii bytes j first) more.are);
+      least = omega (arith, more.least, count);
+    })
+
+-- by another character, or a kept control
+pub scans-other : {layout : Bool} {bytes : List ℕ} {i j k : ℕ} {s t u : Reader}
+    → Scans (IsRun layout) bytes i j s t → j < k → k ≤ length bytes → IsRun layout bytes j k
+    → looked u + j ≡ looked t + k → Scans (IsRun layout) bytes i k s u
+scans-other a low high run count =
+    scans-run a (record { low = omega (arith, low); high = high; are = run; least = omega (arith, count) })
+
 -- over a block, of which the first bytes are such
 pub scans-block : (holds : ℕ → Type 0) (bytes : List ℕ) {block : List ℕ} {i j n : ℕ} (m : ℕ)
     {s t u : Reader} → Scans (Each holds) bytes i j s t

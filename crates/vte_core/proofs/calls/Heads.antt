@@ -1,10 +1,10 @@
 -- The bytes of a head: a function that reads several of them goes on by each. `ReadsHeadUpTo` says which, without the
 -- performer, which learns of a head only at its end; both shapes share it.
 use Rattle.vte_core.specs.machine.ToRun.{IsReadOutsideRuns}
-use Rattle.vte_core.proofs.Common.{◌≡◌, ℕ, zero, suc, ◌+◌, ◌-◌, ◌<◌, ◌≤◌, ◌⊎◌, Option, List, [], ◌∷◌, ◌++◌, true, false, length, take, drop, refl, sym, subst, append_assoc, arith, append-nil, drop-drop, drop_more, take-add, slice_index, MatchOption, class_of, is_head_byte, is_parameter_text, AreInClass, Collected, HeadProgress, Entry, Parameters, Machine, State, ControlSequence, DeviceControl, Event, ChunkCall, Leads, CountsNumbers, SameIntermediates, StandsAtPlace, StandsBy, StandsInHead, Place, InControlSequence, InDeviceControl, IsSettledPlace, Advances, ProgressAt, StandsAt, IsSettled, MayGoOn, TakesBytes, TakesByte, ends_body, progress_after, ReadsHead, Some, None, false≢true, rules}
-use Rattle.vte_core.proofs.bytes.Classes.{head_ends_nothing, AreInClass-append, parameter_is_head}
+use Rattle.vte_core.proofs.Common.{◌≡◌, ℕ, zero, suc, ◌+◌, ◌-◌, ◌<◌, ◌≤◌, ◌⊎◌, Option, List, [], ◌∷◌, ◌++◌, true, false, length, take, drop, refl, sym, subst, append_assoc, arith, append-nil, drop-drop, drop_more, take-add, slice_index, MatchOption, class_of, is_final, is_head_byte, is_parameter_text, AreInClass, Collected, HeadProgress, Entry, Parameters, Machine, State, ControlSequence, DeviceControl, Event, ChunkCall, Leads, CountsNumbers, SameIntermediates, StandsAtPlace, StandsBy, StandsInHead, Place, InControlSequence, InDeviceControl, IsSettledPlace, Advances, ProgressAt, StandsAt, IsSettled, MayGoOn, TakesBytes, TakesByte, ends_body, progress_after, ReadsHead, Some, None, false≢true, rules}
+use Rattle.vte_core.proofs.bytes.Classes.{head_ends_nothing, AreInClass-append, final_ends_nothing, parameter_is_head}
 use Rattle.vte_core.proofs.calls.Progress.{come-settled, come-byte, settled-by}
-use Rattle.vte_core.proofs.calls.Stretches.{performs-in, advances-byte, advances-when, advances-then}
+use Rattle.vte_core.proofs.calls.Stretches.{performs-in, advances-byte, advances-moved, advances-when, advances-then}
 use Rattle.vte_core.proofs.fields.Heads.{holds-parameter}
 use Rattle.vte_core.proofs.fields.PlaceOfState.{IsPlace, stands-in}
 use Rattle.vte_core.proofs.places.PlaceLeads.{control-head, device-head}
@@ -216,3 +216,17 @@ performs-head {step} {old} {new} {limit} {b} {parser}
     {next} shape progress e ordinary takes = performs-in e ordinary (λ place s.
     let k = head-place shape limit progress parser place s in
     subst (λ p. TakesByte step old new limit p b next) (sym k.same) (takes k.head k.stands))
+
+-- a head and the final byte of a control sequence
+pub advances-control_sequence : {V B outside : Type 0} {call : ChunkCall V} {old new : V} {i j k b : ℕ}
+    {reached progress : HeadProgress} {parser next : Machine B} {held : Collected}
+    → parser.state ≡ ControlSequence reached
+    → ReadsHead call.bytes i j reached progress parser.collected held
+    → (j < length call.bytes) × (b ≡ slice_index call.bytes j) → MayGoOn call old → is_final (class_of b) ≡ true
+    → ((head : List ℕ) → StandsInHead held progress head
+    → TakesByte call.step old new call.limit (InControlSequence head) b next)
+    → IsSettled next.state → k ≡ j + 1 → Advances outside call old new i k parser next
+advances-control_sequence {progress} begun reads at may_go_on final takes settled end =
+    advances-moved (sym end)
+    (advances-past_head ControlHead begun reads at may_go_on
+    (performs-head ControlHead progress refl (final_ends_nothing _ final) takes) settled)

@@ -1,6 +1,6 @@
 -- Each round adds ASCII, or one character that is longer or a kept control, to the run (`scans-run`).
-use Rattle.vte_core.proofs.Common.{arith, subst, sym, ◌∙◌, slice_index, IsPrintedAscii, rules}
-use Rattle.vte_core.proofs.bytes.Runs.{each-one, each-both, printed-in_range, run-none, run-ascii, scans-run}
+use Rattle.vte_core.proofs.Common.{arith, sym, ◌∙◌, rules}
+use Rattle.vte_core.proofs.bytes.Runs.{run-none, scans-ascii, scans-other}
 use Rattle.vte_core.proofs.reader.Reader.find_run_end_up_to.Goals as goal
 
 pub loop-end-init : goal.loop-end-init
@@ -10,19 +10,11 @@ loop-end-init c = search (rules, arith, run-none)
 pub loop-end-preserved-then-is_printed_ascii : goal.loop-end-preserved-then-is_printed_ascii
 loop-end-preserved-then-is_printed_ascii c =
     let v = c.loop-end.invariant in
-    let bytes = c.args.input.bytes.now in
     let ascii = c.find_ascii_end-end.ensures in
-    let printed : IsPrintedAscii (slice_index bytes c.loop-end.end) = subst IsPrintedAscii c.byte_at-byte.ensures.value
-    (printed-in_range c.byte_at-byte.result (sym c.is_printed_ascii.ensures ∙ c.if-is_printed_ascii.true)) in
     record {
-      scans = scans-run v.scans (record {
-        low = omega (arith, ascii.scans.low);
-        high = ascii.scans.high;
-        are =
-            run-ascii _ _ _ _
-            (each-both IsPrintedAscii _ _ _ _ (each-one IsPrintedAscii bytes c.loop-end.end printed) ascii.scans.are);
-        least = omega (arith, ascii.scans.least, c.byte_at-byte.ensures.count);
-      });
+      scans =
+          scans-ascii v.scans c.byte_at-byte.ensures.value c.byte_at-byte.ensures.count
+          (sym c.is_printed_ascii.ensures ∙ c.if-is_printed_ascii.true) ascii.scans;
       count = omega (arith, v.count, ascii.count, c.byte_at-byte.ensures.count);
     }
 
@@ -32,11 +24,8 @@ loop-end-preserved c =
     let v = c.loop-end.invariant in
     let other = c.in-Some.ensures in
     record {
-      scans = scans-run v.scans (record {
-        low = omega (arith, other.progress);
-        high = other.high;
-        are = other.run;
-        least = omega (arith, other.count, c.byte_at-byte.ensures.count);
-      });
+      scans =
+          scans-other v.scans other.progress other.high other.run
+          (omega (arith, other.count, c.byte_at-byte.ensures.count));
       count = omega (arith, v.count, other.count, other.progress, c.byte_at-byte.ensures.count);
     }

@@ -1,8 +1,7 @@
 -- Numbers first, then a final byte at once, nothing, or the rest of the head.
 use Rattle.vte_core.proofs.Common.{refl, sym, ◌∙◌, rules}
-use Rattle.vte_core.proofs.bytes.Classes.{final_ends_nothing}
-use Rattle.vte_core.proofs.calls.Heads.{ControlHead, advances-head, advances-past_head, performs-head}
-use Rattle.vte_core.proofs.calls.Stretches.{advances-moved, advances-then}
+use Rattle.vte_core.proofs.calls.Heads.{advances-control_sequence, ControlHead, advances-head}
+use Rattle.vte_core.proofs.calls.Stretches.{advances-then}
 use Rattle.vte_core.proofs.parser.machine.Machine.continue_control_sequence.Goals as goal
 
 -- Numbers and a final byte.
@@ -13,10 +12,8 @@ returns-then-is_final g c =
     let d = c.end_control_sequence.ensures in
     record {
       advances =
-          advances-moved (sym d.next)
-          (advances-past_head ControlHead c.requires.begun read.reads.head next c.requires.may_go_on
-          (performs-head ControlHead c.read_numbers-head.result.progress refl
-          (final_ends_nothing _ (sym c.is_final.ensures ∙ c.if-is_final.true)) d.takes) d.handles.settled);
+          advances-control_sequence c.requires.begun read.reads.head next c.requires.may_go_on
+          (sym c.is_final.ensures ∙ c.if-is_final.true) d.takes d.handles.settled d.next;
       moves = search rules;
     }
 

@@ -1,4 +1,4 @@
-use Rattle.vte_core.proofs.Common.{false≢true, ap, not, sym, ◌∙◌, rules}
+use Rattle.vte_core.proofs.Common.{false≢true, ap, not, sym, ◌∙◌}
 use Rattle.vte_core.proofs.parser.machine.Machine.is_open.Goals as goal
 use Rattle.vte_core.proofs.parser.machine.Machine.is_open.Goals.{in-Nothing, in_default}
 

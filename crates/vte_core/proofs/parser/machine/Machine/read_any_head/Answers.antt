@@ -1,9 +1,9 @@
 -- The head first. Then nothing is left, or the next byte ends it: final, CAN, SUB or ESC, a control, or one that is
 -- dropped, by its class.
 use Rattle.vte_core.proofs.Common.{refl, sym, ◌∙◌, rules, class_of}
-use Rattle.vte_core.proofs.bytes.Classes.{class-control, final_ends_nothing, left_is_dropped}
-use Rattle.vte_core.proofs.calls.Stretches.{takes-byte, advances-moved}
-use Rattle.vte_core.proofs.calls.Heads.{ControlHead, advances-head, advances-past_head, performs-head}
+use Rattle.vte_core.proofs.bytes.Classes.{class-control, left_is_dropped}
+use Rattle.vte_core.proofs.calls.Stretches.{takes-byte}
+use Rattle.vte_core.proofs.calls.Heads.{advances-control_sequence, ControlHead, advances-head, advances-past_head, performs-head}
 use Rattle.vte_core.proofs.fields.PlaceOfState.{stands-by}
 use Rattle.vte_core.proofs.places.PlaceLeads.{byte-dropped, byte-executed}
 use Rattle.vte_core.proofs.parser.machine.Machine.read_any_head.Goals.{then-ends_body, else-ends_body+then-is_plain_control, else-ends_body+else-is_plain_control}
@@ -17,10 +17,8 @@ returns-then-is_final g c =
     let d = c.end_control_sequence.ensures in
     record {
       advances =
-          advances-moved (sym d.next)
-          (advances-past_head ControlHead c.requires.begun read.reads.head next c.requires.may_go_on
-          (performs-head ControlHead c.read_head-head.result.progress refl
-          (final_ends_nothing _ (sym c.is_final.ensures ∙ c.if-is_final.true)) d.takes) d.handles.settled);
+          advances-control_sequence c.requires.begun read.reads.head next c.requires.may_go_on
+          (sym c.is_final.ensures ∙ c.if-is_final.true) d.takes d.handles.settled d.next;
       moves = search rules;
     }
 

@@ -142,7 +142,7 @@ impl<B: Buffer> Machine<B> {
             return next;
         }
         if next + 2 >= input.len() {
-            return self.continue_character::<P, G, MAY_STOP>(
+            return self.continue_near_end::<P, G, MAY_STOP>(
                 reader,
                 performer,
                 Unfinished::Two(first, second),
@@ -169,6 +169,29 @@ impl<B: Buffer> Machine<B> {
         }
         reader.report_character(performer, character_of_four(first, second, third, fourth));
         next + 3
+    }
+
+    /// Does what `continue_character` does, where the bytes of a call may end inside a character.
+    // as a part of `drive`, it would take registers from the loops of text
+    // cargo instead: #[inline(never)]
+    #[inline(always)]
+    fn continue_near_end<P: CountedPerform<G>, G: Granularity, const MAY_STOP: bool>(
+        &mut self,
+        reader: &mut Reader,
+        performer: &mut P,
+        begun: Unfinished,
+        input: Input<'_>,
+        from: usize,
+    ) -> usize
+        requires in_order { from ≤ length input.bytes.now }
+        requires inside { bytes_of begun ≢ [] }
+        ensures completes { Completes
+            (chunk_call MAY_STOP P.step P.is_terminated B.limit input.entry.bytes.now)
+            (P.value_of performer.old) (P.value_of performer.new) from result begun self.new }
+        ensures spends { SpendsWithin 2 0 2 input.entry.bytes.now from result self.old self.new
+            reader.old reader.new }
+    {
+        self.continue_character::<P, G, MAY_STOP>(reader, performer, begun, input, from)
     }
 
     /// Reads the bytes that an unfinished character continues with. A byte that breaks it is left

@@ -102,7 +102,7 @@ impl<B: Buffer> Machine<B> {
             return next;
         }
         if next + 2 >= input.len() {
-            return self.continue_character::<P, G, MAY_STOP>(
+            return self.continue_near_end::<P, G, MAY_STOP>(
                 reader,
                 performer,
                 Unfinished::Two(first, second),
@@ -129,6 +129,20 @@ impl<B: Buffer> Machine<B> {
         }
         reader.report_character(performer, character_of_four(first, second, third, fourth));
         next + 3
+    }
+
+    /// Does what `continue_character` does, where the bytes of a call may end inside a character.
+    // as a part of `drive`, it would take registers from the loops of text
+    #[inline(never)]
+    fn continue_near_end<P: CountedPerform<G> + ?Sized, G: Granularity, const MAY_STOP: bool>(
+        &mut self,
+        reader: Reader,
+        performer: &mut P,
+        begun: Unfinished,
+        input: &[u8],
+        from: usize,
+    ) -> usize {
+        self.continue_character::<P, G, MAY_STOP>(reader, performer, begun, input, from)
     }
 
     /// Reads the bytes that an unfinished character continues with. A byte that breaks it is left

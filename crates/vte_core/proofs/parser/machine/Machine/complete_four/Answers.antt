@@ -43,7 +43,7 @@ returns-then-next-len-clause-advances g c =
     let second = sym c.may_begin_four.ensures ∙ c.if-not-may_begin_four.false in
     advances-first r.may_read (lead_of_two _ r.lead.low) r.lead.high
     (completes-then (goes-second c.args.self.now (lead_of_three _ r.lead.low) second r.within r.looked_at)
-    c.continue_character.ensures.completes)
+    c.continue_near_end.ensures.completes)
 
 -- The third byte does not continue: broken after two.
 pub returns-then-not-is_continuation-clause-advances : goal.returns-then-not-is_continuation-clause-advances

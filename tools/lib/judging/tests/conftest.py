@@ -18,7 +18,7 @@ def vtlog():
 def judge(vtlog):
     """Runs tools/judge, whose status must be the wanted one. Returns its output."""
     def judged(wanted, *words):
-        status, output = run(sys.executable, "-B", TOOLS / "judge", "--vtlog", vtlog, *words)
+        status, output = run(sys.executable, TOOLS / "judge", "--vtlog", vtlog, *words)
         assert status == wanted, output
         return output
     return judged

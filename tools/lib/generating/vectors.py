@@ -51,8 +51,9 @@ def lines_of(values):
 
 def split_repeated(text):
     """(front, unit, times, back): the text about its longest run of one short unit."""
-    best = (text, text[:0], 0, text[:0])
-    for width in range(1, 61):
+    best, half = (text, text[:0], 0, text[:0]), text[len(text) // 2:]
+    # a run of more than half is in the middle, and ends the search
+    for width in sorted(range(1, 61), key=lambda it: half[:it] != half[it:2 * it]):
         run = rf"(.{{{width}}})\1+"
         run, at = re.compile(run if isinstance(text, str) else run.encode(), re.S), 0
         while found := run.search(text, at):

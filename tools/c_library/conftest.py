@@ -8,7 +8,7 @@ from c_library.library import Library
 
 def pytest_addoption(parser):
     parser.addoption("--short", action="store_true",
-                     help="test cargo's build alone, on fewer streams, without vtlog")
+                     help="test only cargo's build, on fewer streams, in fewer ways, without vtlog")
     parser.addoption("--streams", type=int,
                      help="how many random streams (default: 20,000, with --short 400)")
     parser.addoption("--seed", type=int, default=1, help="of random streams")
@@ -21,13 +21,13 @@ def pytest_generate_tests(metafunc):
 
 
 @pytest.fixture(scope="session")
-def built(tmp_path_factory):
+def built(tmp_path_factory, pytestconfig):
     """Builds the library, once in each way."""
     @cache
     def build_by(build):
         for command in "cc", build:
             need(command, f"{command}, so the C library was not tested")
-        return Library(build, tmp_path_factory.mktemp(build))
+        return Library(build, tmp_path_factory.mktemp(build), pytestconfig.option.short)
     return build_by
 
 

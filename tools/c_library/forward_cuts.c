@@ -1,11 +1,11 @@
-/* Runs forward.c on its standard input: whole, byte by byte, and cut in two at every place. Writes
- * what it passes on of the whole, or where a cut changes that. */
+/* Runs forward.c on streams, each of which ends with NUL: whole, byte by byte, and cut in two at
+ * every place. Writes what it passes on of the whole, or where a cut changes that, and NUL. */
 #include <stdio.h>
 #include <stdlib.h>
 #include <string.h>
 #include <unistd.h>
 
-static char stream[1 << 16];
+static char *stream;
 static size_t length, at, cut, step;
 
 /* Reads up to the cut, or a step. */
@@ -38,15 +38,20 @@ static char *passed_on(size_t *size) {
 }
 
 int main(void) {
-    length = fread(stream, 1, sizeof stream, stdin);
-    size_t whole_size, size;
-    char *whole = passed_on(&whole_size);
-    for (step = 1; cut < length; cut++, step = 0) {
-        char *passed = passed_on(&size);
-        if (size != whole_size || memcmp(passed, whole, size) != 0) printf("cut at %zu:\n", cut);
-        free(passed);
+    size_t room = 0, whole_size, size;
+    for (ssize_t read; (read = getdelim(&stream, &room, 0, stdin)) > 0; putchar(0)) {
+        length = (size_t)read - 1;
+        cut = step = 0;
+        char *whole = passed_on(&whole_size);
+        for (step = 1; cut < length; cut++, step = 0) {
+            char *passed = passed_on(&size);
+            if (size != whole_size || memcmp(passed, whole, size) != 0)
+                printf("cut at %zu:\n", cut);
+            free(passed);
+        }
+        fwrite(whole, 1, whole_size, stdout);
+        free(whole);
     }
-    fwrite(whole, 1, whole_size, stdout);
-    free(whole);
+    free(stream);
     return 0;
 }

@@ -42,8 +42,8 @@ def compiles(words, **environment):
 class Library:
     """A build of the library in a folder, with the programs that are compiled there."""
 
-    def __init__(self, build, folder):
-        self.build, self.folder = build, folder
+    def __init__(self, build, folder, is_short):
+        self.build, self.folder, self.is_short = build, folder, is_short
         is_built, said = compiles([TOOLS / "build_c_library", f"--{build}", folder])
         assert is_built, said
         self.archive, self.shared = folder / "libvte_c.a", folder / "libvte_c.so"

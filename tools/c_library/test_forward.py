@@ -2,11 +2,10 @@
 import random
 import re
 
-import pytest
 from lib.generating import streams
 from lib.judging import definition, house
 
-from c_library.library import EXAMPLES, HERE, SANITIZERS, at_once, output_of
+from c_library.library import EXAMPLES, HERE, SANITIZERS, output_of
 from c_library.test_examples import assert_ends_by_errors, assert_slow, program
 
 ST = b"\x1b\\"
@@ -82,18 +81,15 @@ def test_recorded(library):
     assert_ends_by_errors(forward)
 
 
-@pytest.mark.parametrize("words", [[], SANITIZERS], ids=["", "sanitized"])
-def test_cuts(library, words):
+def test_cuts(library):
     """Wherever a stream is cut, as much is passed on as of the whole, and by this definition."""
-    if words and not library.sanitized:
-        pytest.skip("cc has no sanitizers")
-    by_cuts = library.program(HERE / "forward_cuts.c", f"-I{EXAMPLES / 'c'}", *words)
     by_hand, chance = {**BY_HAND, **dict(zip(PASSED, PASSED))}, random.Random(52)
     hostile = [b"".join(chance.choices(PARTS, k=chance.randint(1, 16))) for _ in range(300)]
-
-    def test(stream):
-        assert output_of([by_cuts], stream) == by_hand.get(stream, forwarded(stream)), stream
+    wanted = {**{stream: forwarded(stream) for stream in hostile}, **by_hand}
+    for stream in wanted:
         lines = definition.lines_of(forwarded(stream + b"\x18"), house.House(limit=None))
         assert lines == [*lines_without_clipboards(stream + b"\x18")], stream
-
-    at_once(test, [*by_hand, *hostile])
+    for words in [[], SANITIZERS][:1 + bool(library.sanitized)]:
+        by_cuts = library.program(HERE / "forward_cuts.c", f"-I{EXAMPLES / 'c'}", *words)
+        *passed, rest = output_of([by_cuts], b"".join(it + b"\0" for it in wanted)).split(b"\0")
+        assert (dict(zip(wanted, passed)), rest) == (wanted, b"")

@@ -139,6 +139,6 @@ def test_streams_of_c(monkeypatch, words, count, seed):
     monkeypatch.setattr(of_c, "hostile_stream", lambda *it: [b"%d %d" % it[:2]])
     monkeypatch.setattr(of_c, "recorded", lambda: [("long", [b"a" * 20_000])])
     streams = dict(of_c.all_streams(parser.parse_args(words.split())))
-    assert len(streams["long"]) == (10_000 if words == "--short" else 20_000)
+    assert len(streams["long"]) == (4_000 if words == "--short" else 20_000)
     found = b"\x18".join(streams[name] for name in streams if name.startswith("random"))
     assert found.split(b"\x18") == [b"%d %d" % (seed, number) for number in range(count)]

@@ -95,7 +95,8 @@ def assert_joined(folder, stream):
 
 @pytest.mark.parametrize("size", [1, 100, 1 << 30])
 def test_pieces_are_the_text(cluster, tmp_path, size):
-    files = [tmp_path / name for name in STREAMS]
+    # the vectors would have 930 parts
+    files = [tmp_path / name for name in STREAMS if size > 1 or name != "vectors"]
     for path in files:
         path.write_bytes(STREAMS[path.name])
     cluster.strip(*files, "--out", tmp_path / "out", "--size", size)

@@ -22,7 +22,7 @@ pieces = strategies.lists(
 streams = strategies.lists(pieces, max_size=5)
 some_kinds = (strategies.none() | strategies.just({Osc})
               | strategies.sets(strategies.sampled_from([*ENDS, Text, Data])))
-often = settings(deadline=None, max_examples=300)
+often = settings(deadline=None, max_examples=150)
 
 
 @often

@@ -14,8 +14,9 @@ def right(pieces, _):
 
 # ---- long streams
 
-LONG_CASES = [case for case in cases.all_cases(["vectors"], "1", 0)
-              if sum(map(len, case.pieces)) > 50000]
+# of 100,000 bytes in one piece 20,000 will do
+LONG_CASES = [case._replace(pieces=[case.pieces[0][:10_000] + case.pieces[0][-10_000:]])
+              for case in cases.all_cases(["vectors"], "1", 0) if len(case.pieces[0]) > 50_000]
 
 
 def limit_readings(monkeypatch, most):
@@ -49,7 +50,7 @@ def test_a_long_stream_is_freed_in_one_pass(monkeypatch, stream, rules):
     ("forgetful", (), {"cut:malformed/replacement", "cut:unfinished/replacement"})])
 def test_long_streams_are_judged_to_the_end(monkeypatch, fault, left_out, found):
     some = [*LONG_CASES, *(cases.Case("", [b"\xe4"] * 4000 + [end]) for end in (b"", b"\x1b"))]
-    limit_readings(monkeypatch, 10 * 10**6)
+    limit_readings(monkeypatch, 2 * 10**6)
     result = judge_of(lambda pieces, _: toy.answer(pieces, [fault]), left_out=left_out).run(some)
     assert (result.streams, result.ended_early) == (len(some), "")
     assert {*result.findings} == found

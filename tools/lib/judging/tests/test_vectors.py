@@ -47,10 +47,9 @@ def test_rules_are_those_of_the_vectors(file):
     assert all(rule == events.get(name, rule) for name, rule in file["rules"].items())
 
 
-@pytest.mark.parametrize("name", NAMES)
-def test_a_vector_is_a_line(name):
+@pytest.mark.parametrize("name, file", zip(NAMES, FILES), ids=NAMES)
+def test_a_vector_is_a_line(name, file):
     lines = (VECTORS / f"{name}.json").read_text().splitlines()
-    file = FILES[NAMES.index(name)]
     wanted = [json.dumps(vector) for vector in file["vectors"] + file["long"]]
     assert [line.rstrip(",") for line in lines if line.startswith('{"id": ')] == wanted
 

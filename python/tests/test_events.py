@@ -133,10 +133,9 @@ def test_any_object_with_a_buffer(data, wanted):
     assert vte.Processor().feed(data) == vte.Processor().feed(bytes(data))
 
 
-WRONG_KINDS = [{int}, [Text, None], int, 5, "Osc", [[]], [Text("a")], [1]]
 WRONG = [("feed", 1), ("feed", "a"), ("feed", b"x", Osc, Osc), ("feed_until", b"x", {Text}),
          ("strip", 1), ("strip", b"x", True, 1), ("strip", "\ud800"),
-         *((*call, wrong) for wrong in WRONG_KINDS
+         *((*call, wrong) for wrong in ({int}, [Text, None], int, 5, "Osc", [[]], [Text("a")], [1])
            for call in [("feed", b"x"), ("feed_until", b"x"), ("feed_until", b"x", {Csi})])]
 
 

@@ -153,10 +153,9 @@ macro_rules! assert_takes_objects {
         let object: &mut dyn Handler = &mut lines;
         let _ = processor.advance(object, stream);
         processor.stop_sync(object);
-        let calls = lines.take();
         let wanted = "input 0061\nset_title Some(\"b\")\nset_private_mode Named(SyncUpdate)\n\
             input 0063\nset_title Some(\"d\")\nunset_private_mode Named(SyncUpdate)\n";
-        assert_eq!(calls, wanted);
+        assert_eq!(lines.take(), wanted);
         let object: &mut dyn lent::Handler = &mut Lent(&mut lines);
         let _ = processor.advance(object, stream);
         processor.stop_sync(object);
@@ -222,11 +221,8 @@ fn processors_keep_what_their_limit_says() {
     assert_keeps!(5, BoundedProcessor::<5, Pending>::new(), true);
     assert_keeps!(1024, BoundedProcessor::<1024, Pending>::new(), true);
     assert_keeps!(3000, BoundedProcessor::<3000, Pending>::new(), true);
-    assert_keeps!(
-        1024,
-        Processor::<Pending>::new(),
-        cfg!(not(feature = "std"))
-    );
+    let has_limit = cfg!(not(feature = "std"));
+    assert_keeps!(1024, Processor::<Pending>::new(), has_limit);
     let new = || LongProcessor::new(Pending::default()).unwrap();
     assert_keeps!(1024, new(), false);
 }
@@ -236,10 +232,8 @@ fn processors_keep_what_their_limit_says() {
 #[test]
 fn processors_have_defaults() {
     let (mut usual, mut lines) = (<BoundedProcessor>::new(), CallLines::default());
-    usual.advance(
-        &mut lines,
-        &[b"\x1b]2;", &[b'a'; 2000][..], b"\x07"].concat(),
-    );
+    let command = [b"\x1b]2;", &[b'a'; 2000][..], b"\x07"].concat();
+    usual.advance(&mut lines, &command);
     let title = "a".repeat(1023);
     assert_eq!(lines.take(), format!("set_title Some({title:?})\n"));
     let long: LongProcessor = LongProcessor::new(Default::default()).unwrap();

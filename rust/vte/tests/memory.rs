@@ -421,11 +421,8 @@ fn a_parser_takes_no_memory_before_a_command() {
             parser.advance(&mut shown, text);
             parser.advance_text(&mut shown, text);
         }
-        let _ = (
-            Parser::<7>::default(),
-            LongParser::default(),
-            LongParser::new(),
-        );
+        let _ = (Parser::<7>::default(), LongParser::default());
+        let _ = LongParser::new();
     });
     assert_eq!(taken, 0);
 }
@@ -494,11 +491,8 @@ fn a_long_parser_stops_without_memory() {
     let stream = b"a\x1b]2\x07\x1b]34\x07";
     let answer = refused(|| parser.advance_until_terminated(&mut shown, stream));
     assert_eq!((answer, shown.commands), (Err(Refused { read: 3 }), 0));
-    assert_eq!(
-        parser.advance_until_terminated(&mut shown, &stream[3..]),
-        Ok(2)
-    );
-    assert_eq!(shown.texts, "2");
+    let answer = parser.advance_until_terminated(&mut shown, &stream[3..]);
+    assert_eq!((answer, &*shown.texts), (Ok(2), "2"));
     // it is terminated still, so the next byte isn't read, and in a command no memory is taken for
     // it
     let answer = refused(|| parser.advance_until_terminated(&mut shown, &stream[5..]));
@@ -509,9 +503,7 @@ fn a_long_parser_stops_without_memory() {
     assert_eq!(answer, Ok(0));
     // the rest
     shown.is_terminated = false;
-    assert_eq!(
-        parser.advance_until_terminated(&mut shown, &stream[7..]),
-        Ok(3)
-    );
+    let answer = parser.advance_until_terminated(&mut shown, &stream[7..]);
+    assert_eq!(answer, Ok(3));
     assert_eq!((&*shown.texts, shown.commands), ("234", 2));
 }

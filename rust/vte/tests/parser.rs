@@ -5,29 +5,19 @@ use vte::{BoundedParser, Parser, Perform};
 use crate::vectors::event_lines::EventLines;
 use crate::vectors::events_of;
 
-#[test]
-fn the_default_parser_is_of_1024_bytes() {
-    let parser: Parser = Parser::new();
-    let _: Parser<1024> = parser;
-    let _: Parser<64> = Parser::default();
-    let bounded: BoundedParser = BoundedParser::new();
-    let _: BoundedParser<1024> = bounded;
-}
-
-/// A parser is made without running code.
+/// A parser is made without running code. The usual one is of 1,024 bytes.
 #[test]
 fn parsers_can_be_constants() {
     use std::sync::Mutex;
     const NEW: Parser = Parser::new();
     static BOUNDED: Mutex<BoundedParser<5>> = Mutex::new(BoundedParser::new_with_size());
     static USUAL: Mutex<BoundedParser> = Mutex::new(BoundedParser::new());
-    let mut lines = <EventLines>::default();
+    let (_, _): (Parser<1024>, Parser<64>) = (NEW, Parser::default());
+    let _: &Mutex<BoundedParser<1024>> = &USUAL;
+    let (mut lines, mut bounded) = (<EventLines>::default(), BOUNDED.lock().unwrap());
     NEW.clone().advance(&mut lines, b"\x1b]0;title\x07");
-    BOUNDED
-        .lock()
-        .unwrap()
-        .advance(&mut lines, b"b\x1b]0;title");
-    BOUNDED.lock().unwrap().advance(&mut lines, b"\x07");
+    bounded.advance(&mut lines, b"b\x1b]0;title");
+    bounded.advance(&mut lines, b"\x07");
     USUAL.lock().unwrap().advance(&mut lines, b"c");
     let wanted = "osc true 2 30 7469746c65\nprint 0062\nosc true 2 30 7469746c\nprint 0063\n";
     assert_eq!(lines.text, wanted);

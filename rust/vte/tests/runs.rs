@@ -40,11 +40,8 @@ macro_rules! assert_passes_runs {
         let _ = processor.advance_text($handler, STREAM);
         assert_runs(&$lines.text.borrow(), &$lines.runs, &["before it"]);
         processor.stop_sync_text($handler);
-        assert_runs(
-            &$lines.text.borrow(),
-            &$lines.runs,
-            &["before it", "inside it"],
-        );
+        let both = ["before it", "inside it"];
+        assert_runs(&$lines.text.borrow(), &$lines.runs, &both);
     };
 }
 

@@ -74,15 +74,10 @@ fn debug_shows_a_name() {
     }
     #[cfg(feature = "ansi")]
     {
-        let (processor, long) = (
-            Processor::<Pending>::new(),
-            LongProcessor::new(Pending(false)),
-        );
+        let (processor, long) = (Processor::new(), LongProcessor::new(Pending(false)));
+        let (processor, long): (Processor<Pending>, _) = (processor, long.ok().unwrap());
         assert_shown!(processor, "Processor { sync_bytes_count: 8, .. }");
-        assert_shown!(
-            long.ok().unwrap(),
-            "LongProcessor { sync_bytes_count: 8, .. }"
-        );
+        assert_shown!(long, "LongProcessor { sync_bytes_count: 8, .. }");
     }
 }
 

@@ -115,11 +115,8 @@ fn check_vectors<R: Reader>() {
             }
             "updates" => {
                 check_acts::<R>(&vector);
-                calls = vector
-                    .items("steps")
-                    .iter()
-                    .map(|step| step.lines("calls"))
-                    .collect();
+                let steps = vector.items("steps").iter();
+                calls = steps.map(|step| step.lines("calls")).collect();
                 if vector.text("timeout") == "counting" && !calls.contains("SyncUpdate") {
                     check_stream::<R>(name, &stream, &calls);
                 }

@@ -186,9 +186,8 @@ fn parts_give_the_events_of_their_stream() {
         // one with 100,000 bytes takes a while
         let sizes = if stream.len() > MAX_CUT { 3 } else { 40 };
         for size in 0..stream.len().min(sizes) {
-            let lines: String = parts(&stream, size)
-                .map(|it| events_of(&[it]).text)
-                .collect();
+            let lines = parts(&stream, size).map(|it| events_of(&[it]).text);
+            let lines: String = lines.collect();
             assert_eq!(lines, vector.lines("events"), "{name}, {size}");
         }
         most = most.max(parts(&stream, 1).count());

@@ -21,7 +21,8 @@ static void write_number(long long value) { printf(" %lld", value); }
 
 static void write_bytes(const uint8_t *bytes, size_t length) {
     fputs(bytes ? " t" : " -", stdout);
-    for (size_t i = 0; bytes && i < length; i++) printf("%02x", bytes[i]);
+    for (size_t i = 0; bytes && i < 2 * length; i++) /* faster than printf under sanitizers */
+        putchar("0123456789abcdef"[bytes[i / 2] >> (i % 2 ? 0 : 4) & 15]);
 }
 
 static void write_color(vte_color of) {

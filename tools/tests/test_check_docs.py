@@ -1,0 +1,125 @@
+"""Tests that tools/check_docs refuses what it says."""
+import shutil
+import subprocess
+from pathlib import Path
+from types import SimpleNamespace
+
+import pytest
+
+from tests.support import Tool, write
+
+
+def failures(text, run=True, name="page.md"):
+    files = "a/src/known.rt", *(f"crates/{it}/specs/Two.antt" for it in ("a", "examples", "a/b"))
+    tool = Tool("check_docs", tracked=lambda: list(map(Path, files)),
+                words=lambda: {"one", "two", "three", "rt"},
+                words_by_file=lambda: [{"one", "two", "rt"}, {"three"}],
+                source_lines=lambda: {"f();", "g(1);"},
+                is_in_history=lambda commit: commit == "abc1234")
+    page = tool.parts["Page"](write(name, text))
+    return [it for _, it in tool.parts["failures"](page, run)]
+
+
+# a page, and what is wrong with it
+@pytest.mark.parametrize("page, failure", [
+    ("[a](gone.md)", "broken link: gone.md"),
+    ("[a](page.md) [b](#some-heading) [c](https://example.org/x)\n## Some *heading*", None),
+    ("[a](page.md#no-heading)", "no such heading: page.md#no-heading"),
+    ("[a](#no-heading)", "no such heading: #no-heading"),
+    ("[a](#an-osc-and-more) [b](#c1)\n# An OSC, and more\n### `C1`", None),
+    ("[a](#An-OSC)\n## An OSC", "no such heading: #An-OSC"),
+    ("See docs/GONE.md.", "no such page: docs/GONE.md"),
+    ("`src/known.rt`, `./a/src/known`, `src/*.rt`, `out/gone.rt`", None),
+    ("`a/target/gone`, `src/NAME.rt`, `/gone/file`", None),
+    ("`src/gone.rt`", "no such file or folder: src/gone.rt"),
+    ("`known.rt`, `*.rt`, `one.two`", None), ("`one.rt`", "no such file or folder: one.rt"),
+    ("`one`, `one::two()`, `three!`, `ansi2txt`, `1b5d`", None),
+    ("`four`", "no source file contains four"),
+    ("`one::four`", "no source file contains four of one::four"),
+    ("`one.three`", "no source file contains all parts of one.three"),
+    ("```rust\nf();\n    g(1); // why\n// known.rt\n// ..\n```", None),
+    *((f"```{kind}\nh();\n```", "no source file contains this line: h();")
+      for kind in ("rust", "c", "python", "antt")),
+    ("```rust sketch\nh();\n```\n```sh\nh\n```", None), ("Since abc1234.", None),
+    ("Since abc1235.", "the history has no commit abc1235"),
+    ("```sh run\ntrue\n```\n```sh\nfalse\n```", None),
+    ("```sh run\nfalse\ntrue\n```", "these commands failed with status 1"),
+    ("```sh run\nexit 7\n```", "these commands failed with status 7"),
+    ("```sh run\nexec 2>&-\necho $NO_SUCH_NAME\ntrue\n```", "these commands failed with status"),
+    ("```sh run kit\nexit 7\n```", "these commands failed with status 7"),
+    ("```sh run\ntest -e page.md\n```", None)])
+def test_pages(page, failure, monkeypatch):
+    monkeypatch.setattr(shutil, "which", lambda _: "/bin/rt")
+    found = failures(page)
+    assert [it[: len(failure or "")] for it in found] == [failure] * bool(failure)
+    assert failures(page, run=False) == [it for it in found if "commands failed" not in it]
+
+
+def test_each_module_is_named():
+    said = ["this module has no name here: crates/a/specs/Two.antt"]
+    assert failures("`one`", name="REVIEWING.md") == said
+    assert failures("# `Two`", name="REVIEWING.md") == ["no source file contains Two"]
+
+
+# a page, and what is wrong with it. `Two` of b imports both `One`
+@pytest.mark.parametrize("page, wanted", [
+    ("- `One` of `crates/a/specs`: ..\n- `One`,\n  `Two` of `crates/b/specs`, not `no`", ""),
+    ("Those of `crates/a/specs`:\n\n- `One`: ..\n\n`crates/b/specs`\n\n- `One`\n- `Two`", ""),
+    ("- `Two` of `crates/b/specs`\n- `One`\n- `One` of `crates/a/specs`",
+     "Two imports One of a, Two imports One of b"),
+    ("- `Two`, `One` of `crates/b/specs`: ..", "Two imports One of a, Two imports One of b"),
+    ("- `One`, `Two` of `crates/a/specs`", "no such module of a: Two"),
+    ("- `One`: ..", "no such module of : One"), ("`Three` is none, as\n- `Three.x` and `one`", "")])
+def test_modules_are_listed_after_those_that_they_import(page, wanted):
+    files = {"crates/a/specs/One.antt": "use Rattle.std.specs.List.{map}",
+             "crates/b/specs/One.antt": "use Rattle.b.specs.machine.One",
+             "crates/b/specs/Two.antt": "use Rattle.b.specs.One.{f}\nuse Rattle.a.specs.One as a\n"
+                                        "use Rattle.b.specs.Two.{g}",
+             "crates/b/specs/machine/One.antt": "", "crates/b/specs/machine.antt": ""}
+    tool = Tool("check_docs", tracked=lambda: list(map(Path, files)))
+    for place, text in files.items():
+        write(place, text)
+    found = tool.parts["failures_of_modules"](page + "\n`One`, `Two`")
+    assert [it.partition(", which")[0] for it in found] == list(filter(None, wanted.split(", ")))
+
+
+@pytest.mark.parametrize("needs, crates, lacking", [
+    ("kit", "", "kit"), ("crates", "no", "crates"), ("here crates", "yes", ""),
+    ("here kit gone", "", "kit, gone"), ("python3-json here", "", ""),
+    ("python3-json python3-no_module", "", "python3-no_module"), ("here /tmp /gone", "", "/gone")])
+def test_commands_that_lack_something_are_missing(needs, crates, lacking, monkeypatch, capsys):
+    monkeypatch.setattr(shutil, "which", {"here": "/bin/here"}.get)
+    monkeypatch.setenv("HAS_CRATES", crates)
+    found = failures(f"```sh run {needs}\nfalse\n```")
+    assert found == ([] if lacking else ["these commands failed with status 1"])
+    told = f"missing: commands of page.md:2 need {lacking}\n" * bool(lacking)
+    assert capsys.readouterr().out == told
+
+
+@pytest.mark.parametrize("status, said, wanted", [
+    (0, "false\n", True), (1, "false\n", False), (1, "true\n", True)])
+def test_the_history(status, said, wanted):
+    tool = Tool("check_docs", git=lambda *_: SimpleNamespace(returncode=status, stdout=said))
+    assert tool.parts["is_in_history"]("abc1234") == wanted
+
+
+# words, the pages that have a fault, and what is told: whether commands are run
+@pytest.mark.parametrize("words, faulty, status, told", [
+    ("", "", 0, ["3 pages, 0 failures"]), ("docs/B.md", "", 2, []),
+    ("", "A.md", 1, ["docs/A.md:5: False", "3 pages, 1 failures"]),
+    ("docs/A.md", "A.md README.md", 1, ["docs/A.md:5: False", "1 pages, 1 failures"]),
+    ("--run", "A.md README.md", 1, ["README.md:5: True", "docs/A.md:5: True",
+                                    "tools/README.md:5: True", "3 pages, 3 failures"])])
+def test_which_pages_are_checked(words, faulty, status, told):
+    subprocess.run(["git", "init", "-q"], check=True)
+    write(".gitignore", "out/\n")
+    for place in "README.md", "docs/A.md", "tools/README.md", "out/README.md", "a.py":
+        write(place, "")
+    tool = Tool("check_docs", failures=lambda page, run: [(5, run)] * (page.path.name in faulty))
+    assert tool.run(*words.split()) == (status, "".join(f"{line}\n" for line in told))
+
+
+def test_documents_are_no_sources():
+    write("b.py", "one")
+    tool = Tool("check_docs", tracked=lambda: map(Path, ("docs/a.py", "b.py", "c.md")))
+    assert tool.parts["sources"]() == {Path("b.py"): "one"}

@@ -1,0 +1,116 @@
+"""Tests of tools/erase, and that tools/check_erased refuses what it says."""
+import re
+import shutil
+
+import pytest
+from lib.erasing.plan import Plan
+
+from tests.support import TOOLS, Tool, write
+
+# ---- check_erased
+
+def differences(source, written, place="c/mod.rs"):
+    """What differs in a file, in whose place something else is written."""
+    write("crates/c/src/lib.rt", source)
+    write(f"w/{place}", written)
+    plan = Plan(folder="w", modules={"c": "crate::c"})
+    status, said = Tool("check_erased", PLANS=(plan,)).run()
+    *found, last = said.splitlines()
+    assert status == (1 if found else 0)
+    assert last == f"{len(found)} differences between the proved sources and rust/"
+    return found
+
+
+# the text of a crate, what is written of it, and the items that aren't in one of them: -A isn't
+# written, and +A isn't in the source so. More that doesn't differ is in test_erasing
+@pytest.mark.parametrize("source, written, wanted", [
+    ("/// F.\npub fn f() { laws::x(); g(alloc, c::X); }", "/// F. More.\npub fn f() { g(X); }", ""),
+    ("fn f() -> bool;", "fn f() -> bool { true }", "+fn f, -fn f"),
+    ("fn f() { g(); }", "", "-fn f"), ("trait T { fn f(); }", "trait T {}", "-fn f"),
+    ("", "fn f() { g(); }", "+fn f"), ("fn f() { g(1); }", "fn f() { g(2); }", "+fn f, -fn f"),
+    ("fn f() { g(); }", "fn f() {}", "+fn f, -fn f"),
+    ("impl S { fn f() { g(); } } impl T { fn f() { h(); } }",
+     "impl S { fn f() { h(); } } impl T { fn f() { g(); } }", "+fn f, -fn f"),
+    ("pub static N: u8 = 1;", "pub static N: u8 = 2;", "+static N, -static N"),
+    ("impl S { const N: u8 = 1; }", "impl S {}", "-const N"),
+    ("fn f<const N: u8>() -> *const u8 { N }", "fn f<const N: u8>() -> *const u8 { N }", ""),
+    ("fn f() { g(&mut reader, Chunk::new(a), input.up_to(b)); }",
+     "fn f() { g(reader, a, up_to(input, b)); }", ""),
+    ("fn f() { let (mut reader, input) = chunk.into_reader(); self.looks.add(reader); g(); }",
+     "fn f() { let reader = Reader {}; g(); }", ""),
+    ("fn f() { g(text(a, b.c)); take_run(a); }",
+     "fn f() { g(unsafe { text(a, b.c) }); unsafe { take_run(a) }; }", ""),
+    ("fn f() { text(a); }", "fn f() { unsafe { text(b) }; }", "+fn f, -fn f"),
+    *(("fn f() { g(a); }", f"fn f() {{ unsafe {{ {made} }} }}", "+fn f, -fn f")
+      for made in ("g(a);", "text(a); g(a);", "h(text(a))")),
+    ("fn f() { match a { A => 1, _ => c } }", "fn f() { match a { A => { 1 } _ => c, } }", ""),
+    ("fn f() { input.up_to(a); }", "fn f() { up_to(input, b); }", "+fn f, -fn f"),
+    # contracts and ghosts
+    ("fn f() // requires { }\n ghost a: { ℕ }\n requires b { { \"}\" } ≡ '}' } "
+     "ensures* { c } { g(); }", "fn f() { g(); }", ""),
+    ("#[tactic(auto, u(a))]\nfn f()\n    ensures { a }\n{ b }", "fn f() { c }", "+fn f, -fn f"),
+    ("impl A for B { ghost use c.{D}; ghost e = { λ f. g }; fn h() { 1 } }",
+     "impl A for B { fn h() { 2 } }", "+fn h, -fn h"),
+    # marks
+    ("fn f() {\n// cargo instead: a();\nb(); }", "fn f() { b(); }", "+fn f, -fn f"),
+    ("// cargo lacks: why\nfn f() {}\nfn g() {}", "fn f() {}", "+fn f, -fn g"),
+    ("fn f() { match a { 0..16 => 1 } }", "fn f() { match a { 0..=16 => 1 } }", "+fn f, -fn f")])
+def test_what_differs_is_told(source, written, wanted):
+    shown = re.compile("c/mod.rs (.*?): it isn't (?:written|in the source as it is written: (.*))")
+    found = [shown.fullmatch(line) for line in differences(source, written)]
+    assert ", ".join("+-"[it[2] is None] + it[1] for it in found) == wanted
+    assert all(word in written for it in found for word in (it[2] or "").split())
+
+
+def test_all_files_are_compared():
+    for place in "a", "a/b", "laws/a", "tests", "tests/a":
+        write(f"crates/c/src/{place}.rt", "fn f() {}")
+    source = "pub mod laws;\n#[cfg(test)]\nmod tests;\n"
+    assert differences(source, "") == [f"c/{place}.rs fn f: it isn't written"
+                                       for place in ("a", "a/b")]
+    found = differences(source + "// cargo lacks: why\nmod a;\n", "", "c/d.rs")
+    assert found == ["w/c/d.rs: it has no source"]
+
+
+# ---- erase
+
+def erase(*words):
+    plans = [Plan(folder=folder, modules={"c": "crate::c"}) for folder in ("v", "w")]
+    return Tool("erase", PLANS=plans, formatted=lambda files: files).run(*words)
+
+
+def test_what_is_out_of_date_is_told_and_then_written(folder):
+    write("crates/c/src/d/e.rt", "fn f() { laws::x(); }\n")
+    write("w/left/over", "")
+    write("w/mod.rs", "as it was")
+    outdated = ("these files aren't up to date; run tools/erase:\n"
+                "  v/c/d/e.rs\n  v/mod.rs\n  w/c/d/e.rs\n  w/left/over\n  w/mod.rs")
+    assert erase("--check") == (outdated, "")
+    assert erase() == (None, "5 files are written\n")
+    assert erase("--check") == (None, "")
+    assert erase() == (None, "0 files are written\n")
+    assert not (folder / "w/left/over").exists()
+    assert (folder / "w/c/d/e.rs").read_text().splitlines()[1:] == ["fn f() { }"]
+
+
+def test_each_folder_is_written():
+    top = TOOLS.parent
+    folders = {str(place.relative_to(top)) for place in top.glob("rust/*/src/proved")}
+    assert {plan.folder for plan in Tool("erase").parts["PLANS"]} == folders
+
+
+@pytest.mark.skipif(not shutil.which("rustfmt"), reason="without rustfmt")
+def test_layout():
+    formatted = Tool("erase").parts["formatted"]
+    assert formatted({"mod.rs": "mod a;", "a.rs": "fn f( ){}"}) == {
+        "mod.rs": "mod a;\n", "a.rs": "fn f() {}\n"}
+    with pytest.raises(OSError, match="rustfmt failed with status 1"):
+        formatted({"mod.rs": "fn f( {"})
+
+
+@pytest.mark.parametrize("words", [[], ["--check"]])
+def test_what_the_eraser_refuses_is_told(words, folder):
+    write("crates/c/src/lib.rt", "\n#[test]\nfn f() {}\n")
+    told = "tools/erase: crates/c/src/lib.rt:2: unknown attribute: test"
+    assert erase(*words) == (told, "")
+    assert not (folder / "w").exists()

@@ -1,0 +1,100 @@
+"""Tests of what tools/make_calls and tools/make_vectors write."""
+import shutil
+from pathlib import Path
+
+import pytest
+
+from tests.support import TOOLS, Tool, write
+
+# ---- make_calls
+
+HEADER = "rust/vte_c/include/vte_handler.h"
+# the end of each list with a method more, `ring_bells(&mut self, top: u16, text: &str)`
+ENDS = [
+    "RingBells(u16, &'a str),\n}", "take(HandlerCall::RingBells(top, text));\n    }\n}",
+    "RingBells(top, text): ring_bells visit_number(top as u64) visit_text(text);\n    }",
+    "ring_bells(top: u16, text: &str),\n        }", "ring_bells(u16, &str)\n}",
+    "(top: u16, text: &str) => u16 = top, *const u8 = text.as_ptr(), usize = text.len();\n}",
+    "ring_bells)(void *user, uint16_t top, const uint8_t *text, size_t text_length);\n}",
+    "virtual void ring_bells(uint16_t, std::string_view) {}\n}", "&Handler::ring_bells>,\n}",
+    "RingBells(top, text)\n}", "RingBells,\n]",
+    'class RingBells(NamedTuple):\n    """Rings. Says so."""\n    top: int\n    text: str\n\n\n']
+
+
+@pytest.fixture
+def calls():
+    """The tool, over a copy of its files, and what these say."""
+    tool = Tool("make_calls")
+    texts = {name: (TOOLS.parent / name).read_text()
+             for name in (tool.parts["TRAIT"], *tool.parts["LISTS"])}
+    for name, text in texts.items():
+        write(name, text)
+    return tool, texts
+
+
+def update(tool, *files):
+    """Sees that files are told as out of date, and then written."""
+    stale = "".join(f"\n  {file}" for file in sorted(files))
+    told = f"these files aren't up to date; run tools/make_calls:{stale}"
+    assert tool.run("--check") == (told, "")
+    assert tool.run() == (None, f"{len(files)} files are written\n")
+    assert tool.run("--check") == (None, "")
+
+
+def test_a_call_is_added_to_all_lists_and_removed(calls):
+    tool, texts = calls
+    trait, *files = texts
+    method = "/// Rings.\n    /// Says so.\n    fn ring_bells(&mut self, top: u16, text: &str)"
+    write(trait, texts[trait].replace("/// BEL", f"{method}\n\n    /// BEL", 1))
+    update(tool, *files)
+    added = "".join(Path(file).read_text() for file in files)
+    assert [end for end in ENDS if end not in added] == []
+    write(trait, texts[trait])
+    update(tool, *files)
+    assert {file: Path(file).read_text() for file in texts} == texts
+
+
+@pytest.mark.parametrize("place, old, new", [
+    ("crates/vte_handler/src/by_call.rt", "HandlerCall::MoveUp(count)", "HandlerCall::MoveUp(1)"),
+    ("rust/vte_c/src/processor.rs", "set_tabs(interval: u16)", "set_tabs(interval: u8)"),
+    (HEADER, "put_tab)(void *user, uint16_t", "put_tab)(void *user, size_t"),
+    ("python/src/vte/calls.py", "bottom: int | None", "bottom: int")])
+def test_a_wrong_entry_is_told_and_written_again(calls, place, old, new):
+    tool, texts = calls
+    assert old in texts[place]
+    write(place, texts[place].replace(old, new))
+    update(tool, place)
+    assert old in Path(place).read_text()
+
+
+def test_the_table_of_c_has_one_order(calls):
+    tool, texts = calls
+    bell = "    void (*bell)(void *user);\n"
+    without = texts[HEADER].replace(bell, "")
+    write(HEADER, without.replace("} vte_handler;", f"{bell}}} vte_handler;"))
+    told = tool.run("--check")[0]
+    assert told.startswith(HEADER) and told.endswith("the functions don't have one order")
+
+
+# ---- make_vectors
+
+PLAIN, MARK = "crates/event_vectors/src/log_tests/plain.rt", "// Written by tools/make_vectors."
+
+
+@pytest.mark.parametrize("old, new, told", [
+    (None, None, "crates/event_vectors has no table of PlainVector"),
+    ('text: b"\\x0a"', 'text: b"\\x0d"',
+     f"these files aren't up to date; run tools/make_vectors:\n  {PLAIN}"),
+    ("plain text of nothing", "nothing", f'{PLAIN}: no vector of text has the name "nothing"'),
+    ("[PlainVector;", "[Plain;", f"{PLAIN}: 0 tables, and 1 times `{MARK}`"),
+    ("// Written by", "// By", f"{PLAIN}: 1 tables, and 0 times `{MARK}`")])
+def test_a_wrong_table_is_refused(folder, old, new, told):
+    for name in "event_vectors/src", "call_vectors":
+        shutil.copytree(TOOLS.parent / "crates" / name, folder / "crates" / name)
+    text = Path(PLAIN).read_text()
+    if old is None:
+        Path(PLAIN).unlink()
+    else:
+        assert old in text
+        write(PLAIN, text.replace(old, new, 1))
+    assert Tool("make_vectors").run("--check") == (told, "")

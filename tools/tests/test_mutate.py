@@ -1,0 +1,78 @@
+"""Tests of tools/mutate."""
+from types import SimpleNamespace
+
+import pytest
+
+from tests.support import Tool, write
+
+PLACE = "tools/mutants/c/m.edit"
+MUTANT = "# A rule.\nfile: src/lib.rt\nold: one\nnew: two\n# refused at abc1234 by goal\n"
+
+
+@pytest.fixture
+def copy(tmp_path_factory):
+    """A folder for a copy, beside that of a crate with a mutant."""
+    for file in "crates.txt", "HANDLES", "crates/c/must-fail/other.edit", PLACE:
+        write(file, MUTANT)
+    write("crates/c/src/lib.rt", "f(one); f(two);")
+    return tmp_path_factory.mktemp("copy")
+
+
+# what stands in an edit in the place of something, and what is wrong with it
+@pytest.mark.parametrize("place, old, new, fault", [
+    (PLACE, "", "", None),
+    (PLACE, "old: one", "old: f(", "crates/c/src/lib.rt hasn't exactly one 'f('"),
+    (PLACE, "lib.rt", "gone.rt", "crates/c/src/gone.rt hasn't exactly one 'one'"),
+    (PLACE, "# A rule.\n", "", "it names no rule"),
+    (PLACE, "# refused at abc1234 by goal\n", "", "it wasn't refused: run tools/mutate"),
+    *((PLACE, "by goal", f"by {verdict}", None)
+      for verdict in ("returns-then-x of a::B+C::d", "a goal of src/a/b.rt:1")),
+    *((PLACE, " by goal", verdict, "its verdict names no goal")
+      for verdict in (" by a goal", ": `goal`: why")),
+    ("crates/c/must-fail/other.edit", "# A rule.\n", "", "it names no rule"),
+    ("crates/c/must-fail/m.edit", "", "", "it stands twice")])
+def test_faults_of_mutants(copy, place, old, new, fault):
+    write(place, MUTANT.replace(old, new))
+    told = [f"{PLACE if 'twice' in fault else place}: {fault}"] if fault else []
+    said = "\n".join([*told, f"1 mutants, {len(told)} faults\n"])
+    assert Tool("mutate").run("--check") == (len(told), said)
+
+
+def mutate(said, *words):
+    ran = SimpleNamespace(run=lambda *_, **__: SimpleNamespace(stdout=said), DEVNULL=None,
+                          check_output=lambda *_, **__: "abc1234\n", PIPE=None)
+    return Tool("mutate", subprocess=ran).run(*map(str, words))[0]
+
+
+# what `rt must-fail` says in the end, and the last line of the mutant then
+@pytest.mark.parametrize("said, status, line", [
+    ("NOT TRIED", 1, "# refused at abc1200 by old"), ("not refused", 1, "new: two"),
+    ("refused, as it must be: why", 1, "new: two"),
+    *((f"refused, as it must be: {why}", 0, f"# refused at abc1234 by {goal}") for goal, why in {
+        "x-y": "`x-y`: why (`x`)",
+        "x of src/a/b.rt:2": "note: src/a/b.rt:2:1: what `q` requires isn't proved (`x`); `y`",
+        "x of a::b": "./proofs/a/b/Answers.antt:1:2: error: `x`: `y`",
+        "x of a": "answers in ./proofs/a/Answers.antt; `search` did not prove `x`, `y`",
+        "a goal of a": "answers in ./proofs/a/Answers.antt"}.items())])
+def test_verdicts(copy, said, status, line):
+    """Of two mutants one is chosen, by its name."""
+    text = MUTANT.replace("abc1234 by goal", "abc1200 by old")
+    mutant, other = write(PLACE, text), write("tools/mutants/c/n.edit", text)
+    assert mutate(f"rt: must-fail c/m.edit: {said}\n", copy, "c/m", "c/m") == status
+    assert [file.name for file in copy.rglob("*.edit")] == ["m.edit"]
+    assert (mutant.read_text().splitlines()[-1], other.read_text()) == (line, text)
+
+
+def test_all_mutants_are_tried(copy):
+    write("tools/mutants/c/n.edit", MUTANT)
+    assert mutate("rt: must-fail c/n.edit: refused, as it must be: `x-y`: why\n", copy) == 1
+    assert sorted(file.name for file in copy.rglob("*.edit")) == ["m.edit", "n.edit"]
+
+
+@pytest.mark.parametrize("words, said", [
+    (["folder", "c/gone"], "there is no mutant c/gone"),
+    (["--check", "c/m"], "--check takes no words"),
+    *((words, "a folder outside the repository is needed, for a copy") for words in ([], ["in"]))])
+def test_words_that_mutate_refuses(copy, capsys, words, said):
+    assert mutate("", *words) == 2
+    assert capsys.readouterr().err.endswith(f"error: {said}\n")

@@ -22,9 +22,12 @@ pytestmark = pytest.mark.filterwarnings("ignore::DeprecationWarning")
 MANY = b"".join(b"text %d \x1b[%dm\xc3" % (it, it) for it in range(10_000))
 
 
+LONG = 1200  # seconds, for a busy machine
+
+
 def until(is_true):
     """Waits until something is true."""
-    end = time.monotonic() + 60
+    end = time.monotonic() + LONG
     while not is_true():
         assert time.monotonic() < end
         time.sleep(0.01)
@@ -107,7 +110,7 @@ def test_pieces_are_the_text(cluster, tmp_path, size):
 def test_a_worker_that_is_killed_costs_nothing(cluster, file, out):
     begun = cluster.begin(out, file, "--out", out.parent, "--size", "500")
     cluster.processes[1].kill()
-    there, said = len(pieces_of(out)), begun.communicate(timeout=60)[1]
+    there, said = len(pieces_of(out)), begun.communicate(timeout=LONG)[1]
     assert begun.returncode == 0, said
     assert there < len(pieces_of(out))
     assert_joined(out, MANY)
@@ -118,17 +121,18 @@ def test_a_second_run_does_what_is_missing(cluster, file, out, capsys):
     begun = cluster.begin(out, *words)
     begun.kill()
     begun.communicate()
-    # what a worker has begun it may end
-    until(lambda: [count := len(pieces_of(out)), time.sleep(0.5)]
-          and count == len(pieces_of(out)))
-    before = {piece: piece.stat().st_mtime_ns for piece in pieces_of(out)}
     (out / ".unfinished").write_bytes(b"of a worker that has died")
-    total = len(list(vte.parts(MANY, 500)))
+    cluster.strip(*words)
+    assert_joined(out, MANY)
+    total = len(pieces_of(out))
+    for piece in pieces_of(out)[::50]:
+        piece.unlink()
+    before = {piece: piece.stat().st_mtime_ns for piece in pieces_of(out)}
+    capsys.readouterr()
     for missing in total - len(before), 0:
         cluster.strip(*words)
         assert capsys.readouterr().out.splitlines()[0] == f"missing pieces: {missing}"
         assert_joined(out, MANY)
-    assert before.keys() < {*pieces_of(out)} and len(pieces_of(out)) == total
     assert before == {piece: piece.stat().st_mtime_ns for piece in before}
 
 
@@ -174,5 +178,5 @@ def test_a_lost_scheduler_is_named(cluster, file, out):
     # the last of these tests, since the others need it
     begun = cluster.begin(out, file, "--out", out.parent, "--size", "100")
     cluster.processes[0].kill()
-    assert begun.communicate(timeout=60)[1].endswith("strip_on_dask: the scheduler was lost\n")
+    assert begun.communicate(timeout=LONG)[1].endswith("strip_on_dask: the scheduler was lost\n")
     assert begun.returncode == 1

@@ -75,8 +75,8 @@ impl<const N: usize> Pairs<N> {
     }
 }
 
-/// The content of a run that is known has at most so many bytes: a word of a key.
-const SHORT: i64 = 8;
+/// The content of a run that is known has at most so many bytes: those of a word of a key.
+const SHORT: i64 = u64::BITS as i64 / 8;
 const FACTOR: u64 = 0x517C_C1B7_2722_0A95;
 /// The sizes of keys: few objects have more than three values.
 const SMALL: usize = 3;

@@ -20,8 +20,6 @@ import strip_on_dask  # noqa: E402
 cloudpickle.register_pickle_by_value(strip_on_dask)
 pytestmark = pytest.mark.filterwarnings("ignore::DeprecationWarning")
 MANY = b"".join(b"text %d \x1b[%dm\xc3" % (it, it) for it in range(10_000))
-
-
 LONG = 1200  # seconds, for a busy machine
 
 

@@ -32,6 +32,9 @@ def make(request):
     (TITLE * 500 + b"a\r", [Osc((b"0", b"t" * 1000), True)] * 500 + [Text("a"), Execute(13)]),
     (b"\xff" * 6000 + b"\r" * 6000, [Text("\ufffd" * 6000)] + [Execute(13)] * 6000),
     (b"\xe2\x82\xac\n" * 9000, [Text("\u20ac"), Execute(10)] * 9000),
+    # texts of each length, of which two differ in the first byte
+    (b"".join(b"%d%s\r" % (it % 2, b"a" * (it // 2)) for it in range(80)),
+     [made for it in range(80) for made in (Text(f"{it % 2}" + "a" * (it // 2)), Execute(13))]),
     # different sequences, more than a parser knows
     (b"".join(b"\x1b[%d;%dH" % (it, it // 7) for it in range(5000)) * 2,
      [Csi(((it,), (it // 7,)), b"", False, "H") for it in range(5000)] * 2),

@@ -1,5 +1,5 @@
 """What patterns can't say: contracts, ghosts, attributes, clones and examples."""
-from lib.erasing.tokens import CLAUSE, COMMENT, GHOST, SPACE, WORD
+from lib.erasing.tokens import CLAUSE, GHOST, SPACE, WORD
 
 # The derives that Rust knows by the same name. `Drop` isn't one: it says that values may be let go.
 DERIVES = {"Clone", "Copy", "Debug", "Default", "Eq", "Hash", "Ord", "PartialEq", "PartialOrd"}

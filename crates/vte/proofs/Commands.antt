@@ -97,7 +97,7 @@ fourth_part r g b rest =
 
 -- three hex digits at most give little
 pub few_hex_digits : (i number : ℕ) → i ≤ 3 → number < 16 ^ i → number < 4096
-few_hex_digits i number few small = let k : 16 ^ i ≤ 16 ^ 3 = pow-le-pow_right {n = 16} (omega arith) few in
+few_hex_digits i number at_most small = let k : 16 ^ i ≤ 16 ^ 3 = pow-le-pow_right {n = 16} (omega arith) at_most in
     omega (arith, k, small)
 
 -- ---- parts of a text

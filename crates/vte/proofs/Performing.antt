@@ -176,14 +176,14 @@ module _ {H T B G V W : Type 0} (handler_of : H → V) (timeout_of : T → W) (r
   pub room_back : room_of state.text ≡ old.room
   room_back = rw state-is (ap (λ lent. lent.room) all_made)
 
-  pub performer-given_back : {P : Type 0} {reading : ParserView P} {parser next : P} {lent : ProcessorState T B}
-      {value : V} {handler : H} → ArePartsAt (engine_view m.limit reading room_of timeout_of) parser lent value s
+  pub performer-given_back : {P : Type 0} {view : ParserView P} {parser next : P} {lent : ProcessorState T B}
+      {value : V} {handler : H} → ArePartsAt (engine_view m.limit view room_of timeout_of) parser lent value s
       → old.last ≡ lent.preceding_char → old.timeout ≡ timeout_of lent.timeout → old.handler ≡ value
       → old.room ≡ room_of lent.text
-      → reading.has_read next (s.parsed ++ f)
+      → view.has_read next (s.parsed ++ f)
       → (old.handler_name ≡ new.handler.ghost_name → handler ≡ new.handler.now)
-      → ((size : ℕ) → KeepsMemory (reading.has_memory parser size) (reading.has_memory next size))
-      → ArePartsAtKeeping (engine_view m.limit reading room_of timeout_of) parser lent next state
+      → ((size : ℕ) → KeepsMemory (view.has_memory parser size) (view.has_memory next size))
+      → ArePartsAtKeeping (engine_view m.limit view room_of timeout_of) parser lent next state
       (handler_of handler)
       (parse m s f)
   performer-given_back {lent} at at_last at_timeout at_handler at_room read back_handler keeps =
@@ -244,7 +244,7 @@ module _ {V W : Type 0} (m : Meaning V W) {old new : PerformerValue V W} (goes_o
   pub stops_at_prefix : n ≡ length (prefix_to_begin m.limit p r)
   stops_at_prefix = elim (cases_lt n (length (prefix_to_begin m.limit p r))) [
     | inl less ↦ absurd (size-not_before less)
-    | inr least ↦ elim (cases_lt (length (prefix_to_begin m.limit p r)) n) [
+    | inr at_least ↦ elim (cases_lt (length (prefix_to_begin m.limit p r)) n) [
       | inl less ↦ absurd (size-not_after less)
       | inr most ↦ omega arith
     ]

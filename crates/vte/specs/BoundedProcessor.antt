@@ -4,7 +4,7 @@ use Rattle.std.specs.Prelude.{ℕ, List}
 use Rattle.vte_core.specs.declared.parser.Parser.{Parser}
 use Rattle.vte.specs.Memory.{HasTextRoom}
 use Rattle.vte.specs.ProcessorCalls.{held_of}
-use Rattle.vte.specs.Views.{EngineStandsAt, bounded_engine_view}
+use Rattle.vte.specs.Views.{EngineHasParsedAndHolds, bounded_engine_view}
 use Rattle.vte.specs.declared.ansi.bounded_processor.BoundedProcessor.{BoundedProcessor}
 
 abbrev pub held_within : {T A : Type 0} {N : ℕ} → BoundedProcessor T A N → List ℕ
@@ -19,5 +19,5 @@ parser_within processor = processor.engine.parser
 -- `HasParsedAndHolds`, with room for a text that is joined from all data of a command.
 pub record HasParsedAndHoldsWithin {T A W : Type 0} {N : ℕ} (timeout_of : T → W)
     (processor : BoundedProcessor T A N) (parsed held : List ℕ) (timeout : W) : Type 0 where
-  pub stands : EngineStandsAt (bounded_engine_view timeout_of) processor.engine parsed held timeout
+  pub stands : EngineHasParsedAndHolds (bounded_engine_view timeout_of) processor.engine parsed held timeout
   pub has_room : HasTextRoom N processor.engine.state.text.size

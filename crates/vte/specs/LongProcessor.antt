@@ -4,18 +4,18 @@ use Rattle.std.specs.Prelude.{◌≡◌, ◌⊎◌, ℕ, ◌+◌, ◌-◌, ◌<�
 use Rattle.vte_core.specs.declared.parser.refused.Refused.{Refused}
 use Rattle.vte.specs.Memory.{HasMemory, KeepsMemory}
 use Rattle.vte.specs.Processor.{Meaning, State, most_held}
-use Rattle.vte.specs.ProcessorCalls.{IsAt, ReadsInTurns, StandingPredicate, StopsSync, held_of}
+use Rattle.vte.specs.ProcessorCalls.{IsAt, ReadsInTurns, ProcessorPredicate, StopsSync, held_of}
 use Rattle.vte.specs.Refusal.{HasTaken}
-use Rattle.vte.specs.Views.{EngineHasMemory, EngineStandsAt, EngineView, long_engine_view}
+use Rattle.vte.specs.Views.{EngineHasMemory, EngineHasParsedAndHolds, EngineView, long_engine_view}
 use Rattle.vte.specs.declared.ansi.updates.engine.Engine.{Engine}
 use Rattle.vte.specs.declared.ansi.updates.engine.TheConstants.{SLICE}
 use Rattle.vte.specs.declared.ansi.long_processor.LongProcessor.{LongProcessor}
 
 -- `HasParsedAndHolds`, with memory to parse the held bytes.
 abbrev pub HasParsedAndHoldsLong : {T A W : Type 0} → (T → W) → LongProcessor T A
-    → StandingPredicate W
+    → ProcessorPredicate W
 HasParsedAndHoldsLong timeout_of processor =
-    EngineStandsAt (long_engine_view timeout_of) processor.engine
+    EngineHasParsedAndHolds (long_engine_view timeout_of) processor.engine
 
 -- A refused call, which left `left` bytes, had a reason: there is no memory for the held bytes and
 -- the first `more` of those left. Without this clause, a processor could refuse every call.
@@ -24,25 +24,25 @@ pub record LacksMemoryForSome {P B T A W : Type 0} (view : EngineView P B T W)
   pub more : ℕ
   pub within : more ≤ left
   -- A turn asks for memory for at most a slice, or for all bytes if they fit the hold.
-  pub few : (more ≤ SLICE) ⊎ (length (held_of engine.hold) + more ≤ most_held)
-  pub lacks : (stream : List ℕ) → view.reading.has_read engine.parser stream
+  pub at_most : (more ≤ SLICE) ⊎ (length (held_of engine.hold) + more ≤ most_held)
+  pub lacks : (stream : List ℕ) → view.parser.has_read engine.parser stream
       → ¬ EngineHasMemory view engine stream (length (held_of engine.hold) + more)
 
 -- `reserve`, of memory for the held bytes and `more` others
 pub record Reserves {P B T A W : Type 0} (view : EngineView P B T W)
     (old new : Engine P B T A) (more : ℕ) (result : Bool) : Type 0 where
   -- The processor stands where it stood.
-  pub same : (parsed held : List ℕ) (timeout : W) → EngineStandsAt view old parsed held timeout
-      → EngineStandsAt view new parsed held timeout
+  pub same : (parsed held : List ℕ) (timeout : W) → EngineHasParsedAndHolds view old parsed held timeout
+      → EngineHasParsedAndHolds view new parsed held timeout
   -- On `true`, there is memory for all of them.
   pub room : result ≡ true → (parsed held : List ℕ) (timeout : W)
-      → EngineStandsAt view new parsed held timeout
+      → EngineHasParsedAndHolds view new parsed held timeout
       → EngineHasMemory view new parsed (length held + more)
   pub memory : KeepsMemory (EngineHasMemory view old) (EngineHasMemory view new)
   -- It says the same of the last command's data.
-  pub lost : view.reading.lost new.parser ≡ view.reading.lost old.parser
+  pub lost : view.parser.lost new.parser ≡ view.parser.lost old.parser
   -- On `false`, there isn't.
-  pub lacks : result ≡ false → (stream : List ℕ) → view.reading.has_read new.parser stream
+  pub lacks : result ≡ false → (stream : List ℕ) → view.parser.has_read new.parser stream
       → ¬ EngineHasMemory view new stream (length (held_of new.hold) + more)
 
 -- These two, of a processor without a limit.
@@ -65,19 +65,19 @@ module _ {P B T A V W : Type 0} (view : EngineView P B T W) (meaning : Meaning V
     (engine next : Engine P B T A) (old new : V) where
   -- `stop_sync` and `stop_sync_text`
   pub record EngineStops : Type 0 where
-    pub stops : StopsSync meaning (EngineStandsAt view engine) (EngineStandsAt view next) old new
-    pub memory : (state : State V W) → IsAt (EngineStandsAt view engine) old state
+    pub stops : StopsSync meaning (EngineHasParsedAndHolds view engine) (EngineHasParsedAndHolds view next) old new
+    pub memory : (state : State V W) → IsAt (EngineHasParsedAndHolds view engine) old state
         → KeepsMemory (EngineHasMemory view engine) (EngineHasMemory view next)
 
   -- `advance` and `advance_text`
   pub record EngineReads (bytes : List ℕ) (result : Result (Unit {0}) Refused) : Type 0 where
     -- The bytes read are those that the first turns of the call read.
-    pub takes : (state : State V W) → IsAt (EngineStandsAt view engine) old state
-        → HasTaken meaning state bytes (read_of result bytes) (IsAt (EngineStandsAt view next) new)
+    pub takes : (state : State V W) → IsAt (EngineHasParsedAndHolds view engine) old state
+        → HasTaken meaning state bytes (read_of result bytes) (IsAt (EngineHasParsedAndHolds view next) new)
     -- A refused call left some bytes, and there is no memory for these.
     pub within : IfErr result (λ refused. refused.read < length bytes)
     pub lacks : IfErr result (λ refused. LacksMemoryForSome view next (length bytes - refused.read))
-    pub memory : (state : State V W) → IsAt (EngineStandsAt view engine) old state
+    pub memory : (state : State V W) → IsAt (EngineHasParsedAndHolds view engine) old state
         → KeepsMemory (EngineHasMemory view engine) (EngineHasMemory view next)
 
 abbrev pub StopsLong : {T A V W : Type 0} → (T → W) → Meaning V W

@@ -20,7 +20,7 @@ use Rattle.vte.specs.declared.ansi.processor.Processor.{Processor}
 
 -- Calls that pass these bytes led from a state to another: what became of the bytes, and what the
 -- handler received.
-pub record HasTold {V W : Type 0} (meaning : Meaning V W) (state : State V W) (bytes : List ℕ)
+pub record HasDelivered {V W : Type 0} (meaning : Meaning V W) (state : State V W) (bytes : List ℕ)
     (next : State V W) : Type 0 where
   -- the bytes parsed on the way, and the positions of stops on the way
   pub more : List ℕ
@@ -64,11 +64,11 @@ pub record HasParsedAndHolds {T A W : Type 0} (timeout_of : T → W) (processor 
 -- value, such as `HasParsedAndHolds T.value_of processor`. What follows takes such predicates,
 -- since it is true of a processor without a limit too: `Before` of the one before a call, `After`
 -- of the one after it.
-abbrev pub StandingPredicate : Type 0 → Type 1
-StandingPredicate W = (parsed held : List ℕ) → (timeout : W) → Type 0
+abbrev pub ProcessorPredicate : Type 0 → Type 1
+ProcessorPredicate W = (parsed held : List ℕ) → (timeout : W) → Type 0
 
 -- Where the processor stands, and the handler's value, are as the state says.
-pub record IsAt {V W : Type 0} (Stands : StandingPredicate W) (value : V)
+pub record IsAt {V W : Type 0} (Stands : ProcessorPredicate W) (value : V)
     (state : State V W) : Type 0 where
   pub stands : Stands state.parsed state.held state.timeout
   pub handler_is : value ≡ state.handler
@@ -99,7 +99,7 @@ pub record HasReplayed {V W : Type 0} (meaning : Meaning V W) (state : State V W
   -- They led there step by step.
   pub takes : TakesSteps meaning state steps next
   -- Each byte was parsed or is held, and the handler received the calls.
-  pub tells : HasTold meaning state (given_bytes steps) next
+  pub delivers : HasDelivered meaning state (given_bytes steps) next
   -- `HoldsWell` stays true.
   pub holds_well : HoldsWellAt meaning state → HoldsWellAt meaning next
   -- If the timeout is steady, the calls lead to no other state.
@@ -114,7 +114,7 @@ abbrev pub IsNeverPending : {W : Type 0} → (W → Bool → Type 0) → Type 0
 IsNeverPending {W} allows = (value : W) (pending : Bool) → allows value pending → pending ≡ false
 
 -- The whole stream was parsed, and nothing is held.
-pub record HasParsedAll {W : Type 0} (Stands : StandingPredicate W) (stream : List ℕ) : Type 0 where
+pub record HasParsedAll {W : Type 0} (Stands : ProcessorPredicate W) (stream : List ℕ) : Type 0 where
   pub timeout : W
   pub stands : Stands stream [] timeout
 
@@ -126,7 +126,7 @@ AreAdvances (StopSync ∷ steps) = ⊥
 
 -- Calls that pass these bytes, while nothing is held, parse all bytes. `old` and `new` are the
 -- handler's values before and after them.
-pub record ParsesAll {V W : Type 0} (meaning : Meaning V W) (Before After : StandingPredicate W)
+pub record ParsesAll {V W : Type 0} (meaning : Meaning V W) (Before After : ProcessorPredicate W)
     (old new : V) (bytes : List ℕ) : Type 0 where
   -- If the handler was as after the calls of the stream, from the value `start` on, it is as after
   -- those of both. For a new processor take the value before the call as `start`.
@@ -140,7 +140,7 @@ pub record ParsesAll {V W : Type 0} (meaning : Meaning V W) (Before After : Stan
 
 -- `new`: a processor that has read nothing, or the timeout if memory runs out
 pub record Creates {P T W : Type 0} (limit : Option ℕ) (meaning : TimeoutMeaning W)
-    (timeout_of : T → W) (timeout_in : P → T) (Stands : P → StandingPredicate W) (given : T)
+    (timeout_of : T → W) (timeout_in : P → T) (Stands : P → ProcessorPredicate W) (given : T)
     (result : Result P T) : Type 0 where
   pub stands : MatchResult result (λ processor. Stands processor [] [] (timeout_of given))
       (λ back. back ≡ given)
@@ -151,8 +151,8 @@ pub record Creates {P T W : Type 0} (limit : Option ℕ) (meaning : TimeoutMeani
 
 -- `clone`: the copy stands where the processor does, if the copy of the timeout has its value. Of
 -- each two parameters the second is the copy's.
-pub record IsCopyOf {T W : Type 0} (is_clone : T → T → Type 0) (timeout_of : T → W)
-    (first second : T) (Stands CopyStands : StandingPredicate W) (parser copy : Reading)
+pub record IsCopyOfProcessor {T W : Type 0} (is_clone : T → T → Type 0) (timeout_of : T → W)
+    (first second : T) (Stands CopyStands : ProcessorPredicate W) (parser copy : Reading)
     : Type 0 where
   pub timeout : is_clone first second
   pub stands : timeout_of second ≡ timeout_of first
@@ -168,12 +168,12 @@ pub record CountsHeld (held : List ℕ) (result : ℕ) : Type 0 where
   pub no_end : after_last_end held ≡ None
 
 -- `command_lost_data`: of the command that is open after the parsed bytes
-abbrev pub SaysParsedLoss : {W : Type 0} → Option ℕ → StandingPredicate W → Bool → Type 0
+abbrev pub SaysParsedLoss : {W : Type 0} → Option ℕ → ProcessorPredicate W → Bool → Type 0
 SaysParsedLoss {W} limit Stands answer = (parsed held : List ℕ) (timeout : W)
     → Stands parsed held timeout → SaysLoss (outcome limit parsed).left answer
 
 -- `stop_sync` and `stop_sync_text`
-pub record StopsSync {V W : Type 0} (meaning : Meaning V W) (Before After : StandingPredicate W)
+pub record StopsSync {V W : Type 0} (meaning : Meaning V W) (Before After : ProcessorPredicate W)
     (old new : V) : Type 0 where
   pub stops : (state : State V W) → IsAt Before old state → IsAt After new (stop meaning state)
   -- Each byte is parsed or held, once and in order.
@@ -181,7 +181,7 @@ pub record StopsSync {V W : Type 0} (meaning : Meaning V W) (Before After : Stan
   pub holds_well : (state : State V W) → HoldsWellAt meaning (stop meaning state)
 
 -- `advance` and `advance_text`, which read all bytes
-pub record ReadsInTurns {V W : Type 0} (meaning : Meaning V W) (Before After : StandingPredicate W)
+pub record ReadsInTurns {V W : Type 0} (meaning : Meaning V W) (Before After : ProcessorPredicate W)
     (old new : V) (bytes : List ℕ) : Type 0 where
   pub advances : (state : State V W) → IsAt Before old state
       → HasAdvanced meaning state bytes (IsAt After new)
@@ -189,9 +189,9 @@ pub record ReadsInTurns {V W : Type 0} (meaning : Meaning V W) (Before After : S
   pub plain : IsNeverPending meaning.timeout.allows → ParsesAll meaning Before After old new bytes
 
 -- `replay`
-pub record Replays {V W : Type 0} (meaning : Meaning V W) (Before After : StandingPredicate W)
+pub record Replays {V W : Type 0} (meaning : Meaning V W) (Before After : ProcessorPredicate W)
     (old new : V) (steps : List Step) : Type 0 where
-  pub told : (state : State V W) → IsAt Before old state
+  pub replays : (state : State V W) → IsAt Before old state
       → HasReplayed meaning state steps (IsAt After new)
   -- The same of calls of `advance` alone.
   pub plain : IsNeverPending meaning.timeout.allows → AreAdvances steps

@@ -35,14 +35,14 @@ long_parser_view =
 -- The parser, with its limit, the buffer for texts and the timeout.
 pub record EngineView (P B T W : Type 0) : Type 1 where
   pub limit : Option ℕ
-  pub reading : ParserView P
+  pub parser : ParserView P
   pub room_of : B → ℕ
   pub timeout_of : T → W
 
 abbrev pub engine_view : {P B T W : Type 0} → Option ℕ → ParserView P → (B → ℕ) → (T → W)
     → EngineView P B T W
-engine_view limit reading room_of timeout_of =
-    record { limit = limit; reading = reading; room_of = room_of; timeout_of = timeout_of }
+engine_view limit parser room_of timeout_of =
+    record { limit = limit; parser = parser; room_of = room_of; timeout_of = timeout_of }
 
 -- The parts of a processor with a limit of its own.
 abbrev pub bounded_engine_view : {N : ℕ} {T A W : Type 0} → (T → W)
@@ -59,14 +59,14 @@ long_engine_view timeout_of = engine_view None long_parser_view (λ text. text.s
 abbrev pub EngineHasMemory : {P B T A W : Type 0} → EngineView P B T W → Engine P B T A
     → (stream : List ℕ) → (count : ℕ) → Type 0
 EngineHasMemory view engine =
-    view.reading.has_memory engine.parser (view.room_of engine.state.text)
+    view.parser.has_memory engine.parser (view.room_of engine.state.text)
 
 -- The engine has parsed bytes, and holds those that follow, with memory to parse them. It knows the
 -- last printed character.
-pub record EngineStandsAt {P B T A W : Type 0} (view : EngineView P B T W)
+pub record EngineHasParsedAndHolds {P B T A W : Type 0} (view : EngineView P B T W)
     (engine : Engine P B T A)
     (parsed held : List ℕ) (timeout : W) : Type 0 where
-  pub has_read : view.reading.has_read engine.parser parsed
+  pub has_read : view.parser.has_read engine.parser parsed
   pub last : engine.state.preceding_char ≡ last_printed (events view.limit parsed)
   pub timeout_is : view.timeout_of engine.state.timeout ≡ timeout
   pub holds : held_of engine.hold ≡ held

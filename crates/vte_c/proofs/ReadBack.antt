@@ -26,31 +26,31 @@ read_groups : (groups : List (List ℕ)) (back : List ℕ) → count_of groups �
 read_groups [] back small = refl
 read_groups (group ∷ groups) back small =
     let all = sum_by-cons length group groups in
-    let few : count_byte (length group) ≡ length group = omega arith in
+    let at_most : count_byte (length group) ≡ length group = omega arith in
     let rest : List ℕ = flat_map group_bytes groups ++ back in
     let parts = append_assoc (flat_map two_bytes group) (flat_map group_bytes groups) back in
     let others = read_groups groups back (omega arith) in
-    rw (parts, few, read_numbers group rest, drop_numbers group rest, others) refl
+    rw (parts, at_most, read_numbers group rest, drop_numbers group rest, others) refl
 
 groups_read : (groups : List (List ℕ)) (back : List ℕ) → AreGroups groups
     → groups_in (count_byte (length groups)) (flat_map group_bytes groups ++ back) ≡ groups
 groups_read groups back h =
-    let few : count_byte (length groups) ≡ length groups = omega (arith, few_groups groups h) in
-    rw few (read_groups groups back (omega (arith, h.few)))
+    let at_most : count_byte (length groups) ≡ length groups = omega (arith, few_groups groups h) in
+    rw at_most (read_groups groups back (omega (arith, h.at_most)))
 
 read_pieces : (pieces : List (List ℕ)) (back : List ℕ) → length (concat pieces) ≤ 4294967295
     → pieces_in (length pieces) (flat_map piece_bytes pieces ++ back) ≡ pieces
 read_pieces [] back small = refl
 read_pieces (piece ∷ pieces) back small =
     let all = length-append piece (concat pieces) in
-    let least : min (length piece) 4294967295 ≡ length piece = omega arith in
+    let at_least : min (length piece) 4294967295 ≡ length piece = omega arith in
     let n : ℕ = length piece in
     let size : n % 256 + 256 * ((n / 256) % 256) + 65536 * ((n / 65536) % 256) + 16777216 * (n / 16777216) ≡ n =
     omega arith in
     let rest : List ℕ = flat_map piece_bytes pieces ++ back in
     let parts = append_assoc piece (flat_map piece_bytes pieces) back in
     let others = read_pieces pieces back (omega arith) in
-    rw (parts, least, size, take-append_seam piece rest, drop-append_seam piece rest, others) refl
+    rw (parts, at_least, size, take-append_seam piece rest, drop-append_seam piece rest, others) refl
 
 -- ---- events
 
@@ -64,10 +64,10 @@ read_bell false = refl
 
 read_intermediates : (event : VteEvent) (intermediates : List ℕ) → length intermediates ≤ 2
     → intermediates_in (with_intermediates event intermediates) ≡ intermediates
-read_intermediates event [] few = refl
-read_intermediates event (a ∷ []) few = refl
-read_intermediates event (a ∷ b ∷ []) few = refl
-read_intermediates event (a ∷ b ∷ c ∷ more) few = absurd (omega arith)
+read_intermediates event [] at_most = refl
+read_intermediates event (a ∷ []) at_most = refl
+read_intermediates event (a ∷ b ∷ []) at_most = refl
+read_intermediates event (a ∷ b ∷ c ∷ more) at_most = absurd (omega arith)
 
 -- An event is read back if its data is at its place in the area.
 read_single : (input area back : List ℕ) (place : ℕ) (event : Event) → IsBounded usual_limit event
@@ -79,8 +79,8 @@ read_single input area back place (Hook groups ints ignore final) h e =
     rw (e, groups_read groups back h.0, read_intermediates _ ints h.1, read_flag ignore) refl
 read_single input area back place (Put byte) h e = rw e refl
 read_single input area back place (OscDispatch pieces bell) h e =
-    let few : count_byte (length pieces) ≡ length pieces = omega (arith, h.0) in
-    rw (e, few, read_pieces pieces back (omega (arith, h.1)), read_bell bell) refl
+    let at_most : count_byte (length pieces) ≡ length pieces = omega (arith, h.0) in
+    rw (e, at_most, read_pieces pieces back (omega (arith, h.1)), read_bell bell) refl
 read_single input area back place (CsiDispatch groups ints ignore final) h e =
     rw (e, groups_read groups back h.0, read_intermediates _ ints h.1, read_flag ignore) refl
 read_single input area back place (EscDispatch ints ignore byte) h e =
@@ -293,7 +293,7 @@ fed {old} {new} {told} {stream} {bytes} {rest} {n} starts h gone saves further =
           rw (← kinds_without_loss (take new.count new.events.now), (there []).recorded, ← starts.used)
           gone.goes.holds.first;
       encodes = λ more. rw (finds more) (there more);
-      tells = λ more.
+      reports = λ more.
           rw (finds more, item_events_later bytes more gone.goes.items gone.goes.holds.readable)
           (given_more (flat_map (item_events bytes) gone.goes.items) bytes rest n h (saves gone.next gone.reads)
           (λ later. rw (gone.goes.continues.goes_on later, filter-append, gone.goes.shows) refl));
@@ -313,7 +313,7 @@ pub counts_are : {events : List Event} {input area : List ℕ} {records : List V
     → count ≡ min room.count (length records) → used ≡ min room.used (length area)
     → AreOfRoom room count used records area
 counts_are room count used e records area least_count least_used =
-    let few = length-take room.count room.events.now in
+    let at_most = length-take room.count room.events.now in
     let small = length-take room.used room.area.now in
     let each = length-map (take room.count room.events.now) without_loss in
     let all = length-records 0 e.items in

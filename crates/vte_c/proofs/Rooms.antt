@@ -39,10 +39,10 @@ filled_length (group ∷ groups) filled =
     omega (arith, sum_by-cons length group groups, filled_length groups (All-tail HasNumber group groups filled))
 
 pub few_groups : (groups : List (List ℕ)) → AreGroups groups → length groups ≤ 32
-few_groups groups h = omega (arith, filled_length groups h.filled, h.few)
+few_groups groups h = omega (arith, filled_length groups h.filled, h.at_most)
 
 groups_size : (groups : List (List ℕ)) → AreGroups groups → length (flat_map group_bytes groups) ≤ 96
-groups_size groups h = omega (arith, length_groups groups, few_groups groups h, h.few)
+groups_size groups h = omega (arith, length_groups groups, few_groups groups h, h.at_most)
 
 -- No event has more data bytes.
 abbrev most_data : ℕ
@@ -106,14 +106,14 @@ readable-append input (InInput run start size ∷ front) back f b = (f.0, readab
 -- At most two records may all be the last ones: one that stops, and one after it.
 stops_soon : (stops place : ℕ) (items : List Item) → length items ≤ 2
     → StopsAtKind stops (kinds_of (records_from place items))
-stops_soon stops place items few =
+stops_soon stops place items at_most =
     let count = length-map (records_from place items) (λ (event : VteEvent). event.kind) in
     record {
       before = [];
       last = kinds_of (records_from place items);
       parts = refl;
       others = tt;
-      few = omega (arith, count, length-records place items);
+      at_most = omega (arith, count, length-records place items);
     }
 
 pub items-nothing : (room : Room) (input : List ℕ) → HasItems room room input []
@@ -138,7 +138,7 @@ items-then {old} {mid} {new} {input} {front} {back} a free b =
         last = s.last;
         parts = rw (records-append old.used front back, map-append, append_assoc (kinds_of before), ← s.parts) refl;
         others = kinds-append old.stops (kinds_of before) s.before (unmet a free) s.others;
-        few = s.few;
+        at_most = s.at_most;
       };
     }
 
@@ -295,7 +295,7 @@ items-unit input room (event ∷ last ∷ []) brief free =
     let room_for = roomy room free in
     let size = data_most event brief.0 in
     let short = short_data last brief.1 in
-    let few = are_few room event in
+    let at_most = are_few room event in
     let more = are_few room last in
     let next : Room = resumed (with_event room event) in
     let first =
@@ -307,8 +307,8 @@ items-unit input room (event ∷ last ∷ []) brief free =
     let used = ap (λ (r : Room). r.used) first.room in
     let whole = ap (λ (r : Room). r.size) first.room in
     let room_for_last : HasRoomFor next 1 (length (data_of last)) = record {
-      events = omega (arith, room_for.events, few.count, count, most);
-      data_fits = omega (arith, room_for.data_fits, few.size, size, short, used, whole);
+      events = omega (arith, room_for.events, at_most.count, count, most);
+      data_fits = omega (arith, room_for.data_fits, at_most.size, size, short, used, whole);
     } in
     let second =
     subst (λ (k : ℕ). HasItems next (resumed (with_event next last)) input (map Single (reported k (last ∷ [])))) kinds
@@ -323,7 +323,7 @@ items-unit input room (event ∷ last ∷ []) brief free =
           ∙ with_items-append room _ _;
       first = stops_soon room.stops room.used (items_of room (event ∷ []) ++ items_of room (last ∷ []))
           (omega
-          (arith, few.count, more.count, length-append (items_of room (event ∷ [])) (items_of room (last ∷ []))));
+          (arith, at_most.count, more.count, length-append (items_of room (event ∷ [])) (items_of room (last ∷ []))));
     })
 items-unit input room (event ∷ last ∷ more ∷ events) brief free = absurd brief
 

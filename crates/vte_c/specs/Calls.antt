@@ -39,9 +39,9 @@ pub record Feeds (kinds stops : ℕ) (parser next : Saved) (bytes : List ℕ)
   -- Whatever the parser's bytes are, what was written is in the buffers.
   pub room : (counts.events ≤ length events) × (counts.bytes ≤ length area)
   -- With less than the least room nothing is read or written.
-  pub few : length old_events < least_events
+  pub too_few : length old_events < least_events
       → FeedsNothing parser next old_events events old_area area counts result
-  pub little : length old_area < least_data
+  pub too_little : length old_area < least_data
       → FeedsNothing parser next old_events events old_area area counts result
   -- With enough room, it reads at least one byte, unless it writes a record among the stops.
   pub progress : (told : List Event) (stream rest : List ℕ) →
@@ -76,5 +76,5 @@ pub record Strips (parser next : Saved) (bytes old_text text : List ℕ)
   -- Whatever the parser's bytes are, what was written is in the buffer.
   pub room : written ≤ length text
   -- With less than the least room the result says so, and nothing is read or written.
-  pub little : length old_text < least_text → (result ≡ no_room) × (written ≡ 0) × (next ≡ parser)
+  pub too_little : length old_text < least_text → (result ≡ no_room) × (written ≡ 0) × (next ≡ parser)
       × (text ≡ old_text)

@@ -96,7 +96,7 @@ pub record HasFed (old new : Events) (parser : Saved) (told : List Event)
   pub encodes : (more : List ℕ) →
       AreEncoded (events_in new.count new.events.now (bytes ++ more) new.area.now)
       new.count new.used new.events.now (bytes ++ more) new.area.now
-  pub tells : (more : List ℕ) →
+  pub reports : (more : List ℕ) →
       HasReported (room_of old).kinds parser
       (told ++ events_in new.count new.events.now (bytes ++ more) new.area.now)
       stream (drop n bytes ++ rest)

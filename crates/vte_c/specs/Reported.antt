@@ -59,7 +59,7 @@ pub record StopsAtKind (stops : ℕ) (kinds : List ℕ) : Type 0 where
   pub last : List ℕ
   pub parts : kinds ≡ before ++ last
   pub others : HaveOtherKinds stops before
-  pub few : length last ≤ 2
+  pub at_most : length last ≤ 2
 
 -- A text is well-formed characters, none of them a control. Data may be any bytes: its events are
 -- these.

@@ -3,9 +3,11 @@ ghost use Rattle.std.specs.Prelude.{◌≡◌, ◌≤◌, ◌<◌, ◌+◌, ◌-
 ghost use Rattle.std.specs.List.{concat, flat_map};
 ghost use Rattle.vte_core.specs.Event.{OscDispatch, Print};
 ghost use Rattle.vte_core.specs.AdvanceToRun.{run_bytes};
-ghost use Rattle.vte_c.specs.Record.{data_of, group_bytes, has, has_most, least_data, least_events, most_added, piece_bytes, record_of, sequence_record};
+ghost use Rattle.vte_c.specs.Record.{data_of, group_bytes, has, has_most, least_data, least_events, most_added, record_of, sequence_record};
 
-use crate::event::{self, VteEvent, count_byte, has};
+mod data;
+
+use crate::event::{self, VteEvent, has};
 use vte_core::{Params, Perform, Run, Taken};
 
 /// The most pieces of a command.
@@ -323,75 +325,6 @@ impl<'a> Events<'a> {
             self.add_written(event, end);
             self.pause_if(has_most(pieces.len(), end - start), command);
         }
-    }
-
-    /// Writes groups into the area. Returns where they end.
-    fn write_groups(&mut self, params: &Params) -> usize
-        ensures { Holds (room_of self.old) self.new result (flat_map group_bytes params.now) }
-    {
-        let mut end = self.used;
-        for group in params {
-            end = self.write_group(end, group);
-        }
-        end
-    }
-
-    /// Writes a group at a place in the area: its count of numbers, and two bytes for each.
-    fn write_group(&mut self, place: usize, group: &[u16]) -> usize
-        ensures { (room : Room) (text : List ℕ) → Holds room self.old place text →
-            Holds room self.new result (text ++ group_bytes group.now) }
-    {
-        // most groups have one number
-        if let [number] = group {
-            return self.write(place, &bytes_of_one(*number));
-        }
-        let mut end = self.write(place, &[count_byte(group.len())]);
-        for number in group {
-            end = self.write(end, &[(*number % 256) as u8, (*number / 256) as u8]);
-        }
-        end
-    }
-
-    /// Writes the pieces of a command into the area. Returns where they end.
-    fn write_pieces(&mut self, pieces: &[&[u8]]) -> usize
-        ensures { Holds (room_of self.old) self.new result (flat_map piece_bytes (map
-            (λ piece. piece.now) pieces.now)) }
-    {
-        let mut end = self.used;
-        for piece in pieces {
-            end = self.write_piece(end, piece);
-        }
-        end
-    }
-
-    /// Writes a piece at a place in the area, after four bytes with its length.
-    fn write_piece(&mut self, place: usize, piece: &[u8]) -> usize
-        ensures { (room : Room) (text : List ℕ) → Holds room self.old place text →
-            Holds room self.new result (text ++ piece_bytes piece.now) }
-    {
-        let length = piece.len().min(u32::MAX as usize);
-        let bytes = [
-            (length % 256) as u8,
-            (length / 256 % 256) as u8,
-            (length / 65536 % 256) as u8,
-            (length / 16777216) as u8,
-        ];
-        let place = self.write(place, &bytes);
-        self.write(place, piece)
-    }
-
-    /// Writes bytes at a place in the area, if there is room. Returns where they end, or would end.
-    #[inline(always)]
-    fn write(&mut self, place: usize, bytes: &[u8]) -> usize
-        ensures holds { (room : Room) (text : List ℕ) → Holds room self.old place text →
-            Holds room self.new result (text ++ bytes.now) }
-        ensures after { place ≤ result }
-    {
-        let end = place.saturating_add(bytes.len());
-        if end <= self.size {
-            self.area[place..end].copy_from_slice(bytes);
-        }
-        end
     }
 
     /// Writes the record of an event whose data was written up to a place, if that is in the area.

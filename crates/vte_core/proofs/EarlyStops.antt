@@ -44,13 +44,13 @@ module _ {limit : Option ℕ} (P Q : List Event → Type 0) (stream bytes : List
 -- ---- a byte that belongs to an open character
 
 -- it reports at most a short event, and nothing if it leaves the character open
-abbrev ReportsLittle : Option ℕ → List ℕ → ℕ → Type 0
-ReportsLittle limit stream b =
+abbrev ReportsAtMostOneShort : Option ℕ → List ℕ → ℕ → Type 0
+ReportsAtMostOneShort limit stream b =
     IsAtMostOneShort (added limit stream (b ∷ []))
     × ((open_character (stream ++ b ∷ []) ≡ []) ⊎ (added limit stream (b ∷ []) ≡ []))
 
 reports_little : (limit : Option ℕ) (stream : List ℕ) (b : ℕ) → (open_character stream ≡ [] → ⊥)
-    → breaks (open_character stream) (b ∷ []) ≡ false → ReportsLittle limit stream b
+    → breaks (open_character stream) (b ∷ []) ≡ false → ReportsAtMostOneShort limit stream b
 reports_little limit stream b some unbroken =
     let a = added-byte limit stream b in
     let breaks_none : breaks (open_at a.place) (b ∷ []) ≡ false =

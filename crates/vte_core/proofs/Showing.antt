@@ -185,11 +185,11 @@ numbers-shown groups ok =
     ap (numbers_from false []) (shown-spelled groups ok) ∙ spelled_after false [] all in
     numbers_are (shown groups) ∙ ap (drop 1) later
 
-few-groups : (groups : List (List ℕ)) → AreParameters groups → length (flat_map in_group groups) ≤ most_numbers
-few-groups groups ok =
+at_most-groups : (groups : List (List ℕ)) → AreParameters groups → length (flat_map in_group groups) ≤ most_numbers
+at_most-groups groups ok =
     omega (
       arith,
-      ok.groups_are.few,
+      ok.groups_are.at_most,
       ap count_of (grouped-groups [] groups ok.groups_are.filled),
       count_of-grouped
           (flat_map in_group groups),
@@ -198,12 +198,12 @@ few-groups groups ok =
 -- the text of groups gives the groups back
 groups_of-shown : (groups : List (List ℕ)) → AreParameters groups → groups_of (shown groups) ≡ groups
 unfolding groups_of
-groups_of-shown groups ok = search (rules, arith, numbers-shown, take_all, few-groups, grouped-groups)
+groups_of-shown groups ok = search (rules, arith, numbers-shown, take_all, at_most-groups, grouped-groups)
 
 has_too_many_numbers-shown : (groups : List (List ℕ)) → AreParameters groups
     → has_too_many_numbers (shown groups) ≡ false
 unfolding has_too_many_numbers
-has_too_many_numbers-shown groups ok = search (rules, arith, few-groups, numbers-shown)
+has_too_many_numbers-shown groups ok = search (rules, arith, at_most-groups, numbers-shown)
 
 -- ---- its bytes
 

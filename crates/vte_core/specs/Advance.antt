@@ -15,7 +15,7 @@ pub record ReadsBytes {V : Type 0} (step : V → Event → V) (old new : V) (byt
   pub reads : (stream : List ℕ) → parser.has_read stream → next.has_read (stream ++ bytes)
   -- At most 5 looks per byte and 8 more, and at least one per byte.
   pub count : next.looks ≤ parser.looks + 5 * length bytes + 8
-  pub least : parser.looks + length bytes ≤ next.looks
+  pub at_least : parser.looks + length bytes ≤ next.looks
 
 -- `advance_until_terminated` and `advance_text_until_terminated`, which read n of the bytes
 pub record ReadsUntilTerminated {V : Type 0} (step : V → Event → V) (is_terminated : V → Bool)
@@ -29,4 +29,4 @@ pub record ReadsUntilTerminated {V : Type 0} (step : V → Event → V) (is_term
       → next.has_read (resumed_stream stream bytes n)
   -- At most 5 looks per byte read and 8 more, and at least one per byte read.
   pub count : next.looks ≤ parser.looks + 5 * n + 8
-  pub least : parser.looks + n ≤ next.looks
+  pub at_least : parser.looks + n ≤ next.looks

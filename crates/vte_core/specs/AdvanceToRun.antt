@@ -74,4 +74,4 @@ pub record ReadsToRun {V : Type 0} (step : V → Event → V) (is_terminated : V
       → ReportsOutsideRuns parser.limit stream bytes run.start
   -- At most 7 looks per byte read and 8 more, and at least one per byte read.
   pub count : next.looks ≤ parser.looks + 7 * run.end + 8
-  pub least : parser.looks + run.end ≤ next.looks
+  pub at_least : parser.looks + run.end ≤ next.looks

@@ -79,7 +79,7 @@ pub record CountsData (stream bytes : List ℕ) : Type 0 where
 pub record EndsInCharacter (stream : List ℕ) : Type 0 where
   pub prefix : List ℕ
   pub joins : prefix ++ open_character stream ≡ stream
-  pub few : length (open_character stream) ≤ 3
+  pub at_most : length (open_character stream) ≤ 3
 
 -- What is open at the end of a stream began at the last ESC, or is at most three bytes of a
 -- character.

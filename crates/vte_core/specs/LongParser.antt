@@ -60,7 +60,7 @@ pub record MeetsData (stream : List ℕ) (byte : ℕ) : Type 0 where
   pub pieces : List (List ℕ)
   pub last : List ℕ
   pub lost : Bool
-  pub few : length pieces < most_pieces
+  pub at_most : length pieces < most_pieces
   pub is_open : (outcome None stream).left ≡ CommandToClose (pieces ++ last ∷ []) lost
   pub is_data : IsCommandData byte
   pub joins : (outcome None (stream ++ byte ∷ [])).left

@@ -31,7 +31,7 @@ pub record IsRefusedMemory {V A : Type 0} (rate : ℕ) (step : V → Event → V
       → memory_of parser < open_command_size stream + length bytes
   -- At most `rate` looks per byte of the call and 8 more, and at least one per byte read.
   pub count : counted next.looks ≤ counted parser.looks + rate * length bytes + 8
-  pub least : counted parser.looks + n ≤ counted next.looks
+  pub at_least : counted parser.looks + n ≤ counted next.looks
 
 -- A call that may be refused memory. If it isn't, it does what `Reads` says of a parser.
 pub record ReadsLong {V A Answer : Type 0} (rate : ℕ) (step : V → Event → V)

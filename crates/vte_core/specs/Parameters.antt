@@ -59,7 +59,7 @@ count_of groups = sum_by length groups
 
 -- At most 32 numbers, each up to 65,535, in groups that aren't empty.
 pub record AreGroups (groups : List (List ℕ)) : Type 0 where
-  pub few : count_of groups ≤ most_numbers
+  pub at_most : count_of groups ≤ most_numbers
   pub small : All (λ group. All (λ number. number ≤ greatest_number) group) groups
   pub filled : All (λ group. 0 < length group) groups
 

@@ -35,6 +35,6 @@ abbrev pub reading_of : {N : ℕ} → Parser N → Reading
 reading_of {N} parser = reading (Some N) parser.machine (counted parser.looks)
 
 -- The copy continues as the parser does: it has read the same, and lost data of the same command.
-pub record IsCopyOf (parser copy : Reading) : Type 0 where
+pub record IsCopyOfParser (parser copy : Reading) : Type 0 where
   pub reads : (stream : List ℕ) → parser.has_read stream → copy.has_read stream
   pub lost : copy.lost ≡ parser.lost

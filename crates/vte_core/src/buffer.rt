@@ -49,7 +49,7 @@ pub(crate) trait Buffer {
             ++ fitting limit (length (held self.old))
             (take (to - from) (drop from input.entry.bytes.now)) }
         ensures memory { capacity self.old ≤ capacity self.new }
-        ensures few { LooksAtMost (to - from) reader.old reader.new };
+        ensures at_most { LooksAtMost (to - from) reader.old reader.new };
 }
 
 /// An array, once there are bytes: to clear it takes time, and a parser that C makes for one call

@@ -4,7 +4,7 @@ ghost use Rattle.vte_core.specs.Advance.{ReadsBytes, ReadsUntilTerminated};
 ghost use Rattle.vte_core.specs.EarlyStop.{NoCharacterStops};
 ghost use Rattle.vte_core.specs.Open.{SaysOpen, SaysWhetherOpen};
 ghost use Rattle.vte_core.specs.Outcome.{SaysLoss};
-ghost use Rattle.vte_core.specs.Parser.{HasRead, IsCopyOf, lost_data, reading_of};
+ghost use Rattle.vte_core.specs.Parser.{HasRead, IsCopyOfParser, lost_data, reading_of};
 ghost use Rattle.vte_core.specs.Stream.{outcome};
 
 mod character;
@@ -113,7 +113,7 @@ impl<const OSC_RAW_BUF_SIZE: usize> Default for Parser<OSC_RAW_BUF_SIZE> {
 
 /// A clone goes on as the parser would.
 impl<const OSC_RAW_BUF_SIZE: usize> Clone for Parser<OSC_RAW_BUF_SIZE> {
-    ghost is_clone = { λ parser clone. IsCopyOf (reading_of parser) (reading_of clone) };
+    ghost is_clone = { λ parser clone. IsCopyOfParser (reading_of parser) (reading_of clone) };
 
     // A clone takes no memory.
     ghost is_infallible = { λ _. ⊤ };

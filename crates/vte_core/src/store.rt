@@ -102,7 +102,7 @@ impl<B: Buffer> Store<B> {
     pub(crate) fn take_memory(&mut self, more: usize) -> bool
         ensures same { SameItems self.old self.new }
         ensures memory { self.old.capacity ≤ self.new.capacity }
-        ensures few { result ≡ false → length self.new.ends < most_pieces }
+        ensures at_most { result ≡ false → length self.new.ends < most_pieces }
         ensures reserves { length self.new.ends < most_pieces
             → ReservesCapacity B.limit
             (length self.new.bytes) more self.old.capacity self.new.capacity result }
@@ -137,7 +137,7 @@ impl<B: Buffer> Store<B> {
         ensures holds { (items : List ℕ) → HoldsItems B.limit self.old items → HoldsItems B.limit
             self.new (items ++ take (to - from) (drop from input.entry.bytes.now)) }
         ensures memory { self.old.capacity ≤ self.new.capacity }
-        ensures few { LooksAtMost (to - from) reader.old reader.new }
+        ensures at_most { LooksAtMost (to - from) reader.old reader.new }
     {
         let before = self.bytes.bytes().len();
         if !self.ends.is_full() {
@@ -204,7 +204,7 @@ impl<const N: usize> Store<Option<ArrayVec<u8, N>>> {
     /// Holds these parts instead, without the ends if they can't be ends of pieces.
     pub(crate) fn restore(&mut self, bytes: &[u8], ends: &[usize], lost: bool)
         requires fit { length bytes.now ≤ N }
-        requires few { length ends.now ≤ most_pieces }
+        requires at_most { length ends.now ≤ most_pieces }
         ensures bytes { self.new.bytes ≡ bytes.now }
         ensures ends { ArePieceEnds bytes.now ends.now → self.new.ends ≡ ends.now }
         ensures lost { self.new.lost ≡ lost }

@@ -1,5 +1,5 @@
 -- What the handler receives by a list of calls, first by what is done in a state, then by the rest of the list
--- (`tells-replay`). By induction over the list: the calls before a stop are those of the bytes up to it, and positions
+-- (`delivers-replay`). By induction over the list: the calls before a stop are those of the bytes up to it, and positions
 -- of later stops only grow.
 use Rattle.vte.proofs.Common.{◌≡◌, ◌≤◌, ℕ, ◌+◌, ◌-◌, inl, inr, Bool, Option, List, [], ◌∷◌, ◌++◌, length, take, refl, ap, sym, ◌∙◌, arith, append_assoc, length-append, cases_Bool, append-nil, subst, drop_all, take-append-add, take-append_seam, take_all, after, Step, Advance, StopSync, added_calls, Meaning, TakesSteps, calls_after, after_last_end, from_begin_update, hold_turn, AreInOrder, calls, calls_between, calls_with_stops, events, State, TakesTurns, TakesTurnsUntilRefused, between_turns, inside_turn, prefix_to_begin, extend, release, parsing_turn, stop, turn, done, turns}
 use Rattle.vte.proofs.Performing.{after_calls-append, added_calls-append}
@@ -52,112 +52,112 @@ module _ (limit : Option ℕ) (parsed prefix : List ℕ) where
 -- ---- from a state to the end of a list of calls
 
 module _ {V W : Type 0} (m : Meaning V W) (end : State V W) where
-  -- what the handler is still told if bytes were parsed, with these stops, and its value is this
-  pub record HasStillToTell (parsed stops : List ℕ) (value : V) : Type 0 where
+  -- what the handler still receives if bytes were parsed, with these stops, and its value is this
+  pub record HasStillToDeliver (parsed stops : List ℕ) (value : V) : Type 0 where
     pub more : List ℕ
     pub parsed_is : end.parsed ≡ parsed ++ more
     pub positions : List ℕ
     pub stops_are : end.stops ≡ stops ++ positions
     pub in_order : AreInOrder (length parsed) positions (length end.parsed)
-    pub told : end.handler ≡ after m.step value (calls_with_stops m.limit end.parsed (length parsed) positions)
+    pub handler_is : end.handler ≡ after m.step value (calls_with_stops m.limit end.parsed (length parsed) positions)
 
-  abbrev TellsAt : State V W → Type 0
-  TellsAt state = HasStillToTell state.parsed state.stops state.handler
+  abbrev DeliversAt : State V W → Type 0
+  DeliversAt state = HasStillToDeliver state.parsed state.stops state.handler
 
-  tells-nothing : TellsAt end
-  tells-nothing = record {
+  delivers-nothing : DeliversAt end
+  delivers-nothing = record {
     more = [];
     parsed_is = sym (append-nil end.parsed);
     positions = [];
     stops_are = sym (append-nil end.stops);
     in_order = omega arith;
-    told = rw calls_between-none refl;
+    handler_is = rw calls_between-none refl;
   }
 
-  tells-parse : {parsed : List ℕ} (prefix : List ℕ) {stops : List ℕ} {value : V}
-      → HasStillToTell (parsed ++ prefix) stops (after m.step value (added_calls m.limit parsed prefix))
-      → HasStillToTell parsed stops value
-  tells-parse {parsed} prefix rest = record {
+  delivers-parse : {parsed : List ℕ} (prefix : List ℕ) {stops : List ℕ} {value : V}
+      → HasStillToDeliver (parsed ++ prefix) stops (after m.step value (added_calls m.limit parsed prefix))
+      → HasStillToDeliver parsed stops value
+  delivers-parse {parsed} prefix rest = record {
     more = prefix ++ rest.more;
     parsed_is = rest.parsed_is ∙ append_assoc parsed prefix rest.more;
     positions = rest.positions;
     stops_are = rest.stops_are;
     in_order = in_order-sooner parsed prefix rest.positions _ rest.in_order;
-    told =
+    handler_is =
         rw (
           calls_with_stops-later m.limit parsed prefix rest.more rest.positions rest.parsed_is rest.in_order,
           after_calls-append,
-        ) rest.told;
+        ) rest.handler_is;
   }
 
-  tells-stop : (state : State V W) → TellsAt (stop m state) → TellsAt state
-  tells-stop state rest =
+  delivers-stop : (state : State V W) → DeliversAt (stop m state) → DeliversAt state
+  delivers-stop state rest =
       let position = length (state.parsed ++ state.held) in
-      tells-parse state.held (record {
+      delivers-parse state.held (record {
         more = rest.more;
         parsed_is = rest.parsed_is;
         positions = position ∷ rest.positions;
         stops_are = rest.stops_are ∙ append_assoc state.stops (position ∷ []) rest.positions;
         in_order = (omega arith, rest.in_order);
-        told = rw calls_between-none rest.told;
+        handler_is = rw calls_between-none rest.handler_is;
       })
 
-  tells-parsing : (state : State V W) (bytes : List ℕ) → TellsAt (parsing_turn m state bytes).state → TellsAt state
-  tells-parsing state bytes =
-      tells-parse (prefix_to_begin m.limit state.parsed bytes)
+  delivers-parsing : (state : State V W) (bytes : List ℕ) → DeliversAt (parsing_turn m state bytes).state → DeliversAt state
+  delivers-parsing state bytes =
+      delivers-parse (prefix_to_begin m.limit state.parsed bytes)
 
-  tells-release : (state : State V W) (kept : List ℕ) → TellsAt (release m state kept) → TellsAt state
-  tells-release state [] = tells-stop state
-  tells-release state (byte ∷ kept) = tells-parse _
+  delivers-release : (state : State V W) (kept : List ℕ) → DeliversAt (release m state kept) → DeliversAt state
+  delivers-release state [] = delivers-stop state
+  delivers-release state (byte ∷ kept) = delivers-parse _
 
-  tells-hold : (state : State V W) (bytes : List ℕ) → TellsAt (hold_turn m state bytes) → TellsAt state
-  tells-hold state bytes = elim (cases_Option (after_last_end (state.held ++ bytes))) [
+  delivers-hold : (state : State V W) (bytes : List ℕ) → DeliversAt (hold_turn m state bytes) → DeliversAt state
+  delivers-hold state bytes = elim (cases_Option (after_last_end (state.held ++ bytes))) [
     | inl none ↦ rw (hold_turn-all m state bytes none) (λ rest. rest)
     | inr some ↦
         rw (hold_turn-rest m state bytes some.1)
-        (tells-release (extend m state bytes) (from_begin_update some.0))
+        (delivers-release (extend m state bytes) (from_begin_update some.0))
   ]
 
-  tells-due : (pending : Bool) (state : State V W) → TellsAt (stop_if_due m pending state) → TellsAt state
-  tells-due pending state = elim (cases_Bool (is_stopped pending state)) [
-    | inl stopped ↦ rw stopped (tells-stop state)
+  delivers-due : (pending : Bool) (state : State V W) → DeliversAt (stop_if_due m pending state) → DeliversAt state
+  delivers-due pending state = elim (cases_Bool (is_stopped pending state)) [
+    | inl stopped ↦ rw stopped (delivers-stop state)
     | inr none ↦ rw none (λ rest. rest)
   ]
 
-  tells-turn : (pending : Bool) (state : State V W) (bytes : List ℕ) → TellsAt (turn m pending state bytes).state
-      → TellsAt state
-  tells-turn pending state bytes = elim (cases_Bool (is_held pending state bytes)) [
-    | inl held ↦ rw (turn-holds m pending state bytes held) (tells-hold state bytes)
+  delivers-turn : (pending : Bool) (state : State V W) (bytes : List ℕ) → DeliversAt (turn m pending state bytes).state
+      → DeliversAt state
+  delivers-turn pending state bytes = elim (cases_Bool (is_held pending state bytes)) [
+    | inl held ↦ rw (turn-holds m pending state bytes held) (delivers-hold state bytes)
     | inr parses ↦
         rw (turn-parses m pending state bytes parses)
-        (λ rest. tells-due pending state (tells-parsing (stop_if_due m pending state) bytes rest))
+        (λ rest. delivers-due pending state (delivers-parsing (stop_if_due m pending state) bytes rest))
   ]
 
-  tells-turns : (state next : State V W) (bytes left : List ℕ) → TakesTurns m state bytes next left → TellsAt next
-      → TellsAt state
-  tells-turns state next bytes left done rest = rest
-  tells-turns state next (byte ∷ bytes) left (turns pending allowed more) rest =
-      tells-turn pending state (byte ∷ bytes) (tells-turns _ next _ left more rest)
+  delivers-turns : (state next : State V W) (bytes left : List ℕ) → TakesTurns m state bytes next left → DeliversAt next
+      → DeliversAt state
+  delivers-turns state next bytes left done rest = rest
+  delivers-turns state next (byte ∷ bytes) left (turns pending allowed more) rest =
+      delivers-turn pending state (byte ∷ bytes) (delivers-turns _ next _ left more rest)
 
-  tells-steps : (state next : State V W) (steps : List Step) → TakesSteps m state steps next → TellsAt next
-      → TellsAt state
-  tells-steps state next [] same = rw same (λ rest. rest)
-  tells-steps state next (Advance bytes ∷ steps) (reached, (advances, more)) =
-      λ rest. tells-turns state reached bytes.now [] advances (tells-steps reached next steps more rest)
-  tells-steps state next (StopSync ∷ steps) more =
-      λ rest. tells-stop state (tells-steps (stop m state) next steps more rest)
+  delivers-steps : (state next : State V W) (steps : List Step) → TakesSteps m state steps next → DeliversAt next
+      → DeliversAt state
+  delivers-steps state next [] same = rw same (λ rest. rest)
+  delivers-steps state next (Advance bytes ∷ steps) (reached, (advances, more)) =
+      λ rest. delivers-turns state reached bytes.now [] advances (delivers-steps reached next steps more rest)
+  delivers-steps state next (StopSync ∷ steps) more =
+      λ rest. delivers-stop state (delivers-steps (stop m state) next steps more rest)
 
-  pub tells-replay : (state : State V W) (steps : List Step) → TakesSteps m state steps end → TellsAt state
-  tells-replay state steps taken = tells-steps state end steps taken tells-nothing
+  pub delivers-replay : (state : State V W) (steps : List Step) → TakesSteps m state steps end → DeliversAt state
+  delivers-replay state steps taken = delivers-steps state end steps taken delivers-nothing
 
   -- the last call was refused memory
-  pub tells-refused : (state reached : State V W) (steps : List Step) (bytes left : List ℕ)
-      → TakesSteps m state steps reached → TakesTurnsUntilRefused m reached bytes end left → TellsAt state
-  tells-refused state reached steps bytes left taken (between_turns more) =
-      tells-steps state reached steps taken (tells-turns reached end bytes left more tells-nothing)
-  tells-refused state reached steps bytes left taken (inside_turn {reached = mid} {rest} more pending allowed halts) =
+  pub delivers-refused : (state reached : State V W) (steps : List Step) (bytes left : List ℕ)
+      → TakesSteps m state steps reached → TakesTurnsUntilRefused m reached bytes end left → DeliversAt state
+  delivers-refused state reached steps bytes left taken (between_turns more) =
+      delivers-steps state reached steps taken (delivers-turns reached end bytes left more delivers-nothing)
+  delivers-refused state reached steps bytes left taken (inside_turn {reached = mid} {rest} more pending allowed halts) =
       let halted = (refused-parses m pending mid end rest left halts).1 in
-      tells-steps state reached steps taken
-      (tells-turns reached mid bytes rest more
-      (tells-due pending mid
-      (tells-parse halted.prefix (subst (λ state. TellsAt state) halted.state_is tells-nothing))))
+      delivers-steps state reached steps taken
+      (delivers-turns reached mid bytes rest more
+      (delivers-due pending mid
+      (delivers-parse halted.prefix (subst (λ state. DeliversAt state) halted.state_is delivers-nothing))))

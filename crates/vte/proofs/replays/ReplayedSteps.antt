@@ -1,11 +1,11 @@
 -- A list of calls, made call by call (`advance_taken`, `stop_taken`): a loop over calls makes `TakesSteps`, and the
 -- handler has received their calls. A steady timeout allows one answer in each state, so where the list leads is then a
 -- function of its calls (`replay_only_one`).
-use Rattle.vte.proofs.Common.{◌≡◌, ℕ, ◌+◌, ◌-◌, Bool, List, [], ◌∷◌, ◌++◌, length, take, refl, ap, sym, ◌∙◌, arith, append_assoc, append-nil, Step, Advance, StopSync, Meaning, TakesSteps, State, TakesTurnsUntilRefused, stop, done, turns, ◌<◌, drop, get_or, append_cancel_right, take-append-drop, Bor, drop_more, take_more, HasAdvanced, HoldsWellAt, HasReplayed, HasTold, HasTaken, IsSteady, TakesAllTurns, given_bytes, rules}
+use Rattle.vte.proofs.Common.{◌≡◌, ℕ, ◌+◌, ◌-◌, Bool, List, [], ◌∷◌, ◌++◌, length, take, refl, ap, sym, ◌∙◌, arith, append_assoc, append-nil, Step, Advance, StopSync, Meaning, TakesSteps, State, TakesTurnsUntilRefused, stop, done, turns, ◌<◌, drop, get_or, append_cancel_right, take-append-drop, Bor, drop_more, take_more, HasAdvanced, HoldsWellAt, HasReplayed, HasDelivered, HasTaken, IsSteady, TakesAllTurns, given_bytes, rules}
 use Rattle.vte.proofs.turns.EachOnce.{grows_before, grows_on, replay_grows, stop_well, taken_well, turn_well}
 use Rattle.vte.specs.Refusal.{IsFirstRefused}
 use Rattle.vte.proofs.turns.Slices.{until_refused-grows}
-use Rattle.vte.proofs.replays.ReceivedCalls.{HasStillToTell, tells-refused, tells-replay}
+use Rattle.vte.proofs.replays.ReceivedCalls.{HasStillToDeliver, delivers-refused, delivers-replay}
 
 -- the refused step is the first of those that are left
 pub first_lacks : {i : ℕ} {bytes : Bor (List ℕ)} (lacks : ℕ → Type 0) (steps : List Step) (d : Step) (read : ℕ)
@@ -52,37 +52,37 @@ module _ {V W : Type 0} (m : Meaning V W) where
   replay_append s t u (StopSync ∷ steps) more q r = replay_append (stop m s) t u steps more q r
 
   -- what the handler has received, and what became of the bytes
-  tells : {s t : State V W} {bytes : List ℕ} (more : List ℕ) → t.parsed ≡ s.parsed ++ more
-      → s.held ++ bytes ≡ more ++ t.held → HasStillToTell m t s.parsed s.stops s.handler → HasTold m s bytes t
-  tells more parsed_is each_once e = record {
+  delivers : {s t : State V W} {bytes : List ℕ} (more : List ℕ) → t.parsed ≡ s.parsed ++ more
+      → s.held ++ bytes ≡ more ++ t.held → HasStillToDeliver m t s.parsed s.stops s.handler → HasDelivered m s bytes t
+  delivers more parsed_is each_once e = record {
     more = more;
     positions = e.positions;
     parsed_is = parsed_is;
     stops_are = e.stops_are;
     in_order = e.in_order;
     each_once = each_once;
-    handler_is = e.told;
+    handler_is = e.handler_is;
   }
 
-  pub steps_told : (s t : State V W) (steps : List Step) → TakesSteps m s steps t → HasTold m s (given_bytes steps) t
+  pub steps_told : (s t : State V W) (steps : List Step) → TakesSteps m s steps t → HasDelivered m s (given_bytes steps) t
   steps_told s t steps run =
       let g = replay_grows m s t steps run in
-      tells g.more g.parsed_is (g.each_once ∙ ap (λ held. g.more ++ held) (append-nil t.held))
-      (tells-replay m t s steps run)
+      delivers g.more g.parsed_is (g.each_once ∙ ap (λ held. g.more ++ held) (append-nil t.held))
+      (delivers-replay m t s steps run)
 
   -- the last call was refused memory
   pub refused_told : (s u t : State V W) (steps : List Step) (bytes : List ℕ) (read : ℕ) → TakesSteps m s steps u
-      → TakesTurnsUntilRefused m u bytes t (drop read bytes) → HasTold m s (given_bytes steps ++ take read bytes) t
+      → TakesTurnsUntilRefused m u bytes t (drop read bytes) → HasDelivered m s (given_bytes steps ++ take read bytes) t
   refused_told s u t steps bytes read run more =
       let g = grows_on (grows_before (replay_grows m s u steps run) bytes) (until_refused-grows m more) in
-      tells g.more g.parsed_is
+      delivers g.more g.parsed_is
       (append_cancel_right _ _ (drop read bytes)
       (append_assoc s.held (given_bytes steps ++ take read bytes) (drop read bytes)
       ∙ ap (λ all. s.held ++ all)
       (append_assoc (given_bytes steps) (take read bytes) (drop read bytes)
       ∙ ap (λ all. given_bytes steps ++ all) (take-append-drop read bytes))
       ∙ g.each_once ∙ sym (append_assoc g.more t.held (drop read bytes))))
-      (tells-refused m t s u steps bytes (drop read bytes) run more)
+      (delivers-refused m t s u steps bytes (drop read bytes) run more)
 
   pub replayed : {s : State V W} (t : State V W) {steps : List Step} {IsNowAt : State V W → Type 0}
       → TakesSteps m s steps t
@@ -90,7 +90,7 @@ module _ {V W : Type 0} (m : Meaning V W) where
   replayed {s} t {steps} run at = record {
     next = t;
     takes = run;
-    tells = steps_told s t steps run;
+    delivers = steps_told s t steps run;
     holds_well = replay_well s t steps run;
     only = λ steady well other r. replay_only_one m steady s t other steps well run r;
     is_at = at;

@@ -1,5 +1,5 @@
 -- A processor stands where its engine does, so it does what the engine ensures.
-use Rattle.vte.proofs.Common.{ℕ, List, length, Result, Ok, Err, arith, Bor, Refused, EngineView, Meaning, State, usual_limit, HasAdvanced, HasParsedAndHolds, HasTaken, IsAt, ReadsInTurns, EngineReads, StandingPredicate, EngineStandsAt, ◌≡◌, refl, rules, limited_parser_view, engine_view, HasTextRoom, HasParsedAndHoldsWithin, EngineStops, StopsSync, bounded_engine_view, stop, [], ◌+◌, ◌-◌, ◌<◌, ◌++◌, ap, length-append, counts_data, AdvancesLong, HasMemory, HasParsedAndHoldsLong, LacksMemoryLong, drop, length-drop, long_engine_view}
+use Rattle.vte.proofs.Common.{ℕ, List, length, Result, Ok, Err, arith, Bor, Refused, EngineView, Meaning, State, usual_limit, HasAdvanced, HasParsedAndHolds, HasTaken, IsAt, ReadsInTurns, EngineReads, ProcessorPredicate, EngineHasParsedAndHolds, ◌≡◌, refl, rules, limited_parser_view, engine_view, HasTextRoom, HasParsedAndHoldsWithin, EngineStops, StopsSync, bounded_engine_view, stop, [], ◌+◌, ◌-◌, ◌<◌, ◌++◌, ap, length-append, counts_data, AdvancesLong, HasMemory, HasParsedAndHoldsLong, LacksMemoryLong, drop, length-drop, long_engine_view}
 use Rattle.vte_core.specs.declared.parser.Parser.{Parser}
 use Rattle.vte.proofs.replays.WithoutUpdates.{plain_call}
 use Rattle.vte.proofs.turns.EngineTurns.{has_advanced, taken-to}
@@ -18,10 +18,10 @@ limited timeout_of = engine_view usual_limit limited_parser_view (λ text. TEXT_
 
 module _ {T A V W : Type 0} {timeout_of : T → W} {processor : Processor T A} {value : V} (s : State V W) where
   is_at-engine : IsAt (HasParsedAndHolds timeout_of processor) value s
-      → IsAt (EngineStandsAt (limited timeout_of) processor.engine) value s
+      → IsAt (EngineHasParsedAndHolds (limited timeout_of) processor.engine) value s
   is_at-engine at = search (rules, arith)
 
-  is_at-processor : IsAt (EngineStandsAt (limited timeout_of) processor.engine) value s
+  is_at-processor : IsAt (EngineHasParsedAndHolds (limited timeout_of) processor.engine) value s
       → IsAt (HasParsedAndHolds timeout_of processor) value s
   is_at-processor at = record {
     stands = search rules;
@@ -29,7 +29,7 @@ module _ {T A V W : Type 0} {timeout_of : T → W} {processor : Processor T A} {
   }
 
 -- a call that has read all its bytes, of any processor
-module _ {V W : Type 0} {m : Meaning V W} {Before After : StandingPredicate W} {old new : V}
+module _ {V W : Type 0} {m : Meaning V W} {Before After : ProcessorPredicate W} {old new : V}
     (bytes : Bor (List ℕ)) {read : ℕ}
     (takes : (s : State V W) → IsAt Before old s → HasTaken m s bytes.now read (IsAt After new))
     (all : read ≡ length bytes.now) where
@@ -57,11 +57,11 @@ refused-never bytes (Err refused) r =
 module _ {T A V W : Type 0} {N : ℕ} {timeout_of : T → W} {processor : BoundedProcessor T A N} {value : V}
     (s : State V W) where
   is_at-bounded_engine : IsAt (HasParsedAndHoldsWithin timeout_of processor) value s
-      → IsAt (EngineStandsAt (bounded_engine_view timeout_of) processor.engine) value s
+      → IsAt (EngineHasParsedAndHolds (bounded_engine_view timeout_of) processor.engine) value s
   is_at-bounded_engine at = record { stands = at.stands.stands; handler_is = at.handler_is }
 
   is_at-bounded : HasTextRoom N processor.engine.state.text.size
-      → IsAt (EngineStandsAt (bounded_engine_view timeout_of) processor.engine) value s
+      → IsAt (EngineHasParsedAndHolds (bounded_engine_view timeout_of) processor.engine) value s
       → IsAt (HasParsedAndHoldsWithin timeout_of processor) value s
   is_at-bounded room at = search (rules, arith)
 

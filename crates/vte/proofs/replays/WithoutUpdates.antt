@@ -1,7 +1,7 @@
 -- With a timeout that is never pending, the handler receives the calls of the whole stream (`replays_all`,
 -- `plain_call`): nothing is ever held, so there are no stops. By induction over turns: each one parses, and ends with
 -- nothing held.
-use Rattle.vte.proofs.Common.{◌≡◌, ℕ, List, [], ◌∷◌, ◌++◌, refl, ap, sym, ◌∙◌, append-nil, after, Step, Advance, StopSync, added_calls, Meaning, TakesSteps, calls, events, State, turn, done, turns, Bor, HasAdvanced, HasReplayed, TakesAllTurns, given_bytes, true, false, HasParsedAll, IsAt, Replays, StandingPredicate}
+use Rattle.vte.proofs.Common.{◌≡◌, ℕ, List, [], ◌∷◌, ◌++◌, refl, ap, sym, ◌∙◌, append-nil, after, Step, Advance, StopSync, added_calls, Meaning, TakesSteps, calls, events, State, turn, done, turns, Bor, HasAdvanced, HasReplayed, TakesAllTurns, given_bytes, true, false, HasParsedAll, IsAt, Replays, ProcessorPredicate}
 use Rattle.vte.proofs.Performing.{after_calls-append, calls_whole}
 use Rattle.vte.specs.ProcessorCalls.{AreAdvances, IsNeverPending, ParsesAll}
 use Rattle.vte.proofs.replays.ReceivedCalls.{calls_between-whole}
@@ -35,7 +35,7 @@ module _ {V W : Type 0} (m : Meaning V W) (never : IsNeverPending m.timeout.allo
 
 -- ---- from the beginning of the stream on
 
-module _ {V W : Type 0} {Before : StandingPredicate W} (old : V) {stream : List ℕ}
+module _ {V W : Type 0} {Before : ProcessorPredicate W} (old : V) {stream : List ℕ}
     (all : HasParsedAll Before stream) where
   abbrev here : State V W
   here = record { parsed = stream; stops = []; held = []; timeout = all.timeout; handler = old }
@@ -43,26 +43,26 @@ module _ {V W : Type 0} {Before : StandingPredicate W} (old : V) {stream : List 
   is_here : IsAt Before old here
   is_here = record { stands = all.stands; handler_is = refl }
 
-  module _ (m : Meaning V W) (never : IsNeverPending m.timeout.allows) {After : StandingPredicate W} {new : V}
+  module _ (m : Meaning V W) (never : IsNeverPending m.timeout.allows) {After : ProcessorPredicate W} {new : V}
       (steps : List Step) (only : AreAdvances steps)
-      (told : HasReplayed m here steps (IsAt After new)) where
-    plain : IsPlain here told.next
-    plain = plain_run m never here told.next steps told.takes only refl
+      (replayed : HasReplayed m here steps (IsAt After new)) where
+    plain : IsPlain here replayed.next
+    plain = plain_run m never here replayed.next steps replayed.takes only refl
 
-    more_is : told.tells.more ≡ given_bytes steps
+    more_is : replayed.delivers.more ≡ given_bytes steps
     more_is =
-        sym (told.tells.each_once ∙ ap (λ held. told.tells.more ++ held) plain.none_held ∙ append-nil told.tells.more)
+        sym (replayed.delivers.each_once ∙ ap (λ held. replayed.delivers.more ++ held) plain.none_held ∙ append-nil replayed.delivers.more)
 
-    parsed_all : told.next.parsed ≡ stream ++ given_bytes steps
-    parsed_all = told.tells.parsed_is ∙ ap (λ more. stream ++ more) more_is
+    parsed_all : replayed.next.parsed ≡ stream ++ given_bytes steps
+    parsed_all = replayed.delivers.parsed_is ∙ ap (λ more. stream ++ more) more_is
 
     plain_follows : (start : V) → old ≡ after m.step start (calls (events m.limit stream))
         → new ≡ after m.step start (calls (events m.limit (stream ++ given_bytes steps)))
     plain_follows start was =
-        told.is_at.handler_is
-        ∙ told.tells.handler_is
+        replayed.is_at.handler_is
+        ∙ replayed.delivers.handler_is
         ∙ rw (
-          ← told.tells.stops_are,
+          ← replayed.delivers.stops_are,
           plain.no_stop,
           parsed_all,
           calls_between-whole m.limit stream (given_bytes steps),
@@ -75,25 +75,25 @@ module _ {V W : Type 0} {Before : StandingPredicate W} (old : V) {stream : List 
 
     plain_parses : HasParsedAll After (stream ++ given_bytes steps)
     plain_parses = record {
-      timeout = told.next.timeout;
-      stands = rw (parsed_all, plain.none_held) at told.is_at.stands;
+      timeout = replayed.next.timeout;
+      stands = rw (parsed_all, plain.none_held) at replayed.is_at.stands;
     }
 
 -- ---- what calls ensure then
 
-module _ {V W : Type 0} (m : Meaning V W) {Before After : StandingPredicate W} {old new : V} where
+module _ {V W : Type 0} (m : Meaning V W) {Before After : ProcessorPredicate W} {old new : V} where
   plain_calls : (steps : List Step)
       → ((s : State V W) → IsAt Before old s → HasReplayed m s steps (IsAt After new))
       → IsNeverPending m.timeout.allows → AreAdvances steps → ParsesAll m Before After old new (given_bytes steps)
-  plain_calls steps told never only = record {
-    follows = λ start stream all. plain_follows old all m never steps only (told _ (is_here old all)) start;
-    parses_all = λ stream all. plain_parses old all m never steps only (told _ (is_here old all));
+  plain_calls steps replayed never only = record {
+    follows = λ start stream all. plain_follows old all m never steps only (replayed _ (is_here old all)) start;
+    parses_all = λ stream all. plain_parses old all m never steps only (replayed _ (is_here old all));
   }
 
   pub replays_all : {steps : List Step}
       → ((s : State V W) → IsAt Before old s → HasReplayed m s steps (IsAt After new))
       → Replays m Before After old new steps
-  replays_all {steps} told = record { told = told; plain = plain_calls steps told }
+  replays_all {steps} replayed = record { replays = replayed; plain = plain_calls steps replayed }
 
   -- a call is a list of one
   pub plain_call : (bytes : Bor (List ℕ))

@@ -13,7 +13,7 @@ use Rattle.vte.specs.declared.ansi.updates.hold.SyncState.{SyncState}
 
 pub slice_size : (bytes : List ℕ) (read : ℕ) {count : ℕ} → read ≤ length bytes → count ≤ length bytes - read
     → length (take (read + count - read) (drop read bytes)) ≡ count
-slice_size bytes read {count} inside few =
+slice_size bytes read {count} inside at_most =
     length-take-le (read + count - read) (drop read bytes) (rw length-drop (omega arith)) ∙ omega arith
 
 module _ {V W : Type 0} (m : Meaning V W) where
@@ -265,14 +265,14 @@ module _ {P B T A V W : Type 0} {view : EngineView P B T W} (m : Meaning V W) {s
     {old : Engine P B T A} {hold : SyncState A} {timeout : T} {begins : ℕ} {value : V}
     (at : EngineIsAt view old value s) (added : IsAdded s.held more hold begins)
     (is_set : view.timeout_of timeout ≡ set_times m.timeout begins (view.timeout_of old.state.timeout))
-    (room : view.reading.has_memory old.parser (view.room_of old.state.text) s.parsed
+    (room : view.parser.has_memory old.parser (view.room_of old.state.text) s.parsed
     (length s.held + length more)) where
   abbrev set : Engine P B T A
   set = record old { hold = hold; state = record old.state { timeout = timeout } }
 
   -- there is memory to parse so many more bytes
   abbrev HasRoom : List ℕ → ℕ → Type 0
-  HasRoom = view.reading.has_memory old.parser (view.room_of old.state.text)
+  HasRoom = view.parser.has_memory old.parser (view.room_of old.state.text)
 
   extended : ArePartsAt view set.parser set.state value (extend m s more)
   extended = record {
@@ -290,7 +290,7 @@ module _ {P B T A V W : Type 0} {view : EngineView P B T W} (m : Meaning V W) {s
       → ArePartsAtKeeping view set.parser set.state last.parser last.state next (parse m t (released_of hold)))
       → ((t : State V W) (n : ℕ) → ArePartsAtWithMemory view set.parser set.state value t
       (length (released_of hold) + n)
-      → view.reading.has_memory last.parser (view.room_of last.state.text) (t.parsed ++ released_of hold) n)
+      → view.parser.has_memory last.parser (view.room_of last.state.text) (t.parsed ++ released_of hold) n)
       → last.hold ≡ hold → EngineIsAtKeeping view old last next (hold_turn m s more)
   turned_cut {last} {next} some parses leaves kept =
       let t = extend m s more in

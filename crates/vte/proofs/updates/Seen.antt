@@ -16,10 +16,10 @@ begins_with-short sequence text short = search (rules, arith, begins_with-length
 
 neither-short : (text : List ℕ) (position : ℕ) → length text < position + 8 → IsNeither text position
 neither-short text position short =
-    let few : length (drop position text) < 8 = rw length-drop (omega arith) in
+    let at_most : length (drop position text) < 8 = rw length-drop (omega arith) in
     record {
-      no_begin = begins_with-short begin_update (drop position text) few;
-      no_end = begins_with-short end_update (drop position text) few;
+      no_begin = begins_with-short begin_update (drop position text) at_most;
+      no_end = begins_with-short end_update (drop position text) at_most;
     }
 
 -- without ESC, or without `?` as the third byte
@@ -109,7 +109,7 @@ module _ {text : List ℕ} {new position begin begins : ℕ} (l : position < len
   -- with at most seven older bytes from there on, it ends among the new ones
   seen-begin : length text ≤ position + 7 + new → begins_with begin_update (drop position text) ≡ true
       → HasSeen text new position position (begins + 1)
-  seen-begin few e =
+  seen-begin at_most e =
       let d = drop_more text position 0 l in
       let long = begins_with-length begin_update (drop position text) e in
       let near : nat_lt (length (drop 7 (drop (position + 1) text))) new ≡ true =
@@ -178,7 +178,7 @@ module _ {all : List ℕ} {new position unread begin begins : ℕ} (e : IsLastEs
 
   pub seen-begin_before : length all ≤ position + 7 + new → begins_with begin_update (drop position all) ≡ true
       → HasSeen all new at position (begins + 1)
-  seen-begin_before few b = further (seen-begin e.inside e.seen few b)
+  seen-begin_before at_most b = further (seen-begin e.inside e.seen at_most b)
 
   pub seen-other_before : begins_with begin_update (drop position all) ≡ false
       → begins_with end_update (drop position all) ≡ false → HasSeen all new at begin begins

@@ -153,7 +153,7 @@ pub after_last_end-tail : (old more : List ℕ) → after_last_end old ≡ None
     → after_last_end (old ++ more) ≡ after_last_end (drop (length old - 7) (old ++ more))
 after_last_end-tail [] more none = refl
 after_last_end-tail (b ∷ old) more none = elim (cases_lt (length old) 7) [
-  | inl few ↦ let e : suc (length old) - 7 ≡ 0 = omega arith in rw e
+  | inl at_most ↦ let e : suc (length old) - 7 ≡ 0 = omega arith in rw e
   | inr many ↦
       let e : suc (length old) - 7 ≡ suc (length old - 7) = omega arith in
       let no_end = not_some _ (begins_with-no_end b old more many none) in
@@ -166,7 +166,7 @@ pub begins_ending_in_last-tail : {n : ℕ} (old more : List ℕ) → length more
     → begins_ending_in_last n (old ++ more) ≡ begins_ending_in_last n (drop (length old - 7) (old ++ more))
 begins_ending_in_last-tail [] more is = refl
 begins_ending_in_last-tail {n} (b ∷ old) more is = elim (cases_lt (length old) 7) [
-  | inl few ↦ let e : suc (length old) - 7 ≡ 0 = omega arith in rw e
+  | inl at_most ↦ let e : suc (length old) - 7 ≡ 0 = omega arith in rw e
   | inr many ↦
       let e : suc (length old) - 7 ≡ suc (length old - 7) = omega arith in
       let far : nat_lt (length (drop 7 (old ++ more))) n ≡ false =

@@ -8,7 +8,7 @@ use Rattle.vte.specs.Memory.{KeepsMemory}
 use Rattle.vte.specs.Processor.{Meaning, State, prefix_to_begin, parsing_turn, parse, turn}
 use Rattle.vte.specs.ProcessorCalls.{IsAt}
 use Rattle.vte.specs.Refusal.{TakesTurnsUntilRefused}
-use Rattle.vte.specs.Views.{EngineHasMemory, EngineStandsAt, EngineView}
+use Rattle.vte.specs.Views.{EngineHasMemory, EngineHasParsedAndHolds, EngineView}
 use Rattle.vte.specs.declared.ansi.calls.performer.ProcessorState.{ProcessorState}
 use Rattle.vte.specs.declared.ansi.updates.engine.Engine.{Engine}
 
@@ -17,7 +17,7 @@ use Rattle.vte.specs.declared.ansi.updates.engine.Engine.{Engine}
 -- The parser, the state lent to it and the handler's value are as the state says, whatever is held.
 pub record ArePartsAt {P B T V W : Type 0} (view : EngineView P B T W) (parser : P)
     (lent : ProcessorState T B) (value : V) (state : State V W) : Type 0 where
-  pub has_read : view.reading.has_read parser state.parsed
+  pub has_read : view.parser.has_read parser state.parsed
   pub last : lent.preceding_char ≡ last_printed (events view.limit state.parsed)
   pub timeout_is : view.timeout_of lent.timeout ≡ state.timeout
   pub handler_is : value ≡ state.handler
@@ -26,21 +26,21 @@ pub record ArePartsAt {P B T V W : Type 0} (view : EngineView P B T W) (parser :
 pub record ArePartsAtWithMemory {P B T V W : Type 0} (view : EngineView P B T W) (parser : P)
     (lent : ProcessorState T B) (value : V) (state : State V W) (count : ℕ) : Type 0 where
   pub parts_at : ArePartsAt view parser lent value state
-  pub room : view.reading.has_memory parser (view.room_of lent.text) state.parsed count
+  pub room : view.parser.has_memory parser (view.room_of lent.text) state.parsed count
 
 -- `ArePartsAt`, with the memory that was there before.
 pub record ArePartsAtKeeping {P B T V W : Type 0} (view : EngineView P B T W) (parser : P)
     (lent : ProcessorState T B) (next : P) (back : ProcessorState T B)
     (value : V) (state : State V W) : Type 0 where
   pub parts_at : ArePartsAt view next back value state
-  pub memory : KeepsMemory (view.reading.has_memory parser (view.room_of lent.text))
-      (view.reading.has_memory next (view.room_of back.text))
+  pub memory : KeepsMemory (view.parser.has_memory parser (view.room_of lent.text))
+      (view.parser.has_memory next (view.room_of back.text))
 
 -- The engine and the handler's value are as the state says.
 abbrev pub EngineIsAt : {P B T A V W : Type 0} → EngineView P B T W → Engine P B T A → V
     → State V W
     → Type 0
-EngineIsAt view engine = IsAt (EngineStandsAt view engine)
+EngineIsAt view engine = IsAt (EngineHasParsedAndHolds view engine)
 
 -- The engine is at a state, with the memory that was there before.
 pub record EngineIsAtKeeping {P B T A V W : Type 0} (view : EngineView P B T W)

@@ -50,44 +50,44 @@ with_private_modes step timeout performer groups = record performer {
 
 -- A parser has read bytes after a stream, and performed what they add. It still has memory for n
 -- others.
-pub record HasPerformed {P V W : Type 0} (reading : ParserView P) (limit : Option ℕ)
+pub record HasPerformed {P V W : Type 0} (view : ParserView P) (limit : Option ℕ)
     (step : PerformerValue V W → Event → PerformerValue V W) (next : P)
     (old new : PerformerValue V W)
     (stream bytes : List ℕ) (more : ℕ) : Type 0 where
   pub performs : new ≡ performed step old (added limit stream bytes)
   pub fits : All (FitsText old.room) (added limit stream bytes)
-  pub reads : reading.has_read next (stream ++ bytes)
-  pub room : reading.has_memory next old.room (stream ++ bytes) more
+  pub reads : view.has_read next (stream ++ bytes)
+  pub room : view.has_memory next old.room (stream ++ bytes) more
 
 -- A parser has read `read` of the bytes after a stream: up to an event that terminates the
 -- performer, or all.
-pub record HasStopped {P V W : Type 0} (reading : ParserView P) (limit : Option ℕ)
+pub record HasStopped {P V W : Type 0} (view : ParserView P) (limit : Option ℕ)
     (step : PerformerValue V W → Event → PerformerValue V W) (next : P)
     (old new : PerformerValue V W)
     (stream bytes : List ℕ) (read : ℕ) : Type 0 where
   pub stops : StopsExactly step (λ performer. performer.terminated) old limit stream bytes new read
   pub fits : All (FitsText old.room) (added limit stream bytes)
-  pub reads : reading.has_read next (resumed_stream stream bytes read)
+  pub reads : view.has_read next (resumed_stream stream bytes read)
 
 -- After each stream that the parser has read, it performs all bytes if it has memory for them.
 -- Memory that was there stays.
-pub record AdvancesAll {P V W : Type 0} (reading : ParserView P) (limit : Option ℕ)
+pub record AdvancesAll {P V W : Type 0} (view : ParserView P) (limit : Option ℕ)
     (step : PerformerValue V W → Event → PerformerValue V W) (parser next : P)
     (old new : PerformerValue V W)
     (bytes : List ℕ) : Type 0 where
-  pub parses : (stream : List ℕ) (more : ℕ) → reading.has_read parser stream
-      → reading.has_memory parser old.room stream (length bytes + more)
-      → HasPerformed reading limit step next old new stream bytes more
+  pub parses : (stream : List ℕ) (more : ℕ) → view.has_read parser stream
+      → view.has_memory parser old.room stream (length bytes + more)
+      → HasPerformed view limit step next old new stream bytes more
   pub memory : (size : ℕ)
-      → KeepsMemory (reading.has_memory parser size) (reading.has_memory next size)
+      → KeepsMemory (view.has_memory parser size) (view.has_memory next size)
 
-pub record AdvancesUntilStop {P V W : Type 0} (reading : ParserView P) (limit : Option ℕ)
+pub record AdvancesUntilStop {P V W : Type 0} (view : ParserView P) (limit : Option ℕ)
     (step : PerformerValue V W → Event → PerformerValue V W) (parser next : P)
     (old new : PerformerValue V W)
     (bytes : List ℕ) (read : ℕ) : Type 0 where
   pub within : read ≤ length bytes
-  pub stops : (stream : List ℕ) (more : ℕ) → reading.has_read parser stream
-      → reading.has_memory parser old.room stream (length bytes + more)
-      → HasStopped reading limit step next old new stream bytes read
+  pub stops : (stream : List ℕ) (more : ℕ) → view.has_read parser stream
+      → view.has_memory parser old.room stream (length bytes + more)
+      → HasStopped view limit step next old new stream bytes read
   pub memory : (size : ℕ)
-      → KeepsMemory (reading.has_memory parser size) (reading.has_memory next size)
+      → KeepsMemory (view.has_memory parser size) (view.has_memory next size)

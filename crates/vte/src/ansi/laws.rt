@@ -3,7 +3,7 @@ ghost use Rattle.std.specs.Prelude.{◌≡◌, ◌++◌, ℕ, List, None, Option
 ghost use Rattle.vte.specs.CallExamples.{AreMade, AreRead, color_examples, command_examples, counted_examples, escape_examples, executed_examples};
 ghost use Rattle.vte.specs.CallExamples.{link_examples, mode_examples, palette_examples, position_examples, rendition_examples, selected_examples, title_examples};
 ghost use Rattle.vte.specs.Processor.{HoldsWellAt, State, TakesAllTurns, TakesSteps, TakesTurns, given_bytes, meaning_of};
-ghost use Rattle.vte.specs.ProcessorCalls.{HasTold};
+ghost use Rattle.vte.specs.ProcessorCalls.{HasDelivered};
 ghost use Rattle.vte.specs.Refusal.{TakesTurnsUntilRefused};
 ghost use Rattle.vte.specs.UpdateExamples.{AreRight, ShortExamples, expired_example, update_examples};
 ghost use Rattle.vte.specs.declared.ansi.laws.replays.Step.{Step};
@@ -43,13 +43,13 @@ pub fn worked_examples()
 pub fn calls_are_told<H: Handler, T: Timeout>()
     ensures told { (limit : Option ℕ) (state next : State H.Value T.Value) (steps : List Step)
         → let m = meaning_of limit H.step T.set T.clear T.allows in
-        TakesSteps m state steps next → HasTold m state (given_bytes steps) next }
+        TakesSteps m state steps next → HasDelivered m state (given_bytes steps) next }
     // The last call was refused memory when it had read this many of its bytes.
     ensures refused { (state reached next : State H.Value T.Value) (steps : List Step)
         (bytes : List ℕ) (read : ℕ) → let m = meaning_of None H.step T.set T.clear T.allows in
         TakesSteps m state steps reached →
         TakesTurnsUntilRefused m reached bytes next (drop read bytes) →
-        HasTold m state (given_bytes steps ++ take read bytes) next }
+        HasDelivered m state (given_bytes steps ++ take read bytes) next }
     // Further calls go on from where calls led to.
     ensures goes_on { (limit : Option ℕ) (state reached next : State H.Value T.Value)
         (steps more : List Step) → let m = meaning_of limit H.step T.set T.clear T.allows in

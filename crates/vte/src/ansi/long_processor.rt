@@ -5,7 +5,7 @@ ghost use Rattle.vte_handler.specs.Timeout.{timeout_meaning};
 ghost use Rattle.vte.specs.Processor.{meaning_of};
 ghost use Rattle.vte.specs.LongProcessor.{AdvancesLong, HasParsedAndHoldsLong, ReservesLong, StopsLong};
 ghost use Rattle.vte.specs.Memory.{HasFreedMemory, HasMemory, KeepsMemory, held_long, parser_long, timeout_long};
-ghost use Rattle.vte.specs.ProcessorCalls.{CountsHeld, Creates, IsCopyOf, SaysParsedLoss};
+ghost use Rattle.vte.specs.ProcessorCalls.{CountsHeld, Creates, IsCopyOfProcessor, SaysParsedLoss};
 
 use crate::ansi::calls::growing_text::GrowingText;
 use crate::ansi::updates::engine::Engine;
@@ -34,7 +34,7 @@ pub struct LongProcessor<T: Timeout + Drop, A: Allocator> {
 
 /// A clone goes on as the processor would, if so does that of its timeout.
 impl<T: Timeout + Clone + Drop, A: Allocator + Clone> Clone for LongProcessor<T, A> {
-    ghost is_clone = { λ processor copy. IsCopyOf T.is_clone T.value_of (timeout_long processor)
+    ghost is_clone = { λ processor copy. IsCopyOfProcessor T.is_clone T.value_of (timeout_long processor)
         (timeout_long copy) (HasParsedAndHoldsLong T.value_of processor)
         (HasParsedAndHoldsLong T.value_of copy) (reading_of_long (parser_long processor))
         (reading_of_long (parser_long copy))

@@ -2,7 +2,7 @@
 ghost use Rattle.std.specs.Prelude.{◌≡◌, [], IfOk, MatchResult, false};
 ghost use Rattle.vte_handler.specs.Timeout.{timeout_meaning};
 ghost use Rattle.vte.specs.Processor.{meaning_of};
-ghost use Rattle.vte.specs.ProcessorCalls.{CountsHeld, Creates, HasParsedAndHolds, IsCopyOf, ReadsInTurns, SaysParsedLoss, StopsSync, held_in, parser_in, timeout_in};
+ghost use Rattle.vte.specs.ProcessorCalls.{CountsHeld, Creates, HasParsedAndHolds, IsCopyOfProcessor, ReadsInTurns, SaysParsedLoss, StopsSync, held_in, parser_in, timeout_in};
 ghost use Rattle.vte_core.specs.Parser.{lost_data, reading_of};
 ghost use Rattle.vte_core.specs.Stream.{usual_limit};
 
@@ -46,7 +46,7 @@ pub struct Processor<T: Timeout + Drop, A: Allocator> {
 
 /// A clone goes on as the processor would, if so does that of its timeout.
 impl<T: Timeout + Clone + Drop, A: Allocator + Clone> Clone for Processor<T, A> {
-    ghost is_clone = { λ processor copy. IsCopyOf T.is_clone T.value_of (timeout_in processor)
+    ghost is_clone = { λ processor copy. IsCopyOfProcessor T.is_clone T.value_of (timeout_in processor)
         (timeout_in copy) (HasParsedAndHolds T.value_of processor)
         (HasParsedAndHolds T.value_of copy) (reading_of (parser_in processor))
         (reading_of (parser_in copy)) };

@@ -103,33 +103,33 @@ module _ (layout : Bool) (bytes : List ℕ) (window : Window) (from at : ℕ) (e
     (is : IsWindow bytes (at - 3) window) (fit : (k : ℕ) → k < 16 → FollowsAt layout window k) where
   byte-at : (block : List ℕ) (i k m : ℕ) → block ≡ take 16 (drop i bytes) → k < 16 → i + k ≡ m
       → slice_index block k ≡ slice_index bytes m
-  byte-at block i k m same few place = block-byte bytes block i 16 k same few ∙ ap (slice_index bytes) place
+  byte-at block i k m same at_most place = block-byte bytes block i 16 k same at_most ∙ ap (slice_index bytes) place
 
   follows-here : (k : ℕ) → k < 16
       → Follows layout (slice_index bytes (at + k - 3)) (slice_index bytes (at + k - 2))
       (slice_index bytes (at + k - 1)) (slice_index bytes (at + k))
-  follows-here k few =
-      let third = byte-at window.third (at - 3) k (at + k - 3) is.third few (omega (arith, early)) in
-      let second = byte-at window.second (at - 3 + 1) k (at + k - 2) is.second few (omega (arith, early)) in
-      let first = byte-at window.first (at - 3 + 2) k (at + k - 1) is.first few (omega (arith, early)) in
-      let byte = byte-at window.last (at - 3 + 3) k (at + k) is.last few (omega (arith, early)) in
-      rw (sym third, sym second, sym first, sym byte) (fit k few)
+  follows-here k at_most =
+      let third = byte-at window.third (at - 3) k (at + k - 3) is.third at_most (omega (arith, early)) in
+      let second = byte-at window.second (at - 3 + 1) k (at + k - 2) is.second at_most (omega (arith, early)) in
+      let first = byte-at window.first (at - 3 + 2) k (at + k - 1) is.first at_most (omega (arith, early)) in
+      let byte = byte-at window.last (at - 3 + 3) k (at + k) is.last at_most (omega (arith, early)) in
+      rw (sym third, sym second, sym first, sym byte) (fit k at_most)
 
   pub leads-block : Leads bytes from at → (n : ℕ) → n ≤ 16 → Leads bytes from (at + n)
-  leads-block old zero few = subst (Leads bytes from) (let e : at ≡ at + 0 = omega arith in e) old
-  leads-block old (suc n) few =
+  leads-block old zero at_most = subst (Leads bytes from) (let e : at ≡ at + 0 = omega arith in e) old
+  leads-block old (suc n) at_most =
       subst (Leads bytes from) (let e : at + n + 1 ≡ at + suc n = omega arith in e)
-      (leads-next layout bytes from (at + n) (omega (arith, low)) (omega (arith, is.within, early, few))
-      (leads-block old n (omega (arith, few))) (follows-here n (omega (arith, few))))
+      (leads-next layout bytes from (at + n) (omega (arith, low)) (omega (arith, is.within, early, at_most))
+      (leads-block old n (omega (arith, at_most))) (follows-here n (omega (arith, at_most))))
 
   pub above-block : layout ≡ false → Each (λ byte. 0x20 ≤ byte) bytes from at
       → Each (λ byte. 0x20 ≤ byte) bytes from (at + 16)
   above-block none old =
       each-both (λ byte. 0x20 ≤ byte) bytes from at (at + 16) old
       (λ k past before.
-      let few : k - at < 16 = omega (arith, past, before) in
+      let at_most : k - at < 16 = omega (arith, past, before) in
       let place : at + (k - at) ≡ k = omega (arith, past) in
-      subst (λ n. 0x20 ≤ slice_index bytes n) place ((follows-here (k - at) few).above none))
+      subst (λ n. 0x20 ≤ slice_index bytes n) place ((follows-here (k - at) at_most).above none))
 
 -- ---- ASCII
 
@@ -150,13 +150,13 @@ closed-next bytes from at low within old plain = search (rules, arith, state-nex
 
 closed-further : (bytes : List ℕ) (from at to : ℕ) → from ≤ at → to ≤ length bytes
     → Each IsPlain bytes at to → IsClosed bytes from at → (n : ℕ) → at + n ≤ to → IsClosed bytes from (at + n)
-closed-further bytes from at to low within plain old zero few =
+closed-further bytes from at to low within plain old zero at_most =
     subst (IsClosed bytes from) (let e : at ≡ at + 0 = omega arith in e) old
-closed-further bytes from at to low within plain old (suc n) few =
+closed-further bytes from at to low within plain old (suc n) at_most =
     subst (IsClosed bytes from) (let e : at + n + 1 ≡ at + suc n = omega arith in e)
-    (closed-next bytes from (at + n) (omega (arith, low)) (omega (arith, within, few))
-    (closed-further bytes from at to low within plain old n (omega (arith, few)))
-    (plain (at + n) (omega arith) (omega (arith, few))))
+    (closed-next bytes from (at + n) (omega (arith, low)) (omega (arith, within, at_most))
+    (closed-further bytes from at to low within plain old n (omega (arith, at_most)))
+    (plain (at + n) (omega arith) (omega (arith, at_most))))
 
 -- ---- the last end
 

@@ -46,9 +46,9 @@ pub prefix-printed : (bytes : List ℕ) {word : ℕ} (n : ℕ) → ((i : ℕ) �
     → word < 2 ^ 64
     → word ≡ from_le_bytes w64 bytes → n ≤ 8 → ((i : ℕ) → i < 8 * n → bit_at (marks_of word) i ≡ 0)
     → ArePrintedAscii bytes 0 n
-prefix-printed bytes {word} n are long fits is most zeros k _ few =
-    let low : k < 8 = omega (arith, few, most) in
-    let e = zeros (8 * k + 7) (omega (arith, few)) in
+prefix-printed bytes {word} n are long fits is most zeros k _ at_most =
+    let low : k < 8 = omega (arith, at_most, most) in
+    let e = zeros (8 * k + 7) (omega (arith, at_most)) in
     let either = bit_at_or (less word) word (8 * k + 7) in
     let both = bit_at_and (bit_or (less word) word) mask (8 * k + 7) in
     let small = bit_at-lt (bit_or (less word) word) (8 * k + 7) in

@@ -51,9 +51,9 @@ block-byte bytes block from n k is l = ap (λ x. get_or x k 0) is ∙ get_or-chu
 pub each-block : (holds : ℕ → Type 0) (bytes block : List ℕ) (from n m : ℕ) → block ≡ take n (drop from bytes) → m ≤ n
     → Each holds block 0 m
     → Each holds bytes from (from + m)
-each-block holds bytes block from n m is few all k low high =
+each-block holds bytes block from n m is at_most all k low high =
     let e : get_or block (k - from) 0 ≡ get_or bytes k 0 =
-    block-byte bytes block from n (k - from) is (omega (arith, low, high, few)) ∙ ap (λ i. get_or bytes i 0)
+    block-byte bytes block from n (k - from) is (omega (arith, low, high, at_most)) ∙ ap (λ i. get_or bytes i 0)
     (let p : from + (k - from) ≡ k = omega (arith, low) in p) in
     subst holds e (all (k - from) (omega arith) (omega (arith, low, high)))
 
@@ -74,8 +74,8 @@ no_control-stays layout c e = search (rules, arith)
 pub layout-stays : (c : ℕ) → is_layout c ≡ true → StaysInRun true c
 layout-stays c e = rw e refl
 
-pub layout-is_plain_control : (c : ℕ) → is_layout c ≡ true → is_control_character c ≡ true
-layout-is_plain_control c e = grind (arith, nat_tests)
+pub layout-is_control_character : (c : ℕ) → is_layout c ≡ true → is_control_character c ≡ true
+layout-is_control_character c e = grind (arith, nat_tests)
 
 pub layout-is_ascii : (c : ℕ) → is_layout c ≡ true → c < 0x80
 layout-is_ascii c e = grind (arith, nat_tests)
@@ -143,7 +143,7 @@ pub after-character : {V : Type 0} (layout : Bool) (step : V → Event → V) (o
 after-character layout step old c is = ap (λ cs. after step old (map (run_event layout) cs)) (chars-encode c is)
 
 pub run_event-no_control : (layout : Bool) {c : ℕ} → is_control_character c ≡ false → run_event layout c ≡ Print c
-run_event-no_control layout {c} e = grind (arith, nat_tests, layout-is_plain_control c)
+run_event-no_control layout {c} e = grind (arith, nat_tests, layout-is_control_character c)
 
 -- ---- runs among the bytes
 
@@ -204,7 +204,7 @@ scans-ascii {bytes} {j} {byte} a is count printed more =
       low = omega (arith, more.low);
       high = more.high;
       are = run-ascii _ _ _ _ (each-both IsPrintedAscii _ _ _ _ (each-one IsPrintedAscii bytes j first) more.are);
-      least = omega (arith, more.least, count);
+      at_least = omega (arith, more.at_least, count);
     })
 
 -- by another character, or a kept control
@@ -212,14 +212,14 @@ pub scans-other : {layout : Bool} {bytes : List ℕ} {i j k : ℕ} {s t u : Read
     → Scans (IsRun layout) bytes i j s t → j < k → k ≤ length bytes → IsRun layout bytes j k
     → looked u + j ≡ looked t + k → Scans (IsRun layout) bytes i k s u
 scans-other a low high run count =
-    scans-run a (record { low = omega (arith, low); high = high; are = run; least = omega (arith, count) })
+    scans-run a (record { low = omega (arith, low); high = high; are = run; at_least = omega (arith, count) })
 
 -- over a block, of which the first bytes are such
 pub scans-block : (holds : ℕ → Type 0) (bytes : List ℕ) {block : List ℕ} {i j n : ℕ} (m : ℕ)
     {s t u : Reader} → Scans (Each holds) bytes i j s t
     → (j + n ≤ length bytes) × (block ≡ take n (drop j bytes)) × (looked u ≡ looked t + n) → m ≤ n
     → Each holds block 0 m → Scans (Each holds) bytes i (j + m) s u
-scans-block holds bytes m a block few all = search (rules, arith, each-both, each-block)
+scans-block holds bytes m a block at_most all = search (rules, arith, each-both, each-block)
 
 -- ---- where a run ends
 

@@ -1,6 +1,6 @@
 -- What is reported from position to position. A call is followed with a performer that keeps all events; so what any
 -- performer receives is a function of the bytes, and a stretch that reports no run is known by its events.
-use Rattle.vte_core.proofs.Common.{◌≡◌, ℕ, ◌+◌, ◌<◌, inl, inr, false, Option, List, [], ◌∷◌, ◌++◌, length, take, refl, ap, sym, ◌∙◌, append_assoc, append-nil, arith, cases_Bool, slice_index, false≢true, All, All-append, All-cons, All-nil, Event, Print, replacement, after, added, reported_before, resumed_stream, breaks_at, State, Machine, StandsBy, StandsAt, StandsInside, BytesLead, ChunkCall, chunk_call, Place, IsAfter, AddsOutsideRuns, IsOutsideRuns, drop, subst, All-drop, HasReadWithLimit, IsSettled, open_character, ReportsOutsideRuns, PrintsNoAscii, rules}
+use Rattle.vte_core.proofs.Common.{◌≡◌, ℕ, ◌+◌, ◌<◌, inl, inr, false, Option, List, [], ◌∷◌, ◌++◌, length, take, refl, ap, sym, ◌∙◌, append_assoc, append-nil, arith, cases_Bool, slice_index, false≢true, All, All-append, All-cons, All-nil, Event, Print, replacement, after, added, reported_before, resumed_stream, breaks_at, State, Machine, IsPlaceOfState, IsAtPosition, IsInsidePosition, BytesLead, ChunkCall, chunk_call, Place, IsAfter, AddsOutsideRuns, IsOutsideRuns, drop, subst, All-drop, HasReadWithLimit, IsSettled, open_character, ReportsOutsideRuns, PrintsNoAscii, rules}
 use Rattle.vte_core.specs.machine.Progress.{AddsCharacter, HasProgress}
 use Rattle.vte_core.specs.machine.ToRun.{IsReadOutsideRuns}
 use Rattle.vte_core.proofs.calls.Progress.{stretch-added, starts-at}
@@ -35,21 +35,21 @@ kept-is : {limit : Option ℕ} {stream bytes : List ℕ} {i : ℕ} {value given 
 kept-is {given} c = c.performed ∙ after-keep [] given
 
 module _ {V B : Type 0} {call : ChunkCall V} {old value : V} {stream : List ℕ} {i : ℕ} {parser : Machine B} where
-  pub keeps-at : StandsAt call old value stream i parser
-      → StandsAt (keeping call.limit call.bytes) [] (reported_before call.limit stream call.bytes i) stream i parser
+  pub keeps-at : IsAtPosition call old value stream i parser
+      → IsAtPosition (keeping call.limit call.bytes) [] (reported_before call.limit stream call.bytes i) stream i parser
   keeps-at s = record { place = s.place; stands = s.stands; settled = s.settled; has_come = came-kept s.has_come }
 
-  pub keeps-inside : StandsInside call old value stream i parser
-      → StandsInside (keeping call.limit call.bytes) [] (added call.limit stream (take i call.bytes)) stream i parser
+  pub keeps-inside : IsInsidePosition call old value stream i parser
+      → IsInsidePosition (keeping call.limit call.bytes) [] (added call.limit stream (take i call.bytes)) stream i parser
   keeps-inside s = record { place = s.place; stands = s.stands; has_come = came-kept s.has_come }
 
 pub reported-at : {B : Type 0} {value : List Event} {limit : Option ℕ} {stream bytes : List ℕ} {i : ℕ}
-    {parser : Machine B} → StandsAt (keeping limit bytes) [] value stream i parser
+    {parser : Machine B} → IsAtPosition (keeping limit bytes) [] value stream i parser
     → value ≡ reported_before limit stream bytes i
 reported-at s = kept-is s.has_come
 
 pub added-inside : {B : Type 0} {value : List Event} {limit : Option ℕ} {stream bytes : List ℕ} {i : ℕ}
-    {parser : Machine B} → StandsInside (keeping limit bytes) [] value stream i parser
+    {parser : Machine B} → IsInsidePosition (keeping limit bytes) [] value stream i parser
     → value ≡ added limit stream (take i bytes)
 added-inside s = kept-is s.has_come
 
@@ -62,7 +62,7 @@ outside_runs-all (event ∷ next ∷ events) are = All-cons IsOutsideRuns event 
     (outside_runs-all (next ∷ events) are.1)
 
 pub outside_runs-place : {B : Type 0} (limit : Option ℕ) (state : State) (parser : Machine B) (place : Place) (b : ℕ)
-    → IsReadOutsideRuns state b → StandsBy limit state parser place → IsOutsideRunsAt place b
+    → IsReadOutsideRuns state b → IsPlaceOfState limit state parser place → IsOutsideRunsAt place b
 outside_runs-place limit state parser place b outside s = search (rules, arith)
 
 -- ---- what is reported between two positions

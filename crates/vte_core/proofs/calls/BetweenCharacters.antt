@@ -1,7 +1,7 @@
 -- A byte between characters: it is one (`performs-printed`), a control or malformed (`performs-single`), or the first
 -- of one (`performs-opened`). What the code does is what `places/PlaceLeads` says of the byte, and the parser is at the
 -- next place. A single byte reports nothing that a run would, after a stretch (`advances-single`).
-use Rattle.vte_core.proofs.Common.{◌≡◌, ◌≢◌, ℕ, ◌+◌, ◌<◌, ◌≤◌, inl, inr, true, false, Option, List, [], ◌∷◌, length, refl, ap, sym, subst, ◌∙◌, arith, cases_lt, nat_tests, slice_index, Advances, Machine, Text, Nothing, Event, Print, StandsAtPlace, TakesBytes, Place, InText, IsSettledPlace, Carries, escape, character_event, malformed_event, from_to, is_in, is_truncated, is_well_formed, Unfinished, IsOutsideRuns, AddsOutsideRuns, IsAfter, resumed_stream, BytesLead, All, ChunkCall, suc, drop, drop_more, take, HasNoRunAt, One, false≢true, rules}
+use Rattle.vte_core.proofs.Common.{◌≡◌, ◌≢◌, ℕ, ◌+◌, ◌<◌, ◌≤◌, inl, inr, true, false, Option, List, [], ◌∷◌, length, refl, ap, sym, subst, ◌∙◌, arith, cases_lt, nat_tests, slice_index, Advances, Machine, Text, Nothing, Event, Print, IsAtPlace, TakesBytes, Place, InText, IsSettledPlace, Carries, escape, character_event, malformed_event, from_to, is_in, is_truncated, is_well_formed, Unfinished, IsOutsideRuns, AddsOutsideRuns, IsAfter, resumed_stream, BytesLead, All, ChunkCall, suc, drop, drop_more, take, HasNoRunAt, One, false≢true, rules}
 use Rattle.vte_core.specs.declared.utf8.Carried.TheVariants.{Unfinished as StillUnfinished}
 use Rattle.vte_core.proofs.bytes.Scalars.{begins_none, first_truncated}
 use Rattle.vte_core.proofs.bytes.Utf8.{ascii-alone}
@@ -22,7 +22,7 @@ character_event-printed b printed = grind (arith, nat_tests)
 module _ {V B : Type 0} {step : V → Event → V} {old new : V} {limit : Option ℕ} {b : ℕ} {parser : Machine B} where
   -- a byte that is a character
   performs-whole : parser.state ≡ Text Nothing → b ≢ escape → is_well_formed (b ∷ []) ≡ true
-      → new ≡ step old (character_event b) → (place : Place) → StandsAtPlace limit parser place → IsSettledPlace place
+      → new ≡ step old (character_event b) → (place : Place) → IsAtPlace limit parser place → IsSettledPlace place
       → TakesBytes step old new limit place (b ∷ []) parser
   performs-whole e n whole performed =
       performs-begun e n
@@ -37,7 +37,7 @@ module _ {V B : Type 0} {step : V → Event → V} {old new : V} {limit : Option
   -- a byte that begins none
   performs-lone : parser.state ≡ Text Nothing → b ≢ escape
       → is_well_formed (b ∷ []) ≡ false → is_truncated (b ∷ []) ≡ false → new ≡ step old (malformed_event (b ∷ []))
-      → (place : Place) → StandsAtPlace limit parser place → IsSettledPlace place
+      → (place : Place) → IsAtPlace limit parser place → IsSettledPlace place
       → TakesBytes step old new limit place (b ∷ []) parser
   performs-lone e n whole more performed =
       performs-begun e n
@@ -51,7 +51,7 @@ module _ {V B : Type 0} {step : V → Event → V} {old new : V} {limit : Option
 
   -- a character of ASCII that is printed
   pub performs-printed : {c : ℕ} → parser.state ≡ Text Nothing → is_in (from_to 0x20 0x7f) b ≡ true → c ≡ b
-      → new ≡ step old (Print c) → (place : Place) → StandsAtPlace limit parser place → IsSettledPlace place
+      → new ≡ step old (Print c) → (place : Place) → IsAtPlace limit parser place → IsSettledPlace place
       → TakesBytes step old new limit place (b ∷ []) parser
   performs-printed e printed same reported =
       let low : 0x20 ≤ b = grind (arith, nat_tests) in
@@ -63,7 +63,7 @@ module _ {V B : Type 0} {step : V → Event → V} {old new : V} {limit : Option
   pub performs-single : parser.state ≡ Text Nothing → b ≢ escape
       → is_in (from_to 0xc2 0xf4) b ≡ false → (b < 0x80 → new ≡ step old (character_event b))
       → (0x80 ≤ b → new ≡ step old (malformed_event (b ∷ []))) → (place : Place)
-      → StandsAtPlace limit parser place → IsSettledPlace place → TakesBytes step old new limit place (b ∷ []) parser
+      → IsAtPlace limit parser place → IsSettledPlace place → TakesBytes step old new limit place (b ∷ []) parser
   performs-single e n no_lead control malformed = elim (cases_lt b 0x80) [
     | inl low ↦ performs-whole e n (ascii-alone b low).is_whole (control low)
     | inr high ↦
@@ -74,7 +74,7 @@ module _ {V B : Type 0} {step : V → Event → V} {old new : V} {limit : Option
 performs-opened : {V B : Type 0} {step : V → Event → V} {value : V} {limit : Option ℕ} {b : ℕ} {v : Unfinished}
     {parser next : Machine B} → parser.state ≡ Text Nothing
     → b ≢ escape → Carries [] b (StillUnfinished v) → next.state ≡ Text v → (place : Place)
-    → StandsAtPlace limit parser place
+    → IsAtPlace limit parser place
     → IsSettledPlace place
     → TakesBytes step value value limit place (b ∷ []) next
 performs-opened {limit} {b} {v} {next} e n carries state =
@@ -125,7 +125,7 @@ adds-single : {B : Type 0} {limit : Option ℕ} {stream bytes : List ℕ} {i b :
     → parser.state ≡ Text Nothing → b ≢ escape
     → is_in (from_to 0x20 0x7f) b ≡ false → is_in (from_to 0xc2 0xf4) b ≡ false → i < length bytes
     → b ≡ slice_index bytes i
-    → StandsAtPlace limit parser place
+    → IsAtPlace limit parser place
     → IsAfter limit (resumed_stream stream bytes i) place → AddsOutsideRuns limit stream bytes i (i + 1)
 adds-single {limit} {stream} {bytes} {i} {b} {place} parser e n other no_lead within is s after =
     let one = byte-single limit b n other no_lead in

@@ -1,6 +1,6 @@
 -- A call inside a character, over any number of its bytes: it reports nothing while the character goes on (`GoesOn`),
 -- and then completes it (`completes-all`, `completes-whole`, `completes-broken`), a byte at a time.
-use Rattle.vte_core.proofs.Common.{◌≡◌, ◌≢◌, ℕ, ◌+◌, ◌<◌, inl, inr, true, Option, List, [], ◌∷◌, ◌++◌, length, refl, ap, sym, subst, ◌∙◌, slice_index, Machine, Text, Nothing, Print, replacement, ProgressInside, StandsAt, StandsInside, StandsAtPlace, StandsBy, Place, InText, bytes_of, may_continue, Carries, character_event, is_truncated, scalar_of, Unfinished, HasReadWithLimit, open_character, ChunkCall, ◌≤◌, arith, One, Two, Three, Event, second_range, from_to, is_in, is_well_formed, added, All-cons, All-nil, IsOutsideRuns, append-nil, append_assoc, drop, drop_more, take, take-add, rules}
+use Rattle.vte_core.proofs.Common.{◌≡◌, ◌≢◌, ℕ, ◌+◌, ◌<◌, inl, inr, true, Option, List, [], ◌∷◌, ◌++◌, length, refl, ap, sym, subst, ◌∙◌, slice_index, Machine, Text, Nothing, Print, replacement, ProgressInside, IsAtPosition, IsInsidePosition, IsAtPlace, IsPlaceOfState, Place, InText, bytes_of, may_continue, Carries, character_event, is_truncated, scalar_of, Unfinished, HasReadWithLimit, open_character, ChunkCall, ◌≤◌, arith, One, Two, Three, Event, second_range, from_to, is_in, is_well_formed, added, All-cons, All-nil, IsOutsideRuns, append-nil, append_assoc, drop, drop_more, take, take-add, rules}
 use Rattle.vte_core.specs.declared.utf8.Carried.TheVariants.{Unfinished as StillUnfinished, Whole, Broken}
 use Rattle.vte_core.proofs.fields.PlaceOfState.{may_continue-truncated, stands-by, stands-in, stands-place}
 use Rattle.vte_core.proofs.places.PlaceLeads.{text-unfinished, text-whole}
@@ -21,7 +21,7 @@ use Rattle.std.proofs.lemmas.List.{drop-drop}
 
 stands-in_text : {B : Type 0} {limit : Option ℕ} {parser : Machine B} {v : Unfinished} {u : List ℕ}
     → parser.state ≡ Text v → bytes_of v ≡ u
-    → may_continue u ≡ true → StandsAtPlace limit parser (InText u)
+    → may_continue u ≡ true → IsAtPlace limit parser (InText u)
 stands-in_text e same more = stands-by e (same, more)
 
 -- the parser, inside a character of these bytes
@@ -33,7 +33,7 @@ record AtText (u : Unfinished) (place : Place) : Type 0 where
   begun : may_continue (bytes_of u) ≡ true
 
 text-by_place : {B : Type 0} (limit : Option ℕ) (parser : Machine B) {u : Unfinished} {place : Place}
-    → StandsBy limit (Text u) parser place → AtText u place
+    → IsPlaceOfState limit (Text u) parser place → AtText u place
 text-by_place limit parser s = search (rules, arith)
 
 -- an unfinished character has bytes
@@ -47,14 +47,14 @@ truncated-some (x ∷ u) more none = cc
 
 module _ {V B : Type 0} {call : ChunkCall V} {old mid : V} {stream : List ℕ} where
   inside-open : {i : ℕ} {u : Unfinished} {parser : Machine B} → parser.state ≡ Text u
-      → StandsInside call old mid stream i parser → may_continue (bytes_of u) ≡ true
+      → IsInsidePosition call old mid stream i parser → may_continue (bytes_of u) ≡ true
   inside-open {u} {parser} e s = (text-by_place call.limit parser (stands-in e s.stands)).begun
 
   -- a byte that the character goes on with
   carried-more : {i b : ℕ} {u v : Unfinished} {parser next : Machine B} → parser.state ≡ Text u
       → is_truncated (bytes_of u) ≡ true → Carries (bytes_of u) b (StillUnfinished v) → next.state ≡ Text v
-      → StandsInside call old mid stream i parser → i < length call.bytes → b ≡ slice_index call.bytes i
-      → StandsInside call old mid stream (i + 1) next
+      → IsInsidePosition call old mid stream i parser → i < length call.bytes → b ≡ slice_index call.bytes i
+      → IsInsidePosition call old mid stream (i + 1) next
   carried-more {i} {b} {u} {v} {parser} {next} e opened carries state s within is =
       let t = text-by_place call.limit parser (stands-in e s.stands) in
       let more : is_truncated (bytes_of u ++ b ∷ []) ≡ true = subst (λ x. is_truncated x ≡ true) carries.0 carries.1 in
@@ -75,8 +75,8 @@ module _ {V B : Type 0} {call : ChunkCall V} {old mid : V} {stream : List ℕ} w
   -- a byte that ends it
   carried-whole : {new : V} {i j b c : ℕ} {u : Unfinished} {parser next : Machine B} → parser.state ≡ Text u
       → is_truncated (bytes_of u) ≡ true → Carries (bytes_of u) b (Whole c) → next.state ≡ Text Nothing
-      → new ≡ call.step mid (character_event c) → StandsInside call old mid stream i parser → i < length call.bytes
-      → b ≡ slice_index call.bytes i → j ≡ i + 1 → StandsAt call old new stream j next
+      → new ≡ call.step mid (character_event c) → IsInsidePosition call old mid stream i parser → i < length call.bytes
+      → b ≡ slice_index call.bytes i → j ≡ i + 1 → IsAtPosition call old new stream j next
   carried-whole {new} {i} {b} {u} {parser}
       {next} e opened carries state performed s within is later =
       let t = text-by_place call.limit parser (stands-in e s.stands) in
@@ -89,7 +89,7 @@ module _ {V B : Type 0} {call : ChunkCall V} {old mid : V} {stream : List ℕ} w
       (carried_is_no_escape (bytes_of u) b opened (inl carries.0)) (text-whole carries.0))
       (performed ∙ ap (λ n. call.step mid (character_event n)) carries.1) refl
       (subst (ProgressInside call old mid stream i) t.same s.has_come) in
-      subst (λ n. StandsAt call old new stream n next) (sym later)
+      subst (λ n. IsAtPosition call old new stream n next) (sym later)
       (record {
         place = InText [];
         stands = stands-in_text state refl refl;
@@ -100,8 +100,8 @@ module _ {V B : Type 0} {call : ChunkCall V} {old mid : V} {stream : List ℕ} w
   -- a byte that breaks it
   carried-broken : {new : V} {i b : ℕ} {u : Unfinished} {parser next : Machine B} → parser.state ≡ Text u
       → is_truncated (bytes_of u) ≡ true → Carries (bytes_of u) b Broken → next.state ≡ Text Nothing
-      → new ≡ call.step mid (Print replacement) → StandsInside call old mid stream i parser → i < length call.bytes
-      → b ≡ slice_index call.bytes i → StandsAt call old new stream i next
+      → new ≡ call.step mid (Print replacement) → IsInsidePosition call old mid stream i parser → i < length call.bytes
+      → b ≡ slice_index call.bytes i → IsAtPosition call old new stream i next
   carried-broken {i} {b} {u} {parser} {next} e opened carries state performed s within is =
       let t = text-by_place call.limit parser (stands-in e s.stands) in
       record {
@@ -139,11 +139,11 @@ character-byte bytes i n begun {j} {u} within far is are =
 pub record GoesOn {V B : Type 0} (call : ChunkCall V) (value : V) (i j : ℕ) (begun u : Unfinished)
     (next : Machine B) : Type 0 where
   pub inside : (old : V) (stream : List ℕ) (parser : Machine B) → parser.state ≡ Text begun
-      → StandsInside call old value stream i parser → StandsInside call old value stream j (in_text next u)
+      → IsInsidePosition call old value stream i parser → IsInsidePosition call old value stream j (in_text next u)
   -- the same for a performer that keeps all events
   pub kept : (stream : List ℕ) (parser : Machine B) → parser.state ≡ Text begun
-      → StandsInside (keeping call.limit call.bytes) [] (added call.limit stream (take i call.bytes)) stream i parser
-      → StandsInside (keeping call.limit call.bytes) [] (added call.limit stream (take i call.bytes)) stream j
+      → IsInsidePosition (keeping call.limit call.bytes) [] (added call.limit stream (take i call.bytes)) stream i parser
+      → IsInsidePosition (keeping call.limit call.bytes) [] (added call.limit stream (take i call.bytes)) stream j
       (in_text next u)
   pub more : may_continue (bytes_of begun) ≡ true → is_truncated (bytes_of u) ≡ true
   pub n : ℕ

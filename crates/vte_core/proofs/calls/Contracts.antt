@@ -35,7 +35,7 @@ module _ {V B : Type 0} {call : ChunkCall V} {old new : V} {before parser : Mach
     performs = λ stream h. ends-performs all (reads.stands_at stream h);
     reads = λ stream h. ends-reads_all all (reads.stands_at stream h);
     count = costs.count;
-    least = omega (arith, all, costs.least);
+    at_least = omega (arith, all, costs.at_least);
   }
 
   pub reads-until : {read : ℕ} → call.may_stop ≡ true → ReadsUpTo call old new read before parser
@@ -47,7 +47,7 @@ module _ {V B : Type 0} {call : ChunkCall V} {old new : V} {before parser : Mach
     stops = λ stream h. ends-stops does reads.within reads.stops (reads.stands_at stream h);
     reads = λ stream h. ends-reads (reads.stands_at stream h);
     count = costs.count_if_ok;
-    least = costs.least;
+    at_least = costs.at_least;
   }
 
 -- ---- without a limit
@@ -73,7 +73,7 @@ module _ {A V : Type 0} {step : V → Event → V} {old new : V} {bytes : List �
     lacks = refuses.refused.lacks;
     lacks_all = λ stream h. lacks_all refuses stream h costs.memory;
     count = costs.count;
-    least = costs.least;
+    at_least = costs.at_least;
   }
 
 module _ {A V : Type 0} {step : V → Event → V} {is_terminated : V → Bool} {old new : V} {bytes : List ℕ}
@@ -159,7 +159,7 @@ module _ {A V : Type 0} {step : V → Event → V} {is_terminated : V → Bool} 
       reads = reads-run run comes starts ends taken;
       outside_runs = λ stream h. rw starts (others stream h);
       count = rw ends costs.count_if_ok;
-      least = rw ends costs.least;
+      at_least = rw ends costs.at_least;
     };
     refuses = tt;
     memory = costs.memory;

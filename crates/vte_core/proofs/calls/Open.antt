@@ -1,6 +1,6 @@
 -- What is open where a parser stands, and what is stored of it where memory may be refused: both are said of the place,
 -- so they hold of every parser that is at one.
-use Rattle.vte_core.proofs.Common.{◌≡◌, ◌≢◌, ℕ, Option, List, [], ◌∷◌, ◌++◌, refl, ap, sym, subst, ◌∙◌, arith, Digit, Machine, State, Text, StandsAtPlace, StandsBy, HasReadWithLimit, Event, Print, replacement, Place, InText, AtEscape, InEscape, InControlSequence, InDeviceControl, InDeviceData, InSystemCommand, InIgnoredString, IsAfter, Leads, left_at, ◌≤◌, ◌<◌, true, false, eqb, EscapeSequence, class_of, escape, is_truncated, sequence_kind, added, events_from, ◌+◌, Bool, None, length, take, length-take, concat, slice_index, MeetsData, open_data_count, open_command_size, SystemCommand, ProgressAt, IsRefusedInCommand, ReadsUntilRefused, StandsInside, ChunkCall, ToClose, CommandToClose, loses_data, outcome, rules}
+use Rattle.vte_core.proofs.Common.{◌≡◌, ◌≢◌, ℕ, Option, List, [], ◌∷◌, ◌++◌, refl, ap, sym, subst, ◌∙◌, arith, Digit, Machine, State, Text, IsAtPlace, IsPlaceOfState, HasReadWithLimit, Event, Print, replacement, Place, InText, AtEscape, InEscape, InControlSequence, InDeviceControl, InDeviceData, InSystemCommand, InIgnoredString, IsAfter, Leads, left_at, ◌≤◌, ◌<◌, true, false, eqb, EscapeSequence, class_of, escape, is_truncated, sequence_kind, added, events_from, ◌+◌, Bool, None, length, take, length-take, concat, slice_index, MeetsData, open_data_count, open_command_size, SystemCommand, ProgressAt, IsRefusedInCommand, ReadsUntilRefused, IsInsidePosition, ChunkCall, ToClose, CommandToClose, loses_data, outcome, rules}
 use Rattle.vte_core.proofs.bytes.Utf8.{ascii-breaks}
 use Rattle.vte_core.proofs.fields.PlaceOfState.{IsPlace, stands-place, in_command, stands-by}
 use Rattle.vte_core.proofs.places.PlaceLeads.{escape-end, intermediate-end, control-head, device-head, data-put, command-item, ignored-more}
@@ -75,7 +75,7 @@ probe-not_alone {place = InIgnoredString} d is a other = λ alone.
 -- ---- what is open in the state is open at the place, and at the end of the stream
 
 open_in-place : {B : Type 0} (limit : Option ℕ) (state : State) (parser : Machine B) (place : Place)
-    → StandsBy limit state parser place → open_in state ≡ kind_to_close (left_at limit place)
+    → IsPlaceOfState limit state parser place → open_in state ≡ kind_to_close (left_at limit place)
 open_in-place limit state parser place s = search (rules, arith)
 
 pub which_is_open : {B : Type 0} {limit : Option ℕ} {stream : List ℕ} {parser : Machine B}
@@ -90,7 +90,7 @@ settled-open_in (Text Nothing) e = refl
 settled-open_in _ e = cc
 
 state-settled : {B : Type 0} (limit : Option ℕ) (state : State) (parser : Machine B)
-    → StandsBy limit state parser (InText []) → open_in state ≡ kind.Nothing
+    → IsPlaceOfState limit state parser (InText []) → open_in state ≡ kind.Nothing
 state-settled limit state parser s = open_in-place limit state parser (InText []) s
 
 is_finished-settled : {limit : Option ℕ} {stream : List ℕ} → IsAfter limit stream (InText [])
@@ -114,7 +114,7 @@ open_is_unfinished {limit} {parser} some h =
 -- ---- refused memory
 
 pub inside-reads : {V B : Type 0} {call : ChunkCall V} {old value : V} {stream : List ℕ} {i : ℕ} {parser : Machine B}
-    → StandsInside call old value stream i parser → HasReadWithLimit call.limit parser (stream ++ take i call.bytes)
+    → IsInsidePosition call old value stream i parser → HasReadWithLimit call.limit parser (stream ++ take i call.bytes)
 inside-reads s = search (rules, arith)
 
 -- what a stream leaves is what its place leaves
@@ -129,7 +129,7 @@ pub meets_data : {B : Type 0} {parser : Machine B} {stream bytes : List ℕ} {fr
 meets_data {parser} {stream} {bytes} {from} refused h =
     let byte : ℕ = slice_index bytes from in
     let k = in_command refused.inside h.stands in
-    let o = open_for k.keeps refused.few refused.is_data.1 in
+    let o = open_for k.keeps refused.at_most refused.is_data.1 in
     let last : Place = InSystemCommand (k.items ++ byte ∷ []) in
     let joined : IsAfter None (stream ++ byte ∷ []) last =
     after-reads
@@ -138,7 +138,7 @@ meets_data {parser} {stream} {bytes} {from} refused h =
       pieces = o.pieces;
       last = o.last;
       lost = loses_data None k.items;
-      few = o.few;
+      at_most = o.at_most;
       is_open =
           left-at_place parser stream h ∙ ap (left_at None) k.same
           ∙ ap (λ those. CommandToClose those (loses_data None k.items)) o.before;
@@ -153,7 +153,7 @@ meets_data {parser} {stream} {bytes} {from} refused h =
 -- in a command no character is open
 pub refuses-inside : {V B : Type 0} {call : ChunkCall V} {old new : V} {n : ℕ} {before parser : Machine B}
     → ReadsUntilRefused call old new n before parser → (stream : List ℕ) → HasReadWithLimit call.limit before stream
-    → StandsInside call old new stream n parser
+    → IsInsidePosition call old new stream n parser
 refuses-inside {call} {old} {new} {n} {parser} r stream h =
     let s = r.stands_at stream h in
     let k = in_command r.refused.inside s.stands in
@@ -175,7 +175,7 @@ stored_is_open {parser} {stream} e h =
     ∙ sym (ap open_data_count (left-at_place parser stream h ∙ ap (left_at None) k.same))
 
 command-by_place : {B : Type 0} {parser : Machine B} {place : Place} {pieces : List (List ℕ)} {lost : Bool}
-    → StandsAtPlace None parser place → left_at None place ≡ CommandToClose pieces lost
+    → IsAtPlace None parser place → left_at None place ≡ CommandToClose pieces lost
     → parser.state ≡ SystemCommand
 command-by_place s e = search (rules, arith)
 

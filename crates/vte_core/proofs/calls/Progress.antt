@@ -9,7 +9,7 @@
 -- `come-starts`: there something starts
 -- `come-to`, `come-performs`: the public clauses of a call that stops, and of one that reads all
 -- `starts-X`, `ends-X`, `settles`: where a call starts, where it stops or ends, and where no character is open
-use Rattle.vte_core.proofs.Common.{◌≡◌, ℕ, ◌<◌, ◌≤◌, inl, inr, true, false, not, eqb, Option, List, [], ◌∷◌, ◌++◌, ap, sym, arith, cases_lt, nat_tests, Machine, Text, Nothing, StandsAtPlace, StandsBy, Place, InText, InSystemCommand, escape, BytesLead, zero, suc, ◌+◌, ◌-◌, length, take, drop, refl, subst, ◌∙◌, append_assoc, slice_index, cases_Bool, append-nil, drop_more, take-add, breaks, breaks_at, IsStart, reported_before, resumed_stream, Event, Print, replacement, after, added, open_character, ProgressAt, ProgressInside, MayGoOn, ChunkCall, IsAfter, IsSettledPlace, open_at, ComesTo, State, StopsExactly, IsSettled, ReadsUpTo, StandsAt, StandsInside, HasReadWithLimit, bytes_of, Unfinished, rules}
+use Rattle.vte_core.proofs.Common.{◌≡◌, ℕ, ◌<◌, ◌≤◌, inl, inr, true, false, not, eqb, Option, List, [], ◌∷◌, ◌++◌, ap, sym, arith, cases_lt, nat_tests, Machine, Text, Nothing, IsAtPlace, IsPlaceOfState, Place, InText, InSystemCommand, escape, BytesLead, zero, suc, ◌+◌, ◌-◌, length, take, drop, refl, subst, ◌∙◌, append_assoc, slice_index, cases_Bool, append-nil, drop_more, take-add, breaks, breaks_at, IsStart, reported_before, resumed_stream, Event, Print, replacement, after, added, open_character, ProgressAt, ProgressInside, MayGoOn, ChunkCall, IsAfter, IsSettledPlace, open_at, ComesTo, State, StopsExactly, IsSettled, ReadsUpTo, IsAtPosition, IsInsidePosition, HasReadWithLimit, bytes_of, Unfinished, rules}
 use Rattle.vte_core.proofs.fields.PlaceOfState.{stands-in, IsPlace, open_at-settled, stands-place}
 use Rattle.vte_core.proofs.places.PlaceLeads.{command-item}
 use Rattle.vte_core.proofs.places.TextSteps.{reads-byte}
@@ -21,12 +21,12 @@ use Rattle.vte_core.proofs.EarlyStops.{added_from, after_from, breaks_there, goe
 -- ---- between characters
 
 text-by_place : {B : Type 0} (limit : Option ℕ) (parser : Machine B) (place : Place)
-    → StandsBy limit (Text Nothing) parser place → place ≡ InText []
+    → IsPlaceOfState limit (Text Nothing) parser place → place ≡ InText []
 text-by_place limit parser place s = search (rules, arith)
 
 -- between characters of a text there is one place
 pub place-settled_text : {B : Type 0} {limit : Option ℕ} {parser : Machine B} {place : Place}
-    → parser.state ≡ Text Nothing → StandsAtPlace limit parser place → place ≡ InText []
+    → parser.state ≡ Text Nothing → IsAtPlace limit parser place → place ≡ InText []
 place-settled_text {limit} {parser} {place} e s = text-by_place limit parser place (stands-in e s)
 
 -- ---- whether a call asks
@@ -286,11 +286,11 @@ module _ {V : Type 0} {call : ChunkCall V} {old : V} {stream : List ℕ} where
 -- ---- between characters
 
 by_settled : {B : Type 0} (limit : Option ℕ) (state : State) (parser : Machine B) (place : Place) → IsSettled state
-    → StandsBy limit state parser place → IsSettledPlace place
+    → IsPlaceOfState limit state parser place → IsSettledPlace place
 by_settled limit state parser place settled s = search (rules, arith)
 
 settled-place : {B : Type 0} {limit : Option ℕ} (parser : Machine B) → IsSettled parser.state → (place : Place)
-    → StandsAtPlace limit parser place → IsSettledPlace place
+    → IsAtPlace limit parser place → IsSettledPlace place
 settled-place {limit} parser settled place s = by_settled limit parser.state parser place settled s.by
 
 pub settled-by : {state other : State} → state ≡ other → IsSettled other → IsSettled state
@@ -308,7 +308,7 @@ module _ {V B : Type 0} {call : ChunkCall V} where
   -- ---- from inside a character to where something starts
 
   pub settles : {old value : V} {stream : List ℕ} {i : ℕ} {parser : Machine B} → IsSettled parser.state
-      → StandsInside call old value stream i parser → StandsAt call old value stream i parser
+      → IsInsidePosition call old value stream i parser → IsAtPosition call old value stream i parser
   settles {parser} settled s =
       let place_is = settled-place parser settled s.place s.stands in
       record {
@@ -319,7 +319,7 @@ module _ {V B : Type 0} {call : ChunkCall V} where
       }
 
   pub inside-all : {old value : V} {stream : List ℕ} {i : ℕ} {parser : Machine B}
-      → StandsInside call old value stream i parser → length call.bytes ≤ i → StandsAt call old value stream i parser
+      → IsInsidePosition call old value stream i parser → length call.bytes ≤ i → IsAtPosition call old value stream i parser
   inside-all s all =
       record {
         place = s.place;
@@ -329,21 +329,21 @@ module _ {V B : Type 0} {call : ChunkCall V} where
       }
 
   pub inside-moved : {old value : V} {stream : List ℕ} {i j : ℕ} {parser : Machine B} → i ≡ j
-      → StandsInside call old value stream i parser → StandsInside call old value stream j parser
+      → IsInsidePosition call old value stream i parser → IsInsidePosition call old value stream j parser
   inside-moved {old} {value} {stream} {parser} e s = search (rules, arith)
 
   -- ---- the start and the end of a call
 
   pub starts-inside : {old : V} {stream : List ℕ} {parser : Machine B} → HasReadWithLimit call.limit parser stream
-      → StandsInside call old old stream 0 parser
+      → IsInsidePosition call old old stream 0 parser
   starts-inside h = record { place = h.place; stands = h.stands; has_come = come-nowhere h.is_after }
 
   pub starts-at : {old : V} {stream : List ℕ} {parser : Machine B} → IsSettled parser.state
-      → HasReadWithLimit call.limit parser stream → StandsAt call old old stream 0 parser
+      → HasReadWithLimit call.limit parser stream → IsAtPosition call old old stream 0 parser
   starts-at settled h = settles settled (starts-inside h)
 
   pub ends-comes : {old value : V} {stream : List ℕ} {n : ℕ} {parser : Machine B} → call.may_stop ≡ true
-      → n ≤ length call.bytes → StandsAt call old value stream n parser
+      → n ≤ length call.bytes → IsAtPosition call old value stream n parser
       → ComesTo call.step call.is_terminated old call.limit stream call.bytes value n
   ends-comes {parser} does within s =
       come-to does within
@@ -351,23 +351,23 @@ module _ {V B : Type 0} {call : ChunkCall V} where
 
   pub ends-stops : {old value : V} {stream : List ℕ} {n : ℕ} {parser : Machine B} → call.may_stop ≡ true
       → n ≤ length call.bytes → (n < length call.bytes → call.is_terminated value ≡ true)
-      → StandsAt call old value stream n parser
+      → IsAtPosition call old value stream n parser
       → StopsExactly call.step call.is_terminated old call.limit stream call.bytes value n
   ends-stops does within stops s =
       record { comes = ends-comes does within s; stops = stops; all = λ all. come-performs all s.has_come }
 
   pub ends-reads : {old value : V} {stream : List ℕ} {n : ℕ} {parser : Machine B}
-      → StandsAt call old value stream n parser
+      → IsAtPosition call old value stream n parser
       → HasReadWithLimit call.limit parser (resumed_stream stream call.bytes n)
   ends-reads s = record { place = s.place; stands = s.stands; is_after = s.has_come.is_after }
 
   -- of a call that reads all bytes
   pub ends-performs : {old value : V} {stream : List ℕ} {n : ℕ} {parser : Machine B} → n ≡ length call.bytes
-      → StandsAt call old value stream n parser → value ≡ after call.step old (added call.limit stream call.bytes)
+      → IsAtPosition call old value stream n parser → value ≡ after call.step old (added call.limit stream call.bytes)
   ends-performs all s = come-performs all s.has_come
 
   pub ends-reads_all : {old value : V} {stream : List ℕ} {n : ℕ} {parser : Machine B} → n ≡ length call.bytes
-      → StandsAt call old value stream n parser → HasReadWithLimit call.limit parser (stream ++ call.bytes)
+      → IsAtPosition call old value stream n parser → HasReadWithLimit call.limit parser (stream ++ call.bytes)
   ends-reads_all {stream} {n} {parser} all s =
       subst (HasReadWithLimit call.limit parser) (resumed_stream-all stream call.bytes n all) (ends-reads s)
 
@@ -375,11 +375,11 @@ module _ {V B : Type 0} {call : ChunkCall V} where
 
   pub ends-at_stop : {old value : V} {n : ℕ} {before parser : Machine B} → call.may_stop ≡ true
       → call.is_terminated value ≡ true → n ≤ length call.bytes
-      → ((stream : List ℕ) → HasReadWithLimit call.limit before stream → StandsAt call old value stream n parser)
+      → ((stream : List ℕ) → HasReadWithLimit call.limit before stream → IsAtPosition call old value stream n parser)
       → ReadsUpTo call old value n before parser
   ends-at_stop does stopped within stands = search (rules, arith)
 
   pub ends-with_all : {old value : V} {n : ℕ} {before parser : Machine B} → n ≡ length call.bytes
-      → ((stream : List ℕ) → HasReadWithLimit call.limit before stream → StandsAt call old value stream n parser)
+      → ((stream : List ℕ) → HasReadWithLimit call.limit before stream → IsAtPosition call old value stream n parser)
       → ReadsUpTo call old value n before parser
   ends-with_all all stands = search (rules, arith)

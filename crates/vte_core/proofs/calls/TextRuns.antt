@@ -1,9 +1,9 @@
 -- What a run of text does to a call's progress: its characters one by one do the same. By induction over the
 -- characters, and for the performer by its contract over the whole run.
-use Rattle.vte_core.proofs.Common.{cases_Bool, inl, inr, Bool, List, Option, [], ap, arith, drop, false, length, map, refl, subst, sym, take, true, ℕ, ◌++◌, ◌+◌, ◌-◌, ◌<◌, ◌∙◌, ◌∷◌, ◌≡◌, ◌≢◌, ◌≤◌, encode, append-nil, take-append-drop, All-append, All-head, All-nil, All-tail, All, slice_index, breaks_at, resumed_stream, reported_before, Event, Print, replacement, after, added, cut_at_escape, escape, with_bodies, events, ChunkCall, run_event, character_event, is_control_character, malformed_event, text_outcome, Text, Machine, Nothing, BytesLead, StandsAtPlace, InText, encodes, nat_tests, outcome_from, Advances, ProgressAt, MayGoOn, StandsAt, StandsInside, chars, IsUtf8, NoCharacterStops, IsUtf8Run, IsPrintedAscii, PrintsRun, StaysInRun, rules}
+use Rattle.vte_core.proofs.Common.{cases_Bool, inl, inr, Bool, List, Option, [], ap, arith, drop, false, length, map, refl, subst, sym, take, true, ℕ, ◌++◌, ◌+◌, ◌-◌, ◌<◌, ◌∙◌, ◌∷◌, ◌≡◌, ◌≢◌, ◌≤◌, encode, append-nil, take-append-drop, All-append, All-head, All-nil, All-tail, All, slice_index, breaks_at, resumed_stream, reported_before, Event, Print, replacement, after, added, cut_at_escape, escape, with_bodies, events, ChunkCall, run_event, character_event, is_control_character, malformed_event, text_outcome, Text, Machine, Nothing, BytesLead, IsAtPlace, InText, encodes, nat_tests, outcome_from, Advances, ProgressAt, MayGoOn, IsAtPosition, IsInsidePosition, chars, IsUtf8, NoCharacterStops, IsUtf8Run, IsPrintedAscii, PrintsRun, StaysInRun, rules}
 use Rattle.std.proofs.lemmas.List.{take-take}
 use Rattle.std.proofs.lemmas.Str.{encodes-chars, scalars-chars}
-use Rattle.vte_core.proofs.bytes.Runs.{each-one, chars-one, layout-is_plain_control, run_event-no_control, run_event-printed, run-ascii}
+use Rattle.vte_core.proofs.bytes.Runs.{each-one, chars-one, layout-is_control_character, run_event-no_control, run_event-printed, run-ascii}
 use Rattle.vte_core.proofs.dividing.Utf8Agrees.{cut-text, text_outcome-encodes}
 use Rattle.vte_core.proofs.calls.Progress.{come-further, stretch-added, place-settled_text, settled-by, settles}
 use Rattle.vte_core.proofs.streams.After.{added-reads, after_events-append}
@@ -33,7 +33,7 @@ reported_as_characters limit text is none =
 
 plain-event : (layout : Bool) (c : ℕ) → StaysInRun layout c → character_event c ≡ run_event layout c
 unfolding character_event
-plain-event layout c plain = grind (arith, nat_tests, layout-is_plain_control c)
+plain-event layout c plain = grind (arith, nat_tests, layout-is_control_character c)
 
 plain-events : (layout : Bool) (cs : List ℕ) → All (StaysInRun layout) cs
     → map character_event cs ≡ map (run_event layout) cs
@@ -171,15 +171,15 @@ advances-text {V} {call} {layout} {old} {new} {i} {j} {parser}
         ∙ not_stopped layout call (never does) old (added call.limit from prefix)
         (added call.limit (from ++ prefix) rest) (chars run) all (may_go_on does))
 
-    inside-next : (value : V) (stream : List ℕ) → StandsAt call value old stream i parser
-        → StandsInside call value new stream j parser
+    inside-next : (value : V) (stream : List ℕ) → IsAtPosition call value old stream i parser
+        → IsInsidePosition call value new stream j parser
     inside-next value stream s =
         let here : s.place ≡ InText [] = place-settled_text e s.stands in
         let c : ProgressAt call value old stream i (InText []) =
         subst (ProgressAt call value old stream i) here s.has_come in
         record {
           place = InText [];
-          stands = subst (StandsAtPlace call.limit parser) here s.stands;
+          stands = subst (IsAtPlace call.limit parser) here s.stands;
           has_come =
               come-further in_order high (λ does _. may_go_on does) (inside value stream c)
               (reads-text prints.run) prints.printed refl c;

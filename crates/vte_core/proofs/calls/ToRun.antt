@@ -1,6 +1,6 @@
 -- Runs that a caller takes from its own input: bytes that lead from the parser's place back to it, so the parser
 -- needn't change, and that no further printed character or data byte follows.
-use Rattle.vte_core.proofs.Common.{◌≡◌, ℕ, zero, suc, ◌+◌, ◌-◌, ◌<◌, ◌≤◌, false, true, Option, List, [], ◌++◌, drop, length, length-take, length-drop, map, take, refl, sym, subst, arith, append-nil, drop_more, slice_index, Machine, DeviceData, Text, State, Nothing, class_of, resumed_stream, Put, BytesLead, StandsAtPlace, StandsBy, HasReadWithLimit, Place, InDeviceData, IsSettled, StandsAt, ChunkCall, HasNoRunAt, IsRun, Unfinished, IsRange, rules}
+use Rattle.vte_core.proofs.Common.{◌≡◌, ℕ, zero, suc, ◌+◌, ◌-◌, ◌<◌, ◌≤◌, false, true, Option, List, [], ◌++◌, drop, length, length-take, length-drop, map, take, refl, sym, subst, arith, append-nil, drop_more, slice_index, Machine, DeviceData, Text, State, Nothing, class_of, resumed_stream, Put, BytesLead, IsAtPlace, IsPlaceOfState, HasReadWithLimit, Place, InDeviceData, IsSettled, IsAtPosition, ChunkCall, HasNoRunAt, IsRun, Unfinished, IsRange, rules}
 use Rattle.vte_core.specs.machine.Prelude.{ArePut, AreOfKind, ComesToRun, IsOutsideTextAndData, IsDeviceData, IsTaken}
 use Rattle.vte_core.specs.machine.ToRun.{HasRun, IsWholeAt, bytes_at, kind_events}
 use Rattle.vte_core.specs.AdvanceToRun.{IsRunIn, IsLongestRun, ReturnsRun, run_bytes, taken_bytes, taken_events}
@@ -40,7 +40,7 @@ settled-text {unfinished} e settled = search (rules, arith)
 -- bytes that lead from the parser's place to the same
 has-run : {B : Type 0} {limit : Option ℕ} {bytes : List ℕ} {place : RunRange} {parser : Machine B} {here : Place}
     → IsPlace here
-    → ((at : Place) → StandsAtPlace limit parser at → at ≡ here)
+    → ((at : Place) → IsAtPlace limit parser at → at ≡ here)
     → BytesLead limit here (bytes_at bytes place) (kind_events place.kind (bytes_at bytes place)) here
     → IsRange bytes place.start place.end → AreOfKind place.kind (bytes_at bytes place)
     → IsWholeAt bytes place place.kind → HasRun limit bytes place parser
@@ -60,7 +60,7 @@ has-text {limit} {bytes} {from} {end} {parser} between low high are ended =
 -- ---- data
 
 data-by_place : {B : Type 0} (limit : Option ℕ) (parser : Machine B) (place : Place)
-    → StandsBy limit DeviceData parser place
+    → IsPlaceOfState limit DeviceData parser place
     → place ≡ InDeviceData
 data-by_place limit parser InDeviceData s = refl
 data-by_place limit parser _ s = absurd s
@@ -104,19 +104,19 @@ module _ {V B : Type 0} {call : ChunkCall V} {old new : V} {place : RunRange} {b
   pub comes-to_run : HasRun call.limit call.bytes place parser → place.start < place.end
       → call.is_terminated new ≡ false
       → ((stream : List ℕ) → HasReadWithLimit call.limit before stream
-      → StandsAt call old new stream place.start parser)
+      → IsAtPosition call old new stream place.start parser)
       → ComesToRun call old new place before parser
   comes-to_run has some goes stands = search (rules, arith)
 
   -- the call ends without a run
   pub comes-nowhere : {from : ℕ} → from ≤ length call.bytes → place.start ≡ from → place.end ≡ from
       → place.kind ≡ NoKind
-      → ((stream : List ℕ) → HasReadWithLimit call.limit before stream → StandsAt call old new stream from parser)
+      → ((stream : List ℕ) → HasReadWithLimit call.limit before stream → IsAtPosition call old new stream from parser)
       → (from < length call.bytes → call.is_terminated new ≡ true) → ComesToRun call old new place before parser
   comes-nowhere within starts ends kind stands stops = record {
     has = has-nowhere within starts ends kind;
     stands_at =
-        λ stream h. subst (λ n. StandsAt call old new stream n parser) (sym starts)
+        λ stream h. subst (λ n. IsAtPosition call old new stream n parser) (sym starts)
         (stands stream h);
     may_go_on = λ some. absurd (omega (arith, some, starts, ends));
     stops = λ _ left. stops (omega (arith, starts, left));

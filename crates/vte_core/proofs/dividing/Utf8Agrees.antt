@@ -154,18 +154,18 @@ printable {b} {u} low plain whole =
 -- ---- the same among other bytes
 
 -- They stand at `from`, past k others.
-abbrev StandAt : List ℕ → ℕ → ℕ → List ℕ → Type 0
-StandAt bytes from k [] = Unit {0}
-StandAt bytes from k (b ∷ u) =
-    (from + k < length bytes) × (b ≡ slice_index bytes (from + k)) × StandAt bytes from (suc k) u
+abbrev AreBytesFrom : List ℕ → ℕ → ℕ → List ℕ → Type 0
+AreBytesFrom bytes from k [] = Unit {0}
+AreBytesFrom bytes from k (b ∷ u) =
+    (from + k < length bytes) × (b ≡ slice_index bytes (from + k)) × AreBytesFrom bytes from (suc k) u
 
-stand-take : (bytes : List ℕ) (from k : ℕ) (u : List ℕ) → StandAt bytes from k u
+stand-take : (bytes : List ℕ) (from k : ℕ) (u : List ℕ) → AreBytesFrom bytes from k u
     → take (length u) (drop (from + k) bytes) ≡ u
 stand-take bytes from k [] at = refl
 stand-take bytes from k (b ∷ u) at = search (rules, arith, (stand-take bytes from (suc k) u at.2), drop_more)
 
 run-of : {layout : Bool} (bytes : List ℕ) (from b : ℕ) (u : List ℕ) → from < length bytes → b ≡ slice_index bytes from
-    → StandAt bytes from 1 u
+    → AreBytesFrom bytes from 1 u
     → 0xc2 ≤ b → (b ≡ 0xc2 → 0xa0 ≤ get_or u 0 0) → is_well_formed (b ∷ u) ≡ true
     → IsRun layout bytes from (from + suc (length u))
 run-of {layout} bytes from b u within is at low plain whole =

@@ -82,7 +82,7 @@ small-cut_by_lengths (n ∷ lengths) numbers small =
 pub AreGroups-cut_by_lengths : (lengths numbers : List ℕ) → AreFlatGroups lengths numbers
     → length numbers ≤ most_numbers
     → AreGroups (cut_by_lengths lengths numbers)
-AreGroups-cut_by_lengths lengths numbers ok few =
+AreGroups-cut_by_lengths lengths numbers ok at_most =
     search (rules, arith, count_of-cut_by_lengths, small-cut_by_lengths, filled-cut_by_lengths)
 
 -- ---- a number more
@@ -326,14 +326,14 @@ filled-grouped ns =
     All-fold keeps [] ns (λ k d h. tt) (All-nil IsFilled)
 
 AreGroups-grouped : (ns : List Number) → length ns ≤ most_numbers → All IsSmall ns → AreGroups (grouped ns)
-AreGroups-grouped ns few small =
+AreGroups-grouped ns at_most small =
     let P : ℕ → Type 0 = λ value. value ≤ greatest_number in
     let keeps : Keeps (All P) P = record {
       begins = λ value r. All-cons P value [] r (All-nil P);
       joins = λ group value r all. All-push P group value all r;
     } in
     record {
-      few = omega (arith, count_of-grouped ns);
+      at_most = omega (arith, count_of-grouped ns);
       small = All-fold keeps [] ns small (All-nil (All P));
       filled = filled-grouped ns;
     }

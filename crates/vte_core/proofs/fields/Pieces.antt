@@ -137,7 +137,7 @@ pub contents_last : (slices later : List (Bor (List ℕ))) (slice : Bor (List �
     later ≡ set slices (length ends) slice → slice.now ≡ drop start bytes →
     contents (take index slices) ++ cut_data start bytes (drop index ends) ≡ cut_data 0 bytes ends →
     contents (take (length ends + 1) later) ≡ take most_pieces (cut_data 0 bytes ends)
-contents_last slices later slice bytes ends start index at_end few all written is cut =
+contents_last slices later slice bytes ends start index at_end at_most all written is cut =
     let taken = take_more_set slices (length ends) slice (omega arith) in
     let pushed = map_push (λ (slice : Bor (List ℕ)). slice.now) (take (length ends) slices) slice in
     let left = drop_all index ends (omega arith) in

@@ -1,6 +1,6 @@
 -- What is known of a parser that is at a place, and that a clone of it, or one made of what was saved of it, is at the
 -- same: by cases of its state, to each of which belongs one kind of place.
-use Rattle.vte_core.proofs.Common.{◌≡◌, ℕ, true, Option, List, [], ◌∷◌, ◌++◌, refl, ap, subst, append-nil, Machine, State, Text, Escape, SystemCommand, body_outcome, device_data_outcome, executed_events, leaves, open_bytes, HoldsIntermediates, StandsBy, StandsAtPlace, Place, InText, AtEscape, InSystemCommand, open_at, left_at, rest_outcome, outcome_from, events_from, IsSettledPlace, Stored, HoldsItems, SameItems, text_outcome, is_truncated, Nothing, may_continue, EscapeIntermediate, ControlSequence, DeviceControl, DeviceData, IgnoredString, HasReadWithLimit, StandsInHead, InEscape, InControlSequence, InDeviceControl, InDeviceData, InIgnoredString, take, arith, usual_limit, rules}
+use Rattle.vte_core.proofs.Common.{◌≡◌, ℕ, true, Option, List, [], ◌∷◌, ◌++◌, refl, ap, subst, append-nil, Machine, State, Text, Escape, SystemCommand, body_outcome, device_data_outcome, executed_events, leaves, open_bytes, HoldsIntermediates, IsPlaceOfState, IsAtPlace, Place, InText, AtEscape, InSystemCommand, open_at, left_at, rest_outcome, outcome_from, events_from, IsSettledPlace, Stored, HoldsItems, SameItems, text_outcome, is_truncated, Nothing, may_continue, EscapeIntermediate, ControlSequence, DeviceControl, DeviceData, IgnoredString, HasReadWithLimit, IsInHead, InEscape, InControlSequence, InDeviceControl, InDeviceData, InIgnoredString, take, arith, usual_limit, rules}
 use Rattle.vte_core.specs.IgnoredString.{ignored_string_outcome}
 use Rattle.vte_core.specs.machine.Place.{control_sequence_from, device_control_from, escape_from, system_command_from}
 use Rattle.vte_core.proofs.Shapes.{text_outcome-end, text_outcome-nothing}
@@ -11,23 +11,23 @@ use Rattle.vte_core.specs.Saved.{HasReadSaved}
 
 -- what a state says of the place, if the parser is in it
 pub stands-in : {B : Type 0} {limit : Option ℕ} {state : State} {parser : Machine B} {place : Place}
-    → parser.state ≡ state → StandsAtPlace limit parser place
-    → StandsBy limit state parser place
+    → parser.state ≡ state → IsAtPlace limit parser place
+    → IsPlaceOfState limit state parser place
 stands-in {limit} {parser} {place} e s = search (rules, arith)
 
 -- a parser in a state stands at the place of which that state says so
 pub stands-by : {B : Type 0} {limit : Option ℕ} {state : State} {parser : Machine B} {place : Place}
-    → parser.state ≡ state → StandsBy limit state parser place
-    → StandsAtPlace limit parser place
+    → parser.state ≡ state → IsPlaceOfState limit state parser place
+    → IsAtPlace limit parser place
 stands-by {limit} {parser} {place} e by = search (rules, arith)
 
 escape-by_state : {B : Type 0} (limit : Option ℕ) (state : State) (parser : Machine B)
-    → StandsBy limit state parser AtEscape
+    → IsPlaceOfState limit state parser AtEscape
     → HoldsIntermediates parser.collected []
 escape-by_state limit Escape parser s = s
 escape-by_state limit _ parser s = absurd s
 
-pub stands-escape : {B : Type 0} {limit : Option ℕ} (parser : Machine B) → StandsAtPlace limit parser AtEscape
+pub stands-escape : {B : Type 0} {limit : Option ℕ} (parser : Machine B) → IsAtPlace limit parser AtEscape
     → HoldsIntermediates parser.collected []
 stands-escape {limit} parser s = escape-by_state limit parser.state parser s.by
 
@@ -38,11 +38,11 @@ pub record InCommandAt {B : Type 0} (limit : Option ℕ) (parser : Machine B) (p
   pub keeps : HoldsItems limit parser.command items
 
 command-by_place : {B : Type 0} {limit : Option ℕ} {parser : Machine B} {place : Place}
-    → StandsBy limit SystemCommand parser place → InCommandAt limit parser place
+    → IsPlaceOfState limit SystemCommand parser place → InCommandAt limit parser place
 command-by_place s = search (rules, arith)
 
 pub in_command : {B : Type 0} {limit : Option ℕ} {parser : Machine B} {place : Place} → parser.state ≡ SystemCommand
-    → StandsAtPlace limit parser place → InCommandAt limit parser place
+    → IsAtPlace limit parser place → InCommandAt limit parser place
 in_command {limit} e s = command-by_place (stands-in e s)
 
 -- what is true of a place where some parser stands
@@ -51,11 +51,11 @@ IsPlace (InText u) = may_continue u ≡ true
 IsPlace _ = Unit {0}
 
 is_place-by_state : {B : Type 0} (limit : Option ℕ) (state : State) (parser : Machine B) (place : Place)
-    → StandsBy limit state parser place → IsPlace place
+    → IsPlaceOfState limit state parser place → IsPlace place
 is_place-by_state limit state parser place s = search (rules, arith)
 
 pub stands-place : {B : Type 0} {limit : Option ℕ} {parser : Machine B} {place : Place}
-    → StandsAtPlace limit parser place
+    → IsAtPlace limit parser place
     → IsPlace place
 stands-place {limit} {parser} {place} s = is_place-by_state limit parser.state parser place s.by
 
@@ -94,7 +94,7 @@ open_at-settled _ none = refl
 
 -- between characters
 pub stands-text_begun : {B : Type 0} {limit : Option ℕ} {parser : Machine B} → parser.state ≡ Text Nothing
-    → StandsAtPlace limit parser (InText [])
+    → IsAtPlace limit parser (InText [])
 stands-text_begun e = stands-by e (refl, refl)
 
 pub keeps-same : {limit : Option ℕ} {old new : Stored} {items : List ℕ} → SameItems old new → HoldsItems limit old items
@@ -106,23 +106,23 @@ keeps-same same keeps = search (rules, arith)
 -- A machine with the state of another, what is collected there and its items has read the same.
 
 -- In a state only what counts in it must be the same.
-stands_by-same : {B C : Type 0} (limit : Option ℕ) (state : State) (old : Machine B) (new : Machine C) (place : Place)
+place_of_state-same : {B C : Type 0} (limit : Option ℕ) (state : State) (old : Machine B) (new : Machine C) (place : Place)
     → (HasIntermediates state → (ints : List ℕ) → HoldsIntermediates old.collected ints
     → HoldsIntermediates new.collected ints)
     → (IsInHead state → HasIntermediates state → old.collected ≡ new.collected)
     → (state ≡ SystemCommand → SameItems old.command new.command)
-    → StandsBy limit state old place → StandsBy limit state new place
-stands_by-same limit (Text unfinished) old new (InText u) ints head items s = s
-stands_by-same limit Escape old new AtEscape ints head items s = ints tt [] s
-stands_by-same limit EscapeIntermediate old new (InEscape bytes) ints head items s = ints tt bytes s
-stands_by-same limit (ControlSequence progress) old new (InControlSequence read) ints head items s =
-    subst (λ collected. StandsInHead collected progress read) (head tt tt) s
-stands_by-same limit (DeviceControl progress) old new (InDeviceControl read) ints head items s =
-    subst (λ collected. StandsInHead collected progress read) (head tt tt) s
-stands_by-same limit DeviceData old new InDeviceData ints head items s = tt
-stands_by-same limit SystemCommand old new (InSystemCommand command) ints head items s = keeps-same (items refl) s
-stands_by-same limit IgnoredString old new InIgnoredString ints head items s = tt
-stands_by-same limit _ old new _ ints head items s = absurd s
+    → IsPlaceOfState limit state old place → IsPlaceOfState limit state new place
+place_of_state-same limit (Text unfinished) old new (InText u) ints head items s = s
+place_of_state-same limit Escape old new AtEscape ints head items s = ints tt [] s
+place_of_state-same limit EscapeIntermediate old new (InEscape bytes) ints head items s = ints tt bytes s
+place_of_state-same limit (ControlSequence progress) old new (InControlSequence read) ints head items s =
+    subst (λ collected. IsInHead collected progress read) (head tt tt) s
+place_of_state-same limit (DeviceControl progress) old new (InDeviceControl read) ints head items s =
+    subst (λ collected. IsInHead collected progress read) (head tt tt) s
+place_of_state-same limit DeviceData old new InDeviceData ints head items s = tt
+place_of_state-same limit SystemCommand old new (InSystemCommand command) ints head items s = keeps-same (items refl) s
+place_of_state-same limit IgnoredString old new InIgnoredString ints head items s = tt
+place_of_state-same limit _ old new _ ints head items s = absurd s
 
 pub reads_cloned : {B C : Type 0} (limit : Option ℕ) (old : Machine B) (new : Machine C) → new.state ≡ old.state
     → new.collected ≡ old.collected → SameItems old.command new.command
@@ -169,4 +169,4 @@ items-saved h r old_is new_is = search (rules, arith)
 pub reads_saved : {B : Type 0} {saved : Saved} {machine : Machine B} → HasSaved saved machine
     → (stream : List ℕ) → HasReadWithLimit usual_limit machine stream → HasReadSaved saved stream
 reads_saved {machine} h stream has_read =
-    search (rules, arith, stands-by, stands_by-same, holds-saved, collected-saved, items-saved)
+    search (rules, arith, stands-by, place_of_state-same, holds-saved, collected-saved, items-saved)

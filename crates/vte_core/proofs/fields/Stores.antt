@@ -67,17 +67,17 @@ pieces_from-run limit bytes ends (b ∷ run) more none =
 -- a data byte belongs to the piece after the last end
 ends-more : (left start : ℕ) (ends : List ℕ) (count more : ℕ) → length ends < left → PiecesEnd left start ends count
     → PiecesEnd left start ends (count + more)
-ends-more zero start ends count more few are = absurd (omega arith)
-ends-more (suc left) start [] count more few are = omega arith
-ends-more (suc left) start (end ∷ ends) count more few are =
+ends-more zero start ends count more at_most are = absurd (omega arith)
+ends-more (suc left) start [] count more at_most are = omega arith
+ends-more (suc left) start (end ∷ ends) count more at_most are =
     (are.0, ends-more left end ends count more (omega arith) are.1)
 
 ends-push : (left start : ℕ) (ends : List ℕ) (count : ℕ) → length ends < left → PiecesEnd left start ends count
     → PiecesEnd left start (ends ++ count ∷ []) count
-ends-push zero start ends count few are = absurd (omega arith)
-ends-push (suc zero) start [] count few are = (are, refl)
-ends-push (suc (suc left)) start [] count few are = (are, omega arith)
-ends-push (suc left) start (end ∷ ends) count few are = (are.0, ends-push left end ends count (omega arith) are.1)
+ends-push zero start ends count at_most are = absurd (omega arith)
+ends-push (suc zero) start [] count at_most are = (are, refl)
+ends-push (suc (suc left)) start [] count at_most are = (are, omega arith)
+ends-push (suc left) start (end ∷ ends) count at_most are = (are.0, ends-push left end ends count (omega arith) are.1)
 
 ends-within : (left start : ℕ) (ends : List ℕ) (count : ℕ) → PiecesEnd left start ends count → start ≤ count
 ends-within zero start [] count are = omega arith
@@ -178,7 +178,7 @@ pub keeps-run : (limit : Option ℕ) (old new : Stored) (items run : List ℕ) �
     → new.lost ≡ (old.lost || nat_lt (length new.bytes - length old.bytes) (length run))
     → HoldsItems limit old items
     → HoldsItems limit new (items ++ run)
-keeps-run limit old new items run few none bytes ends lost keeps =
+keeps-run limit old new items run at_most none bytes ends lost keeps =
     search (rules, arith, ends-more, length-append, length-fitting, append_assoc, pieces_from-run, count-run)
 
 -- a `;` more
@@ -187,7 +187,7 @@ pub keeps-end : (limit : Option ℕ) (old new : Stored) (items : List ℕ) → l
     → new.bytes ≡ old.bytes → new.ends ≡ old.ends ++ length old.bytes ∷ [] → new.lost ≡ old.lost
     → HoldsItems limit old items
     → HoldsItems limit new (items ++ semicolon ∷ [])
-keeps-end limit old new items few room bytes ends lost keeps =
+keeps-end limit old new items at_most room bytes ends lost keeps =
     search (rules, arith, append_assoc, ends-push, count-end)
 
 -- the pieces, by what a store holds
@@ -247,14 +247,14 @@ piece-goes_on (suc left) start bytes (end ∷ ends) byte are =
 pub record IsOpenFor (items : List ℕ) (byte : ℕ) : Type 0 where
   pub pieces : List (List ℕ)
   pub last : List ℕ
-  pub few : length pieces < most_pieces
+  pub at_most : length pieces < most_pieces
   pub before : pieces_of None items ≡ pieces ++ last ∷ []
   pub later : pieces_of None (items ++ byte ∷ []) ≡ pieces ++ (last ++ byte ∷ []) ∷ []
   pub lost : loses_data None (items ++ byte ∷ []) ≡ loses_data None items
 
-pieces-few : (pieces : List (List ℕ)) (last : List ℕ) → length pieces < most_pieces
+pieces-at_most : (pieces : List (List ℕ)) (last : List ℕ) → length pieces < most_pieces
     → take most_pieces (pieces ++ last ∷ []) ≡ pieces ++ last ∷ []
-pieces-few pieces last few =
+pieces-at_most pieces last at_most =
     take_all most_pieces (pieces ++ last ∷ []) (omega (arith, length-append pieces (last ∷ [])))
 
 concat-last : (pieces : List (List ℕ)) (last : List ℕ)
@@ -271,19 +271,19 @@ loss-same items byte pieces last before later other = search (rules, arith, coun
 
 pub open_for : {held : Stored} {items : List ℕ} {byte : ℕ} → HoldsItems None held items → length held.ends < most_pieces
     → byte ≢ semicolon → IsOpenFor items byte
-open_for {held} {items} {byte} keeps few other =
+open_for {held} {items} {byte} keeps at_most other =
     let g = piece-goes_on most_pieces 0 held.bytes held.ends byte keeps.end in
     let some : length g.pieces < most_pieces = omega (arith, g.ended) in
     let more =
     keeps.goes_on (byte ∷ []) ∙ pieces_from-byte None held.bytes held.ends refl byte other []
     ∙ pieces_from-nothing None (held.bytes ++ byte ∷ []) held.ends in
     let before =
-    pieces_held keeps ∙ ap (take most_pieces) g.before ∙ pieces-few g.pieces g.last some in
-    let later = more ∙ ap (take most_pieces) g.later ∙ pieces-few g.pieces (g.last ++ byte ∷ []) some in
+    pieces_held keeps ∙ ap (take most_pieces) g.before ∙ pieces-at_most g.pieces g.last some in
+    let later = more ∙ ap (take most_pieces) g.later ∙ pieces-at_most g.pieces (g.last ++ byte ∷ []) some in
     record {
       pieces = g.pieces;
       last = g.last;
-      few = some;
+      at_most = some;
       before = before;
       later = later;
       lost = loss-same items byte g.pieces g.last before later other;

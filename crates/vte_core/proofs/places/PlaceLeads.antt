@@ -215,9 +215,9 @@ pub bounded-head : (limit : Option ℕ) (head : Head) (final : ℕ) → (0x40 �
 unfolding sequence_event
 bounded-head limit head final is =
     let groups = AreGroups-groups_of head.parameter_text in
-    let few = two_at_most (reported_intermediates head) in
+    let at_most = two_at_most (reported_intermediates head) in
     let some = some_group head.parameter_text in
-    ((groups, few, is.1, is.0, some), (groups, few, is.1, is.0, some))
+    ((groups, at_most, is.1, is.0, some), (groups, at_most, is.1, is.0, some))
 
 short-chosen : (t : Bool) (b c : ℕ) → (t ≡ true → IsExecuted b) → (t ≡ false → IsPrintable c)
     → IsShort (cond t (Execute b) (Print c))

@@ -2,7 +2,7 @@
 -- do after the bytes that lead from the place to another, whose events are added.
 --
 -- `added-X` says what `added` is in the case X, and `after-X` what `IsAfter` says of X.
-use Rattle.vte_core.proofs.Common.{◌≡◌, ℕ, ◌⊎◌, inl, inr, cases_Bool, true, false, eqb, Option, List, [], ◌∷◌, ◌++◌, refl, ap, sym, ◌∙◌, arith, Machine, Event, Print, replacement, report, after, Place, InText, AtEscape, closing_events_at, outcome_from, events, escape, TakesByte, TakesBytes, is_truncated, is_well_formed, Bool, None, SequenceKind, sequence_kind, body_rest, body_outcome, sequence_outcome, class_of, is_cancel, is_key, Outcome, ToClose, CommandToClose, open_bytes, from_first, cut_at_escape, with_bodies, outcome, open_character, system_command_outcome, text_outcome, append_assoc, append-nil, drop_all, drop-append_seam, StandsAtPlace, HasReadWithLimit, added, IsAfter, open_at, left_at, events_from, BytesLead, rules}
+use Rattle.vte_core.proofs.Common.{◌≡◌, ℕ, ◌⊎◌, inl, inr, cases_Bool, true, false, eqb, Option, List, [], ◌∷◌, ◌++◌, refl, ap, sym, ◌∙◌, arith, Machine, Event, Print, replacement, report, after, Place, InText, AtEscape, closing_events_at, outcome_from, events, escape, TakesByte, TakesBytes, is_truncated, is_well_formed, Bool, None, SequenceKind, sequence_kind, body_rest, body_outcome, sequence_outcome, class_of, is_cancel, is_key, Outcome, ToClose, CommandToClose, open_bytes, from_first, cut_at_escape, with_bodies, outcome, open_character, system_command_outcome, text_outcome, append_assoc, append-nil, drop_all, drop-append_seam, IsAtPlace, HasReadWithLimit, added, IsAfter, open_at, left_at, events_from, BytesLead, rules}
 use Rattle.std.proofs.Common.{eqb-true}
 use Rattle.vte_core.proofs.bytes.Utf8.{Tests, ascii-breaks}
 use Rattle.vte_core.proofs.Shapes.{text_outcome-broken, report-append}
@@ -195,6 +195,6 @@ added-reads {limit} {bytes} {place} {next} {these} a r is =
     ∙ ap (λ es. these ++ es) (events_from-nothing limit next is) ∙ append-nil these
 
 -- a parser between characters of a text has read nothing
-pub has_read-nothing : {B : Type 0} {limit : Option ℕ} {parser : Machine B} → StandsAtPlace limit parser (InText [])
+pub has_read-nothing : {B : Type 0} {limit : Option ℕ} {parser : Machine B} → IsAtPlace limit parser (InText [])
     → HasReadWithLimit limit parser []
 has_read-nothing s = record { place = InText []; stands = s; is_after = after-nothing }

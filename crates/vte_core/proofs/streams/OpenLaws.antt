@@ -203,13 +203,13 @@ opens-text text none =
 
 -- ---- the law
 
-few-at : (place : Place) → IsPlace place → length (open_at place) ≤ 3
-few-at place is = search (rules, arith, truncated-long)
+at_most-at : (place : Place) → IsPlace place → length (open_at place) ≤ 3
+at_most-at place is = search (rules, arith, truncated-long)
 
-open-few : (stream : List ℕ) → length (open_character stream) ≤ 3
-open-few stream =
+open-at_most : (stream : List ℕ) → length (open_character stream) ≤ 3
+open-at_most stream =
     let a = leads_to {limit = None} {stream = stream} in
-    rw (after-open_character a.is_after a.is_place) (few-at a.place a.is_place)
+    rw (after-open_character a.is_after a.is_place) (at_most-at a.place a.is_place)
 
 pub opens_late : OpensLate
 unfolding open_character
@@ -218,5 +218,5 @@ opens_late = record {
   without_escape = opens-text;
   character = λ stream.
       let e = ends-stream None stream in
-      record { prefix = e.prefix; joins = e.joins; few = open-few stream };
+      record { prefix = e.prefix; joins = e.joins; at_most = open-at_most stream };
 }

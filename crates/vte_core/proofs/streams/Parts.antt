@@ -57,19 +57,19 @@ pub escape_found : (from : ℕ) (stream searched : List ℕ) {start distance : �
     → searched ≡ drop start stream → NoneBefore (Passes (is_byte escape) searched) 0 (length searched) distance
     → Passes (is_byte escape) searched distance
     → start + distance ≡ next_escape from stream
-escape_found from stream searched {start} {distance} least rest first is =
+escape_found from stream searched {start} {distance} at_least rest first is =
     search (rules, arith, position_or_len_is, fails)
 
 pub escape_missing : (from : ℕ) (stream searched : List ℕ) {start : ℕ} → start ≡ min from (length stream)
     → searched ≡ drop start stream → Nowhere (Passes (is_byte escape) searched) 0 (length searched)
     → length stream ≡ next_escape from stream
-escape_missing from stream searched {start} least rest none =
-    omega (arith, least, length-drop start stream, ap length rest)
+escape_missing from stream searched {start} at_least rest none =
+    omega (arith, at_least, length-drop start stream, ap length rest)
     ∙ ap (λ n. start + n)
     (sym (position_or_len_is (is_byte escape) searched (length searched) 0 (omega arith)
     (λ k below. fails _ (none k (omega arith) below)) (λ lt. absurd (omega arith))))
     ∙ ap (λ bytes. start + position_or_len (is_byte escape) bytes) rest
-    ∙ ap (λ n. n + position_or_len (is_byte escape) (drop n stream)) least
+    ∙ ap (λ n. n + position_or_len (is_byte escape) (drop n stream)) at_least
 
 escape_at : (from : ℕ) (stream : List ℕ) → next_escape from stream < length stream
     → slice_index stream (next_escape from stream) ≡ escape
@@ -95,15 +95,15 @@ first_part : (size : ℕ) (stream : List ℕ) → 0 < size → 0 < length stream
     ≡ take (next_escape size stream + 1) stream ∷ parts_after size 0 (drop (next_escape size stream) stream)
 first_part size stream j more = search (rules, arith, parts_after-drop, drop-less, escape_after)
 
-take-least : (n : ℕ) (stream : List ℕ) → take (min (length stream) n) stream ≡ take n stream
-take-least n stream = search (rules, arith, take_all)
+take-at_least : (n : ℕ) (stream : List ℕ) → take (min (length stream) n) stream ≡ take n stream
+take-at_least n stream = search (rules, arith, take_all)
 
 -- as `next` takes it off
 pub next_part : (size : ℕ) (stream : List ℕ) {cut end : ℕ} → 0 < size → 0 < length stream
     → cut ≡ next_escape size stream → end ≡ min (length stream) (cut + 1)
     → parts_after size 0 stream
     ≡ take end stream ∷ parts_after size 0 (take (length stream - cut) (drop cut stream))
-next_part size stream {cut} {end} some more is least = search (rules, arith, first_part, take_rest, take-least)
+next_part size stream {cut} {end} some more is at_least = search (rules, arith, first_part, take_rest, take-at_least)
 
 parts_after-events : (limit : Option ℕ) (size skip : ℕ) (stream : List ℕ) → 0 < size
     → flat_map (events limit) (parts_after size skip stream) ≡ events limit (drop skip stream)

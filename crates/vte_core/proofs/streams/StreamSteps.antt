@@ -48,7 +48,7 @@ arrives limit size place [] is fits =
 arrives limit size place (b ∷ bytes) is fits =
     let first = steps is in
     let rest = arrives limit size first.next bytes first.is_place
-    (λ on_way few. fits on_way (λ none. omega (arith, few none, first.grows none))) in
+    (λ on_way at_most. fits on_way (λ none. omega (arith, at_most none, first.grows none))) in
     record {
       reported = first.reported ++ rest.reported;
       next = rest.next;
@@ -177,7 +177,7 @@ pub counts_data : (stream bytes : List ℕ) → CountsData stream bytes
 counts_data stream bytes =
     let a = leads_to {limit = None} {stream = stream} in
     let c = arrives None (Some (size_at None a.place + length bytes)) a.place bytes a.is_place
-    (λ place few. fits_by _ (left_at None place) (few refl)) in
+    (λ place at_most. fits_by _ (left_at None place) (at_most refl)) in
     let before = ap open_data_count (after-left a.is_after a.is_place) in
     let later = ap open_data_count (after-left (after-reads a.is_after c.reads c.is_place) c.is_place) in
     record {

@@ -138,36 +138,36 @@ pub record HoldsHead (collected : Collected) (progress : HeadProgress)
 pub record StaysIllShaped (head : List ℕ) : Type 0 where
   pub stays : (more : List ℕ) → is_well_shaped (head_of (head ++ more)) ≡ false
 
-abbrev pub StandsInHead : Collected → HeadProgress → List ℕ → Type 0
-StandsInHead collected IllShaped head = StaysIllShaped head
-StandsInHead collected progress head = HoldsHead collected progress head
+abbrev pub IsInHead : Collected → HeadProgress → List ℕ → Type 0
+IsInHead collected IllShaped head = StaysIllShaped head
+IsInHead collected progress head = HoldsHead collected progress head
 
 -- What the state says of the place.
-abbrev pub StandsBy : {B : Type 0} → Option ℕ → State → Machine B → Place → Type 0
-StandsBy limit (Text unfinished) parser (InText bytes) =
+abbrev pub IsPlaceOfState : {B : Type 0} → Option ℕ → State → Machine B → Place → Type 0
+IsPlaceOfState limit (Text unfinished) parser (InText bytes) =
     (bytes_of unfinished ≡ bytes) × (may_continue bytes ≡ true)
-StandsBy limit Escape parser AtEscape = HoldsIntermediates parser.collected []
-StandsBy limit EscapeIntermediate parser (InEscape intermediates) =
+IsPlaceOfState limit Escape parser AtEscape = HoldsIntermediates parser.collected []
+IsPlaceOfState limit EscapeIntermediate parser (InEscape intermediates) =
     HoldsIntermediates parser.collected intermediates
-StandsBy limit (ControlSequence progress) parser (InControlSequence head) =
-    StandsInHead parser.collected progress head
-StandsBy limit (DeviceControl progress) parser (InDeviceControl head) =
-    StandsInHead parser.collected progress head
-StandsBy limit DeviceData parser InDeviceData = ⊤
-StandsBy limit SystemCommand parser (InSystemCommand items) = HoldsItems limit parser.command items
-StandsBy limit IgnoredString parser InIgnoredString = ⊤
-StandsBy limit _ parser _ = ⊥
+IsPlaceOfState limit (ControlSequence progress) parser (InControlSequence head) =
+    IsInHead parser.collected progress head
+IsPlaceOfState limit (DeviceControl progress) parser (InDeviceControl head) =
+    IsInHead parser.collected progress head
+IsPlaceOfState limit DeviceData parser InDeviceData = ⊤
+IsPlaceOfState limit SystemCommand parser (InSystemCommand items) = HoldsItems limit parser.command items
+IsPlaceOfState limit IgnoredString parser InIgnoredString = ⊤
+IsPlaceOfState limit _ parser _ = ⊥
 
-pub record StandsAtPlace {B : Type 0} (limit : Option ℕ) (parser : Machine B)
+pub record IsAtPlace {B : Type 0} (limit : Option ℕ) (parser : Machine B)
     (place : Place) : Type 0 where
-  pub by : StandsBy limit parser.state parser place
+  pub by : IsPlaceOfState limit parser.state parser place
 
 -- The parser continues as one that has read the stream: with more bytes, the stream gives its own
 -- events and then what those bytes give after a place at which the parser stands.
 pub record HasReadWithLimit {B : Type 0} (limit : Option ℕ) (parser : Machine B)
     (stream : List ℕ) : Type 0 where
   pub place : Place
-  pub stands : StandsAtPlace limit parser place
+  pub stands : IsAtPlace limit parser place
   pub is_after : IsAfter limit stream place
 
 -- ---- a complete head
@@ -200,8 +200,8 @@ pub record ReadsHead (bytes : List ℕ) (i j : ℕ) (reached progress : HeadProg
   pub low : i ≤ j
   pub high : j ≤ length bytes
   pub head_bytes : AreInClass is_head_byte (take (j - i) (drop i bytes))
-  pub stands : (head : List ℕ) → StandsInHead old reached head
-      → StandsInHead new progress (head ++ take (j - i) (drop i bytes))
+  pub stands : (head : List ℕ) → IsInHead old reached head
+      → IsInHead new progress (head ++ take (j - i) (drop i bytes))
 
 -- A head is read from position i up to `end`, and the byte there, if there is one, was looked at.
 pub record ReadsHeadUpTo (bytes : List ℕ) (i : ℕ) (reached : HeadProgress) (end : HeadEnd)

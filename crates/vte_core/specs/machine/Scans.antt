@@ -76,7 +76,7 @@ pub record Scans (Are : List ℕ → ℕ → ℕ → Type 0) (bytes : List ℕ) 
   pub low : from ≤ to
   pub high : to ≤ length bytes
   pub are : Are bytes from to
-  pub least : looked before + to ≤ looked after + from
+  pub at_least : looked before + to ≤ looked after + from
 
 -- A search from one position ends at another: at the first byte that `Is` doesn't hold of, or with
 -- the bytes. It looks once at each byte up to there, and at the byte there.
@@ -90,7 +90,7 @@ pub record FindsEnd (Is : ℕ → Type 0) (bytes : List ℕ) (from to : ℕ)
 
 -- The count of looks grew by at most `most`.
 pub record LooksAtMost (most : ℕ) (before after : Reader) : Type 0 where
-  pub few : looked after ≤ looked before + most
+  pub at_most : looked after ≤ looked before + most
   pub grows : looked before ≤ looked after
 
 -- The window has the bytes from a position on.

@@ -85,7 +85,7 @@ pub record SameItems (old new : Stored) : Type 0 where
 
 -- The ends of at most 16 pieces, in order and within the bytes.
 pub record ArePieceEnds (bytes ends : List ℕ) : Type 0 where
-  pub few : length ends ≤ most_pieces
+  pub at_most : length ends ≤ most_pieces
   pub in_order : IsNonDecreasing ends
   pub within : All (λ end. end ≤ length bytes) ends
 

@@ -8,7 +8,7 @@ use Rattle.vte_core.specs.declared.parser.machine.Machine.{Machine}
 use Rattle.vte_core.specs.declared.parser.State.TheVariants.{Text}
 use Rattle.vte_core.specs.declared.utf8.Unfinished.TheVariants.{Nothing}
 use Rattle.vte_core.specs.machine.Place.{Leads, BytesLead, Place}
-use Rattle.vte_core.specs.machine.ParserFields.{StandsAtPlace}
+use Rattle.vte_core.specs.machine.ParserFields.{IsAtPlace}
 
 -- The performer received the event, which counts one look.
 pub record Reports {V : Type 0} (step : V → Event → V) (old new : V) (event : Event)
@@ -29,7 +29,7 @@ pub record TakesByte {V B : Type 0} (step : V → Event → V) (old new : V) (li
   pub reported : List Event
   pub next : Place
   pub performed : new ≡ after step old reported
-  pub stands : StandsAtPlace limit parser next
+  pub stands : IsAtPlace limit parser next
   pub leads : Leads limit place byte reported next
 
 -- The performer received a sequence, as one event. The parser stands in a text then, and gave back
@@ -46,5 +46,5 @@ pub record TakesBytes {V B : Type 0} (step : V → Event → V) (old new : V) (l
   pub reported : List Event
   pub next : Place
   pub performed : new ≡ after step old reported
-  pub stands : StandsAtPlace limit parser next
+  pub stands : IsAtPlace limit parser next
   pub reads : BytesLead limit place bytes reported next

@@ -13,7 +13,7 @@ use Rattle.vte_core.specs.declared.parser.State.TheVariants.{Text, DeviceData}
 use Rattle.vte_core.specs.Class.{IsDeviceData, class_of, is_device_data}
 use Rattle.vte_core.specs.Event.{Event, Print, Put}
 use Rattle.vte_core.specs.machine.ParserFields.{HasReadWithLimit}
-use Rattle.vte_core.specs.machine.Progress.{ChunkCall, StandsAt}
+use Rattle.vte_core.specs.machine.Progress.{ChunkCall, IsAtPosition}
 use Rattle.vte_core.specs.machine.Scans.{IsUtf8Run, IsRange}
 use Rattle.vte_core.specs.Stream.{added}
 use Rattle.vte_core.specs.Text.{HasNoRunAt}
@@ -76,7 +76,7 @@ pub record ComesToRun {V B : Type 0} (call : ChunkCall V) (old new : V) (range :
     (parser next : Machine B) : Type 0 where
   pub has : HasRun call.limit call.bytes range next
   pub stands_at : (stream : List ℕ) → HasReadWithLimit call.limit parser stream
-      → StandsAt call old new stream range.start next
+      → IsAtPosition call old new stream range.start next
   pub may_go_on : range.start < range.end → call.is_terminated new ≡ false
   pub stops : range.end ≡ range.start → range.start < length call.bytes
       → call.is_terminated new ≡ true

@@ -41,7 +41,7 @@ impl<B: Buffer> Machine<B> {
         // run.
         ensures spare { looked reader.new + 5 * from + 3 ≤ looked reader.old + 5 * result }
         // Without runs 3 per byte are enough, with that for the lead byte.
-        ensures few { G.IN_RUNS ≡ false
+        ensures at_most { G.IN_RUNS ≡ false
             → looked reader.new + 3 * from + 1 ≤ looked reader.old + 3 * result }
     {
         let next = from + 1;
@@ -133,7 +133,7 @@ impl<B: Buffer> Machine<B> {
             reader.old reader.new }
         // As in `read_character`, with one more for the second byte.
         ensures spare { looked reader.new + 5 * from + 4 ≤ looked reader.old + 5 * result }
-        ensures few { G.IN_RUNS ≡ false
+        ensures at_most { G.IN_RUNS ≡ false
             → looked reader.new + 3 * from + 2 ≤ looked reader.old + 3 * result }
     {
         let next = from + 1;

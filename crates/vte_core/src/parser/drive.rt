@@ -1,6 +1,6 @@
 //! The loop over the bytes of a call.
 ghost use Rattle.std.specs.Prelude.{◌≡◌, ◌<◌, true, List, ℕ, length, IfErr, IfOk};
-ghost use Rattle.vte_core.specs.machine.Prelude.{Advances, Costs, HasReadWithLimit, IsOutsideTextAndData, IsSettled, MayReadAt, MovesWithin, NoCharacterStops, ReadsUpTo, Refuses, ReadsUntilRefused, SpendsWithin, StandsAt, ReportsOutsideRuns, chunk_call, looked, read_count};
+ghost use Rattle.vte_core.specs.machine.Prelude.{Advances, Costs, HasReadWithLimit, IsOutsideTextAndData, IsSettled, MayReadAt, MovesWithin, NoCharacterStops, ReadsUpTo, Refuses, ReadsUntilRefused, SpendsWithin, IsAtPosition, ReportsOutsideRuns, chunk_call, looked, read_count};
 
 use crate::buffer::Buffer;
 use crate::parser::{Machine, Refused, State};
@@ -49,7 +49,7 @@ impl<B: Buffer> Machine<B> {
         input: Input<'_>,
     ) -> usize
         ensures stands_at { (stream : List ℕ) → HasReadWithLimit B.limit self.old stream →
-            StandsAt (chunk_call MAY_STOP P.step P.is_terminated B.limit input.entry.bytes.now)
+            IsAtPosition (chunk_call MAY_STOP P.step P.is_terminated B.limit input.entry.bytes.now)
             (P.value_of performer.old) (P.value_of performer.new) stream result self.new }
         ensures settled { result < length input.entry.bytes.now → IsSettled self.new.state }
         ensures spends { SpendsWithin 2 0 2 input.entry.bytes.now 0 result self.old self.new

@@ -1,6 +1,6 @@
 //! ESC, CAN and SUB, which end whatever is open, in every state.
 ghost use Rattle.std.specs.Prelude.{◌≡◌, true, [], ◌∷◌, ⊤};
-ghost use Rattle.vte_core.specs.machine.Prelude.{Advances, Escape, HandlesByte, IsSettledPlace, IsReadOutsideRuns, MayReadByte, MovesWithin, TakesBytes, Place, StandsAtPlace, LooksAtMost, after, chunk_call, class_of, closing_events_at, ends_body};
+ghost use Rattle.vte_core.specs.machine.Prelude.{Advances, Escape, HandlesByte, IsSettledPlace, IsReadOutsideRuns, MayReadByte, MovesWithin, TakesBytes, Place, IsAtPlace, LooksAtMost, after, chunk_call, class_of, closing_events_at, ends_body};
 
 use crate::buffer::Buffer;
 use crate::class::ESCAPE;
@@ -17,7 +17,7 @@ impl<B: Buffer> Machine<B> {
         byte: u8,
     )
         requires { ends_body (class_of byte) ≡ true }
-        ensures performs { (place : Place) → StandsAtPlace B.limit self.old place
+        ensures performs { (place : Place) → IsAtPlace B.limit self.old place
             → IsSettledPlace place
             → TakesBytes P.step (P.value_of performer.old)
             (P.value_of performer.new) B.limit place (byte ∷ []) self.new }
@@ -67,10 +67,10 @@ impl<B: Buffer> Machine<B> {
         reader: &mut Reader,
         performer: &mut P,
     )
-        ensures reported { (place : Place) → StandsAtPlace B.limit self.now place
+        ensures reported { (place : Place) → IsAtPlace B.limit self.now place
             → IsSettledPlace place → P.value_of performer.new
             ≡ after P.step (P.value_of performer.old) (closing_events_at B.limit place) }
-        ensures few { LooksAtMost 1 reader.old reader.new }
+        ensures at_most { LooksAtMost 1 reader.old reader.new }
     {
         match self.state {
             State::DeviceData => performer.unhook(reader),

@@ -1,7 +1,7 @@
 //! Escape sequences, and what ESC begins.
 ghost use Rattle.std.specs.Prelude.{◌≡◌, ◌≢◌, ◌+◌, ◌*◌, ◌<◌, ◌≤◌, true, [], ◌∷◌, slice_index, ⊤};
 ghost use Rattle.vte_core.specs.machine.Prelude.{Advances, AtEscape, Dispatches, EscDispatch, Escape, EscapeIntermediate, HandlesByte, IsSettledPlace, MayRead, MayReadAt, MovesWithin, Nothing, TakesBytes, Place};
-ghost use Rattle.vte_core.specs.machine.Prelude.{StandsAtPlace, TakesByte, Text, chunk_call, class_of, is_final, looked};
+ghost use Rattle.vte_core.specs.machine.Prelude.{IsAtPlace, TakesByte, Text, chunk_call, class_of, is_final, looked};
 
 use crate::buffer::Buffer;
 use crate::class::{
@@ -99,7 +99,7 @@ impl<B: Buffer> Machine<B> {
     )
         requires begun { self.old.state ≡ Escape }
         requires other { byte ≢ 0x5b }
-        ensures performs { (place : Place) → StandsAtPlace B.limit self.old place
+        ensures performs { (place : Place) → IsAtPlace B.limit self.old place
             → IsSettledPlace place
             → TakesBytes P.step
             (P.value_of performer.old) (P.value_of performer.new) B.limit place
@@ -132,7 +132,7 @@ impl<B: Buffer> Machine<B> {
     )
         requires ends { is_final (class_of byte) ≡ true }
         requires other { byte ≢ 0x5b }
-        ensures takes { StandsAtPlace B.limit self.old AtEscape
+        ensures takes { IsAtPlace B.limit self.old AtEscape
             → TakesByte P.step (P.value_of performer.old) (P.value_of performer.new)
             B.limit AtEscape byte self.new }
         ensures handles { HandlesByte 1 self.old self.new reader.old reader.new }

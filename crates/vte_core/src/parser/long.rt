@@ -2,7 +2,7 @@
 ghost use Rattle.std.specs.Prelude.{◌≡◌, ◌≢◌, ◌+◌, ◌<◌, ◌≤◌, ℕ, true, false, List, [], None, IfErr, IfOk, length};
 ghost use Rattle.vte_core.specs.LongParser.{HasReadLong, LacksMemoryForMore, lost_data_long, memory_of, reading_of_long};
 ghost use Rattle.vte_core.specs.LongParser.{open_command_size};
-ghost use Rattle.vte_core.specs.Parser.{IsCopyOf};
+ghost use Rattle.vte_core.specs.Parser.{IsCopyOfParser};
 ghost use Rattle.vte_core.specs.Open.{SaysOpen, SaysWhetherOpen};
 ghost use Rattle.vte_core.specs.Outcome.{SaysLoss};
 ghost use Rattle.vte_core.specs.Stream.{outcome};
@@ -45,7 +45,7 @@ pub struct LongParser<A: Allocator> {
 
 /// A clone goes on as the parser would. Its looks are counted from 0.
 impl<A: Allocator + Clone> Clone for LongParser<A> {
-    ghost is_clone = { λ parser copy. IsCopyOf (reading_of_long parser) (reading_of_long copy)
+    ghost is_clone = { λ parser copy. IsCopyOfParser (reading_of_long parser) (reading_of_long copy)
         × memory_of parser ≤ memory_of copy };
 
     fn clone(&self) -> Result<Self, AllocError> {

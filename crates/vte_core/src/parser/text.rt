@@ -42,7 +42,7 @@ fn print_ascii<P: CountedPerform<G>, G: Granularity>(
     ensures progress { from < result.end }
     ensures high { result.end ≤ length input.entry.bytes.now }
     ensures count { looked reader.new + 5 * from + 1 ≤ looked reader.old + 5 * result.end }
-    ensures least { looked reader.old + result.end ≤ looked reader.new + from }
+    ensures at_least { looked reader.old + result.end ≤ looked reader.new + from }
 {
     let next = reader.get_byte(input, from + 1);
     if reader.begins_ascii_run(input, from, next) {

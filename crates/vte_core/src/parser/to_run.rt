@@ -23,7 +23,7 @@ impl<const OSC_RAW_BUF_SIZE: usize> Parser<OSC_RAW_BUF_SIZE> {
         ensures outside_runs { (stream : List ℕ) → HasRead self.old stream
             → ReportsOutsideRuns (Some OSC_RAW_BUF_SIZE) stream chunk.entry.bytes.now result.start }
         ensures count { counted self.new.looks ≤ counted self.old.looks + 7 * result.end + 8 }
-        ensures least { counted self.old.looks + result.end ≤ counted self.new.looks }
+        ensures at_least { counted self.old.looks + result.end ≤ counted self.new.looks }
     {
         let (mut reader, input) = chunk.into_reader();
         let result = self.machine.drive_to_run(&mut reader, performer, input);

@@ -63,7 +63,7 @@ impl Reader {
             (slice_index input.entry.bytes.now (from - 1)) ≡ 0 }
         ensures plain { Each IsPlain input.entry.bytes.now from result }
         ensures count { looked self.new + from ≤ looked self.old + result + 35 }
-        ensures least { looked self.old + result ≤ looked self.new + from }
+        ensures at_least { looked self.old + result ≤ looked self.new + from }
     {
         if self.open_bytes(input, from) > 0 {
             return from;
@@ -87,8 +87,8 @@ impl Reader {
         ensures value { result ≡ open_count (slice_index input.entry.bytes.now (at - 3))
             (slice_index input.entry.bytes.now (at - 2))
             (slice_index input.entry.bytes.now (at - 1)) }
-        ensures few { looked self.new ≤ looked self.old + 3 }
-        ensures least { looked self.old ≤ looked self.new }
+        ensures at_most { looked self.new ≤ looked self.old + 3 }
+        ensures at_least { looked self.old ≤ looked self.new }
     {
         if self.byte_at(input, at - 1) >= 0xc0 {
             1

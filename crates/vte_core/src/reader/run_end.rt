@@ -31,7 +31,7 @@ impl Reader {
             × (byte ≡ slice_index input.bytes.now (at + 1))) }
         ensures within { result ≡ true → at + 4 ≤ length input.entry.bytes.now }
         ensures printed { result ≡ true → ArePrintedAscii input.entry.bytes.now at (at + 4) }
-        ensures few { LooksAtMost 2 self.old self.new }
+        ensures at_most { LooksAtMost 2 self.old self.new }
     {
         matches!(next, Some(second) if is_printed_ascii(second))
             && matches!(self.get_byte(input, at + 2), Some(third) if is_printed_ascii(third))
@@ -77,7 +77,7 @@ impl Reader {
         requires lead { 0xc2 ≤ first }
         ensures range { IsRange input.entry.bytes.now from result }
         ensures run { from < result → IsRun P.layout input.entry.bytes.now from result }
-        ensures few { result ≡ from → looked self.new ≤ looked self.old + 2 }
+        ensures at_most { result ≡ from → looked self.new ≤ looked self.old + 2 }
         ensures count { from < result
             → looked self.new + 4 * from + 1 ≤ looked self.old + 4 * result }
         ensures grows { looked self.old ≤ looked self.new }
@@ -217,7 +217,7 @@ impl Reader {
         ensures high { IfSome result (λ end. end ≤ length input.entry.bytes.now) }
         ensures run { IfSome result (IsRun layout input.entry.bytes.now from) }
         ensures ended { result ≡ None → HasNoRunAt layout input.entry.bytes.now from }
-        ensures few { LooksAtMost 3 self.old self.new }
+        ensures at_most { LooksAtMost 3 self.old self.new }
         ensures count { IfSome result (λ end. looked self.new + from + 1 ≡ looked self.old + end) }
     {
         if !is_lead(first) {

@@ -15,7 +15,7 @@ use vte_handler::{Handler, HandlerText, Timeout};
 impl<A: Allocator> EventParser for LongParser<A> {
     ghost limit = { None };
 
-    ghost reading = { long_parser_view };
+    ghost view = { long_parser_view };
 
     fn reserve<B: TextBuffer>(&mut self, text: &mut B, held: usize, more: usize) -> bool {
         let Some(count) = held.checked_add(more) else {

@@ -31,26 +31,26 @@ pub(crate) trait EventParser {
     ghost limit: { Option ℕ };
 
     /// Which streams it has read, for which bytes it has memory, and whether data were lost.
-    ghost reading: { ParserView Self };
+    ghost view: { ParserView Self };
 
     /// Takes memory for held bytes and for more, and for the texts that are joined from them.
     /// Returns whether it is there.
     fn reserve<B: TextBuffer>(&mut self, text: &mut B, held: usize, more: usize) -> bool
-        ensures reads { (stream : List ℕ) → reading.has_read self.old stream
-            → reading.has_read self.new stream }
-        ensures room { result ≡ true → (stream : List ℕ) → reading.has_read self.new stream
-            → reading.has_memory self.new (B.room text.new) stream (held + more) }
-        ensures memory { KeepsMemory (reading.has_memory self.old (B.room text.old))
-            (reading.has_memory self.new (B.room text.new)) }
-        ensures lost { reading.lost self.new ≡ reading.lost self.old }
-        ensures lacks { result ≡ false → (stream : List ℕ) → reading.has_read self.new stream
-            → ¬ reading.has_memory self.new (B.room text.new) stream (held + more) };
+        ensures reads { (stream : List ℕ) → view.has_read self.old stream
+            → view.has_read self.new stream }
+        ensures room { result ≡ true → (stream : List ℕ) → view.has_read self.new stream
+            → view.has_memory self.new (B.room text.new) stream (held + more) }
+        ensures memory { KeepsMemory (view.has_memory self.old (B.room text.old))
+            (view.has_memory self.new (B.room text.new)) }
+        ensures lost { view.lost self.new ≡ view.lost self.old }
+        ensures lacks { result ≡ false → (stream : List ℕ) → view.has_read self.new stream
+            → ¬ view.has_memory self.new (B.room text.new) stream (held + more) };
 }
 
 impl<const N: usize> EventParser for Parser<N> {
     ghost limit = { Some N };
 
-    ghost reading = { limited_parser_view };
+    ghost view = { limited_parser_view };
 
     fn reserve<B: TextBuffer>(&mut self, text: &mut B, _held: usize, _more: usize) -> bool {
         match N.checked_add(SEPARATORS) {
@@ -69,7 +69,7 @@ pub(crate) trait ParseAs<H: Handler, T: Timeout + Drop, P: EventParser>: Sized {
         bytes: &[u8],
     )
         ensures { let value = performer_value H.value_of T.value_of B.room in
-            AdvancesAll P.reading P.limit
+            AdvancesAll P.view P.limit
             (with_event H.step (timeout_meaning T.set T.clear T.allows))
             parser.old parser.new (value performer.old) (value performer.new) bytes.now };
 
@@ -80,7 +80,7 @@ pub(crate) trait ParseAs<H: Handler, T: Timeout + Drop, P: EventParser>: Sized {
         bytes: &[u8],
     ) -> usize
         ensures { let value = performer_value H.value_of T.value_of B.room in
-            AdvancesUntilStop P.reading P.limit
+            AdvancesUntilStop P.view P.limit
             (with_event H.step (timeout_meaning T.set T.clear T.allows))
             parser.old parser.new (value performer.old) (value performer.new)
             bytes.now result };
@@ -137,17 +137,17 @@ pub(crate) fn parse_all<
     G: ParseAs<H, T, P>,
 >(parser: &mut P, state: &mut ProcessorState<T, B>, handler: &mut H, bytes: &[u8])
     ensures parsed { (s : State H.Value T.Value) (n : ℕ)
-        → ArePartsAtWithMemory (engine_view P.limit P.reading B.room T.value_of) parser.old
+        → ArePartsAtWithMemory (engine_view P.limit P.view B.room T.value_of) parser.old
         state.old (H.value_of handler.old) s (length bytes.now + n) →
         ArePartsAtKeeping
-        (engine_view P.limit P.reading B.room T.value_of) parser.old state.old parser.new
+        (engine_view P.limit P.view B.room T.value_of) parser.old state.old parser.new
         state.new
         (H.value_of handler.new)
         (parse (meaning_of P.limit H.step T.set T.clear T.allows) s bytes.now) }
     ensures room { (s : State H.Value T.Value) (n : ℕ)
-        → ArePartsAtWithMemory (engine_view P.limit P.reading B.room T.value_of) parser.old
+        → ArePartsAtWithMemory (engine_view P.limit P.view B.room T.value_of) parser.old
         state.old (H.value_of handler.old) s (length bytes.now + n) →
-        P.reading.has_memory parser.new (B.room state.new.text) (s.parsed ++ bytes.now) n }
+        P.view.has_memory parser.new (B.room state.new.text) (s.parsed ++ bytes.now) n }
 {
     let mut performer = Performer {
         state,
@@ -169,11 +169,11 @@ pub(crate) fn parse_until_begin<
 >(parser: &mut P, state: &mut ProcessorState<T, B>, handler: &mut H, bytes: &[u8]) -> (usize, bool)
     ensures within { result.0 ≤ length bytes.now }
     ensures stops { (s : State H.Value T.Value) (n : ℕ)
-        → ArePartsAtWithMemory (engine_view P.limit P.reading B.room T.value_of) parser.old
+        → ArePartsAtWithMemory (engine_view P.limit P.view B.room T.value_of) parser.old
         state.old (H.value_of handler.old) s (length bytes.now + n) →
         HasParsedPrefix (meaning_of P.limit H.step T.set T.clear T.allows) s bytes.now result.0
         result.1 (ArePartsAtKeeping
-        (engine_view P.limit P.reading B.room T.value_of) parser.old state.old parser.new
+        (engine_view P.limit P.view B.room T.value_of) parser.old state.old parser.new
         state.new
         (H.value_of handler.new)) }
 {

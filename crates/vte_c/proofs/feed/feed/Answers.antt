@@ -34,23 +34,23 @@ returns c =
       within = omega (arith, count, within, length-take m bytes);
       exact = λ told stream rest h.
           let a = are told stream rest h in
-          let tells = rw kinds at ((feeds told stream rest h).tells (drop m bytes)) in
+          let reports = rw kinds at ((feeds told stream rest h).reports (drop m bytes)) in
           let unread = drop-append-le read.result (take m bytes) (drop m bytes) within in
           rw (count, a.same_count, a.same_records, a.same_area)
-          (rw (← append_assoc (drop read.result (take m bytes)), ← unread, whole) at tells);
+          (rw (← append_assoc (drop read.result (take m bytes)), ← unread, whole) at reports);
       encoded = λ told stream rest h.
           let a = are told stream rest h in
           rw (a.same_count, a.same_used, a.same_records, a.same_area)
           (rw whole at ((feeds told stream rest h).encodes (drop m bytes)));
       room = (omega (arith, c.min.ensures, c.events-1.given.1.0), omega (arith, c.min-2.ensures, c.area-1.given.1.0));
-      few = λ few. record {
+      too_few = λ few. record {
         says = search rules;
         events = search rules;
         bytes = search rules;
         same = search rules;
         unwritten = search rules;
       };
-      little = λ little. record {
+      too_little = λ little. record {
         says = search rules;
         events = search rules;
         bytes = search rules;

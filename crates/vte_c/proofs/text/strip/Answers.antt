@@ -15,17 +15,17 @@ returns c =
           let strips = read.ensures.strips text stream rest h in
           let used : ℕ = read.new.room.used in
           let held : c.room-1.given.0 ≡ read.new.room.room.now = c.room-1.given.1.1 (sym strips.name) in
-          let few : used ≤ length c.args.room.now =
+          let at_most : used ≤ length c.args.room.now =
           omega (arith, strips.number, length-take used read.new.room.room.now, ap length held, c.room-1.given.1.0) in
-          omega (arith, read.ensures.fills less, ap length held, c.min.ensures, few);
+          omega (arith, read.ensures.fills less, ap length held, c.min.ensures, at_most);
       exact = λ text stream rest h.
           let strips = read.ensures.strips text stream rest h in
           let used : ℕ = read.new.room.used in
           let held : c.room-1.given.0 ≡ read.new.room.room.now = c.room-1.given.1.1 (sym strips.name) in
-          let few : used ≤ length c.args.room.now =
+          let at_most : used ≤ length c.args.room.now =
           omega (arith, strips.number, length-take used read.new.room.room.now, ap length held, c.room-1.given.1.0) in
           let written : c.min.result ≡ used = omega (arith, c.min.ensures) in
           rw (count, written, held) strips.strips;
       room = omega (arith, c.min.ensures, c.room-1.given.1.0);
-      little = search rules;
+      too_little = search rules;
     }

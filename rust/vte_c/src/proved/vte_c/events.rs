@@ -1,7 +1,9 @@
 // Written by tools/erase from crates/vte_c/src/events.rt: edit that one.
 //! The performer that writes events into the caller's buffers.
 
-use crate::proved::vte_c::event::{self, count_byte, has, VteEvent};
+mod data;
+
+use crate::proved::vte_c::event::{self, has, VteEvent};
 use vte::{Params, Perform, Run, Taken};
 
 /// The most pieces of a command.
@@ -253,60 +255,6 @@ impl<'a> Events<'a> {
             self.add_written(event, end);
             self.pause_if(has_most(pieces.len(), end - start), command);
         }
-    }
-
-    /// Writes groups into the area. Returns where they end.
-    fn write_groups(&mut self, params: &Params) -> usize {
-        let mut end = self.used;
-        for group in params {
-            end = self.write_group(end, group);
-        }
-        end
-    }
-
-    /// Writes a group at a place in the area: its count of numbers, and two bytes for each.
-    fn write_group(&mut self, place: usize, group: &[u16]) -> usize {
-        // most groups have one number
-        if let [number] = group {
-            return self.write(place, &bytes_of_one(*number));
-        }
-        let mut end = self.write(place, &[count_byte(group.len())]);
-        for number in group {
-            end = self.write(end, &[(*number % 256) as u8, (*number / 256) as u8]);
-        }
-        end
-    }
-
-    /// Writes the pieces of a command into the area. Returns where they end.
-    fn write_pieces(&mut self, pieces: &[&[u8]]) -> usize {
-        let mut end = self.used;
-        for piece in pieces {
-            end = self.write_piece(end, piece);
-        }
-        end
-    }
-
-    /// Writes a piece at a place in the area, after four bytes with its length.
-    fn write_piece(&mut self, place: usize, piece: &[u8]) -> usize {
-        let length = piece.len().min(u32::MAX as usize);
-        let bytes = [
-            (length % 256) as u8,
-            (length / 256 % 256) as u8,
-            (length / 65536 % 256) as u8,
-            (length / 16777216) as u8,
-        ];
-        let place = self.write(place, &bytes);
-        self.write(place, piece)
-    }
-
-    /// Writes bytes at a place in the area, if there is room. Returns where they end, or would end.
-    #[inline(always)]
-    fn write(&mut self, place: usize, bytes: &[u8]) -> usize {
-        let end = place.saturating_add(bytes.len());
-        if end <= self.size {
-            self.area[place..end].copy_from_slice(bytes);
-        }
-        end
     }
 
     /// Writes the record of an event whose data was written up to a place, if that is in the area.

@@ -5,5 +5,5 @@ use Rattle.vte_core.proofs.params.Params.iter.Goals as goal
 
 pub returns-clause-groups : goal.returns-clause-groups
 returns-clause-groups c =
-    let few : length c.self.inside.numbers.items ≤ 32 = rw (← c.as_slice.ensures.value) c.as_slice.ensures.fits in
-    rw (← c.self.view_is) (AreGroups-cut_by_lengths _ _ c.self.invariant few)
+    let at_most : length c.self.inside.numbers.items ≤ 32 = rw (← c.as_slice.ensures.value) c.as_slice.ensures.fits in
+    rw (← c.self.view_is) (AreGroups-cut_by_lengths _ _ c.self.invariant at_most)

@@ -13,5 +13,5 @@ returns g c =
       reads = reads-run c.take_run.result comes t.start t.end t.taken;
       outside_runs = λ stream h. rw t.start (rw c.new.ensures at d.outside_runs stream h);
       count = search rules;
-      least = search rules;
+      at_least = search rules;
     }

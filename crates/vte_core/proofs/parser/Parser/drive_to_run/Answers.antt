@@ -10,5 +10,5 @@ returns-in-Ok g c =
       comes = rw c.in-Ok.is at d.comes;
       outside_runs = λ stream h. rw c.in-Ok.is at d.outside_runs stream h;
       count = costs.count_if_ok;
-      least = costs.least;
+      at_least = costs.at_least;
     })

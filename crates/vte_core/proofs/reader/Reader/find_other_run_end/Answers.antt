@@ -19,7 +19,7 @@ loop-end-preserved-then-is_printed_ascii g c =
           (sym c.is_printed_ascii.ensures ∙ c.if-is_printed_ascii.true) ascii.scans;
       count = omega (arith, v.count, ascii.count, c.byte_at-byte.ensures.count);
       within = omega (arith, far, all);
-      least = λ short. omega (arith, far, all, short);
+      at_least = λ short. omega (arith, far, all, short);
       singly = λ short near. omega (arith, far, all, short, near);
     }
 
@@ -34,7 +34,7 @@ loop-end-preserved g c =
           (omega (arith, other.count, c.byte_at-byte.ensures.count));
       count = omega (arith, v.count, other.count, other.progress, c.byte_at-byte.ensures.count);
       within = v.within;
-      least = v.least;
+      at_least = v.at_least;
       singly = λ short near. omega (arith, v.singly short near, other.count, c.byte_at-byte.ensures.count);
     }
 

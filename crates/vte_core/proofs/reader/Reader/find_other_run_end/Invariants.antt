@@ -7,7 +7,7 @@ invariant-loop-end g l = record {
   scans : Scans (IsRun l.layout) l.input.bytes.now l.from l.end l.initial.self l.self;
   count : 3 * looked l.self + 11 * l.from ≤ 3 * looked l.initial.self + 11 * l.end;
   within : l.to ≤ length l.input.bytes.now;
-  least : l.to < length l.input.bytes.now → l.from + 24 ≤ l.to;
+  at_least : l.to < length l.input.bytes.now → l.from + 24 ≤ l.to;
   singly : l.to < length l.input.bytes.now → l.to < l.from + 96
       → looked l.self + l.from ≤ looked l.initial.self + l.end;
 }

@@ -11,7 +11,7 @@ pub returns-then-open_bytes-gt0-clause-scans : goal.returns-then-open_bytes-gt0-
 returns-then-open_bytes-gt0-clause-scans c = search (rules, arith, run-none)
 
 pub overflow_add-plain : goal.overflow_add-plain
-overflow_add-plain c = omega (arith, c.loop-window.invariant.few, c.loop-window.auto.at-fits)
+overflow_add-plain c = omega (arith, c.loop-window.invariant.at_most, c.loop-window.auto.at-fits)
 
 pub loop-window-preserved : goal.loop-window-preserved
 loop-window-preserved c =
@@ -30,14 +30,14 @@ loop-window-preserved c =
           above-block c.args.layout c.args.input.bytes.now c.in-Some.window c.args.from c.loop-window.at early v.low
           window fits none (v.kept none);
       whole = λ _. omega (arith, v.low);
-      least = omega (arith, v.least, count);
+      at_least = omega (arith, v.at_least, count);
       none = λ e. absurd (omega (arith, e, v.low));
       spare = λ _. elim (cases_lt c.args.from c.loop-window.at) [
         | inl past ↦ omega (arith, v.spare past, count)
         | inr here ↦ omega (arith, here, v.none (omega (arith, here, v.low)), v.low, count)
       ];
-      few = elim c.if-is_ascii.branch [
-        | then-is_ascii w ↦ omega (arith, w.plain-is, v.few)
+      at_most = elim c.if-is_ascii.branch [
+        | then-is_ascii w ↦ omega (arith, w.plain-is, v.at_most)
         | else-is_ascii w ↦ omega (arith, w.plain-is)
       ];
       early = λ e. absurd (omega (arith, e, v.low));
@@ -75,28 +75,28 @@ loop-window-preserved-then-plain-most c =
           | then-is_ascii a ↦
               absurd
               (omega
-              (arith, w.most-is, c.if-plain-most.true, a.plain-is, v.few, ascii.low, c.skip_ascii_blocks-at.type_inv))
+              (arith, w.most-is, c.if-plain-most.true, a.plain-is, v.at_most, ascii.low, c.skip_ascii_blocks-at.type_inv))
           | else-is_ascii a ↦ absurd (omega (arith, w.most-is, c.if-plain-most.true, a.plain-is))
         ]
       ];
       whole = λ _. omega (arith, v.low, ascii.low);
-      least = omega (arith, v.least, count, ascii.least);
+      at_least = omega (arith, v.at_least, count, ascii.at_least);
       none = λ e. absurd (omega (arith, e, v.low, ascii.low));
       spare = λ _. omega (arith, v.spare past, count, ascii.count, ascii.low);
-      few = omega arith;
+      at_most = omega arith;
       early = λ _. omega arith;
     }
 
 pub returns-then-at-from-clause-scans : goal.returns-then-at-from-clause-scans
 returns-then-at-from-clause-scans c =
-    let least : looked c.loop-window.self ≤ looked c.get_window.new.self = search rules in
+    let at_least : looked c.loop-window.self ≤ looked c.get_window.new.self = search rules in
     record {
       low = omega arith;
       high = c.requires.within;
       are = run-none c.args.layout c.args.input.bytes.now c.args.from;
-      least =
+      at_least =
           omega
-          (arith, least, c.loop-window.invariant.least, c.open_bytes.ensures.least, c.loop-window.invariant.low);
+          (arith, at_least, c.loop-window.invariant.at_least, c.open_bytes.ensures.at_least, c.loop-window.invariant.low);
     }
 
 pub returns-clause-scans : goal.returns-clause-scans
@@ -113,12 +113,12 @@ returns-clause-scans c =
     λ none k _ low.
     subst (λ byte. 0x20 ≤ byte) (sym (get_or-drop c.args.from bytes k 0))
     (v.kept none (c.args.from + k) (omega arith) (omega (arith, low))) in
-    let least : looked c.loop-window.self ≤ looked c.get_window.new.self = search rules in
+    let at_least : looked c.loop-window.self ≤ looked c.get_window.new.self = search rules in
     record {
       low = omega (arith, whole, last.0);
       high = omega (arith, v.high);
       are =
           run-kept c.args.layout text (at - c.args.from) (at - c.open_bytes-2.result - c.args.from) kept
           (omega (arith, whole, last.0)) last.1;
-      least = omega (arith, v.least, least, c.open_bytes.ensures.least, c.open_bytes-2.ensures.least, last.0, whole);
+      at_least = omega (arith, v.at_least, at_least, c.open_bytes.ensures.at_least, c.open_bytes-2.ensures.at_least, last.0, whole);
     }

@@ -14,10 +14,10 @@ invariant-loop-window l = record {
   leads : Leads l.input.bytes.now l.from l.at;
   kept : l.layout ≡ false → Each (λ byte. 0x20 ≤ byte) l.input.bytes.now l.from l.at;
   whole : l.from < l.at → l.from + 16 ≤ l.at;
-  least : looked l.initial.self + l.at ≤ looked l.self + l.from;
+  at_least : looked l.initial.self + l.at ≤ looked l.self + l.from;
   none : l.at ≡ l.from → looked l.self ≡ looked l.initial.self;
   spare : l.from < l.at → 3 * looked l.self + 11 * l.from + 110 ≤ 3 * looked l.initial.self + 11 * l.at;
-  few : l.plain ≤ l.at;
+  at_most : l.plain ≤ l.at;
   early : l.at ≡ l.from → l.plain ≤ 2;
 }
 

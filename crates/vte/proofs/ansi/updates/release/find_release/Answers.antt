@@ -8,7 +8,7 @@ use Rattle.vte.proofs.ansi.updates.release.find_release.Goals as goal
 pub loop-position-init : goal.loop-position-init
 loop-position-init c =
     record {
-      few = omega (arith, c.saturating_sub.ensures, c.skip_blocks-unread.ensures.within);
+      at_most = omega (arith, c.saturating_sub.ensures, c.skip_blocks-unread.ensures.within);
       seen = λ held more e.
           seen-skipped e _ _ c.skip_blocks-unread.ensures.within (omega (arith, c.saturating_sub.ensures))
           c.skip_blocks-unread.ensures.none (seen-nothing e _ c.saturating_sub.ensures);
@@ -18,13 +18,13 @@ loop-position-init c =
 pub loop-position-preserved-then-begins_update : goal.loop-position-preserved-then-begins_update
 loop-position-preserved-then-begins_update c =
     let before = c.loop-position.invariant in
-    let within : c.loop-position.unread ≤ length c.args.text.now = omega (arith, before.few) in
+    let within : c.loop-position.unread ≤ length c.args.text.now = omega (arith, before.at_most) in
     let earlier : c.in-Some.position < c.loop-position.unread =
     omega (arith, length-take-le c.loop-position.unread c.args.text.now within, c.in-Some.ensures.0.high) in
     let next = c.saturating_sub-in-Some.ensures in
     let skipped = c.skip_blocks-unread-in-Some.ensures in
     record {
-      few = omega (arith, before.few, next, skipped.within);
+      at_most = omega (arith, before.at_most, next, skipped.within);
       seen = λ held more e.
           let at =
           last_escape e c.in-Some.position _ within c.in-Some.ensures.0 c.in-Some.ensures.1
@@ -39,13 +39,13 @@ loop-position-preserved-then-begins_update c =
 pub loop-position-preserved : goal.loop-position-preserved
 loop-position-preserved c =
     let before = c.loop-position.invariant in
-    let within : c.loop-position.unread ≤ length c.args.text.now = omega (arith, before.few) in
+    let within : c.loop-position.unread ≤ length c.args.text.now = omega (arith, before.at_most) in
     let earlier : c.in-Some.position < c.loop-position.unread =
     omega (arith, length-take-le c.loop-position.unread c.args.text.now within, c.in-Some.ensures.0.high) in
     let next = c.saturating_sub-in-Some.ensures in
     let skipped = c.skip_blocks-unread-in-Some.ensures in
     record {
-      few = omega (arith, before.few, next, skipped.within);
+      at_most = omega (arith, before.at_most, next, skipped.within);
       seen = λ held more e.
           let at =
           last_escape e c.in-Some.position _ within c.in-Some.ensures.0 c.in-Some.ensures.1
@@ -61,7 +61,7 @@ pub returns-then-ends_update : goal.returns-then-ends_update
 returns-then-ends_update c = λ held more e none.
     let before = c.loop-position.invariant in
     let at =
-    last_escape e c.in-Some.position _ (omega (arith, before.few)) c.in-Some.ensures.0 c.in-Some.ensures.1
+    last_escape e c.in-Some.position _ (omega (arith, before.at_most)) c.in-Some.ensures.0 c.in-Some.ensures.1
     (before.seen held more e) in
     seen-end at.inside at.seen
     (rw (sequence_at e) at (sym c.ends_update.ensures.value ∙ c.if-ends_update.true))
@@ -70,4 +70,4 @@ returns-then-ends_update c = λ held more e none.
 pub returns : goal.returns
 returns c = λ held more e none.
     let before = c.loop-position.invariant in
-    seen-all e _ _ _ none (omega (arith, before.few)) c.in_default.ensures (before.seen held more e)
+    seen-all e _ _ _ none (omega (arith, before.at_most)) c.in_default.ensures (before.seen held more e)

@@ -5,7 +5,7 @@ use Rattle.vte.proofs.ansi.updates.release.find_release.Given as goal
 
 abbrev pub invariant-loop-position : goal.invariant-loop-position
 invariant-loop-position l = record {
-  few : l.begins + l.unread ≤ length l.text;
+  at_most : l.begins + l.unread ≤ length l.text;
   seen : (held more : List ℕ) → IsHeldTail held more l.text l.start
       → HasSeen (held ++ more) (length more) (l.start + l.unread) l.begin l.begins;
 }

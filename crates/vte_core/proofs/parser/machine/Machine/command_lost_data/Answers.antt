@@ -1,17 +1,17 @@
 -- Data of a command were dropped if the store says so: by the state, and so the place, of the parser.
-use Rattle.vte_core.proofs.Common.{ℕ, Option, List, [], ◌∷◌, sym, Machine, State, SystemCommand, StandsAtPlace, StandsBy, Place, InText, InSystemCommand, HoldsItems, SaysLoss, left_at, arith, rules}
+use Rattle.vte_core.proofs.Common.{ℕ, Option, List, [], ◌∷◌, sym, Machine, State, SystemCommand, IsAtPlace, IsPlaceOfState, Place, InText, InSystemCommand, HoldsItems, SaysLoss, left_at, arith, rules}
 use Rattle.vte_core.proofs.fields.PlaceOfState.{stands-place}
 use Rattle.vte_core.proofs.fields.Stores.{loses_held}
 use Rattle.vte_core.proofs.streams.After.{after-left}
 use Rattle.vte_core.proofs.parser.machine.Machine.command_lost_data.Goals as goal
 
 by_state : {B : Type 0} (limit : Option ℕ) (state : State) (parser : Machine B) (items : List ℕ)
-    → StandsBy limit state parser (InSystemCommand items) → HoldsItems limit parser.command items
+    → IsPlaceOfState limit state parser (InSystemCommand items) → HoldsItems limit parser.command items
 by_state limit SystemCommand parser items s = s
 by_state limit _ parser items s = absurd s
 
 by_place : {B : Type 0} (limit : Option ℕ) (parser : Machine B) (place : Place)
-    → StandsAtPlace limit parser place → SaysLoss (left_at limit place) parser.command.lost
+    → IsAtPlace limit parser place → SaysLoss (left_at limit place) parser.command.lost
 by_place limit parser (InText []) s = tt
 by_place limit parser (InText (a ∷ u)) s = tt
 by_place limit parser (InSystemCommand items) s =

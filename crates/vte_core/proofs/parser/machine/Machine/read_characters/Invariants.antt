@@ -23,7 +23,7 @@ invariant-loop-next g l = record {
   -- if the search found an ESC there, it has looked no further
   escape : (k : ℕ) → l.position ≤ k → k < length l.prefix.bytes.now → slice_index l.input.bytes.now k ≡ 0x1b
       → looked l.reader + 4 * l.from ≤ looked l.fn.reader + 3 * l.position + k + 2;
-  least : looked l.fn.reader + l.position + 1 ≤ looked l.reader + l.from;
+  at_least : looked l.fn.reader + l.position + 1 ≤ looked l.reader + l.from;
   memory : l.fn.self.command.capacity ≤ l.self.command.capacity;
 }
 

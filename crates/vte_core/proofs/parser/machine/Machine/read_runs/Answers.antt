@@ -68,7 +68,7 @@ loop-position-preserved-in-None g c =
       low = search rules;
       high = search rules;
       count = search rules;
-      least = search rules;
+      at_least = search rules;
       memory = search rules;
       progress = search rules;
     }
@@ -131,7 +131,7 @@ loop-position-preserved g c =
       low = search rules;
       high = search rules;
       count = search rules;
-      least = search rules;
+      at_least = search rules;
       memory = search rules;
       progress = search rules;
     }
@@ -155,7 +155,7 @@ loop-position-preserved-else-is_lead g c =
       low = search rules;
       high = search rules;
       count = search rules;
-      least = search rules;
+      at_least = search rules;
       memory = search rules;
       progress = search rules;
     }

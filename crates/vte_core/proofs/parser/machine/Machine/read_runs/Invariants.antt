@@ -17,7 +17,7 @@ invariant-loop-position g l = record {
   low : l.from ≤ l.position;
   high : l.position ≤ length l.input.bytes.now;
   count : looked l.reader + 5 * l.from ≤ looked l.fn.reader + 5 * l.position;
-  least : looked l.fn.reader + l.position ≤ looked l.reader + l.from;
+  at_least : looked l.fn.reader + l.position ≤ looked l.reader + l.from;
   memory : l.fn.self.command.capacity ≤ l.self.command.capacity;
   progress : l.from ≡ l.position → l.position < length l.input.bytes.now;
 }

@@ -55,7 +55,7 @@ loop-position-2-preserved-then-is_lead g c =
         high = search rules;
         count = search rules;
         near = search rules;
-        least = search rules;
+        at_least = search rules;
         memory = search rules;
       };
       moves = search rules;
@@ -76,7 +76,7 @@ loop-position-2-preserved g c =
         high = search rules;
         count = search rules;
         near = search rules;
-        least = search rules;
+        at_least = search rules;
         memory = search rules;
       };
       moves = search rules;

@@ -9,7 +9,7 @@ call_at g bytes =
     chunk_call true g.P.CountedPerform.step g.P.CountedPerform.is_terminated g.B.Buffer.limit bytes
 
 -- where the call stands, and what it has cost: `prefix` is what may be read before the next search
-pub record StandsInText {B : Type 0} (g : goal.Over) (bytes prefix : List ℕ) (old value : g.P.CountedPerform.Value)
+pub record IsInText {B : Type 0} (g : goal.Over) (bytes prefix : List ℕ) (old value : g.P.CountedPerform.Value)
     (from position : ℕ) (before parser : Machine B) (start looks : ℕ) : Type 0 where
   pub advances : Advances ⊥ (call_at g bytes) old value from position before parser
   pub may_go_on : MayGoOn (call_at g bytes) value
@@ -18,12 +18,12 @@ pub record StandsInText {B : Type 0} (g : goal.Over) (bytes prefix : List ℕ) (
   pub high : position ≤ length bytes
   pub count : looks + 4 * from ≤ start + 3 * position + length prefix
   pub near : looks + 5 * from ≤ start + 5 * position
-  pub least : start + position ≤ looks + from
+  pub at_least : start + position ≤ looks + from
   pub memory : before.command.capacity ≤ parser.command.capacity
 
 abbrev pub invariant-loop-position-2 : goal.invariant-loop-position-2
 invariant-loop-position-2 g l = record {
-  stands : StandsInText g l.input.bytes.now l.prefix.bytes.now (g.P.CountedPerform.value_of l.fn.performer)
+  stands : IsInText g l.input.bytes.now l.prefix.bytes.now (g.P.CountedPerform.value_of l.fn.performer)
       (g.P.CountedPerform.value_of l.performer) l.from l.position l.fn.self l.self (looked l.fn.reader)
       (looked l.reader);
   moves : l.initial.position ≤ l.position;
@@ -35,7 +35,7 @@ decreases-loop-position-2 g l = length l.prefix.bytes.now - l.position
 
 abbrev pub invariant-loop-position : goal.invariant-loop-position
 invariant-loop-position g l = record {
-  stands : StandsInText g l.input.bytes.now l.prefix.bytes.now (g.P.CountedPerform.value_of l.fn.performer)
+  stands : IsInText g l.input.bytes.now l.prefix.bytes.now (g.P.CountedPerform.value_of l.fn.performer)
       (g.P.CountedPerform.value_of l.performer) l.from l.position l.fn.self l.self (looked l.fn.reader)
       (looked l.reader);
   prefix : length l.prefix.bytes.now ≤ length l.input.bytes.now;

@@ -21,7 +21,7 @@ returns-clause-turned g c = λ s at.
       | else-pending-via-else-pending w ↦ rw w.if-pending.false refl
     ] in
     let m = meaning_of g.P.EventParser.limit g.H.Handler.step g.T.Timeout.set g.T.Timeout.clear g.T.Timeout.allows in
-    let view = engine_view g.P.EventParser.limit g.P.EventParser.reading g.B.TextBuffer.room g.T.Timeout.value_of in
+    let view = engine_view g.P.EventParser.limit g.P.EventParser.view g.B.TextBuffer.room g.T.Timeout.value_of in
     let here : EngineIsAtKeeping view c.args.self.now c.if-pending-2.self (g.H.Handler.value_of c.if-pending-2.handler)
     (stop_if_due m pending s) = elim c.if-pending-2.branch [
       -- Stopped first.
@@ -74,6 +74,6 @@ returns-then-not-reserve-clause-lacks g c =
     record {
       more = length c.args.bytes.now;
       within = omega arith;
-      few = inr (grind (arith, nat_tests));
+      at_most = inr (grind (arith, nat_tests));
       lacks = c.reserve.ensures.reserved.lacks c.if-not-reserve.true;
     }

@@ -61,7 +61,7 @@ pub use Rattle.vte_core.specs.declared.utf8.Unfinished.TheVariants.{Nothing, One
 pub use Rattle.vte_core.specs.machine.Scans.{AreIgnored, ArePut, IsIgnored, ArePrintedAscii, IsUtf8Run, IsPrintedAscii, IsRun, PrintsRun, IsRange, Scans}
 pub use Rattle.vte_core.specs.machine.Place.{Leads, BytesLead, AtEscape, InControlSequence, InDeviceData, InDeviceControl, InEscape, InIgnoredString, InSystemCommand, InText, IsAfter, IsSettledPlace, Place, closing_events_at, left_at, rest_outcome}
 pub use Rattle.vte_core.specs.machine.Progress.{SpendsWithin, Advances, ChunkCall, chunk_call, ProgressAt, ProgressInside, IsRefusedInCommand, IsSettled, MayGoOn, ReadsUpTo, ReadsUntilRefused, IsAtPosition, IsInsidePosition}
-pub use Rattle.vte_core.specs.machine.ParserFields.{CountsNumbers, HoldsIntermediates, HoldsHead, HasReadWithLimit, IsMarker, SameIntermediates, SameNumbers, numbers_from, HoldsNumbers, IsAtPlace, IsPlaceOfState, IsInHead, StaysIllShaped, ReadsHead, Carries, bytes_of, may_continue}
+pub use Rattle.vte_core.specs.machine.ParserFields.{CountsNumbers, HoldsIntermediates, HoldsHead, HasReadWithLimit, IsMarker, SameIntermediates, SameNumbers, numbers_from, HoldsNumbers, IsAtPlace, IsPlaceOfState, HasReadHead, StaysIllShaped, ReadsHead, Carries, bytes_of, may_continue}
 unfoldable pub use Rattle.vte_core.specs.machine.Place.{outcome_from}
 pub use Rattle.vte_core.specs.machine.Store.{Stored, HoldsItems, PiecesEnd, SameItems, cut_data, cut_pieces, ends_after, fitting, pieces_from}
 pub use Rattle.vte_core.specs.machine.Takes.{TakesBytes, TakesByte}

@@ -1,7 +1,7 @@
 //! What is collected of an escape sequence, and of the head of a control sequence or a device
 //! control string.
 ghost use Rattle.std.specs.Prelude.{◌≡◌, ◌≤◌, ◌+◌, ◌↔◌, ◌⊎◌, min, IsTrue, List, ℕ, true, false, [], ◌∷◌, ◌++◌, length, IfSome};
-ghost use Rattle.vte_core.specs.machine.Prelude.{CountsNumbers, HoldsIntermediates, HoldsHead, IsReady, SameIntermediates, SameNumbers, ReadsHeadUpTo, HoldsNumbers, IsInHead, class_of, is_head_byte, is_parameter_text};
+ghost use Rattle.vte_core.specs.machine.Prelude.{CountsNumbers, HoldsIntermediates, HoldsHead, IsReady, SameIntermediates, SameNumbers, ReadsHeadUpTo, HoldsNumbers, HasReadHead, class_of, is_head_byte, is_parameter_text};
 ghost use Rattle.vte_core.specs.machine.Prelude.{looked, with_open_number};
 
 use crate::class::{digit_of, is_head_byte, is_intermediate, is_parameter_text};
@@ -155,8 +155,8 @@ impl Collected {
     #[inline(always)]
     fn collect_head_byte(&mut self, progress: HeadProgress, byte: u8) -> HeadProgress
         requires { is_head_byte (class_of byte) ≡ true }
-        ensures { (head : List ℕ) → IsInHead self.old progress head
-            → IsInHead self.new result (head ++ byte ∷ []) }
+        ensures { (head : List ℕ) → HasReadHead self.old progress head
+            → HasReadHead self.new result (head ++ byte ∷ []) }
     {
         if is_parameter_text(byte) && progress.may_have_parameters() {
             self.collect_parameter_byte(byte);

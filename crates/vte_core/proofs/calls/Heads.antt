@@ -1,7 +1,7 @@
 -- The bytes of a head: a function that reads several of them goes on by each. `ReadsHeadUpTo` says which, without the
 -- performer, which learns of a head only at its end; both shapes share it.
 use Rattle.vte_core.specs.machine.ToRun.{IsReadOutsideRuns}
-use Rattle.vte_core.proofs.Common.{◌≡◌, ℕ, zero, suc, ◌+◌, ◌-◌, ◌<◌, ◌≤◌, ◌⊎◌, Option, List, [], ◌∷◌, ◌++◌, true, false, length, take, drop, refl, sym, subst, append_assoc, arith, append-nil, drop-drop, drop_more, take-add, slice_index, MatchOption, class_of, is_final, is_head_byte, is_parameter_text, AreInClass, Collected, HeadProgress, Entry, Parameters, Machine, State, ControlSequence, DeviceControl, Event, ChunkCall, Leads, CountsNumbers, SameIntermediates, IsAtPlace, IsPlaceOfState, IsInHead, Place, InControlSequence, InDeviceControl, IsSettledPlace, Advances, ProgressAt, IsAtPosition, IsSettled, MayGoOn, TakesBytes, TakesByte, ends_body, progress_after, ReadsHead, Some, None, false≢true, rules}
+use Rattle.vte_core.proofs.Common.{◌≡◌, ℕ, zero, suc, ◌+◌, ◌-◌, ◌<◌, ◌≤◌, ◌⊎◌, Option, List, [], ◌∷◌, ◌++◌, true, false, length, take, drop, refl, sym, subst, append_assoc, arith, append-nil, drop-drop, drop_more, take-add, slice_index, MatchOption, class_of, is_final, is_head_byte, is_parameter_text, AreInClass, Collected, HeadProgress, Entry, Parameters, Machine, State, ControlSequence, DeviceControl, Event, ChunkCall, Leads, CountsNumbers, SameIntermediates, IsAtPlace, IsPlaceOfState, HasReadHead, Place, InControlSequence, InDeviceControl, IsSettledPlace, Advances, ProgressAt, IsAtPosition, IsSettled, MayGoOn, TakesBytes, TakesByte, ends_body, progress_after, ReadsHead, Some, None, false≢true, rules}
 use Rattle.vte_core.proofs.bytes.Classes.{head_ends_nothing, AreInClass-append, final_ends_nothing, parameter_is_head}
 use Rattle.vte_core.proofs.calls.Progress.{come-settled, come-byte, settled-by}
 use Rattle.vte_core.proofs.calls.Stretches.{performs-in, advances-byte, advances-moved, advances-when, advances-then}
@@ -41,7 +41,7 @@ reads_head-then {bytes} {i} {j} {k} a b =
 
 pub reads_head-byte : {bytes : List ℕ} {i b : ℕ} {progress next : HeadProgress} {old new : Collected} → i < length bytes
     → b ≡ slice_index bytes i → is_head_byte (class_of b) ≡ true
-    → ((head : List ℕ) → IsInHead old progress head → IsInHead new next (head ++ b ∷ []))
+    → ((head : List ℕ) → HasReadHead old progress head → HasReadHead new next (head ++ b ∷ []))
     → ReadsHead bytes i (i + 1) progress next old new
 reads_head-byte {bytes} {i} {b} within at is stands = search (rules, arith, one_byte)
 
@@ -94,7 +94,7 @@ in_head DeviceHead head = InDeviceControl head
 record InHeadAt (shape : Shape) (held : Collected) (progress : HeadProgress) (place : Place) : Type 0 where
   head : List ℕ
   same : place ≡ in_head shape head
-  stands : IsInHead held progress head
+  stands : HasReadHead held progress head
 
 head-place : {B : Type 0} (shape : Shape) (limit : Option ℕ) (progress : HeadProgress) (parser : Machine B)
     (place : Place)
@@ -105,7 +105,7 @@ head-place shape limit progress parser place s = search (rules, arith)
 head-stands : {B : Type 0} (shape : Shape) {limit : Option ℕ} (progress : HeadProgress) {parser : Machine B}
     (head : List ℕ)
     → parser.state ≡ state_of shape progress
-    → IsInHead parser.collected progress head → IsAtPlace limit parser (in_head shape head)
+    → HasReadHead parser.collected progress head → IsAtPlace limit parser (in_head shape head)
 head-stands shape progress head e s = search (rules, arith)
 
 head-leads : (shape : Shape) {limit : Option ℕ} (head : List ℕ) {b : ℕ} → is_head_byte (class_of b) ≡ true
@@ -208,7 +208,7 @@ module _ {V : Type 0} {call : ChunkCall V} where
 pub performs-head : {V B : Type 0} {step : V → Event → V} {old new : V} {limit : Option ℕ} {b : ℕ}
     {parser next : Machine B} (shape : Shape) (progress : HeadProgress)
     → parser.state ≡ state_of shape progress → ends_body (class_of b) ≡ false
-    → ((head : List ℕ) → IsInHead parser.collected progress head
+    → ((head : List ℕ) → HasReadHead parser.collected progress head
     → TakesByte step old new limit (in_head shape head) b next)
     → (place : Place) → IsAtPlace limit parser place → IsSettledPlace place
     → TakesBytes step old new limit place (b ∷ []) next
@@ -223,7 +223,7 @@ pub advances-control_sequence : {V B outside : Type 0} {call : ChunkCall V} {old
     → parser.state ≡ ControlSequence reached
     → ReadsHead call.bytes i j reached progress parser.collected held
     → (j < length call.bytes) × (b ≡ slice_index call.bytes j) → MayGoOn call old → is_final (class_of b) ≡ true
-    → ((head : List ℕ) → IsInHead held progress head
+    → ((head : List ℕ) → HasReadHead held progress head
     → TakesByte call.step old new call.limit (InControlSequence head) b next)
     → IsSettled next.state → k ≡ j + 1 → Advances outside call old new i k parser next
 advances-control_sequence {progress} begun reads at may_go_on final takes settled end =

@@ -1,6 +1,6 @@
 -- What one byte makes of the numbers and of the head that are held: by the part of the head that was reached and the
 -- byte's class.
-use Rattle.vte_core.proofs.Common.{◌≡◌, ℕ, ◌+◌, ◌<◌, ◌≤◌, ◌*◌, ◌-◌, min, Bool, true, false, List, [], ◌∷◌, ◌++◌, length, take, refl, ap, sym, ◌∙◌, arith, length-append, take_all, take-append-le, nat_tests, Collected, numbers, grouped, groups_of, has_too_many_numbers, with_number, count_of, most_numbers, is_separator, is_colon, greatest_number, CountsNumbers, HoldsNumbers, append_assoc, append-nil, ◌⊎◌, inl, inr, ◌||◌, Class, Intermediate, Marker, class_of, is_head_byte, is_intermediate, is_marker, is_parameter_text, HeadProgress, Entry, Parameters, Intermediates, IllShaped, Event, head_of, is_well_shaped, sequence_event, HoldsIntermediates, HoldsHead, SameNumbers, SameIntermediates, IsInHead, StaysIllShaped, rules}
+use Rattle.vte_core.proofs.Common.{◌≡◌, ℕ, ◌+◌, ◌<◌, ◌≤◌, ◌*◌, ◌-◌, min, Bool, true, false, List, [], ◌∷◌, ◌++◌, length, take, refl, ap, sym, ◌∙◌, arith, length-append, take_all, take-append-le, nat_tests, Collected, numbers, grouped, groups_of, has_too_many_numbers, with_number, count_of, most_numbers, is_separator, is_colon, greatest_number, CountsNumbers, HoldsNumbers, append_assoc, append-nil, ◌⊎◌, inl, inr, ◌||◌, Class, Intermediate, Marker, class_of, is_head_byte, is_intermediate, is_marker, is_parameter_text, HeadProgress, Entry, Parameters, Intermediates, IllShaped, Event, head_of, is_well_shaped, sequence_event, HoldsIntermediates, HoldsHead, SameNumbers, SameIntermediates, HasReadHead, StaysIllShaped, rules}
 use Rattle.std.proofs.lemmas.List.{length-take}
 use Rattle.vte_core.proofs.fields.Numbers.{numbered, count_of-grouped, grouped-push, is_digit_no_separator, number_of-push, numbers_are}
 use Rattle.vte_core.specs.machine.ParserFields.{IsReady}
@@ -169,7 +169,7 @@ after_no_intermediate {old} progress head b h none is k more =
 
 -- no intermediate is held where the head may have parameters
 pub holds-parameter : {old new : Collected} {progress : HeadProgress} (head : List ℕ) (b : ℕ)
-    → (progress ≡ Entry) ⊎ (progress ≡ Parameters) → IsInHead old progress head
+    → (progress ≡ Entry) ⊎ (progress ≡ Parameters) → HasReadHead old progress head
     → is_parameter_text (class_of b) ≡ true → SameIntermediates old new
     → ((text : List ℕ) → CountsNumbers old text → CountsNumbers new (text ++ b ∷ []))
     → HoldsHead new Parameters (head ++ b ∷ [])
@@ -225,7 +225,7 @@ left_is_marker _ h p i = cc
 
 -- a marker that does not come first, or a digit or a separator that may not come next
 pub ill_shaped-late : (old : Collected) (progress : HeadProgress) (head : List ℕ) (b : ℕ)
-    → IsInHead old progress head
+    → HasReadHead old progress head
     → is_head_byte (class_of b) ≡ true
     → is_intermediate (class_of b) ≡ false
     → ((progress ≡ Entry) ⊎ (progress ≡ Parameters) → is_parameter_text (class_of b) ≡ false)
@@ -242,6 +242,6 @@ unfolding sequence_event
 dispatched-ready call final f = rw (f.groups, f.intermediates, f.ignore) refl
 
 pub head-holds : {held : Collected} {progress : HeadProgress} {head : List ℕ} → (progress ≡ IllShaped → ⊥)
-    → IsInHead held progress head → HoldsHead held progress head
+    → HasReadHead held progress head → HoldsHead held progress head
 head-holds {progress = IllShaped} n s = absurd (n refl)
 head-holds n s = s

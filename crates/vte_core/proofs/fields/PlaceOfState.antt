@@ -1,6 +1,6 @@
 -- What is known of a parser that is at a place, and that a clone of it, or one made of what was saved of it, is at the
 -- same: by cases of its state, to each of which belongs one kind of place.
-use Rattle.vte_core.proofs.Common.{◌≡◌, ℕ, true, Option, List, [], ◌∷◌, ◌++◌, refl, ap, subst, append-nil, Machine, State, Text, Escape, SystemCommand, body_outcome, device_data_outcome, executed_events, leaves, open_bytes, HoldsIntermediates, IsPlaceOfState, IsAtPlace, Place, InText, AtEscape, InSystemCommand, open_at, left_at, rest_outcome, outcome_from, events_from, IsSettledPlace, Stored, HoldsItems, SameItems, text_outcome, is_truncated, Nothing, may_continue, EscapeIntermediate, ControlSequence, DeviceControl, DeviceData, IgnoredString, HasReadWithLimit, IsInHead, InEscape, InControlSequence, InDeviceControl, InDeviceData, InIgnoredString, take, arith, usual_limit, rules}
+use Rattle.vte_core.proofs.Common.{◌≡◌, ℕ, true, Option, List, [], ◌∷◌, ◌++◌, refl, ap, subst, append-nil, Machine, State, Text, Escape, SystemCommand, body_outcome, device_data_outcome, executed_events, leaves, open_bytes, HoldsIntermediates, IsPlaceOfState, IsAtPlace, Place, InText, AtEscape, InSystemCommand, open_at, left_at, rest_outcome, outcome_from, events_from, IsSettledPlace, Stored, HoldsItems, SameItems, text_outcome, is_truncated, Nothing, may_continue, EscapeIntermediate, ControlSequence, DeviceControl, DeviceData, IgnoredString, HasReadWithLimit, HasReadHead, InEscape, InControlSequence, InDeviceControl, InDeviceData, InIgnoredString, take, arith, usual_limit, rules}
 use Rattle.vte_core.specs.IgnoredString.{ignored_string_outcome}
 use Rattle.vte_core.specs.machine.Place.{control_sequence_from, device_control_from, escape_from, system_command_from}
 use Rattle.vte_core.proofs.Shapes.{text_outcome-end, text_outcome-nothing}
@@ -116,9 +116,9 @@ place_of_state-same limit (Text unfinished) old new (InText u) ints head items s
 place_of_state-same limit Escape old new AtEscape ints head items s = ints tt [] s
 place_of_state-same limit EscapeIntermediate old new (InEscape bytes) ints head items s = ints tt bytes s
 place_of_state-same limit (ControlSequence progress) old new (InControlSequence read) ints head items s =
-    subst (λ collected. IsInHead collected progress read) (head tt tt) s
+    subst (λ collected. HasReadHead collected progress read) (head tt tt) s
 place_of_state-same limit (DeviceControl progress) old new (InDeviceControl read) ints head items s =
-    subst (λ collected. IsInHead collected progress read) (head tt tt) s
+    subst (λ collected. HasReadHead collected progress read) (head tt tt) s
 place_of_state-same limit DeviceData old new InDeviceData ints head items s = tt
 place_of_state-same limit SystemCommand old new (InSystemCommand command) ints head items s = keeps-same (items refl) s
 place_of_state-same limit IgnoredString old new InIgnoredString ints head items s = tt

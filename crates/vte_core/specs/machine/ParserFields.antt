@@ -138,9 +138,9 @@ pub record HoldsHead (collected : Collected) (progress : HeadProgress)
 pub record StaysIllShaped (head : List ℕ) : Type 0 where
   pub stays : (more : List ℕ) → is_well_shaped (head_of (head ++ more)) ≡ false
 
-abbrev pub IsInHead : Collected → HeadProgress → List ℕ → Type 0
-IsInHead collected IllShaped head = StaysIllShaped head
-IsInHead collected progress head = HoldsHead collected progress head
+abbrev pub HasReadHead : Collected → HeadProgress → List ℕ → Type 0
+HasReadHead collected IllShaped head = StaysIllShaped head
+HasReadHead collected progress head = HoldsHead collected progress head
 
 -- What the state says of the place.
 abbrev pub IsPlaceOfState : {B : Type 0} → Option ℕ → State → Machine B → Place → Type 0
@@ -150,9 +150,9 @@ IsPlaceOfState limit Escape parser AtEscape = HoldsIntermediates parser.collecte
 IsPlaceOfState limit EscapeIntermediate parser (InEscape intermediates) =
     HoldsIntermediates parser.collected intermediates
 IsPlaceOfState limit (ControlSequence progress) parser (InControlSequence head) =
-    IsInHead parser.collected progress head
+    HasReadHead parser.collected progress head
 IsPlaceOfState limit (DeviceControl progress) parser (InDeviceControl head) =
-    IsInHead parser.collected progress head
+    HasReadHead parser.collected progress head
 IsPlaceOfState limit DeviceData parser InDeviceData = ⊤
 IsPlaceOfState limit SystemCommand parser (InSystemCommand items) = HoldsItems limit parser.command items
 IsPlaceOfState limit IgnoredString parser InIgnoredString = ⊤
@@ -200,8 +200,8 @@ pub record ReadsHead (bytes : List ℕ) (i j : ℕ) (reached progress : HeadProg
   pub low : i ≤ j
   pub high : j ≤ length bytes
   pub head_bytes : AreInClass is_head_byte (take (j - i) (drop i bytes))
-  pub stands : (head : List ℕ) → IsInHead old reached head
-      → IsInHead new progress (head ++ take (j - i) (drop i bytes))
+  pub stands : (head : List ℕ) → HasReadHead old reached head
+      → HasReadHead new progress (head ++ take (j - i) (drop i bytes))
 
 -- A head is read from position i up to `end`, and the byte there, if there is one, was looked at.
 pub record ReadsHeadUpTo (bytes : List ℕ) (i : ℕ) (reached : HeadProgress) (end : HeadEnd)

@@ -18,7 +18,7 @@ pub use Rattle.vte_core.specs.declared.parser.State.TheVariants.{DeviceData, Esc
 pub use Rattle.vte_core.specs.declared.utf8.Unfinished.TheVariants.{Nothing, One}
 pub use Rattle.vte_core.specs.machine.Scans.{Each, AreIgnored, ArePut, ArePrintedAscii, IsPrintedAscii, IsRun, IsNonEmptyRun, PrintsRun, FindsEnd, IsRange, IsWindow, Scans, LooksAtMost}
 pub use Rattle.vte_core.specs.machine.Progress.{Completes, MayRead, MayReadAt, MayReadByte, Costs, HandlesByte, MovesWithin, Refuses, SpendsWithin, Advances, IsSettled, ReadsUpTo, ReadsUntilRefused, IsAtPosition, chunk_call}
-pub use Rattle.vte_core.specs.machine.ParserFields.{CountsNumbers, HoldsIntermediates, HoldsHead, HasReadWithLimit, SameIntermediates, SameNumbers, HoldsNumbers, IsAtPlace, IsInHead, ReadsHeadUpTo, with_open_number, IsReady, BeginsFour, BeginsThree, BeginsTwo, Carries, bytes_of, second_range}
+pub use Rattle.vte_core.specs.machine.ParserFields.{CountsNumbers, HoldsIntermediates, HoldsHead, HasReadWithLimit, SameIntermediates, SameNumbers, HoldsNumbers, IsAtPlace, HasReadHead, ReadsHeadUpTo, with_open_number, IsReady, BeginsFour, BeginsThree, BeginsTwo, Carries, bytes_of, second_range}
 pub use Rattle.vte_core.specs.machine.Place.{AtEscape, InControlSequence, InDeviceControl, IsSettledPlace, Place, closing_events_at}
 pub use Rattle.vte_core.specs.machine.Store.{ArePieceEnds, HasCapacity, Stored, HoldsItems, ReservesCapacity, SameItems, cut_pieces, fitting}
 pub use Rattle.vte_core.specs.machine.Takes.{Dispatches, TakesBytes, TakesByte, Reports, ReportsAll}

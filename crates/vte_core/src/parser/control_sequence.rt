@@ -1,6 +1,6 @@
 //! Control sequences.
 ghost use Rattle.std.specs.Prelude.{◌≡◌, ◌+◌, ◌<◌, ◌^◌, ℕ, true, false, List, ⊤};
-ghost use Rattle.vte_core.specs.machine.Prelude.{Advances, CsiDispatch, Dispatches, HandlesByte, InControlSequence, MayRead, MovesWithin, IsInHead, TakesByte, chunk_call, class_of, is_final};
+ghost use Rattle.vte_core.specs.machine.Prelude.{Advances, CsiDispatch, Dispatches, HandlesByte, InControlSequence, MayRead, MovesWithin, HasReadHead, TakesByte, chunk_call, class_of, is_final};
 
 use crate::buffer::Buffer;
 use crate::class::{ends_body, is_final, is_plain_control};
@@ -193,7 +193,7 @@ impl<B: Buffer> Machine<B> {
         requires joined { self.old.collected.joined ≡ joined }
         requires room { position + 1 < 2 ^ 64 }
         ensures next { result ≡ position + 1 }
-        ensures takes { (head : List ℕ) → IsInHead self.old.collected progress head
+        ensures takes { (head : List ℕ) → HasReadHead self.old.collected progress head
             → TakesByte P.step (P.value_of performer.old) (P.value_of performer.new) B.limit
             (InControlSequence head) byte self.new }
         ensures handles { HandlesByte 1 self.old self.new reader.old reader.new }

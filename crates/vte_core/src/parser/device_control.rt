@@ -1,6 +1,6 @@
 //! Device control strings.
 ghost use Rattle.std.specs.Prelude.{◌≡◌, ℕ, true, false, List, ⊤};
-ghost use Rattle.vte_core.specs.machine.Prelude.{Advances, DeviceData, HandlesByte, InDeviceControl, MayRead, MayReadByte, MovesWithin, IsInHead, TakesByte, chunk_call, class_of, is_device_data, is_final};
+ghost use Rattle.vte_core.specs.machine.Prelude.{Advances, DeviceData, HandlesByte, InDeviceControl, MayRead, MayReadByte, MovesWithin, HasReadHead, TakesByte, chunk_call, class_of, is_device_data, is_final};
 
 use crate::buffer::Buffer;
 use crate::class::{ends_body, is_device_data, is_final};
@@ -54,7 +54,7 @@ impl<B: Buffer> Machine<B> {
         byte: u8,
     )
         requires { is_final (class_of byte) ≡ true }
-        ensures takes { (head : List ℕ) → IsInHead self.old.collected progress head
+        ensures takes { (head : List ℕ) → HasReadHead self.old.collected progress head
             → TakesByte P.step (P.value_of performer.old) (P.value_of performer.new) B.limit
             (InDeviceControl head) byte self.new }
         ensures handles { HandlesByte 1 self.old self.new reader.old reader.new }

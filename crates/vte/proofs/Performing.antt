@@ -122,11 +122,9 @@ pub last_of_text : (text : List ℕ) (s t : _) (taken last : Option ℕ) → IsU
 last_of_text text s t taken last is same o =
     search (rules, arith, nil_from_length, chars-nil, encode, chars_before_last, last_printed-added)
 
--- ---- parsed bytes
-
--- An early stop is the prefix up to the begin.
-
 -- ---- the value after events
+
+-- One by one, events make of it what `with_events` says of all, if they fit the room.
 
 any-sum : (b : Bool) (m n : ℕ) → ((b || nat_lt 0 m) || nat_lt 0 n) ≡ (b || nat_lt 0 (m + n))
 any-sum b m n = grind (arith, nat_tests)
@@ -158,6 +156,8 @@ performed-events m lent (event ∷ events) fit =
     ) refl
 
 -- ---- the performer gives back what it was lent
+
+-- What comes back has the value of `with_events`, so the parts stand at the state after `parse`.
 
 module _ {H T B G V W : Type 0} (handler_of : H → V) (timeout_of : T → W) (room_of : B → ℕ) (m : Meaning V W)
     (s : State V W) (f : List ℕ)
@@ -205,6 +205,8 @@ module _ {H T B G V W : Type 0} (handler_of : H → V) (timeout_of : T → W) (r
       }
 
 -- ---- an early stop reads the prefix
+
+-- An update that begins terminates the performer, so the call stops at the end of the shortest prefix that begins one.
 
 terminated_by : {V W : Type 0} (m : Meaning V W) (lent : PerformerValue V W) (events : List Event)
     → (performed (with_event m.step m.timeout) lent events).terminated

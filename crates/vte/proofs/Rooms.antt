@@ -25,7 +25,7 @@ prefix_fits size limit p prefix rest all =
     (added limit p prefix ++ added limit (p ++ prefix) rest) parts in
     rw (take-append_seam (added limit p prefix) (added limit (p ++ prefix) rest)) at first
 
--- ---- the parser with a limit
+-- ---- the parser with a limit, which bounds a command's data
 
 short_fits : (limit size : ℕ) (stream bytes : List ℕ) → HasTextRoom limit size
     → All (FitsText size) (added (Some limit) stream bytes)

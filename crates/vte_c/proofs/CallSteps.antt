@@ -130,7 +130,7 @@ module _ (old new : Room) (since bytes : List ℕ) (from n : ℕ) (laws : Laws) 
         (resumed_free (after with_event old (told_at i)) (s.earlier i earlier start))))));
   }
 
--- ---- one after the other
+-- ---- one step after the other, if the room is not full in between
 
 goes-nothing : {room : Room} {since bytes : List ℕ} {from : ℕ} → ReadsOn room room since since bytes from 0
 goes-nothing {room} {since} {bytes} {from} = record {

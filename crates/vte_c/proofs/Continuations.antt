@@ -4,7 +4,7 @@ use Rattle.vte_c.proofs.Common.{AreFirst, Continues, Event, GoesOnFromPositions,
 use Rattle.vte_core.proofs.EarlyStops.{added-append}
 use Rattle.vte_core.proofs.streams.After.{added-nothing}
 
--- ---- the first of a list of events
+-- ---- some events are the first of others (`AreFirst`)
 
 first_same : {events all : List Event} → all ≡ events → AreFirst events all
 first_same {events} e = record { others = []; parts = e ∙ sym (append-nil events) }
@@ -38,7 +38,7 @@ continues-then {bytes} {n} {m} {told} {more} a b within = record {
       (first-after told (b.prefixes k (omega (arith, length-drop n bytes)))));
 }
 
--- ---- a text
+-- ---- bytes that report what they add
 
 pub continues-added : (since bytes : List ℕ) (n : ℕ)
     → Continues since (since ++ take n bytes) bytes n (added usual_limit since (take n bytes))
@@ -93,7 +93,7 @@ continues-call goes_on since bytes n = elim (cases_Bool (breaks_at since bytes n
 -- None is told before the last byte that it reads: a byte before that ends at a start, where the call would have
 -- stopped, or adds nothing that stops.
 
--- ---- records
+-- ---- records of kinds that do not stop
 
 pub kinds_of_none : (stops : ℕ) (records : List VteEvent) → has_kind stops records ≡ false
     → HaveOtherRecords stops records
@@ -107,7 +107,7 @@ pub kinds-append : (stops : ℕ) (front back : List ℕ) → HaveOtherKinds stop
 kinds-append stops [] back f b = b
 kinds-append stops (kind ∷ front) back f b = (f.0, kinds-append stops front back f.1 b)
 
--- ---- events
+-- ---- events that do not stop (`AreOthers`): of lists, runs and items, and of fewer bytes
 
 pub others_front : (stop : ℕ → Bool) (front back : List Event) → AreOthers stop (front ++ back) → AreOthers stop front
 others_front stop [] back h = tt

@@ -12,6 +12,8 @@ use Rattle.vte_core.proofs.streams.After.{added-nothing}
 
 -- ---- groups and pieces
 
+-- Each has its length before it, so it is read from the front, whatever follows it.
+
 read_numbers : (numbers back : List ℕ) → numbers_in (length numbers) (flat_map two_bytes numbers ++ back) ≡ numbers
 read_numbers [] back = refl
 read_numbers (n ∷ numbers) back =
@@ -52,7 +54,7 @@ read_pieces (piece ∷ pieces) back small =
     let others = read_pieces pieces back (omega arith) in
     rw (parts, at_least, size, take-append_seam piece rest, drop-append_seam piece rest, others) refl
 
--- ---- events
+-- ---- an event by itself, from its record and its data
 
 read_flag : (flag : Bool) → (flag_byte flag == 1) ≡ flag
 read_flag true = refl
@@ -87,7 +89,9 @@ read_single input area back place (EscDispatch ints ignore byte) h e =
     rw (read_intermediates _ ints h.0, read_flag ignore) refl
 read_single input area back place _ h e = refl
 
--- ---- items
+-- ---- items one after another
+
+-- The data of each is where those before it end.
 
 read_run : (input area : List ℕ) (run : Run) (start size : ℕ)
     → events_of input area (run_record (run_kind run) start size) ≡ run_events run (take size (drop start input))
@@ -253,6 +257,8 @@ item_events_later input more (InInput run start size ∷ items) are =
 
 -- ---- buffers that were empty
 
+-- Then they hold the records and data of just the items of the call, so a reader finds their events.
+
 module _ (old new : Events) (input : List ℕ) (items : List Item) (starts : Starts (room_of old))
     (h : HasItems (room_of old) (room_of new) input items) (more : List ℕ) where
   abbrev encoded : AreEncoded (flat_map (item_events (input ++ more)) items) new.count new.used new.events.now
@@ -273,7 +279,7 @@ module _ (old new : Events) (input : List ℕ) (items : List Item) (starts : Sta
       ∙ rw encoded.recorded
       (items_read (input ++ more) new.area.now new.used items (readable_later input more items h.readable) encoded.held)
 
--- ---- what a call did
+-- ---- what a call ensures, and the counts that its caller gets
 
 pub fed : {old new : Events} {parser : Parser 1024} {saved : Saved} {told : List Event} {stream bytes rest : List ℕ}
     {n : ℕ} → Starts (room_of old)

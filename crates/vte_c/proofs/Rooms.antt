@@ -61,7 +61,7 @@ short_data (Print c) h = omega (arith, length-encode c, (len_utf8_bounds c).1)
 short_data (Execute byte) h = omega arith
 short_data _ h = absurd h
 
--- ---- items one after the other
+-- ---- items one after the other, if the room is not full in between
 
 records-append : (place : ℕ) (front back : List Item)
     → records_from place (front ++ back)
@@ -142,7 +142,7 @@ items-then {old} {mid} {new} {input} {front} {back} a free b =
       };
     }
 
--- ---- data
+-- ---- before a write the area holds no data of the event
 
 pub holds_nothing : (events : Events) → Holds (room_of events) events events.used []
 holds_nothing events = record {
@@ -189,7 +189,7 @@ items-run {old} {new} input run start size free stands is =
       first = stops_soon old.stops old.used (InInput run start size ∷ []) (omega arith);
     }
 
--- ---- a pause
+-- ---- a pause, apart from which an event is written the same (`resumed`)
 
 pub resumed_same : (room : Room) → room.paused ≡ false → resumed room ≡ room
 resumed_same room none = ap (λ (paused : Bool). record room { paused = paused }) (sym none)

@@ -62,6 +62,8 @@ reports_little limit stream b some unbroken =
 
 -- ---- what is reported from one position to the next
 
+-- At most one unit (`reports_units`), by induction over the bytes; what they add is split at the last start (`Added`).
+
 pub added-append : (limit : Option ℕ) (stream prefix rest : List ℕ)
     → added limit stream (prefix ++ rest) ≡ added limit stream prefix ++ added limit (stream ++ prefix) rest
 added-append limit stream prefix rest = search (rules, arith, events_grow, append_assoc, drop-append_seam)
@@ -228,7 +230,7 @@ reports_units limit stream bytes i within = record {
         (a.tiny (λ none. false≢true (sym (breaks_at-settled stream bytes i none) ∙ e))) tiny-replacement
     by_break false e = rw append-nil a.brief
 
--- ---- what the rest adds
+-- ---- what is reported before a position, and then what follows adds, is what all bytes add
 
 pub breaks_there : (stream bytes : List ℕ) (n : ℕ) → breaks_at stream bytes n ≡ true
     → breaks (open_character (stream ++ take n bytes)) (drop n bytes) ≡ true

@@ -2,7 +2,7 @@
 
 -- Words from std and specs/.
 pub mod Common
--- From a byte to its class, and from bytes to UTF-8 and to texts cut at a byte.
+-- From a byte to its class, and from bytes to UTF-8 and to runs of text.
 pub mod bytes
 -- From a text or head to what it gives, by its definition alone, and to what is reported where a character breaks.
 pub mod Shapes

@@ -1,5 +1,5 @@
--- What a text or a head gives, from its prefix by its definition alone, and what is reported where the next byte
--- breaks a character.
+-- What a head or a text gives, from its prefix by its definition alone (`head_of-parts`; `text_outcome-X`, if the text
+-- begins with X), and what is reported where the next byte breaks a character.
 use Rattle.vte_core.proofs.Common.{◌≡◌, ℕ, Option, List, [], ◌∷◌, ◌++◌, refl, ap, ◌∙◌, append_assoc, Event, Outcome, report, with_bodies, true, false, arith, nat_tests, list_all, Class, Intermediate, Marker, class_of, Bool, append-nil, is_intermediate, is_marker, is_parameter_text, AreInClass, head_of, head_after, is_well_shaped, IsMarker, ◌≤◌, length, subst, take-append_seam, Print, replacement, NothingToClose, CharacterToClose, leaves, utf8_rows, rows_after_byte, rows_after_bytes, is_well_formed, is_truncated, trailing_count, segments_after, segments, scalar_of, is_control_character, character_event, malformed_event, segment_event, segments_outcome, text_outcome, ◌+◌, ◌<◌, inl, inr, take, drop, get_or, slice_index, drop_more, drop_all, take_all, breaks, breaks_at, IsStart, reported_before, resumed_stream, added, open_character, rules}
 use Rattle.vte_core.proofs.bytes.Classes.{class-intermediate}
 use Rattle.vte_core.proofs.bytes.Utf8.{AtMostOne-first, AtMostOne-rows_after_bytes, rows_after_bytes-append, whole_not_open, open_not_whole, neither_whole_nor_open, allowed_length-none, allowed_length-whole, allowed_length-broken, allowed_length-end, truncated-first}
@@ -87,7 +87,9 @@ held-well_shaped marker parameters intermediates is are these = search (rules, a
 
 -- A well-formed sequence, a maximal subpart or a byte comes off, and the rest is divided as a text of its own.
 
--- ---- the two tests of a sequence
+-- ---- no sequence is both well formed and truncated
+
+-- At most one row is left after its bytes.
 
 well_formed_not_truncated : (u : List ℕ) → is_well_formed u ≡ true → is_truncated u ≡ false
 unfolding is_well_formed is_truncated
@@ -104,6 +106,8 @@ truncated_not_well_formed (a ∷ u) more =
     (AtMostOne-rows_after_bytes u _ (AtMostOne-first a)) more
 
 -- ---- how far a segment goes
+
+-- As far as the rows allow: to the end of a sequence, or to the byte that breaks a truncated one.
 
 pub trailing_count-whole : (a : ℕ) (u x : List ℕ) → is_well_formed (a ∷ u) ≡ true → trailing_count a (u ++ x) ≡ length u
 unfolding is_well_formed trailing_count
@@ -155,6 +159,8 @@ unfolding segment_event
 segment_event-truncated u more = rw (truncated_not_well_formed u more) (malformed_event-truncated u more)
 
 -- ---- what a text gives, from the prefix
+
+-- The event of its first segment, and then what the rest gives as a text.
 
 text_outcome-first : (a : ℕ) (u x : List ℕ) → trailing_count a (u ++ x) ≡ length u → is_truncated (a ∷ u) ≡ false
     → text_outcome (a ∷ u ++ x) ≡ report (segment_event (a ∷ u) ∷ []) (text_outcome x)
@@ -209,7 +215,7 @@ text_outcome-nothing = refl
 -- if X: the open character is `broken`, none is open (`settled`), or `all` bytes are read. `breaks-X` and `breaks_at-X`
 -- say when.
 
--- ---- whether a byte breaks the open character
+-- ---- a byte breaks the open character if both together are neither well formed nor truncated
 
 pub breaks-broken : (u : List ℕ) (b : ℕ) → is_truncated u ≡ true → is_well_formed (u ++ b ∷ []) ≡ false
     → is_truncated (u ++ b ∷ []) ≡ false → breaks u (b ∷ []) ≡ true
@@ -248,7 +254,7 @@ pub breaks_at-all : (stream bytes : List ℕ) (n : ℕ) → length bytes ≤ n �
 unfolding breaks_at
 breaks_at-all stream bytes n all = search (rules, arith, drop_all, breaks-no_byte)
 
--- ---- starts
+-- ---- something starts where no character is open, and at a byte that breaks one
 
 pub starts-settled : {stream bytes : List ℕ} {i : ℕ} → i < length bytes → open_character (stream ++ take i bytes) ≡ []
     → IsStart stream bytes i
@@ -265,7 +271,7 @@ pub no_start : {stream bytes u : List ℕ} {i b : ℕ} → i < length bytes → 
     → IsStart stream bytes i → ⊥
 no_start {stream} {bytes} {i} within is ends some whole start = search (rules, arith, breaks_at-byte)
 
--- ---- what is reported
+-- ---- what is reported, and how the stream goes on
 
 pub reported-settled : (limit : Option ℕ) (stream bytes : List ℕ) (i : ℕ) → breaks_at stream bytes i ≡ false
     → reported_before limit stream bytes i ≡ added limit stream (take i bytes)

@@ -80,6 +80,8 @@ no_separators n small = search (rules, arith, is_digit_no_separator, digits-deci
 
 -- ---- a text of numbers, each but the first with its separator before it
 
+-- Such a text is read from the front: each separator ends the number before it (`spelled_after`).
+
 abbrev separator : Number → ℕ
 separator n = if n.joined then colon else semicolon
 
@@ -110,6 +112,8 @@ spelled_after joined digits {ns = n ∷ ns} all =
     rw (separates n, is_colon-separator n) (ap (λ (l : List Number). numbered joined (number_of digits) ∷ l) rest)
 
 -- ---- groups as such numbers
+
+-- As numbers that say whether they join a group, they are spelled, read back, and grouped (`groups_of-shown`).
 
 in_group : List ℕ → List Number
 in_group [] = []
@@ -205,7 +209,7 @@ has_too_many_numbers-shown : (groups : List (List ℕ)) → AreParameters groups
 unfolding has_too_many_numbers
 has_too_many_numbers-shown groups ok = search (rules, arith, at_most-groups, numbers-shown)
 
--- ---- its bytes
+-- ---- the text has only bytes of parameters
 
 digit_is_parameter : (b : ℕ) → IsDigit b → is_parameter_text (class_of b) ≡ true
 unfolding class_of

@@ -1,7 +1,9 @@
--- Bytes: their classes, the sequences of UTF-8, texts cut at a byte.
+-- Bytes: their classes, the sequences of UTF-8, runs of text.
 
 pub mod Classes
+-- Which bytes are well formed, truncated or neither, and the number of a well-formed sequence.
 pub mod Utf8
 pub mod Scalars
+-- Runs and where they end, and the test of eight bytes at once.
 pub mod Runs
 pub mod EightBytes

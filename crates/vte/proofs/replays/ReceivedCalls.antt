@@ -6,7 +6,7 @@ use Rattle.vte.proofs.Performing.{after_calls-append, added_calls-append}
 use Rattle.vte.proofs.turns.EachOnce.{hold_turn-all, hold_turn-rest, is_held, is_stopped, refused-parses, stop_if_due, turn-holds, turn-parses}
 use Rattle.vte.proofs.updates.Sequences.{cases_Option}
 
--- ---- the calls between two positions
+-- ---- the calls between two positions: those of a prefix, then those of the rest
 
 calls_between-none : (limit : Option ℕ) (stream : List ℕ) (position : ℕ)
     → calls_between limit stream position position ≡ []
@@ -50,6 +50,8 @@ module _ (limit : Option ℕ) (parsed prefix : List ℕ) where
       rw (is, calls_between-append rest position from) (append_assoc (added_calls limit parsed prefix) _ _)
 
 -- ---- from a state to the end of a list of calls
+
+-- `tells-X`: what the handler is told from the state after X, it is told from the state before, after the calls of X.
 
 module _ {V W : Type 0} (m : Meaning V W) (end : State V W) where
   -- what the handler still receives if bytes were parsed, with these stops, and its value is this

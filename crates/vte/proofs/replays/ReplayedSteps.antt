@@ -38,6 +38,8 @@ module _ {V W : Type 0} (m : Meaning V W) (steady : IsSteady m.timeout) where
 
 -- ---- calls one by one
 
+-- Lists of calls compose (`replay_append`), so a loop keeps `HasReplayed`.
+
 module _ {V W : Type 0} (m : Meaning V W) where
   pub replay_well : (s t : State V W) (steps : List Step) → TakesSteps m s steps t → HoldsWellAt m s → HoldsWellAt m t
   replay_well s t [] same h = rw (← same) h

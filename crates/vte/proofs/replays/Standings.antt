@@ -1,4 +1,5 @@
--- A processor stands where its engine does, so it does what the engine ensures.
+-- The contracts of the three processors, from `EngineReads` and `EngineStops` of their engine: a processor stands where
+-- its engine does. They differ in whether a call may be refused memory.
 use Rattle.vte.proofs.Common.{ℕ, List, length, Result, Ok, Err, arith, Bor, Refused, EngineView, Meaning, State, usual_limit, HasAdvanced, HasParsedAndHolds, HasTaken, IsAt, ReadsInTurns, EngineReads, ProcessorPredicate, EngineHasParsedAndHolds, ◌≡◌, refl, rules, limited_parser_view, engine_view, HasTextRoom, HasParsedAndHoldsWithin, EngineStops, StopsSync, bounded_engine_view, stop, [], ◌+◌, ◌-◌, ◌<◌, ◌++◌, ap, length-append, counts_data, AdvancesLong, HasMemory, HasParsedAndHoldsLong, LacksMemoryLong, drop, length-drop, long_engine_view}
 use Rattle.vte_core.specs.declared.parser.Parser.{Parser}
 use Rattle.vte.proofs.replays.WithoutUpdates.{plain_call}

@@ -33,7 +33,7 @@ module _ {V W : Type 0} (m : Meaning V W) (never : IsNeverPending m.timeout.allo
       record { none_held = rest.none_held; no_stop = rest.no_stop ∙ first.no_stop }
   plain_run s t (StopSync ∷ steps) r only none = absurd only
 
--- ---- from the beginning of the stream on
+-- ---- from a processor that holds nothing, calls parse all bytes
 
 module _ {V W : Type 0} {Before : ProcessorPredicate W} (old : V) {stream : List ℕ}
     (all : HasParsedAll Before stream) where
@@ -79,7 +79,7 @@ module _ {V W : Type 0} {Before : ProcessorPredicate W} (old : V) {stream : List
       stands = rw (parsed_all, plain.none_held) at replayed.is_at.stands;
     }
 
--- ---- what calls ensure then
+-- ---- the clauses of a list of calls, and of one call
 
 module _ {V W : Type 0} (m : Meaning V W) {Before After : ProcessorPredicate W} {old new : V} where
   plain_calls : (steps : List Step)

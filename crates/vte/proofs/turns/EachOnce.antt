@@ -146,7 +146,7 @@ module _ {V W : Type 0} (m : Meaning V W) where
 -- `HoldsWell` is kept by turns and stops: by cases of the timeout's answer and of what a hold turn keeps, which is all,
 -- or starts with a begin-update, or is nothing.
 
--- ---- the timeout
+-- ---- a steady timeout is pending once it is set, and stays so when it is set again
 
 module _ {W : Type 0} (m : TimeoutMeaning W) (k : IsSteady m) where
   allows-still_pending : (n : ℕ) (value : W) → AllowsOnly m value true → AllowsOnly m (set_times m n value) true

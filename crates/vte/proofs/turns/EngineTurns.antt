@@ -126,6 +126,8 @@ module _ {V W : Type 0} (m : Meaning V W) {s : State V W} {bytes : List ℕ} {n 
 
 -- ---- the turns of a call
 
+-- The loop keeps `HasReached`, and at its end or at refused memory has `HasTaken`, which gives `EngineReads`.
+
 rest-is : (bytes : List ℕ) (read : ℕ) → read ≤ length bytes
     → take (length bytes - read) (drop read bytes) ≡ drop read bytes
 rest-is bytes read inside = take_all (length bytes - read) (drop read bytes) (rw length-drop (omega arith))

@@ -11,6 +11,9 @@ use Rattle.vte.specs.declared.ansi.updates.hold.SyncState.{SyncState}
 
 -- ---- the slices of a parsing turn
 
+-- `parsing-more` goes on by a slice in which no update begins. The loop ends with all bytes (`parsing-all`), a begin
+-- (`parsing-ends`) or refused memory (`parsing-halts`).
+
 pub slice_size : (bytes : List ℕ) (read : ℕ) {count : ℕ} → read ≤ length bytes → count ≤ length bytes - read
     → length (take (read + count - read) (drop read bytes)) ≡ count
 slice_size bytes read {count} inside at_most =
@@ -127,6 +130,9 @@ pub halted-nothing : {V W : Type 0} (m : Meaning V W) {s : State V W} {bytes : L
 halted-nothing m {s} at = record { next = s; takes = between_turns done; is_at = at }
 
 -- ---- turns of a call, and one after them that is refused memory
+
+-- The refused turn leaves nothing held and is outside an update, so a further call with the unread bytes does what it
+-- would have done (`halted-goes_on`).
 
 module _ {V W : Type 0} (m : Meaning V W) where
   pub takes-one : {s : State V W} {bytes : List ℕ} (pending : Bool) → 0 < length bytes

@@ -22,7 +22,7 @@ pub begin_count-told : (limit : Option ℕ) (p r : List ℕ) (i : ℕ)
     → begin_count (reported_before limit p r i) ≡ begin_count (added limit p (take i r))
 begin_count-told limit p r i = search (rules, arith, reported-broken, begin_count-append, reported-settled)
 
--- ---- the prefix by its length
+-- ---- the prefix is the shortest that adds a begin (`IsPrefix`)
 
 pub record IsPrefix (limit : Option ℕ) (p r : List ℕ) (k : ℕ) : Type 0 where
   pub within : k ≤ length r

@@ -96,7 +96,9 @@ pub record HasSeen (text : List ℕ) (new unread begin begins : ℕ) : Type 0 wh
   pub begin_is : begin ≡ length text - length (from_begin_update (drop unread text))
   pub begins_are : begins ≡ begins_ending_in_last new (drop unread text)
 
--- ---- one position more
+-- ---- one position more, from the end down
+
+-- By what begins there: neither sequence, a begin-update, or an end-update, which ends the search.
 
 module _ {text : List ℕ} {new position begin begins : ℕ} (l : position < length text)
     (seen : HasSeen text new (position + 1) begin begins) where
@@ -140,7 +142,7 @@ module _ {text : List ℕ} {new position begin begins : ℕ} (l : position < len
       last_of (suc n) [] later e = e
       last_of (suc n) (b ∷ h) later e = rw (last_of n h later e) refl
 
--- ---- many positions more
+-- ---- many positions more, at which no sequence begins
 
 seen-further : {text : List ℕ} {new : ℕ} (n : ℕ) {position begin begins : ℕ} → position + n ≤ length text
     → ((k : ℕ) → position ≤ k → k < position + n → IsNeither text k)

@@ -54,7 +54,7 @@ pub from_begin-end_skipped : (n b : ℕ) (text : List ℕ) → begins_with end_u
     × (begins_ending_in_last n text ≡ begins_ending_in_last n (drop 7 text))
 from_begin-end_skipped n b text e = search (rules, arith)
 
--- ---- a part at the end of a text
+-- ---- what follows the last end-update, and what stays held, is the end of the text
 
 pub record IsSuffix (part text : List ℕ) : Type 0 where
   pub prefix : ℕ

@@ -37,7 +37,7 @@ pub next_state-failed : (b : ℕ) → next_state Failed b ≡ Failed
 unfolding next_state
 next_state-failed b = refl
 
--- ---- what one more byte makes of a state
+-- ---- a state is between characters, has failed, or wants a byte in one range
 
 pub data Phase (s : AutomatonState) : Type 0 where
   phase-between : s ≡ Between → Phase s
@@ -73,7 +73,7 @@ ends-row b {ranges} low same u fit =
     printable (omega (arith, low)) (λ e. absurd (omega (arith, e, low)))
     ((tests-row b ranges same u).is_whole ∙ fit)
 
--- ---- the first bytes
+-- ---- a first byte is printed, fails, or opens a character
 
 pub data Begins (b : ℕ) : Type 0 where
   prints : IsUtf8Run true (b ∷ []) → next_between b ≡ Between → Begins b
@@ -287,6 +287,8 @@ so_far-all text (suc at) within ok =
     rw add-one at (so_far-further text at (omega arith) old fine)
 
 -- ---- a text without HT, LF and CR
+
+-- The automaton lets these pass; a run without bytes below 20 has none.
 
 abbrev AreAbove : List ℕ → Type 0
 AreAbove bytes = (k : ℕ) → k < length bytes → 0x20 ≤ get_or bytes k 0

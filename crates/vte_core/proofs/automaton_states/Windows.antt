@@ -1,4 +1,5 @@
--- What three bytes say of the automaton's state after them, and what one more byte or a block makes of that.
+-- What the last three bytes say of the automaton's state (`Trails`). Bytes that pass the tests of a block keep it
+-- (`leads`, `leads-block`), so three bytes say where the last character ends (`run-before-open`).
 use Rattle.vte_core.proofs.Common.{Bool, List, arith, drop, false, inl, inr, length, length-drop, refl, subst, suc, sym, take, take-add, true, zero, ℕ, ◌+◌, ◌-◌, ◌<◌, ◌∙◌, ◌∷◌, [], ◌≡◌, ◌≢◌, ◌≤◌, ap, cases_Bool, cases_lt, get_or-drop, nat_tests, slice_index, Range, IsUtf8Run, is_in, from_to, is_layout, rules}
 use Rattle.vte_core.specs.machine.Scans.{Each, IsWindow}
 use Rattle.vte_core.proofs.bytes.Runs.{block-byte, each-both}
@@ -158,7 +159,9 @@ closed-further bytes from at to low within plain old (suc n) at_most =
     (closed-further bytes from at to low within plain old n (omega (arith, at_most)))
     (plain (at + n) (omega arith) (omega (arith, at_most))))
 
--- ---- the last end
+-- ---- where the last character ends
+
+-- An automaton that has not failed was between characters before each lead byte, so all before such a byte is a run.
 
 failed-for_good : (bytes : List ℕ) → state_after Failed bytes ≡ Failed
 unfolding next_state

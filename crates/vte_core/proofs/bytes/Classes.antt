@@ -67,7 +67,7 @@ pub AreInClass-append : (has : Class → Bool) (prefix rest : List ℕ) → AreI
 AreInClass-append has [] rest are more = more
 AreInClass-append has (b ∷ prefix) rest are more = (are.0, AreInClass-append has prefix rest are.1 more)
 
--- ---- one class each
+-- ---- tests that only one class passes
 
 pub class-control : (k : Class) → is_plain_control k ≡ true → k ≡ Control
 class-control Control h = refl
@@ -81,7 +81,7 @@ pub class-final : (k : Class) → is_final k ≡ true → k ≡ Final
 class-final Final h = refl
 class-final _ h = cc
 
--- ---- bytes that end nothing
+-- ---- bytes that end no body; those that do are CAN, SUB and ESC
 
 pub head_ends_nothing : (k : Class) → is_head_byte k ≡ true → ends_body k ≡ false
 head_ends_nothing k i = search (rules, arith)
@@ -117,7 +117,7 @@ head_is_no_end k i = search (rules, arith)
 pub parameter_is_head : (k : Class) → is_parameter_text k ≡ true → is_head_byte k ≡ true
 parameter_is_head k i = search (rules, arith)
 
--- ---- what is left
+-- ---- the class that is left if others are excluded
 
 -- 30..3F
 pub left_dispatches : (k : Class) → is_head_byte k ≡ true → is_intermediate k ≡ false → dispatches_escape k ≡ true

@@ -1,5 +1,7 @@
--- Runs of text: what their text is, where they end, and the search for their end. By induction over the bytes, and by
--- the rows of UTF-8.
+-- Runs of text among the bytes of a call (`IsRun`), the search for their end, and where they end. By induction over the
+-- bytes, and by the rows of UTF-8.
+--
+-- `each-X`: what each byte of X meets; `run-X`: X is a run; `scans-X`: a search goes on by X; `ends-X`: X begins none.
 use Rattle.vte_core.proofs.Common.{◌≡◌, ℕ, ◌+◌, ◌-◌, ◌<◌, ◌≤◌, inl, inr, List, [], ◌∷◌, length, take, drop, get_or, refl, ap, subst, ◌∙◌, arith, cases_lt, drop_more, take_rest, slice_index, Bool, true, false, ◌++◌, map, sym, nat_tests, get_or-drop, All-append, All-nil, All-cons, All, IsAscii, chars, Print, IsPrintedAscii, ArePrintedAscii, IsUtf8Run, IsRun, from_to, append-nil, encode, IsScalar, after, Event, is_in, is_control_character, is_layout, StaysInRun, run_event, looked, Scans, zero, suc, utf8_rows, false≢true, cases_Bool, and_parts, drop_all, Range, ends_run, is_well_formed, second_range, scalar_of, HasNoRunAt, rules}
 use Rattle.std.proofs.lemmas.List.{length-drop, length-take, get_or-take}
 use Rattle.std.proofs.lemmas.Simd.{get_or-chunk}
@@ -57,16 +59,15 @@ each-block holds bytes block from n m is at_most all k low high =
     (let p : from + (k - from) ≡ k = omega (arith, low) in p) in
     subst holds e (all (k - from) (omega arith) (omega (arith, low, high)))
 
--- ---- the text of a run
-
--- Bytes of ASCII, or a character, are well-formed text whose events are theirs, and two runs one after another are a
--- run.
+-- ---- a list mapped by the identity is the list
 
 pub same-items : {xs ys : List ℕ} → map (λ x. x) xs ≡ ys → xs ≡ ys
 same-items {xs = []} e = e
 same-items {xs = x ∷ xs} e = ap (λ t. x ∷ t) (same-items refl) ∙ e
 
--- ---- what ends a run
+-- ---- which characters stay in a run
+
+-- All but controls, and with `layout` HT, LF and CR too.
 
 pub no_control-stays : (layout : Bool) (c : ℕ) → is_control_character c ≡ false → StaysInRun layout c
 no_control-stays layout c e = search (rules, arith)
@@ -90,7 +91,7 @@ run_event-printed true b p = rw (no_layout b p) refl
 plain-stays : (layout : Bool) (b : ℕ) → IsPrintedAscii b → StaysInRun layout b
 plain-stays layout b p = search (rules, arith)
 
--- ---- ASCII
+-- ---- printed ASCII is a run, and two runs joined are one
 
 utf8_run-ascii : {layout : Bool} {bytes : List ℕ} → IsAscii bytes → All (StaysInRun layout) bytes
     → IsUtf8Run layout bytes
@@ -127,7 +128,7 @@ printable-append {layout} {xs} {ys} a b = record {
       (All-append (StaysInRun layout) (chars xs) (chars ys) a.plain b.plain);
 }
 
--- ---- one character
+-- ---- one character: its bytes decode to it alone, and a run of it is its event
 
 pub chars-encode : (c : ℕ) → IsScalar c → chars (encode c) ≡ c ∷ []
 chars-encode c is =
@@ -145,7 +146,7 @@ after-character layout step old c is = ap (λ cs. after step old (map (run_event
 pub run_event-no_control : (layout : Bool) {c : ℕ} → is_control_character c ≡ false → run_event layout c ≡ Print c
 run_event-no_control layout {c} e = grind (arith, nat_tests, layout-is_control_character c)
 
--- ---- runs among the bytes
+-- ---- runs from one position of the bytes to another
 
 pub printed-in_range : (b : ℕ) → is_in (from_to 0x20 0x7f) b ≡ true → IsPrintedAscii b
 printed-in_range b e = grind (arith, nat_tests)

@@ -5,7 +5,7 @@ use Rattle.vte_core.proofs.bytes.Utf8.{continuation, fits, FirstByte, ascii, lon
 use Rattle.vte_core.specs.declared.utf8.Carried.{Carried}
 use Rattle.vte_core.specs.declared.utf8.Carried.TheVariants.{Unfinished, Whole, Broken}
 
--- ---- numbers from ranges
+-- ---- the bounds of a byte in a range
 
 pub record SecondByte (a b : ℕ) : Type 0 where
   pub low : 0x80 ≤ b
@@ -29,6 +29,8 @@ unfolding second_range
 second_byte fits = search (rules, arith)
 
 -- ---- the character of a well-formed sequence
+
+-- For each number of bytes (`Sequence`), their ranges bound its number.
 
 in_range-two : (a b : ℕ) → 0xc2 ≤ a → a < 0xe0 → SecondByte a b → InScalarRange (scalar_of (a ∷ b ∷ []))
 in_range-two a b low high second = inl (omega arith)
@@ -105,7 +107,7 @@ well_formed_is_scalar p well = is_scalar (scalar_of p) (scalar_of-in_range p wel
 -- What one more byte makes of an unfinished character, by the ranges of its bytes: a well-formed sequence, a longer
 -- truncated one, or neither. Each is computed from the rows that its first byte leaves.
 
--- ---- nothing
+-- ---- a first byte: C2..F4 begins a longer sequence, and what else is no ASCII begins none
 
 pub first_truncated : (b : ℕ) → 0xc2 ≤ b → b < 0xf5 → is_truncated (b ∷ []) ≡ true
 unfolding is_truncated utf8_rows
@@ -153,7 +155,9 @@ whole_by : (u : List ℕ) (b : ℕ) {number : ℕ} (r : Carried) → Spells (u +
     → (InScalarRange number → r ≡ Whole number) → Carries u b r
 whole_by u b r spells makes = search (rules, arith, scalar_of-in_range)
 
--- ---- one byte
+-- ---- the second byte of a character
+
+-- `broken`: it is out of its range; `whole`: it is the last; `open`: more bytes follow.
 
 pub second-broken : (a b : ℕ) → is_truncated (a ∷ []) ≡ true → is_in (second_range a) b ≡ false
     → Carries (a ∷ []) b Broken
@@ -176,7 +180,7 @@ pub second-open : (a b : ℕ) → is_truncated (a ∷ []) ≡ true → is_in (se
 unfolding is_truncated utf8_rows second_range
 second-open a b more second low = (refl, grind (arith, nat_tests))
 
--- ---- two bytes
+-- ---- the third byte
 
 pub third-broken : (a b c : ℕ) → is_truncated (a ∷ b ∷ []) ≡ true → is_in continuation c ≡ false
     → Carries (a ∷ b ∷ []) c Broken
@@ -195,7 +199,7 @@ pub third-open : (a b c : ℕ) → is_truncated (a ∷ b ∷ []) ≡ true → is
 unfolding is_truncated utf8_rows
 third-open a b c more third low = (refl, grind (arith, nat_tests))
 
--- ---- three bytes
+-- ---- the fourth byte
 
 pub fourth-broken : (a b c d : ℕ) → is_truncated (a ∷ b ∷ c ∷ []) ≡ true → is_in continuation d ≡ false
     → Carries (a ∷ b ∷ c ∷ []) d Broken

@@ -2,7 +2,7 @@
 -- and bytes are well formed, truncated or neither by what it still wants.
 use Rattle.vte_core.proofs.Common.{◌≡◌, ◌≢◌, ℕ, suc, ◌+◌, ◌<◌, ◌≤◌, Bool, true, false, not, ◌&&◌, List, [], ◌∷◌, ◌++◌, length, refl, sym, ap, ◌∙◌, arith, inl, inr, nat_le, list_any, false≢true, lt-leb, leb-true, and_left, cases_Bool, and_parts, Range, is_in, utf8_rows, rows_after_byte, rows_after_bytes, is_complete, allowed_length, and_right, cases_lt, nat_tests, from_to, is_well_formed, is_truncated, second_range, rules}
 
--- ---- one row
+-- ---- after a byte at most one row is left
 
 abbrev AtMostOne : List (List Range) → Type 0
 AtMostOne [] = Unit {0}
@@ -95,6 +95,8 @@ neither_whole_nor_open ((range ∷ ranges) ∷ rows) whole more = cc
 
 -- ---- how many bytes the rows allow
 
+-- As many as some row wants, one after the other.
+
 pub allowed_length-none : (bytes : List ℕ) → allowed_length [] bytes ≡ 0
 allowed_length-none [] = refl
 allowed_length-none (b ∷ bytes) = refl
@@ -151,7 +153,7 @@ allowed_length-end rows (c ∷ bytes) more =
 
 -- By the nine rows.
 
--- ---- what the rows want after a first byte
+-- ---- the range of a second byte, and the first bytes after which no row is left
 
 pub second_plain : (a : ℕ) → a ≢ 0xe0 → a ≢ 0xed → a ≢ 0xf0 → a ≢ 0xf4 → second_range a ≡ from_to 0x80 0xbf
 unfolding second_range
@@ -258,7 +260,7 @@ pub tests-four : (a : ℕ) → 0xf0 ≤ a → a < 0xf5 → (u : List ℕ)
 unfolding utf8_rows second_range
 tests-four a low high u = tests-row a (second_range a ∷ continuation ∷ continuation ∷ []) (grind (arith, nat_tests)) u
 
--- ---- what a truncated sequence is
+-- ---- the bytes of a truncated sequence, up to three
 
 pub truncated-first : (a : ℕ) (u : List ℕ) → is_truncated (a ∷ u) ≡ true → (0xc2 ≤ a) × (a < 0xf5)
 truncated-first a u more = elim (first_byte a) [
@@ -294,7 +296,9 @@ truncated-three a b c more =
       third = grind (arith, nat_tests);
     }
 
--- ---- a byte of ASCII
+-- ---- ASCII is a sequence of one byte, and breaks a truncated one
+
+-- No range after the first byte has ASCII.
 
 pub ascii-alone : (b : ℕ) → b < 0x80 → Tests (b ∷ []) true false
 ascii-alone b high = tests-ascii b high []

@@ -14,6 +14,8 @@ use Rattle.vte_core.proofs.streams.StreamSteps.{prints_no_ascii, prints_no_ascii
 
 -- ---- a performer that keeps all events
 
+-- It stands where any performer does (`keeps-at`), and its value is what was reported (`reported-at`).
+
 abbrev pub keep : List Event → Event → List Event
 keep events event = events ++ event ∷ []
 
@@ -53,7 +55,7 @@ pub added-inside : {B : Type 0} {value : List Event} {limit : Option ℕ} {strea
     → value ≡ added limit stream (take i bytes)
 added-inside s = kept-is s.has_come
 
--- ---- a byte outside of text and data
+-- ---- what a state reads outside of text and data, it reads so at its place
 
 outside_runs-all : (events : List Event) → AreOutsideRuns events → All IsOutsideRuns events
 outside_runs-all [] are = All-nil IsOutsideRuns
@@ -66,6 +68,8 @@ pub outside_runs-place : {B : Type 0} (limit : Option ℕ) (state : State) (pars
 outside_runs-place limit state parser place b outside s = search (rules, arith)
 
 -- ---- what is reported between two positions
+
+-- No run, if no byte reports one (`adds-reads`): stretches compose (`adds-then`).
 
 module _ {limit : Option ℕ} {stream bytes : List ℕ} {i : ℕ} where
   pub adds-same : {j : ℕ} → reported_before limit stream bytes i ≡ reported_before limit stream bytes j

@@ -90,6 +90,8 @@ performs-opened {limit} {b} {v} {next} e n carries state =
 
 -- ---- what a byte reports that is neither printed nor begins a longer one
 
+-- A control or a malformed byte, by whether it is ASCII. Neither event is one of a run.
+
 record Single (limit : Option ℕ) (b : ℕ) : Type 0 where
   reported : List Event
   reads : BytesLead limit (InText []) (b ∷ []) reported (InText [])

@@ -12,7 +12,7 @@ use Rattle.vte_core.proofs.calls.AddedEvents.{adds-same, keeps-at, reported-at}
 use Rattle.vte_core.proofs.bytes.Runs.{one_byte}
 use Rattle.vte_core.proofs.places.TextSteps.{no_escape, reads-byte}
 
--- ---- what is collected
+-- ---- `ReadsHead` of no bytes, of two stretches, of a byte
 
 slice-then : (bytes : List ℕ) (i j k : ℕ) → i ≤ j → j ≤ k
     → take (k - i) (drop i bytes) ≡ take (j - i) (drop i bytes) ++ take (k - j) (drop j bytes)
@@ -51,7 +51,7 @@ pub match-none : {A : Type 0} (B : ℕ → Type 0) (next : Option ℕ) → ((b :
 match-none B None n all = all
 match-none B (Some b) n all = absurd (n b refl)
 
--- ---- numbers
+-- ---- a parameter byte, and the part of the head that it leads to
 
 pub progress_after-none : (reached : HeadProgress) {from to : ℕ} → from ≡ to → progress_after reached from to ≡ reached
 progress_after-none reached {from} {to} is = search (rules, arith)
@@ -78,6 +78,9 @@ reads_head-parameter {from} {i} {b} {reached} {old} {new} may within at is keeps
     holds-parameter head b (progress_after-may reached from i may) s is keeps counts)))
 
 -- ---- the shapes that have a head
+
+-- Control sequences and device control strings differ only in state and place (`state_of`, `in_head`), so one lemma
+-- advances past the bytes of both heads (`advances-head`).
 
 pub data Shape : Type 0 where
   ControlHead : Shape

@@ -111,7 +111,7 @@ pub open_is_unfinished : {B : Type 0} {limit : Option ℕ} {stream : List ℕ} {
 open_is_unfinished {limit} {parser} some h =
     search (rules, arith, probe-not_alone, probe-zero, stands-place, state-settled)
 
--- ---- refused memory
+-- ---- memory is refused only at a data byte of an open command
 
 pub inside-reads : {V B : Type 0} {call : ChunkCall V} {old value : V} {stream : List ℕ} {i : ℕ} {parser : Machine B}
     → IsInsidePosition call old value stream i parser → HasReadWithLimit call.limit parser (stream ++ take i call.bytes)
@@ -148,7 +148,7 @@ meets_data {parser} {stream} {bytes} {from} refused h =
           ∙ ap (λ d. CommandToClose (o.pieces ++ (o.last ++ byte ∷ []) ∷ []) d) o.lost;
     }
 
--- ---- where a call ends
+-- ---- a call stands where it was refused memory
 
 -- in a command no character is open
 pub refuses-inside : {V B : Type 0} {call : ChunkCall V} {old new : V} {n : ℕ} {before parser : Machine B}
@@ -163,7 +163,7 @@ refuses-inside {call} {old} {new} {n} {parser} r stream h =
       has_come = come-command (subst (ProgressAt call old new stream n) k.same s.has_come);
     }
 
--- ---- what is stored
+-- ---- a command stores as many bytes as are open, and outside a command none is open
 
 -- in a command as many bytes as are open
 pub stored_is_open : {B : Type 0} {parser : Machine B} {stream : List ℕ} → parser.state ≡ SystemCommand

@@ -18,7 +18,7 @@ use Rattle.vte_core.proofs.Shapes.{breaks_at-all, breaks_at-settled, breaks_at-b
 use Rattle.vte_core.proofs.bytes.Runs.{one_byte}
 use Rattle.vte_core.proofs.EarlyStops.{added_from, after_from, breaks_there, goes_on_from}
 
--- ---- between characters
+-- ---- between characters of a text there is one place
 
 text-by_place : {B : Type 0} (limit : Option ℕ) (parser : Machine B) (place : Place)
     → IsPlaceOfState limit (Text Nothing) parser place → place ≡ InText []
@@ -42,7 +42,7 @@ may_stop-none none is = let e : not (eqb 0 0) ≡ true = rw none at is in cc
 pub reads-all : (n size : ℕ) → n ≤ size → (n < size → false ≡ true) → n ≡ size
 reads-all n size within asked = search (rules, arith)
 
--- ---- in an operating system command
+-- ---- a byte that joins an operating system command
 
 item_is_no_escape : (b : ℕ) → 0x20 ≤ b → eqb b escape ≡ false
 item_is_no_escape b low = grind (arith, nat_tests)
@@ -54,6 +54,8 @@ reads-item {b} low =
     (command-item low)
 
 -- ---- the bytes of a call from one position to the next
+
+-- `come-X`: of places, not parsers. A stretch adds its events (`stretch-added`), also if it breaks a character.
 
 stretch-ends : (bytes : List ℕ) (i j : ℕ) → i < j → take j bytes ≡ take i bytes ++ take (j - i) (drop i bytes)
 stretch-ends bytes i j further =
@@ -283,7 +285,9 @@ module _ {V : Type 0} {call : ChunkCall V} {old : V} {stream : List ℕ} where
       → ProgressAt call old value stream n place → value ≡ after call.step old (added call.limit stream call.bytes)
   come-performs {n} all c = c.performed ∙ ap (after call.step old) (reported-all call.limit stream call.bytes n all)
 
--- ---- between characters
+-- ---- the same of a parser that stands there
+
+-- A settled state has a settled place, so `come-X` applies.
 
 by_settled : {B : Type 0} (limit : Option ℕ) (state : State) (parser : Machine B) (place : Place) → IsSettled state
     → IsPlaceOfState limit state parser place → IsSettledPlace place

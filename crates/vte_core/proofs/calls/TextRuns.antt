@@ -13,6 +13,8 @@ use Rattle.vte_core.proofs.streams.StreamSteps.{reported_by_stream}
 
 -- ---- what a text gives, and a run
 
+-- The events of its characters, since no byte of a run is ESC (`reads-text`).
+
 reads-characters : {limit : Option ℕ} {text : List ℕ} → IsUtf8 text → All (λ b. b ≢ escape) text
     → BytesLead limit (InText []) text (map character_event (chars text)) (InText [])
 unfolding outcome_from
@@ -67,9 +69,8 @@ reads-text {limit} {layout} {run} are =
     subst (λ es. BytesLead limit (InText []) run es (InText [])) (plain-events layout (chars run) are.plain)
     (reads-characters are.utf8 (no_escape-run layout run are))
 
--- ---- what it does
+-- ---- a run of one byte of ASCII
 
--- a run of one byte of ASCII
 pub prints-one : {V : Type 0} {layout : Bool} {step : V → Event → V} {old new : V} {bytes : List ℕ} {from b c : ℕ}
     → from < length bytes → b ≡ slice_index bytes from → IsPrintedAscii b → c ≡ b
     → new ≡ step old (Print c) → PrintsRun layout step old new bytes from (from + 1)
@@ -83,6 +84,8 @@ prints-one {layout} {step} {old} {bytes} {from}
     }
 
 -- ---- a performer that no character stops
+
+-- A call may stop before each character of a run; such a performer goes on past all (`advances-text`).
 
 module _ {V : Type 0} (layout : Bool) (call : ChunkCall V)
     (never : NoCharacterStops layout call.step call.is_terminated) where

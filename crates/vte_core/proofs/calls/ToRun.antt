@@ -31,7 +31,7 @@ pub outside-text_and_data : (state : State) → ((unfinished : Unfinished) → s
     → IsOutsideTextAndData state
 outside-text_and_data state no_text no_data = search (rules, arith)
 
--- ---- a text
+-- ---- a run of text leads from between characters back there
 
 pub settled-text : {state : State} {unfinished : Unfinished} → state ≡ Text unfinished → IsSettled state
     → state ≡ Text Nothing
@@ -57,7 +57,7 @@ has-text {limit} {bytes} {from} {end} {parser} between low high are ended =
     (reads-text are)
     (record { in_order = omega (arith, low); within = high }) are (low, ended)
 
--- ---- data
+-- ---- a run of data leads from the data of a hooked string back there
 
 data-by_place : {B : Type 0} (limit : Option ℕ) (parser : Machine B) (place : Place)
     → IsPlaceOfState limit DeviceData parser place
@@ -97,7 +97,7 @@ pub reads-anew : {B : Type 0} {limit : Option ℕ} {stream : List ℕ} (parser :
     → HasReadWithLimit limit parser stream → HasReadWithLimit limit parser []
 reads-anew {limit} parser begun h = search (rules, arith, place-settled_text, after-nothing)
 
--- ---- where a call comes
+-- ---- a call comes to a run, or ends without one
 
 module _ {V B : Type 0} {call : ChunkCall V} {old new : V} {place : RunRange} {before parser : Machine B} where
   -- the call comes to a run

@@ -1,5 +1,6 @@
 -- The well-formed sequences are the encodings of characters, as the standard library has them: by the number of bytes,
--- with division and remainder by 64 on both sides.
+-- with division and remainder by 64 on both sides. So the library's texts are those without malformed segments, and a
+-- character that is no control is a run.
 use Rattle.vte_core.proofs.Common.{map, ◌≡◌, ℕ, ◌+◌, ◌-◌, ◌<◌, ◌≤◌, true, List, [], ◌∷◌, ◌++◌, refl, sym, ap, ◌∙◌, arith, ◌≢◌, inl, inr, append_assoc, scalar, scalars, encode, encodes, concat, IsScalar, InScalarRange, false≢true, and_parts, ne_eqb, nat_tests, All-head, All-tail, report, cut_at_escape, escape, character_event, text_outcome, is_in, is_well_formed, scalar_of, segments, second_range, IsUtf8, chars, suc, Bool, false, length, take, drop, get_or, subst, and_from, cases_eq, append-nil, drop_more, All-nil, All-cons, All, slice_index, is_control_character, StaysInRun, from_to, IsUtf8Run, IsRun, rules}
 use Rattle.std.proofs.lemmas.Str.{encode_ascii, encodes-chars, scalars-chars, IsUtf8-encode, IsUtf8-append, IsUtf8-nil, chars-encodes}
 use Rattle.vte_core.proofs.dividing.Division.{all_divided}
@@ -54,7 +55,7 @@ pub scalar_of-encoded : (c : ℕ) → IsScalar c → scalar_of (encode c) ≡ c
 unfolding encode
 scalar_of-encoded c is = search (rules, arith)
 
--- ---- whole texts
+-- ---- the segments of a UTF-8 text are the encodings of its characters
 
 segments-well_formed : (p x : List ℕ) → is_well_formed p ≡ true → segments (p ++ x) ≡ p ∷ segments x
 segments-well_formed [] x well = absurd (false≢true (sym not_well_formed-nothing ∙ well))

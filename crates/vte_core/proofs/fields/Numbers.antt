@@ -1,4 +1,5 @@
--- How one byte more changes the numbers of a parameter text, and how lengths cut numbers into groups.
+-- How lengths cut numbers into groups, also with a number more (`pushed`), and how a byte more changes the numbers of a
+-- parameter text.
 use Rattle.vte_core.proofs.Common.{◌≡◌, ℕ, suc, ◌+◌, ◌<◌, ◌≤◌, Bool, true, false, List, [], ◌∷◌, ◌++◌, length, take, drop, sum, Option, Some, None, refl, sym, ap, subst, ◌∙◌, arith, length-drop, length-append, get_or, All, take_all, take_more, take-append-le, drop-append-le, append-nil, take-append-drop, All-nil, drop_all, All-cons, All-head, All-tail, All-push, All-pop, All-take, All-drop, sum_by-cons, sum_by_push, sum_by-take-le, Number, with_number, count_of, greatest_number, most_numbers, AreGroups, ◌-◌, ◌*◌, min, map, inl, inr, append_assoc, length-take, fold, filter, slice_split, digit_value, cases_Bool, nat_tests, fold_push, numbers, numbers_of, number_of, is_colon, is_separator, numbers_from, grouped, groups_of, rules}
 use Rattle.std.proofs.lemmas.List.{length-take-le}
 use Rattle.std.specs.Option.{unwrap_or}
@@ -6,7 +7,7 @@ use Rattle.vte_core.specs.machine.Store.{cut_by_lengths, AreLengths, AreFlatGrou
 use Rattle.std.proofs.lemmas.Int.Digits.{digits_value_push}
 use Rattle.std.proofs.lemmas.List.Splits.{slice_split_at, slice_split_none}
 
--- ---- groups
+-- ---- groups cut by lengths
 
 -- By induction over the lengths, which together are as many as the numbers.
 
@@ -86,6 +87,8 @@ AreGroups-cut_by_lengths lengths numbers ok at_most =
     search (rules, arith, count_of-cut_by_lengths, small-cut_by_lengths, filled-cut_by_lengths)
 
 -- ---- a number more
+
+-- It begins a group, or joins the last one, whose length grows; the groups before it stay.
 
 pub with_number-begins : (groups : List (List ℕ)) (value : ℕ)
     → with_number groups (numbered false value) ≡ groups ++ (value ∷ []) ∷ []
@@ -204,6 +207,8 @@ filled_take_more xs i some all first =
 
 -- ---- the numbers of a text, from its prefix
 
+-- Cutting at separators is reading byte by byte, with the digits since the last separator carried along.
+
 abbrev pub IsNoSeparator : ℕ → Type 0
 IsNoSeparator b = is_separator b ≡ false
 
@@ -227,7 +232,7 @@ pub numbers_are : (text : List ℕ) → numbers text ≡ numbers_from false [] t
 unfolding numbers
 numbers_are text = split_numbers false [] text (All-nil IsNoSeparator)
 
--- ---- the numbers of a longer text
+-- ---- one more digit, and how large a number gets
 
 pub is_digit_no_separator : (d : ℕ) → 48 ≤ d → d < 58 → IsNoSeparator d
 is_digit_no_separator d low high = grind (arith, nat_tests)
@@ -259,7 +264,9 @@ numbers_from-small joined digits (b ∷ text) =
 numbers_small : (text : List ℕ) → (0 < length (numbers text)) × All IsSmall (numbers text)
 numbers_small text = rw (numbers_are text) (numbers_from-small false [] text)
 
--- ---- groups
+-- ---- the groups of a parameter text
+
+-- Number by number, what holds of every group is kept (`Keeps`).
 
 pub grouped-push : (ns : List Number) (n : Number) → grouped (ns ++ n ∷ []) ≡ with_number (grouped ns) n
 grouped-push ns n = fold_push with_number [] ns n

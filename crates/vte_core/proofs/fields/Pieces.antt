@@ -47,7 +47,7 @@ pub cut_at_ends : (text : List ℕ)
     → slice_split (λ b. b == semicolon) text ≡ cut_data 0 (filter is_data_item text) (ends_after 0 text)
 cut_at_ends text = sym (cut_onto [] [] text (λ k d lt. absurd (omega arith)))
 
--- ---- how many there are
+-- ---- how many pieces there are, and how many bytes they have
 
 length_cut_data : (start : ℕ) (bytes ends : List ℕ) → length (cut_data start bytes ends) ≡ length ends + 1
 length_cut_data start bytes [] = refl

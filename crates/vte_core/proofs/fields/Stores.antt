@@ -132,7 +132,9 @@ length-fitting : (limit : Option ℕ) (count : ℕ) (run : List ℕ) → length 
 length-fitting None count run = omega arith
 length-fitting (Some limit) count run = omega (arith, length-take (limit - count) run)
 
--- ---- a store
+-- ---- what a store holds after more items (`HoldsItems`)
+
+-- Data bytes join the last piece as far as there is room, and `;` ends it. After 16 ends no item counts.
 
 pub keeps-nothing : (limit : Option ℕ) (held : Stored) → held.bytes ≡ [] → held.ends ≡ [] → held.lost ≡ false
     → HoldsItems limit held []

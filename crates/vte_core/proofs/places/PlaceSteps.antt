@@ -209,7 +209,7 @@ step-command {items} {b} {k} is no_end =
     step-in_command (no_escape-class b is no_end) (command-item (omega arith))
     (λ none. rw none (pieces_push items b))
 
--- ---- any place
+-- ---- any place: by ESC, CAN and SUB, or the lemma of its shape
 
 step-ordinary : (limit : Option ℕ) (place : Place) (b : ℕ) (k : Class) → IsPlace place → class_of b ≡ k
     → ends_body k ≡ false

@@ -1,5 +1,5 @@
--- What one byte does in a text, whatever it is, by whether it ends, continues or breaks the open character; and what
--- CAN and SUB do at all places.
+-- What a byte does in its part, it does in the stream (`reads-byte`), and ESC closes the part (`reads-escape`). Then a
+-- byte in a text, by whether it ends, continues or breaks the open character, and CAN and SUB at all places.
 use Rattle.vte_core.proofs.Common.{◌≡◌, ℕ, false, eqb, Option, List, [], ◌∷◌, ◌++◌, refl, ap, sym, ◌∙◌, append_assoc, arith, nat_tests, Cancel, class_of, ends_body, Event, Leads, BytesLead, report, Place, InText, AtEscape, closing_events_at, rest_outcome, outcome_from, events_from, cut_at_escape, with_bodies, outcome, events, escape, ◌⊎◌, inl, inr, true, cases_Bool, false≢true, AreFromOneByte, IsAtMostOneShort, IsOutsideRuns, is_device_data, Print, ◌≤◌, ◌+◌, None, FitsStore, ToClose, CommandToClose, open_data_count, left_at, replacement, InDeviceData, breaks, open_at, may_continue, is_truncated, is_well_formed, ◌<◌, Execute, InSystemCommand, bell, text_outcome, character_event, is_control_character, append-nil, body_outcome, control_sequence_end, device_data_outcome, device_control_after_head, executed_events, rules}
 use Rattle.vte_core.proofs.Shapes.{report-append, with_bodies-report, text_outcome-broken, breaks-broken, text_outcome-well_formed}
 use Rattle.vte_core.proofs.fields.PlaceOfState.{IsPlace, rest_outcome-nothing, may_continue-truncated}
@@ -199,9 +199,9 @@ pub step-text : (limit : Option ℕ) (begun : List ℕ) (byte : ℕ) → eqb byt
     → Steps limit (InText begun) byte
 step-text limit begun byte other begun0 = search (rules, arith, step-settled, step-by_tests, step-broken)
 
--- They end what is open and are executed: what is closed comes first. By cases of the place.
-
 -- ---- CAN and SUB
+
+-- They end what is open and are executed: what is closed comes first. By cases of the place.
 
 no_bell : (b : ℕ) → class_of b ≡ Cancel → eqb b bell ≡ false
 unfolding class_of
@@ -230,7 +230,7 @@ byte-cancels {place = InText (a ∷ u)} {b} is e =
 byte-cancels {place = InSystemCommand items} {b} is e = record { leads = λ rest. simp (e, no_bell b e, append-nil) }
 byte-cancels is e = record { leads = λ rest. simp e }
 
--- ---- both are little
+-- ---- what ESC, CAN and SUB report is no more than one byte may
 
 pub closing_brief : (limit size : Option ℕ) (place : Place) (b : ℕ) → FitsLeft size (left_at limit place) → b < 0x20
     → AreFromOneByte size (closing_events_at limit place ++ Execute b ∷ [])

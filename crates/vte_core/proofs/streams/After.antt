@@ -124,7 +124,7 @@ pub open_at_end-any : (limit : Option ℕ) (stream : List ℕ)
 unfolding open_at_end
 open_at_end-any limit stream = view-any kind_to_close (λ _ _ _ _. refl) limit stream
 
--- ---- further bytes
+-- ---- what further bytes add, from the place after the stream
 
 pub added-nothing : (limit : Option ℕ) (stream : List ℕ) → added limit stream [] ≡ []
 added-nothing limit stream = search (rules, arith, append-nil, drop_all)

@@ -17,7 +17,7 @@ use Rattle.vte_core.proofs.fields.PlaceOfState.{IsPlace}
 use Rattle.vte_core.proofs.streams.After.{after-open_character}
 use Rattle.vte_core.proofs.streams.StreamSteps.{leads_to}
 
--- ---- the last bytes
+-- ---- some bytes are the last of others (`Ends`)
 
 record Ends (whole last : List ℕ) : Type 0 where
   pub prefix : List ℕ
@@ -48,7 +48,7 @@ ends-from_first passes (b ∷ bytes) = elim (cases_Bool (passes b)) [
   | inr not ↦ rw not (ends-after (b ∷ []) (ends-from_first passes bytes))
 ]
 
--- ---- the open character of each part
+-- ---- the open character of each part is its last bytes
 
 abbrev EndsOpen : List ℕ → Outcome → Type 0
 EndsOpen bytes o = Ends bytes (open_bytes o.left)
@@ -138,7 +138,7 @@ ends-body limit body =
     ends-then (ends-from_first (λ b. is_key (class_of b)) body)
     (ends-body_rest limit (from_first (λ b. is_key (class_of b)) body))
 
--- ---- the parts of a stream
+-- ---- so it is of a stream, whose parts are joined by ESC
 
 abbrev joined : List (List ℕ) → List ℕ
 joined [] = []
@@ -183,7 +183,7 @@ opens-escape : (stream more : List ℕ) → open_at_end (stream ++ escape ∷ mo
 unfolding open_at_end outcome
 opens-escape stream more = search (rules, arith, cut-append, left-last)
 
--- ---- a text
+-- ---- without an ESC nothing is open, or a character
 
 kind-segments : (parts : List (List ℕ))
     → (kind_to_close (segments_outcome parts).left ≡ kind.Nothing)
@@ -201,7 +201,7 @@ opens-text text none =
     ∙ ap (λ u. record { text = u; bodies = [] }) (append-nil text) in
     rw cut (kind-segments (segments text))
 
--- ---- the law
+-- ---- an open character has at most three bytes, and the law
 
 at_most-at : (place : Place) → IsPlace place → length (open_at place) ≤ 3
 at_most-at place is = search (rules, arith, truncated-long)

@@ -86,7 +86,7 @@ leads_to {limit} {stream} =
       bounded = rw (reported_by_stream a.is_place a.reads) a.bounded;
     }
 
--- ---- the laws
+-- ---- the laws: events only grow, and a stream begins anew at ESC and after CAN and SUB
 
 pub events_grow : (limit : Option ℕ) → Grows limit
 events_grow limit stream more =

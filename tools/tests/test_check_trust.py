@@ -7,7 +7,7 @@ from tests.support import Tool, write
 
 CORE, CARGO = "crates/vte_core/src/", "rust/vte/src/proved/vte_core/"
 # what `reader` of vte_core has, and what is refused there
-TEXT = "fn text() { unsafe { g() } }"
+ONE, TEXT = "1 text_between", "fn text_between() { unsafe { g() } }"
 MADE, USED, UNCOUNTED = (f":1: {it}" for it in (
     "other modules can make a reader", "the bytes of a call are used", "bytes are read uncounted"))
 
@@ -18,14 +18,14 @@ def stands(told, allowed):
 
 # a file, its text, and what is told of it
 @pytest.mark.parametrize("place, text, told", [
-    ("crates/x/src/lib.rt", f"{TEXT} // unsafe, as unsafe_code is", stands("1 text", "0")),
-    (f"old/{CORE}reader.rt", TEXT, stands("1 text", "0")), (f"{CORE}reader.rt", TEXT, ""),
-    (f"{CORE}reader.rt", "fn text() {} fn g() { unsafe { h() } }", stands("1 g", "1 text")),
-    (f"{CORE}reader.rt", "fn text() { unsafe { unsafe } }", stands("2 text", "1 text")),
-    (f"{CORE}reader.rt", "", stands("0", "1 text")),
-    # a call of `text` says why it is right, so `text` isn't safe to call
-    (f"{CARGO}reader.rs", "fn text() { unsafe {} } unsafe fn take_run() { unsafe { text() } }",
-     stands("3 text take_run", "4 text take_run")),
+    ("crates/x/src/lib.rt", f"{TEXT} // unsafe, as unsafe_code is", stands("1 text_between", "0")),
+    (f"old/{CORE}reader.rt", TEXT, stands("1 text_between", "0")), (f"{CORE}reader.rt", TEXT, ""),
+    (f"{CORE}reader.rt", "fn text_between() {} fn g() { unsafe { h() } }", stands("1 g", ONE)),
+    (f"{CORE}reader.rt", TEXT.replace("g()", "unsafe"), stands("2 text_between", ONE)),
+    (f"{CORE}reader.rt", "", stands("0", ONE)),
+    # a call of `text_between` says why it is right, so that one isn't safe to call
+    (f"{CARGO}reader.rs", f"{TEXT} unsafe fn take_run() {{ unsafe {{ f() }} }}",
+     stands("3 text_between take_run", "4 text_between take_run")),
     (f"{CARGO}reader/calls.rs", "fn advance_to_run() { take_run(bytes, range) }",
      stands("0", "1 advance_to_run")),
     ("a.rs", "unsafe #[unsafe(no_mangle)]\npub extern \"C\" fn f() {} unsafe impl T for U {} "
@@ -51,7 +51,7 @@ def stands(told, allowed):
         ("calls", "let run = take_run(bytes, range);", USED),
         ("calls", "    pub fn advance(&mut self, data: &[u8])", USED),
         ("run_end", "if input.bytes[at] == 0 {", UNCOUNTED),
-        ("run_blocks", "self.add(0);", UNCOUNTED),
+        ("run_blocks", "self.count_looks(0);", UNCOUNTED),
         ("run_end", "requires in { to ≤ length input.bytes.now }", ""))),
     *((place, f"{line[:most]}\n{line[:most]}y\n", f":2: a line of {most + 1} characters")
       for place, line, most in (

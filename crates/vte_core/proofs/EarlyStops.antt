@@ -4,7 +4,7 @@
 use Rattle.vte_core.proofs.Common.{ℕ, zero, suc, ◌+◌, ◌<◌, ◌≤◌, inl, inr, Option, List, [], ◌++◌, length, sym, subst, arith, AreFromOneByte, IsStart, reported_before, Event, ◌≡◌, add-one, ◌⊎◌, Bool, true, false, if◌then◌else◌, None, ◌∷◌, take, drop, get_or, refl, ap, ◌∙◌, append_assoc, drop-append_seam, cases_Bool, false≢true, append-nil, take_more, take-append-drop, IsAtMostOneShort, breaks, breaks_at, resumed_stream, Print, replacement, added, open_character, open_at, Place, IsAfter, rules}
 use Rattle.vte_core.specs.EarlyStopLaws.{ReportsUnit, ReportsUnits, GoesOnFromPositions, AreReportedAtStart}
 use Rattle.vte_core.proofs.streams.After.{added-nothing, after-open_character}
-use Rattle.vte_core.proofs.places.PlaceLeads.{tiny-both}
+use Rattle.vte_core.proofs.places.PlaceLeads.{one_short-append}
 use Rattle.vte_core.proofs.places.TextSteps.{text_at}
 use Rattle.vte_core.proofs.streams.Parts.{added-broken, resumes-after}
 use Rattle.vte_core.proofs.Shapes.{breaks_at-byte, breaks_at-settled, starts-settled, starts-broken}
@@ -68,8 +68,8 @@ pub added-append : (limit : Option ℕ) (stream prefix rest : List ℕ)
     → added limit stream (prefix ++ rest) ≡ added limit stream prefix ++ added limit (stream ++ prefix) rest
 added-append limit stream prefix rest = search (rules, arith, events_grow, append_assoc, drop-append_seam)
 
-tiny-replacement : IsAtMostOneShort (Print replacement ∷ [])
-tiny-replacement = (refl, refl)
+one_short-replacement : IsAtMostOneShort (Print replacement ∷ [])
+one_short-replacement = (refl, refl)
 
 -- the bytes after a prefix add what they add to its stream or, after a character that they break,
 -- to the empty one
@@ -105,12 +105,12 @@ record Added (limit : Option ℕ) (stream bytes : List ℕ) (i : ℕ) : Type 0 w
   unit : List Event
   parts : added limit stream (take i bytes) ≡ before ++ unit
   brief : AreFromOneByte limit unit
-  tiny : (open_character (stream ++ take i bytes) ≡ [] → ⊥) → IsAtMostOneShort unit
+  one_short : (open_character (stream ++ take i bytes) ≡ [] → ⊥) → IsAtMostOneShort unit
   begun : (before ≡ []) ⊎ AreReportedAtStart limit stream bytes i before
 
-tiny-opens : (limit : Option ℕ) (s : List ℕ) (b : ℕ) → (open_character (s ++ b ∷ []) ≡ [] → ⊥)
+one_short-opens : (limit : Option ℕ) (s : List ℕ) (b : ℕ) → (open_character (s ++ b ∷ []) ≡ [] → ⊥)
     → IsAtMostOneShort (added limit s (b ∷ []))
-tiny-opens limit s b some = search (rules, arith, opens_silently, tiny-replacement)
+one_short-opens limit s b some = search (rules, arith, opens_silently, one_short-replacement)
 
 none_or_some : (xs : List ℕ) → (xs ≡ []) ⊎ (xs ≡ [] → ⊥)
 none_or_some [] = inl refl
@@ -148,9 +148,10 @@ module _ (limit : Option ℕ) (stream bytes : List ℕ) (i : ℕ) (within : i < 
         parts =
             ap (added limit stream) one ∙ added_from limit stream (take i bytes) (b ∷ []) (breaks_at stream bytes i) is;
         brief = bytes_are_brief limit from b;
-        tiny =
+        one_short =
             λ some.
-            tiny-opens limit from b (λ e. some (joined ∙ ends_from here (b ∷ []) (breaks_at stream bytes i) is ∙ e));
+            one_short-opens limit from b
+            (λ e. some (joined ∙ ends_from here (b ∷ []) (breaks_at stream bytes i) is ∙ e));
         begun = inr (record { start = i; earlier = omega arith; starts = starts; events_are = refl });
       }
 
@@ -167,11 +168,11 @@ module _ (limit : Option ℕ) (stream bytes : List ℕ) (i : ℕ) (within : i < 
         parts =
             ap (added limit stream) one ∙ added-append limit stream (take i bytes) (b ∷ [])
             ∙ ap (λ (es : List Event). es ++ last) a.parts ∙ append_assoc a.before a.unit last;
-        brief = tiny-both limit a.unit last (a.tiny some) little.0;
-        tiny =
+        brief = one_short-append limit a.unit last (a.one_short some) little.0;
+        one_short =
             λ open_there. elim little.1 [
               | inl none ↦ absurd (open_there (joined ∙ none))
-              | inr nothing ↦ rw (nothing, append-nil) (a.tiny some)
+              | inr nothing ↦ rw (nothing, append-nil) (a.one_short some)
             ];
         begun = elim a.begun [
           | inl none ↦ inl none
@@ -200,7 +201,7 @@ added_to limit stream bytes zero within = record {
   unit = [];
   parts = added-nothing limit stream;
   brief = tt;
-  tiny = λ _. tt;
+  one_short = λ _. tt;
   begun = inl refl;
 }
 added_to limit stream bytes (suc i) within =
@@ -226,8 +227,8 @@ reports_units limit stream bytes i within = record {
     by_break : (t : Bool) → breaks_at stream bytes i ≡ t
         → AreFromOneByte limit (a.unit ++ (if t then Print replacement ∷ [] else []))
     by_break true e =
-        tiny-both limit a.unit (Print replacement ∷ [])
-        (a.tiny (λ none. false≢true (sym (breaks_at-settled stream bytes i none) ∙ e))) tiny-replacement
+        one_short-append limit a.unit (Print replacement ∷ [])
+        (a.one_short (λ none. false≢true (sym (breaks_at-settled stream bytes i none) ∙ e))) one_short-replacement
     by_break false e = rw append-nil a.brief
 
 -- ---- what is reported before a position, and then what follows adds, is what all bytes add

@@ -109,13 +109,13 @@ pub(crate) struct Input<'a> {
     bytes: &'a [u8],
 }
 
-/// Sixteen bytes (`last`), and those one, two and three places before each of them.
+/// Sixteen bytes (`current`), and those one, two and three places before each of them.
 #[derive(Drop)]
 pub(crate) struct Window {
-    pub(crate) third: [u8; 16],
-    pub(crate) second: [u8; 16],
-    pub(crate) first: [u8; 16],
-    pub(crate) last: [u8; 16],
+    pub(crate) three_back: [u8; 16],
+    pub(crate) two_back: [u8; 16],
+    pub(crate) one_back: [u8; 16],
+    pub(crate) current: [u8; 16],
 }
 
 // cargo: /// Returns the bytes up to a position.
@@ -157,8 +157,8 @@ impl<'a> Input<'a> {
 /// `may_follow` tests, may end inside a character: the search then goes back to where it began.
 #[inline(always)]
 #[allow(unsafe_code)]
-// cargo instead: pub(crate) unsafe fn text(bytes: &[u8], from: usize, to: usize) -> &str
-fn text(bytes: &[u8], from: usize, to: usize) -> &str
+// cargo instead: pub(crate) unsafe fn text_between(bytes: &[u8], from: usize, to: usize) -> &str
+fn text_between(bytes: &[u8], from: usize, to: usize) -> &str
     requires range { IsRange bytes.now from to }
     requires utf8 { IsUtf8 (take (to - from) (drop from bytes.now)) }
     ensures { result.now ≡ take (to - from) (drop from bytes.now) }
@@ -171,7 +171,7 @@ fn text(bytes: &[u8], from: usize, to: usize) -> &str
 
 /// Returns the data from one position to another.
 #[inline(always)]
-fn data(bytes: &[u8], from: usize, to: usize) -> &[u8]
+fn data_between(bytes: &[u8], from: usize, to: usize) -> &[u8]
     requires range { IsRange bytes.now from to }
     ensures { result.now ≡ take (to - from) (drop from bytes.now) }
 {
@@ -182,7 +182,7 @@ fn data(bytes: &[u8], from: usize, to: usize) -> &[u8]
 ///
 /// # Safety
 ///
-/// The bytes of a run of text must be whole characters, as [`text`] says.
+/// The bytes of a run of text must be whole characters, as [`text_between`] says.
 // cargo: #[allow(unsafe_code)]
 // cargo instead: unsafe fn take_run(bytes: &[u8], range: RunRange) -> Run<'_>
 fn take_run(bytes: &[u8], range: RunRange) -> Run<'_>
@@ -196,8 +196,8 @@ fn take_run(bytes: &[u8], range: RunRange) -> Run<'_>
 {
     let taken = match range.kind {
         // cargo: // SAFETY: this is what the caller promises.
-        RunKind::Text => Taken::Text(text(bytes, range.start, range.end)),
-        RunKind::Data => Taken::Data(data(bytes, range.start, range.end)),
+        RunKind::Text => Taken::Text(text_between(bytes, range.start, range.end)),
+        RunKind::Data => Taken::Data(data_between(bytes, range.start, range.end)),
         RunKind::Nothing => Taken::Nothing,
     };
     Run {
@@ -209,7 +209,7 @@ fn take_run(bytes: &[u8], range: RunRange) -> Run<'_>
 
 impl Reader {
     /// Only Rattle's contracts count.
-    fn add(&mut self, count: usize)
+    fn count_looks(&mut self, count: usize)
         ensures { looked self.new ≡ looked self.old + count }
     {
         // cargo instead: let _ = count;
@@ -224,7 +224,7 @@ impl Reader {
         ensures value { result ≡ slice_index input.entry.bytes.now index }
         ensures count { looked self.new ≡ looked self.old + 1 }
     {
-        self.add(1);
+        self.count_looks(1);
         input.bytes[index]
     }
 
@@ -238,7 +238,7 @@ impl Reader {
             × (looked self.new ≡ looked self.old + 1)) }
     {
         let byte = *input.bytes.get(index)?;
-        self.add(1);
+        self.count_looks(1);
         Some(byte)
     }
 
@@ -256,7 +256,7 @@ impl Reader {
             × (looked self.new ≡ looked self.old + N)) }
     {
         let block = *input.bytes[from..].first_chunk::<N>()?;
-        self.add(N);
+        self.count_looks(N);
         Some(block)
     }
 
@@ -271,12 +271,12 @@ impl Reader {
     {
         let bytes = input.bytes[from..].first_chunk::<19>()?;
         let window = Window {
-            third: *bytes.first_chunk::<16>()?,
-            second: *bytes[1..].first_chunk::<16>()?,
-            first: *bytes[2..].first_chunk::<16>()?,
-            last: *bytes[3..].first_chunk::<16>()?,
+            three_back: *bytes.first_chunk::<16>()?,
+            two_back: *bytes[1..].first_chunk::<16>()?,
+            one_back: *bytes[2..].first_chunk::<16>()?,
+            current: *bytes[3..].first_chunk::<16>()?,
         };
-        self.add(19);
+        self.count_looks(19);
         Some(window)
     }
 
@@ -338,7 +338,7 @@ impl Reader {
             (P.value_of performer.new) input.entry.bytes.now from to }
         ensures count { looked self.new + from ≡ looked self.old + to }
     {
-        performer.print_text(self, text(input.bytes, from, to));
+        performer.print_text(self, text_between(input.bytes, from, to));
     }
 
     /// Reports the data that stand from one position to another.
@@ -359,7 +359,7 @@ impl Reader {
             (map Put (take (to - from) (drop from input.entry.bytes.now))) }
         ensures count { looked self.new + from ≡ looked self.old + to }
     {
-        performer.put_slice(self, data(input.bytes, from, to));
+        performer.put_slice(self, data_between(input.bytes, from, to));
     }
 
     /// Appends the bytes from one position to another to an array that has room for them.
@@ -376,7 +376,7 @@ impl Reader {
             ≡ array.old.items ++ take (to - from) (drop from input.entry.bytes.now) }
         ensures count { looked self.new + from ≡ looked self.old + to }
     {
-        self.add(to - from);
+        self.count_looks(to - from);
         array.try_extend_from_slice(&input.bytes[from..to])
     }
 }
@@ -398,7 +398,7 @@ impl Reader {
         ensures memory { vec_capacity vec.old ≤ vec_capacity vec.new }
         ensures count { looked self.new + from ≡ looked self.old + to }
     {
-        self.add(to - from);
+        self.count_looks(to - from);
         vec.extend_from_slice(&input.bytes[from..to])
     }
 }

@@ -16,9 +16,9 @@ READER = [
     ("input.up_to(", "up_to(input, "), ("input.bytes", "input"),
     # inlined by rustc before LLVM sees its caller, it would move a branch of the loop over text
     ("reader.report_text(performer, input, $$p);",
-     "performer.print_text(reader, unsafe { text(input, $p) });"),
+     "performer.print_text(reader, unsafe { text_between(input, $p) });"),
     ("take_run(bytes, range)", "unsafe { take_run(bytes, range) }"),
-    ("Taken::Text(text($$a))", "Taken::Text(unsafe { text($a) })"),
+    ("Taken::Text(text_between($$a))", "Taken::Text(unsafe { text_between($a) })"),
 ]
 
 # A performer or handler may be unsized: `dyn Perform` is one. Rattle has no unsized types.
@@ -40,7 +40,7 @@ VTE = Plan(
              "arrayvec::ArrayString": "crate::adapter::array_string::ArrayString",
              "memchr::memchr": "crate::prelude::memchr"},
     homes={"crate::prelude": "String Vec first_chunk", "crate::adapter::array_vec": "Element",
-           "crate::proved::vte_core::reader": "Reader text up_to"},
+           "crate::proved::vte_core::reader": "Reader text_between up_to"},
     rules=READER + ALLOCATORS + UNSIZED,
 )
 

@@ -2,10 +2,10 @@
 -- that has begun. Each step of the automaton keeps that.
 use Rattle.vte_core.proofs.Common.{List, [], ap, arith, get_or, length, refl, suc, ℕ, ◌++◌, ◌<◌, ◌∙◌, ◌∷◌, ◌≡◌, ◌≢◌, ◌≤◌, Range, from_to, inl, inr, subst, sym, true, and_parts, cases_Bool, cases_eq, cases_lt, false≢true, nat_tests, is_in, rows_after_byte, utf8_rows, second_range, IsPrintedAscii, IsUtf8Run, is_layout, add-one, append_assoc, cond, drop, length-drop, take, zero, ◌&&◌, ◌+◌, ◌-◌, take-add, append-nil, get_or-drop, take_more, slice_index, Bool, false, length-append, length-take, encodes, encode, All-cons, All-head, All-nil, All-tail, All, StaysInRun, rules}
 use Rattle.vte_core.proofs.bytes.Utf8.{continuation, fits, tests-row, tests-two}
-use Rattle.vte_core.specs.machine.Automaton.{AutomatonState, Between, One, Two, Three, AfterE0, AfterED, AfterF0, AfterF4, AfterC2, Failed, next_if_in, next_between, next_state, state_after}
-use Rattle.vte_core.proofs.bytes.Runs.{each-one, run-ascii, run-layout, printable-nil, printable-append}
+use Rattle.vte_core.specs.machine.Automaton.{AutomatonState, Between, NeedsOne, NeedsTwo, NeedsThree, AfterE0, AfterED, AfterF0, AfterF4, AfterC2, Failed, next_if_in, next_between, next_state, state_after}
+use Rattle.vte_core.proofs.bytes.Runs.{each-one, run-ascii, run-layout, utf8_run-nil, utf8_run-append}
 use Rattle.vte_core.proofs.bytes.Scalars.{in_range-bounds}
-use Rattle.vte_core.proofs.dividing.Utf8Agrees.{printable}
+use Rattle.vte_core.proofs.dividing.Utf8Agrees.{utf8_run-character}
 use Rattle.std.proofs.lemmas.List.{get_or-take, get_or-append-add}
 use Rattle.std.proofs.lemmas.Str.{encode_ascii, encodes-chars}
 use Rattle.vte_core.specs.machine.Scans.{Each}
@@ -18,9 +18,9 @@ use Rattle.vte_core.specs.machine.Scans.{Each}
 -- The ranges of the bytes that end the character.
 abbrev wanted_ranges : AutomatonState → List Range
 wanted_ranges Between = []
-wanted_ranges One = continuation ∷ []
-wanted_ranges Two = continuation ∷ continuation ∷ []
-wanted_ranges Three = continuation ∷ continuation ∷ continuation ∷ []
+wanted_ranges NeedsOne = continuation ∷ []
+wanted_ranges NeedsTwo = continuation ∷ continuation ∷ []
+wanted_ranges NeedsThree = continuation ∷ continuation ∷ continuation ∷ []
 wanted_ranges AfterE0 = from_to 0xa0 0xbf ∷ continuation ∷ []
 wanted_ranges AfterED = from_to 0x80 0x9f ∷ continuation ∷ []
 wanted_ranges AfterF0 = from_to 0x90 0xbf ∷ continuation ∷ continuation ∷ []
@@ -49,13 +49,13 @@ pub data Phase (s : AutomatonState) : Type 0 where
 pub phase : (s : AutomatonState) → Phase s
 unfolding next_state
 phase Between = phase-between refl
-phase One = phase-waiting Between continuation (λ e. cc) (omega arith) refl (λ b. refl)
-phase Two = phase-waiting One continuation (λ e. cc) (omega arith) refl (λ b. refl)
-phase Three = phase-waiting Two continuation (λ e. cc) (omega arith) refl (λ b. refl)
-phase AfterE0 = phase-waiting One (from_to 0xa0 0xbf) (λ e. cc) (omega arith) refl (λ b. refl)
-phase AfterED = phase-waiting One (from_to 0x80 0x9f) (λ e. cc) (omega arith) refl (λ b. refl)
-phase AfterF0 = phase-waiting Two (from_to 0x90 0xbf) (λ e. cc) (omega arith) refl (λ b. refl)
-phase AfterF4 = phase-waiting Two (from_to 0x80 0x8f) (λ e. cc) (omega arith) refl (λ b. refl)
+phase NeedsOne = phase-waiting Between continuation (λ e. cc) (omega arith) refl (λ b. refl)
+phase NeedsTwo = phase-waiting NeedsOne continuation (λ e. cc) (omega arith) refl (λ b. refl)
+phase NeedsThree = phase-waiting NeedsTwo continuation (λ e. cc) (omega arith) refl (λ b. refl)
+phase AfterE0 = phase-waiting NeedsOne (from_to 0xa0 0xbf) (λ e. cc) (omega arith) refl (λ b. refl)
+phase AfterED = phase-waiting NeedsOne (from_to 0x80 0x9f) (λ e. cc) (omega arith) refl (λ b. refl)
+phase AfterF0 = phase-waiting NeedsTwo (from_to 0x90 0xbf) (λ e. cc) (omega arith) refl (λ b. refl)
+phase AfterF4 = phase-waiting NeedsTwo (from_to 0x80 0x8f) (λ e. cc) (omega arith) refl (λ b. refl)
 phase AfterC2 = phase-waiting Between (from_to 0xa0 0xbf) (λ e. cc) (omega arith) refl (λ b. refl)
 phase Failed = phase-failed refl
 
@@ -70,7 +70,7 @@ EndsCharacter b ranges = (u : List ℕ) → fits ranges u ≡ true → IsUtf8Run
 -- the row of Unicode's table that the byte has
 ends-row : (b : ℕ) {ranges : List Range} → 0xc3 ≤ b → rows_after_byte b utf8_rows ≡ ranges ∷ [] → EndsCharacter b ranges
 ends-row b {ranges} low same u fit =
-    printable (omega (arith, low)) (λ e. absurd (omega (arith, e, low)))
+    utf8_run-character (omega (arith, low)) (λ e. absurd (omega (arith, e, low)))
     ((tests-row b ranges same u).is_whole ∙ fit)
 
 -- ---- a first byte is printed, fails, or opens a character
@@ -90,7 +90,7 @@ unfolding second_range
 ends-after_c2 [] fit = absurd (false≢true fit)
 ends-after_c2 (c ∷ u) fit =
     let parts = and_parts (is_in (from_to 0xa0 0xbf) c) (fits [] u) fit in
-    printable (omega arith) (λ _. (in_range-bounds (from_to 0xa0 0xbf) c parts.0).0)
+    utf8_run-character (omega arith) (λ _. (in_range-bounds (from_to 0xa0 0xbf) c parts.0).0)
     ((tests-two 0xc2 (omega arith) (omega arith) (c ∷ u)).is_whole ∙ rw parts.1 (grind (arith, nat_tests)))
 
 pub begins : (b : ℕ) → Begins b
@@ -112,7 +112,7 @@ begins b =
           | inl c2 ↦ subst Begins (sym c2) (opens AfterC2 refl (λ e. cc) ends-after_c2)
           | inr past_c2 ↦ elim (cases_lt b 0xe0) [
             | inl short ↦
-                begins-opened b One (grind (arith, nat_tests)) (λ e. cc) (omega (arith, from_c2, past_c2))
+                begins-opened b NeedsOne (grind (arith, nat_tests)) (λ e. cc) (omega (arith, from_c2, past_c2))
                 (grind (arith, nat_tests))
             | inr from_e0 ↦ elim (cases_eq b 0xe0) [
               | inl e0 ↦ subst Begins (sym e0) (begins-opened 0xe0 AfterE0 refl (λ e. cc) (omega arith) refl)
@@ -121,7 +121,7 @@ begins b =
                   | inl ed ↦
                       subst Begins (sym ed) (begins-opened 0xed AfterED refl (λ e. cc) (omega arith) refl)
                   | inr other ↦
-                      begins-opened b Two (grind (arith, nat_tests)) (λ e. cc) (omega (arith, from_e0))
+                      begins-opened b NeedsTwo (grind (arith, nat_tests)) (λ e. cc) (omega (arith, from_e0))
                       (grind (arith, nat_tests))
                 ]
                 | inr from_f0 ↦ elim (cases_eq b 0xf0) [
@@ -129,7 +129,7 @@ begins b =
                       subst Begins (sym f0) (begins-opened 0xf0 AfterF0 refl (λ e. cc) (omega arith) refl)
                   | inr past_f0 ↦ elim (cases_lt b 0xf4) [
                     | inl long ↦
-                        begins-opened b Three (grind (arith, nat_tests)) (λ e. cc) (omega (arith, from_f0))
+                        begins-opened b NeedsThree (grind (arith, nat_tests)) (λ e. cc) (omega (arith, from_f0))
                         (grind (arith, nat_tests))
                     | inr from_f4 ↦ elim (cases_eq b 0xf4) [
                       | inl f4 ↦
@@ -151,7 +151,7 @@ begins b =
 pub record ReadSoFar (text : List ℕ) (at : ℕ) (s : AutomatonState) : Type 0 where
   pub end : ℕ
   pub before : end ≤ at
-  pub printable : IsUtf8Run true (take end text)
+  pub utf8_run : IsUtf8Run true (take end text)
   pub completes : (u : List ℕ) → fits (wanted_ranges s) u ≡ true → IsUtf8Run true (take (at - end) (drop end text) ++ u)
   pub settled : s ≡ Between → end ≡ at
 
@@ -163,12 +163,12 @@ so_far-printed : {text : List ℕ} {at : ℕ} → IsUtf8Run true (take at text) 
 so_far-printed {text} {at} printed = record {
   end = at;
   before = omega arith;
-  printable = printed;
+  utf8_run = printed;
   completes =
       λ u fit.
       rw (none-taken text at at refl)
       (elim u as (λ v. fits [] v ≡ true → IsUtf8Run true v) [
-        | [] ↦ λ _. printable-nil true
+        | [] ↦ λ _. utf8_run-nil true
         | c ∷ v ↦ λ f. absurd (false≢true f)
       ] fit);
   settled = λ _. refl;
@@ -198,7 +198,7 @@ module _ (text : List ℕ) (at : ℕ) (within : at < length text) (s : Automaton
       ∙ ap (λ x. take old.end text ++ x) taken-more in
       so_far-printed
       (subst (IsUtf8Run true) (sym joined)
-      (printable-append old.printable whole))
+      (utf8_run-append old.utf8_run whole))
 
   -- A character begins or goes on.
   so_far-goes_on : (t : AutomatonState) → t ≢ Between
@@ -207,7 +207,7 @@ module _ (text : List ℕ) (at : ℕ) (within : at < length text) (s : Automaton
   so_far-goes_on t not completes = record {
     end = old.end;
     before = omega (arith, old.before);
-    printable = old.printable;
+    utf8_run = old.utf8_run;
     completes = λ u fit. subst (λ x. IsUtf8Run true (x ++ u)) (sym taken-more) (completes u fit);
     settled = λ same. absurd (not same);
   }
@@ -276,7 +276,7 @@ so_far-further text at within old ok =
 
 pub so_far-all : (text : List ℕ) (at : ℕ) → at ≤ length text → state_after Between (take at text) ≢ Failed
     → ReadSoFar text at (state_after Between (take at text))
-so_far-all text zero within ok = so_far-printed (printable-nil true)
+so_far-all text zero within ok = so_far-printed (utf8_run-nil true)
 so_far-all text (suc at) within ok =
     let fine : state_after Between (take (at + 1) text) ≢ Failed = rw add-one ok in
     let old =

@@ -1,11 +1,11 @@
 -- What the last three bytes say of the automaton's state (`Trails`). Bytes that pass the tests of a block keep it
--- (`leads`, `leads-block`), so three bytes say where the last character ends (`run-before-open`).
+-- (`leads`, `trails-block`), so three bytes say where the last character ends (`run-before-open`).
 use Rattle.vte_core.proofs.Common.{Bool, List, arith, drop, false, inl, inr, length, length-drop, refl, subst, suc, sym, take, take-add, true, zero, ℕ, ◌+◌, ◌-◌, ◌<◌, ◌∙◌, ◌∷◌, [], ◌≡◌, ◌≢◌, ◌≤◌, ap, cases_Bool, cases_lt, get_or-drop, nat_tests, slice_index, Range, IsUtf8Run, is_in, from_to, is_layout, rules}
 use Rattle.vte_core.specs.machine.Scans.{Each, IsWindow}
 use Rattle.vte_core.proofs.bytes.Runs.{block-byte, each-both}
 use Rattle.vte_core.specs.declared.reader.Window.{Window}
 use Rattle.vte_core.proofs.automaton_states.Scanned.{so_far-all, state_after-next, state_after-append, next_state-failed, phase-between, phase-failed, phase-waiting, phase}
-use Rattle.vte_core.specs.machine.Automaton.{state_after, Follows, FollowsAt, IsPlain, open_count, AutomatonState, Between, One, Two, Three, AfterE0, AfterED, AfterF0, AfterF4, AfterC2, Failed, next_between, next_if_in, next_state, Trails}
+use Rattle.vte_core.specs.machine.Automaton.{state_after, Follows, FollowsAt, IsPlain, open_count, AutomatonState, Between, NeedsOne, NeedsTwo, NeedsThree, AfterE0, AfterED, AfterF0, AfterF4, AfterC2, Failed, next_between, next_if_in, next_state, Trails}
 
 -- The tests of a byte after three others.
 pub record Fits (third second first byte : ℕ) : Type 0 where
@@ -36,43 +36,43 @@ module _ (t s f b : ℕ) (fit : Fits t s f b) where
   pub leads : (state : AutomatonState) → Trails state t s f → Trails (next_state state b) s f b
   unfolding next_state
   leads Between old = first-byte old
-  leads One old =
+  leads NeedsOne old =
       let cont : is_in (from_to 0x80 0xbf) b ≡ true = elim (cases_Bool (is_in (from_to 0x80 0xbf) b)) [
         | inl is ↦ is
         | inr not ↦
             let none = fit.inside not in absurd (omega (arith, old.0 none.0 none.1, none.2))
       ] in
       more (from_to 0x80 0xbf) Between cont (grind (arith, nat_tests, cont), old.1, old.2)
-  leads Two old =
+  leads NeedsTwo old =
       let cont : is_in (from_to 0x80 0xbf) b ≡ true = elim (cases_Bool (is_in (from_to 0x80 0xbf) b)) [
         | inl is ↦ is
         | inr not ↦
             let none = fit.inside not in absurd (omega (arith, old.0 (omega (arith, none.0)), none.1))
       ] in
-      more (from_to 0x80 0xbf) One cont
+      more (from_to 0x80 0xbf) NeedsOne cont
       ((λ _ low. old.0 low), grind (arith, nat_tests, cont), old.1)
-  leads Three old =
+  leads NeedsThree old =
       let cont = continues (omega (arith, old)) in
-      more (from_to 0x80 0xbf) Two cont ((λ _. old), grind (arith, nat_tests, cont))
+      more (from_to 0x80 0xbf) NeedsTwo cont ((λ _. old), grind (arith, nat_tests, cont))
   leads AfterE0 old =
       let cont = continues (omega (arith, old)) in
       let low = fit.after_e0 old in
-      more (from_to 0xa0 0xbf) One (grind (arith, nat_tests, cont, low))
+      more (from_to 0xa0 0xbf) NeedsOne (grind (arith, nat_tests, cont, low))
       ((λ _ below. absurd (omega (arith, old, below))), grind (arith, nat_tests, cont), omega (arith, old))
   leads AfterED old =
       let cont = continues (omega (arith, old)) in
       let high = fit.after_ed old in
-      more (from_to 0x80 0x9f) One (grind (arith, nat_tests, cont, high))
+      more (from_to 0x80 0x9f) NeedsOne (grind (arith, nat_tests, cont, high))
       ((λ _ below. absurd (omega (arith, old, below))), grind (arith, nat_tests, cont), omega (arith, old))
   leads AfterF0 old =
       let cont = continues (omega (arith, old)) in
       let low = fit.after_f0 old in
-      more (from_to 0x90 0xbf) Two (grind (arith, nat_tests, cont, low))
+      more (from_to 0x90 0xbf) NeedsTwo (grind (arith, nat_tests, cont, low))
       ((λ _. omega (arith, old)), grind (arith, nat_tests, cont))
   leads AfterF4 old =
       let cont = continues (omega (arith, old)) in
       let high = fit.after_f4 old in
-      more (from_to 0x80 0x8f) Two (grind (arith, nat_tests, cont, high))
+      more (from_to 0x80 0x8f) NeedsTwo (grind (arith, nat_tests, cont, high))
       ((λ _. omega (arith, old)), grind (arith, nat_tests, cont))
   leads AfterC2 old =
       let cont = continues (omega (arith, old.0)) in
@@ -84,8 +84,8 @@ module _ (t s f b : ℕ) (fit : Fits t s f b) where
 -- ---- positions
 
 -- The bytes from one position up to another led to a state that the last three of them say.
-abbrev pub Leads : List ℕ → ℕ → ℕ → Type 0
-Leads bytes from at =
+abbrev pub TrailsAt : List ℕ → ℕ → ℕ → Type 0
+TrailsAt bytes from at =
     Trails (state_after Between (take (at - from) (drop from bytes))) (slice_index bytes (at - 3))
     (slice_index bytes (at - 2)) (slice_index bytes (at - 1))
 
@@ -94,11 +94,11 @@ state-next : (bytes : List ℕ) (from at : ℕ) → from ≤ at → at < length 
     ≡ next_state (state_after Between (take (at - from) (drop from bytes))) (slice_index bytes at)
 state-next bytes from at low within = search (rules, arith, get_or-drop, state_after-next, length-drop)
 
-leads-next : (layout : Bool) (bytes : List ℕ) (from at : ℕ) → from ≤ at → at < length bytes → Leads bytes from at
+trails-next : (layout : Bool) (bytes : List ℕ) (from at : ℕ) → from ≤ at → at < length bytes → TrailsAt bytes from at
     → Follows layout (slice_index bytes (at - 3)) (slice_index bytes (at - 2)) (slice_index bytes (at - 1))
     (slice_index bytes at)
-    → Leads bytes from (at + 1)
-leads-next layout bytes from at low within old fit = search (rules, arith, state-next)
+    → TrailsAt bytes from (at + 1)
+trails-next layout bytes from at low within old fit = search (rules, arith, state-next)
 
 module _ (layout : Bool) (bytes : List ℕ) (window : Window) (from at : ℕ) (early : 3 ≤ at) (low : from ≤ at)
     (is : IsWindow bytes (at - 3) window) (fit : (k : ℕ) → k < 16 → FollowsAt layout window k) where
@@ -110,18 +110,18 @@ module _ (layout : Bool) (bytes : List ℕ) (window : Window) (from at : ℕ) (e
       → Follows layout (slice_index bytes (at + k - 3)) (slice_index bytes (at + k - 2))
       (slice_index bytes (at + k - 1)) (slice_index bytes (at + k))
   follows-here k at_most =
-      let third = byte-at window.third (at - 3) k (at + k - 3) is.third at_most (omega (arith, early)) in
-      let second = byte-at window.second (at - 3 + 1) k (at + k - 2) is.second at_most (omega (arith, early)) in
-      let first = byte-at window.first (at - 3 + 2) k (at + k - 1) is.first at_most (omega (arith, early)) in
-      let byte = byte-at window.last (at - 3 + 3) k (at + k) is.last at_most (omega (arith, early)) in
+      let third = byte-at window.three_back (at - 3) k (at + k - 3) is.three_back at_most (omega (arith, early)) in
+      let second = byte-at window.two_back (at - 3 + 1) k (at + k - 2) is.two_back at_most (omega (arith, early)) in
+      let first = byte-at window.one_back (at - 3 + 2) k (at + k - 1) is.one_back at_most (omega (arith, early)) in
+      let byte = byte-at window.current (at - 3 + 3) k (at + k) is.current at_most (omega (arith, early)) in
       rw (sym third, sym second, sym first, sym byte) (fit k at_most)
 
-  pub leads-block : Leads bytes from at → (n : ℕ) → n ≤ 16 → Leads bytes from (at + n)
-  leads-block old zero at_most = subst (Leads bytes from) (let e : at ≡ at + 0 = omega arith in e) old
-  leads-block old (suc n) at_most =
-      subst (Leads bytes from) (let e : at + n + 1 ≡ at + suc n = omega arith in e)
-      (leads-next layout bytes from (at + n) (omega (arith, low)) (omega (arith, is.within, early, at_most))
-      (leads-block old n (omega (arith, at_most))) (follows-here n (omega (arith, at_most))))
+  pub trails-block : TrailsAt bytes from at → (n : ℕ) → n ≤ 16 → TrailsAt bytes from (at + n)
+  trails-block old zero at_most = subst (TrailsAt bytes from) (let e : at ≡ at + 0 = omega arith in e) old
+  trails-block old (suc n) at_most =
+      subst (TrailsAt bytes from) (let e : at + n + 1 ≡ at + suc n = omega arith in e)
+      (trails-next layout bytes from (at + n) (omega (arith, low)) (omega (arith, is.within, early, at_most))
+      (trails-block old n (omega (arith, at_most))) (follows-here n (omega (arith, at_most))))
 
   pub above-block : layout ≡ false → Each (λ byte. 0x20 ≤ byte) bytes from at
       → Each (λ byte. 0x20 ≤ byte) bytes from (at + 16)
@@ -141,8 +141,8 @@ record IsClosed (bytes : List ℕ) (from at : ℕ) : Type 0 where
   second : slice_index bytes (at - 2) < 0xe0
   third : slice_index bytes (at - 3) < 0xf0
 
-closed-leads : (bytes : List ℕ) (from at : ℕ) → IsClosed bytes from at → Leads bytes from at
-closed-leads bytes from at closed = search (rules, arith)
+closed-trails : (bytes : List ℕ) (from at : ℕ) → IsClosed bytes from at → TrailsAt bytes from at
+closed-trails bytes from at closed = search (rules, arith)
 
 closed-next : (bytes : List ℕ) (from at : ℕ) → from ≤ at → at < length bytes
     → IsClosed bytes from at → IsPlain (slice_index bytes at) → IsClosed bytes from (at + 1)
@@ -206,12 +206,12 @@ trails-between : (s : AutomatonState) (third second first : ℕ) → Trails s th
 trails-between s third second first trails f g t = search (rules, arith)
 
 -- Bytes of ASCII that no character is open before lead on.
-pub leads-ascii : (bytes : List ℕ) (from at to : ℕ) → from ≤ at → at ≤ to → to ≤ length bytes
-    → Leads bytes from at
+pub trails-ascii : (bytes : List ℕ) (from at to : ℕ) → from ≤ at → at ≤ to → to ≤ length bytes
+    → TrailsAt bytes from at
     → (at < to → open_count (slice_index bytes (at - 3)) (slice_index bytes (at - 2)) (slice_index bytes (at - 1)) ≡ 0)
-    → Each IsPlain bytes at to → Leads bytes from to
-leads-ascii bytes from at to low more within old closed plain = elim (cases_lt at to) [
-  | inr none ↦ subst (Leads bytes from) (let e : at ≡ to = omega (arith, more, none) in e) old
+    → Each IsPlain bytes at to → TrailsAt bytes from to
+trails-ascii bytes from at to low more within old closed plain = elim (cases_lt at to) [
+  | inr none ↦ subst (TrailsAt bytes from) (let e : at ≡ to = omega (arith, more, none) in e) old
   | inl some ↦
       let none = closed some in
       let first : slice_index bytes (at - 1) < 0xc0 = grind (arith, nat_tests, none) in
@@ -223,13 +223,13 @@ leads-ascii bytes from at to low more within old closed plain = elim (cases_lt a
         second = second;
         third = third;
       } in
-      subst (Leads bytes from) (let e : at + (to - at) ≡ to = omega (arith, more) in e)
-      (closed-leads bytes from (at + (to - at))
+      subst (TrailsAt bytes from) (let e : at + (to - at) ≡ to = omega (arith, more) in e)
+      (closed-trails bytes from (at + (to - at))
       (closed-further bytes from at to low within plain here (to - at) (omega (arith, more))))
 ]
 
 module _ (bytes : List ℕ) (from at : ℕ) (far : from + 3 ≤ at) (within : at ≤ length bytes)
-    (leads : Leads bytes from at) where
+    (leads : TrailsAt bytes from at) where
   abbrev text : List ℕ
   text = drop from bytes
 
@@ -239,7 +239,7 @@ module _ (bytes : List ℕ) (from at : ℕ) (far : from + 3 ≤ at) (within : at
       let s =
       so_far-all text (end - from) (omega (arith, length-drop from bytes, low, high, within))
       (subst (λ v. v ≢ Failed) (sym is) (λ e. cc)) in
-      subst (λ n. IsUtf8Run true (take n text)) (s.settled is) s.printable
+      subst (λ n. IsUtf8Run true (take n text)) (s.settled is) s.utf8_run
 
   run-before-lead : (end : ℕ) → from ≤ end → end < at → 0xc0 ≤ slice_index bytes end
       → IsUtf8Run true (take (end - from) text)

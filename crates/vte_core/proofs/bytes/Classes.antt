@@ -120,23 +120,24 @@ parameter_is_head k i = search (rules, arith)
 -- ---- the class that is left if others are excluded
 
 -- 30..3F
-pub left_dispatches : (k : Class) → is_head_byte k ≡ true → is_intermediate k ≡ false → dispatches_escape k ≡ true
-left_dispatches k i j = search (rules, arith)
+pub other_dispatches : (k : Class) → is_head_byte k ≡ true → is_intermediate k ≡ false → dispatches_escape k ≡ true
+other_dispatches k i j = search (rules, arith)
 
 -- after 20..7E, CAN, SUB, ESC and C0: DEL and 80..FF
-pub left_is_dropped : (k : Class) → is_head_byte k ≡ false → is_final k ≡ false → ends_body k ≡ false
+pub other_is_dropped : (k : Class) → is_head_byte k ≡ false → is_final k ≡ false → ends_body k ≡ false
     → is_plain_control k ≡ false
     → is_dropped k ≡ true
-left_is_dropped k i f e c = search (rules, arith)
+other_is_dropped k i f e c = search (rules, arith)
 
-pub left_of_intermediates : (k : Class) → is_intermediate k ≡ false → dispatches_escape k ≡ false → ends_body k ≡ false
+pub other_than_intermediate : (k : Class) → is_intermediate k ≡ false → dispatches_escape k ≡ false
+    → ends_body k ≡ false
     → is_plain_control k ≡ false → is_dropped k ≡ true
-left_of_intermediates k i d e c = search (rules, arith)
+other_than_intermediate k i d e c = search (rules, arith)
 
 -- the same with C0
-pub left_in_head : (k : Class) → is_head_byte k ≡ false → is_final k ≡ false → ends_body k ≡ false
+pub other_in_head : (k : Class) → is_head_byte k ≡ false → is_final k ≡ false → ends_body k ≡ false
     → is_dropped_in_head k ≡ true
-left_in_head k i f e = search (rules, arith)
+other_in_head k i f e = search (rules, arith)
 
 -- what ends no data of a device control string
 pub ends_no_data : (b : ℕ) → ends_body (class_of b) ≡ false → (b ≡ 0x9c → ⊥) → ends_device_data b ≡ false
@@ -147,7 +148,7 @@ unfolding class_of
 terminator_is_high is = rw is refl
 
 -- what is left of an operating system command
-pub left_is_control : (b : ℕ) → ends_body (class_of b) ≡ false → (IsCommandData b → ⊥) → (b ≡ 0x3b → ⊥)
+pub other_is_control : (b : ℕ) → ends_body (class_of b) ≡ false → (IsCommandData b → ⊥) → (b ≡ 0x3b → ⊥)
     → class_of b ≡ Control
 unfolding class_of
-left_is_control b e d n = grind (arith, nat_tests)
+other_is_control b e d n = grind (arith, nat_tests)

@@ -59,12 +59,6 @@ each-block holds bytes block from n m is at_most all k low high =
     (let p : from + (k - from) ≡ k = omega (arith, low) in p) in
     subst holds e (all (k - from) (omega arith) (omega (arith, low, high)))
 
--- ---- a list mapped by the identity is the list
-
-pub same-items : {xs ys : List ℕ} → map (λ x. x) xs ≡ ys → xs ≡ ys
-same-items {xs = []} e = e
-same-items {xs = x ∷ xs} e = ap (λ t. x ∷ t) (same-items refl) ∙ e
-
 -- ---- which characters stay in a run
 
 -- All but controls, and with `layout` HT, LF and CR too.
@@ -101,9 +95,9 @@ utf8_run-ascii {layout} {bytes} a stay =
       plain = subst (All (StaysInRun layout)) (sym (chars-IsAscii bytes a)) stay;
     }
 
-printable-ascii : (layout : Bool) (bytes : List ℕ) (n : ℕ) → ArePrintedAscii bytes 0 n
+utf8_run-printed : (layout : Bool) (bytes : List ℕ) (n : ℕ) → ArePrintedAscii bytes 0 n
     → IsUtf8Run layout (take n bytes)
-printable-ascii layout bytes n are =
+utf8_run-printed layout bytes n are =
     let printed : (k : ℕ) → k < length (take n bytes) → IsPrintedAscii (get_or (take n bytes) k 0) = λ k l.
     let below : k < n = omega (arith, l, length-take n bytes) in
     subst IsPrintedAscii (sym (get_or-take n bytes k 0 below)) (are k (omega arith) below) in
@@ -111,17 +105,17 @@ printable-ascii layout bytes n are =
     (IsAscii-from_reads (take n bytes) (length (take n bytes)) (omega arith) (λ k l. (printed k l).1))
     (All-from_get_or (StaysInRun layout) (take n bytes) 0 (λ k l. plain-stays layout _ (printed k l)))
 
-pub printable-nil : (layout : Bool) → IsUtf8Run layout []
-printable-nil layout =
+pub utf8_run-nil : (layout : Bool) → IsUtf8Run layout []
+utf8_run-nil layout =
     record {
       utf8 = IsUtf8-nil;
       plain =
           subst (All (StaysInRun layout)) (sym chars-nil) (All-nil (StaysInRun layout));
     }
 
-pub printable-append : {layout : Bool} {xs ys : List ℕ} → IsUtf8Run layout xs → IsUtf8Run layout ys
+pub utf8_run-append : {layout : Bool} {xs ys : List ℕ} → IsUtf8Run layout xs → IsUtf8Run layout ys
     → IsUtf8Run layout (xs ++ ys)
-printable-append {layout} {xs} {ys} a b = record {
+utf8_run-append {layout} {xs} {ys} a b = record {
   utf8 = IsUtf8-append xs ys a.utf8 b.utf8;
   plain =
       subst (All (StaysInRun layout)) (sym (chars-append xs ys a.utf8))
@@ -168,11 +162,11 @@ run-layout bytes from b within is layout =
 pub run-none : (layout : Bool) (bytes : List ℕ) (from : ℕ) → IsRun layout bytes from from
 run-none layout bytes from =
     subst (λ n. IsUtf8Run layout (take n (drop from bytes))) (let e : 0 ≡ from - from = omega arith in e)
-    (printable-nil layout)
+    (utf8_run-nil layout)
 
 pub run-ascii : (layout : Bool) (bytes : List ℕ) (from to : ℕ) → ArePrintedAscii bytes from to
     → IsRun layout bytes from to
-run-ascii layout bytes from to are = printable-ascii layout (drop from bytes) (to - from) (λ k low high.
+run-ascii layout bytes from to are = utf8_run-printed layout (drop from bytes) (to - from) (λ k low high.
     subst IsPrintedAscii (sym (get_or-drop from bytes k 0)) (are (from + k) (omega arith) (omega (arith, high))))
 
 pub run-append : (layout : Bool) (bytes : List ℕ) (i j k : ℕ) → i ≤ j → j ≤ k → IsRun layout bytes i j
@@ -184,7 +178,7 @@ run-append layout bytes i j k first second a b =
     ap (λ n. take n (drop i bytes)) (let e : k - i ≡ j - i + (k - j) = omega (arith, first, second) in e)
     ∙ take-add (j - i) (k - j) (drop i bytes) ∙ ap (λ x. take (j - i) (drop i bytes) ++ take (k - j) x) same in
     subst (IsUtf8Run layout) (sym whole)
-    (printable-append a b)
+    (utf8_run-append a b)
 
 -- ---- a search goes on where another ended
 

@@ -14,7 +14,7 @@ use Rattle.vte_core.proofs.streams.StreamSteps.{prints_no_ascii, prints_no_ascii
 
 -- ---- a performer that keeps all events
 
--- It stands where any performer does (`keeps-at`), and its value is what was reported (`reported-at`).
+-- It stands where any performer does (`kept-at`), and its value is what was reported (`reported-at`).
 
 abbrev pub keep : List Event → Event → List Event
 keep events event = events ++ event ∷ []
@@ -37,23 +37,24 @@ kept-is : {limit : Option ℕ} {stream bytes : List ℕ} {i : ℕ} {value given 
 kept-is {given} c = c.performed ∙ after-keep [] given
 
 module _ {V B : Type 0} {call : ChunkCall V} {old value : V} {stream : List ℕ} {i : ℕ} {parser : Machine B} where
-  pub keeps-at : IsAtPosition call old value stream i parser
+  pub kept-at : IsAtPosition call old value stream i parser
       → IsAtPosition (keeping call.limit call.bytes) [] (reported_before call.limit stream call.bytes i) stream i parser
-  keeps-at s = record { place = s.place; stands = s.stands; settled = s.settled; has_come = came-kept s.has_come }
+  kept-at s = record { place = s.place; stands = s.stands; settled = s.settled; progress = came-kept s.progress }
 
-  pub keeps-inside : IsInsidePosition call old value stream i parser
-      → IsInsidePosition (keeping call.limit call.bytes) [] (added call.limit stream (take i call.bytes)) stream i parser
-  keeps-inside s = record { place = s.place; stands = s.stands; has_come = came-kept s.has_come }
+  pub kept-inside : IsInsidePosition call old value stream i parser
+      → IsInsidePosition (keeping call.limit call.bytes) []
+      (added call.limit stream (take i call.bytes)) stream i parser
+  kept-inside s = record { place = s.place; stands = s.stands; progress = came-kept s.progress }
 
 pub reported-at : {B : Type 0} {value : List Event} {limit : Option ℕ} {stream bytes : List ℕ} {i : ℕ}
     {parser : Machine B} → IsAtPosition (keeping limit bytes) [] value stream i parser
     → value ≡ reported_before limit stream bytes i
-reported-at s = kept-is s.has_come
+reported-at s = kept-is s.progress
 
 pub added-inside : {B : Type 0} {value : List Event} {limit : Option ℕ} {stream bytes : List ℕ} {i : ℕ}
     {parser : Machine B} → IsInsidePosition (keeping limit bytes) [] value stream i parser
     → value ≡ added limit stream (take i bytes)
-added-inside s = kept-is s.has_come
+added-inside s = kept-is s.progress
 
 -- ---- what a state reads outside of text and data, it reads so at its place
 

@@ -1,17 +1,17 @@
--- A byte between characters: it is one (`performs-printed`), a control or malformed (`performs-single`), or the first
--- of one (`performs-opened`). What the code does is what `places/PlaceLeads` says of the byte, and the parser is at the
--- next place. A single byte reports nothing that a run would, after a stretch (`advances-single`).
+-- A byte between characters: it is one (`takes_bytes-printed`), a control or malformed (`takes_bytes-single`), or the
+-- first of one (`takes_bytes-opened`). What the code does is what `places/PlaceLeads` says of the byte, and the parser
+-- is at the next place. A single byte reports nothing that a run would, after a stretch (`advances-single`).
 use Rattle.vte_core.proofs.Common.{◌≡◌, ◌≢◌, ℕ, ◌+◌, ◌<◌, ◌≤◌, inl, inr, true, false, Option, List, [], ◌∷◌, length, refl, ap, sym, subst, ◌∙◌, arith, cases_lt, nat_tests, slice_index, Advances, Machine, Text, Nothing, Event, Print, IsAtPlace, TakesBytes, Place, InText, IsSettledPlace, Carries, escape, character_event, malformed_event, from_to, is_in, is_truncated, is_well_formed, Unfinished, IsOutsideRuns, AddsOutsideRuns, IsAfter, resumed_stream, BytesLead, All, ChunkCall, suc, drop, drop_more, take, HasNoRunAt, One, false≢true, rules}
 use Rattle.vte_core.specs.declared.utf8.Carried.TheVariants.{Unfinished as StillUnfinished}
 use Rattle.vte_core.proofs.bytes.Scalars.{begins_none, first_truncated}
 use Rattle.vte_core.proofs.bytes.Utf8.{ascii-alone}
 use Rattle.vte_core.proofs.fields.PlaceOfState.{stands-by}
 use Rattle.vte_core.proofs.calls.Progress.{settled-by, place-settled_text}
-use Rattle.vte_core.proofs.calls.Stretches.{advances-byte, advances-reporting, advances-then, not_escape, performs-begun, reads-byte_at}
+use Rattle.vte_core.proofs.calls.Stretches.{advances-byte, advances-reporting, advances-then, not_escape, takes_bytes-begun, reads-byte_at}
 use Rattle.vte_core.specs.machine.Prelude.{MayReadByte, Completes}
 use Rattle.vte_core.proofs.places.PlaceLeads.{text-lone, text-unfinished, text-whole}
 use Rattle.vte_core.proofs.streams.StreamSteps.{outside_runs-control}
-use Rattle.vte_core.proofs.calls.AddedEvents.{adds-reads, added-inside, adds-character, keep, keeps-at, keeping}
+use Rattle.vte_core.proofs.calls.AddedEvents.{adds-reads, added-inside, adds-character, keep, kept-at, keeping}
 use Rattle.vte_core.proofs.places.TextSteps.{reads-byte}
 use Rattle.vte_core.proofs.calls.Characters.{in_text}
 
@@ -21,11 +21,11 @@ character_event-printed b printed = grind (arith, nat_tests)
 
 module _ {V B : Type 0} {step : V → Event → V} {old new : V} {limit : Option ℕ} {b : ℕ} {parser : Machine B} where
   -- a byte that is a character
-  performs-whole : parser.state ≡ Text Nothing → b ≢ escape → is_well_formed (b ∷ []) ≡ true
+  takes_bytes-whole : parser.state ≡ Text Nothing → b ≢ escape → is_well_formed (b ∷ []) ≡ true
       → new ≡ step old (character_event b) → (place : Place) → IsAtPlace limit parser place → IsSettledPlace place
       → TakesBytes step old new limit place (b ∷ []) parser
-  performs-whole e n whole performed =
-      performs-begun e n
+  takes_bytes-whole e n whole performed =
+      takes_bytes-begun e n
       (λ s. record {
         reported = character_event b ∷ [];
         next = InText [];
@@ -35,12 +35,12 @@ module _ {V B : Type 0} {step : V → Event → V} {old new : V} {limit : Option
       })
 
   -- a byte that begins none
-  performs-lone : parser.state ≡ Text Nothing → b ≢ escape
+  takes_bytes-lone : parser.state ≡ Text Nothing → b ≢ escape
       → is_well_formed (b ∷ []) ≡ false → is_truncated (b ∷ []) ≡ false → new ≡ step old (malformed_event (b ∷ []))
       → (place : Place) → IsAtPlace limit parser place → IsSettledPlace place
       → TakesBytes step old new limit place (b ∷ []) parser
-  performs-lone e n whole more performed =
-      performs-begun e n
+  takes_bytes-lone e n whole more performed =
+      takes_bytes-begun e n
       (λ s. record {
         reported = malformed_event (b ∷ []) ∷ [];
         next = InText [];
@@ -50,36 +50,36 @@ module _ {V B : Type 0} {step : V → Event → V} {old new : V} {limit : Option
       })
 
   -- a character of ASCII that is printed
-  pub performs-printed : {c : ℕ} → parser.state ≡ Text Nothing → is_in (from_to 0x20 0x7f) b ≡ true → c ≡ b
+  pub takes_bytes-printed : {c : ℕ} → parser.state ≡ Text Nothing → is_in (from_to 0x20 0x7f) b ≡ true → c ≡ b
       → new ≡ step old (Print c) → (place : Place) → IsAtPlace limit parser place → IsSettledPlace place
       → TakesBytes step old new limit place (b ∷ []) parser
-  performs-printed e printed same reported =
+  takes_bytes-printed e printed same reported =
       let low : 0x20 ≤ b = grind (arith, nat_tests) in
       let high : b < 0x80 = grind (arith, nat_tests) in
-      performs-whole e (λ escape. omega (arith, escape, low)) (ascii-alone b high).is_whole
+      takes_bytes-whole e (λ escape. omega (arith, escape, low)) (ascii-alone b high).is_whole
       (reported ∙ ap (λ x. step old (Print x)) same ∙ ap (step old) (sym (character_event-printed b printed)))
 
   -- a byte that is neither printed nor begins a longer one
-  pub performs-single : parser.state ≡ Text Nothing → b ≢ escape
+  pub takes_bytes-single : parser.state ≡ Text Nothing → b ≢ escape
       → is_in (from_to 0xc2 0xf4) b ≡ false → (b < 0x80 → new ≡ step old (character_event b))
       → (0x80 ≤ b → new ≡ step old (malformed_event (b ∷ []))) → (place : Place)
       → IsAtPlace limit parser place → IsSettledPlace place → TakesBytes step old new limit place (b ∷ []) parser
-  performs-single e n no_lead control malformed = elim (cases_lt b 0x80) [
-    | inl low ↦ performs-whole e n (ascii-alone b low).is_whole (control low)
+  takes_bytes-single e n no_lead control malformed = elim (cases_lt b 0x80) [
+    | inl low ↦ takes_bytes-whole e n (ascii-alone b low).is_whole (control low)
     | inr high ↦
-        let lone = begins_none b high no_lead in performs-lone e n lone.is_whole lone.is_open (malformed high)
+        let lone = begins_none b high no_lead in takes_bytes-lone e n lone.is_whole lone.is_open (malformed high)
   ]
 
 -- a byte that begins a longer one
-performs-opened : {V B : Type 0} {step : V → Event → V} {value : V} {limit : Option ℕ} {b : ℕ} {v : Unfinished}
+takes_bytes-opened : {V B : Type 0} {step : V → Event → V} {value : V} {limit : Option ℕ} {b : ℕ} {v : Unfinished}
     {parser next : Machine B} → parser.state ≡ Text Nothing
     → b ≢ escape → Carries [] b (StillUnfinished v) → next.state ≡ Text v → (place : Place)
     → IsAtPlace limit parser place
     → IsSettledPlace place
     → TakesBytes step value value limit place (b ∷ []) next
-performs-opened {limit} {b} {v} {next} e n carries state =
+takes_bytes-opened {limit} {b} {v} {next} e n carries state =
     let more : is_truncated (b ∷ []) ≡ true = rw carries.0 at carries.1 in
-    performs-begun e n
+    takes_bytes-begun e n
     (λ s. record {
       reported = [];
       next = InText (b ∷ []);
@@ -143,7 +143,7 @@ pub advances-single : {outside V B : Type 0} {call : ChunkCall V} {old mid new :
     → Advances outside call old new i (j + 1) parser next
 advances-single before r n other no_lead control malformed =
     advances-then before (advances-reporting
-    (advances-byte r.within r.looked_at r.may_go_on (performs-single r.begun n no_lead control malformed)
+    (advances-byte r.within r.looked_at r.may_go_on (takes_bytes-single r.begun n no_lead control malformed)
     (settled-by r.begun tt))
     (λ stream place s. adds-single _ r.begun n other no_lead r.within r.looked_at s))
 
@@ -161,16 +161,17 @@ advances-first {call} {i} {first} {parser} r lead fits completes = record {
   goes_on = λ value stream s.
       completes.stands_at value stream (in_text parser (One first)) refl
       (reads-byte_at r.within r.looked_at r.may_go_on
-      (performs-opened r.begun (λ e. omega (arith, e, lead)) (refl, first_truncated first lead fits) refl) s);
+      (takes_bytes-opened r.begun (λ e. omega (arith, e, lead)) (refl, first_truncated first lead fits) refl) s);
   settled = λ within. settled-by (completes.text within) tt;
   outside_runs = λ given value stream s.
       let inside =
       reads-byte_at r.within r.looked_at r.may_go_on
-      (performs-opened r.begun (λ e. omega (arith, e, lead)) (refl, first_truncated first lead fits) refl) s in
+      (takes_bytes-opened r.begun (λ e. omega (arith, e, lead)) (refl, first_truncated first lead fits) refl) s in
       let silent = reads-byte_at {call = keeping call.limit call.bytes} r.within r.looked_at
       (λ does. absurd (false≢true does))
-      (performs-opened {step = keep} r.begun (λ e. omega (arith, e, lead)) (refl, first_truncated first lead fits) refl)
-      (keeps-at s) in
+      (takes_bytes-opened {step = keep} r.begun (λ e. omega (arith, e, lead))
+      (refl, first_truncated first lead fits) refl)
+      (kept-at s) in
       let reported = completes.adds value stream (in_text parser (One first)) refl inside in
       adds-character reported (added-inside {parser = in_text parser (One first)} silent) (elim reported.events_are [
         | inl others ↦ others

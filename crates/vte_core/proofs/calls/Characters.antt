@@ -6,12 +6,12 @@ use Rattle.vte_core.proofs.fields.PlaceOfState.{may_continue-truncated, stands-b
 use Rattle.vte_core.proofs.places.PlaceLeads.{text-unfinished, text-whole}
 use Rattle.vte_core.proofs.streams.After.{carried_is_no_escape, after-open_character}
 use Rattle.vte_core.proofs.Shapes.{breaks-broken, breaks-unfinished, breaks-whole}
-use Rattle.vte_core.proofs.calls.Progress.{come-settled, come-broken, come-carried, inside-all, inside-moved}
+use Rattle.vte_core.proofs.calls.Progress.{progress-settled, progress-broken, progress-carried, inside-all, inside-moved}
 use Rattle.vte_core.proofs.places.TextSteps.{reads-byte}
 use Rattle.vte_core.proofs.bytes.Scalars.{second-open, third-open}
 use Rattle.vte_core.specs.machine.Progress.{Completes}
 use Rattle.vte_core.proofs.streams.StreamSteps.{length-longer}
-use Rattle.vte_core.proofs.calls.AddedEvents.{added-inside, keeps-inside, reported-at, keeping}
+use Rattle.vte_core.proofs.calls.AddedEvents.{added-inside, kept-inside, reported-at, keeping}
 use Rattle.std.proofs.lemmas.List.{drop-drop}
 
 -- ---- a byte
@@ -63,13 +63,13 @@ module _ {V B : Type 0} {call : ChunkCall V} {old mid : V} {stream : List ℕ} w
         stands =
             stands-in_text state carries.0
             (may_continue-truncated (bytes_of u ++ b ∷ []) more);
-        has_come =
-            come-carried {these = []} t.begun within is (truncated-some (bytes_of u) opened)
+        progress =
+            progress-carried {these = []} t.begun within is (truncated-some (bytes_of u) opened)
             (breaks-unfinished (bytes_of u) b more)
             (reads-byte
             (carried_is_no_escape (bytes_of u) b opened (inr more))
             text-unfinished) refl (may_continue-truncated (bytes_of u ++ b ∷ []) more)
-            (subst (ProgressInside call old mid stream i) t.same s.has_come);
+            (subst (ProgressInside call old mid stream i) t.same s.progress);
       }
 
   -- a byte that ends it
@@ -81,20 +81,20 @@ module _ {V B : Type 0} {call : ChunkCall V} {old mid : V} {stream : List ℕ} w
       {next} e opened carries state performed s within is later =
       let t = text-by_place call.limit parser (stands-in e s.stands) in
       let c =
-      come-carried {new = new} {next = InText []}
+      progress-carried {new = new} {next = InText []}
       {these = character_event (scalar_of (bytes_of u ++ b ∷ [])) ∷ []} t.begun within is
       (truncated-some (bytes_of u) opened)
       (breaks-whole (bytes_of u) b carries.0)
       (reads-byte
       (carried_is_no_escape (bytes_of u) b opened (inl carries.0)) (text-whole carries.0))
       (performed ∙ ap (λ n. call.step mid (character_event n)) carries.1) refl
-      (subst (ProgressInside call old mid stream i) t.same s.has_come) in
+      (subst (ProgressInside call old mid stream i) t.same s.progress) in
       subst (λ n. IsAtPosition call old new stream n next) (sym later)
       (record {
         place = InText [];
         stands = stands-in_text state refl refl;
         settled = λ _. refl;
-        has_come = come-settled refl refl c;
+        progress = progress-settled refl refl c;
       })
 
   -- a byte that breaks it
@@ -108,8 +108,8 @@ module _ {V B : Type 0} {call : ChunkCall V} {old mid : V} {stream : List ℕ} w
         place = InText [];
         stands = stands-in_text state refl refl;
         settled = λ _. refl;
-        has_come = come-broken t.begun within is (breaks-broken (bytes_of u) b opened carries.0 carries.1) performed
-            (subst (ProgressInside call old mid stream i) t.same s.has_come);
+        progress = progress-broken t.begun within is (breaks-broken (bytes_of u) b opened carries.0 carries.1) performed
+            (subst (ProgressInside call old mid stream i) t.same s.progress);
       }
 
 -- what is open in a text
@@ -142,7 +142,8 @@ pub record GoesOn {V B : Type 0} (call : ChunkCall V) (value : V) (i j : ℕ) (b
       → IsInsidePosition call old value stream i parser → IsInsidePosition call old value stream j (in_text next u)
   -- the same for a performer that keeps all events
   pub kept : (stream : List ℕ) (parser : Machine B) → parser.state ≡ Text begun
-      → IsInsidePosition (keeping call.limit call.bytes) [] (added call.limit stream (take i call.bytes)) stream i parser
+      → IsInsidePosition (keeping call.limit call.bytes) []
+      (added call.limit stream (take i call.bytes)) stream i parser
       → IsInsidePosition (keeping call.limit call.bytes) [] (added call.limit stream (take i call.bytes)) stream j
       (in_text next u)
   pub more : may_continue (bytes_of begun) ≡ true → is_truncated (bytes_of u) ≡ true
@@ -179,7 +180,7 @@ module _ {V B : Type 0} {call : ChunkCall V} {value : V} {i : ℕ} {begun : Unfi
     adds = λ old stream parser e s. record {
       events = [];
       parts =
-          sym (reported-at (inside-all (inside-moved end (goes.kept stream parser e (keeps-inside s))) all))
+          sym (reported-at (inside-all (inside-moved end (goes.kept stream parser e (kept-inside s))) all))
           ∙ sym (append-nil (added call.limit stream (take i call.bytes)));
       events_are = inl (All-nil IsOutsideRuns);
     };
@@ -204,7 +205,7 @@ module _ {V B : Type 0} {call : ChunkCall V} {value : V} {i : ℕ} {begun : Unfi
           parts =
               sym (reported-at
               (carried-whole {next = next} refl more whole state refl
-              (goes.kept stream parser e (keeps-inside s)) within is later));
+              (goes.kept stream parser e (kept-inside s)) within is later));
           events_are = inr (record {
             n = goes.n + 1;
             far = omega (arith, goes.far, within);
@@ -231,7 +232,7 @@ module _ {V B : Type 0} {call : ChunkCall V} {value : V} {i : ℕ} {begun : Unfi
           parts =
               sym (reported-at
               (carried-broken {next = next} refl more (carries more) state refl
-              (goes.kept stream parser e (keeps-inside s)) within is));
+              (goes.kept stream parser e (kept-inside s)) within is));
           events_are = inl (All-cons IsOutsideRuns (Print replacement) [] refl (All-nil IsOutsideRuns));
         };
   }
@@ -247,7 +248,7 @@ module _ {V B : Type 0} {call : ChunkCall V} {value : V} {i : ℕ} {begun : Unfi
     adds = λ old stream begun_parser e s.
         let opened = inside-open e s in
         let reported = c.adds old stream (in_text parser u) refl (goes.inside old stream begun_parser e s) in
-        let silent = added-inside (goes.kept stream begun_parser e (keeps-inside s)) in
+        let silent = added-inside (goes.kept stream begun_parser e (kept-inside s)) in
         record {
           events = reported.events;
           parts = reported.parts ∙ ap (λ (es : List Event). es ++ reported.events) (sym silent);

@@ -64,7 +64,7 @@ module _ {A V : Type 0} {step : V → Event → V} {old new : V} {bytes : List �
     within = refuses.within;
     passes =
         λ stream h. record {
-          performed = (refuses-inside refuses stream h).has_come.performed;
+          performed = (refuses-inside refuses stream h).progress.performed;
           earlier = earlier stream h;
         };
     not_stopped = not_stopped;
@@ -84,7 +84,7 @@ module _ {A V : Type 0} {step : V → Event → V} {is_terminated : V → Bool} 
       → Costs rate bytes result n parser.machine next.machine (counted parser.looks) (counted next.looks)
       → IsRefusedMemory rate step is_terminated old new bytes parser next n
   is_refused-asked refuses costs =
-      is_refused is_terminated refuses costs (λ stream h. (refuses-inside refuses stream h).has_come.earlier refl)
+      is_refused is_terminated refuses costs (λ stream h. (refuses-inside refuses stream h).progress.earlier refl)
       (refuses.may_go_on refl)
 
   -- `advance`

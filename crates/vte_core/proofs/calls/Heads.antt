@@ -3,12 +3,12 @@
 use Rattle.vte_core.specs.machine.ToRun.{IsReadOutsideRuns}
 use Rattle.vte_core.proofs.Common.{◌≡◌, ℕ, zero, suc, ◌+◌, ◌-◌, ◌<◌, ◌≤◌, ◌⊎◌, Option, List, [], ◌∷◌, ◌++◌, true, false, length, take, drop, refl, sym, subst, append_assoc, arith, append-nil, drop-drop, drop_more, take-add, slice_index, MatchOption, class_of, is_final, is_head_byte, is_parameter_text, AreInClass, Collected, HeadProgress, Entry, Parameters, Machine, State, ControlSequence, DeviceControl, Event, ChunkCall, Leads, CountsNumbers, SameIntermediates, IsAtPlace, IsPlaceOfState, HasReadHead, Place, InControlSequence, InDeviceControl, IsSettledPlace, Advances, ProgressAt, IsAtPosition, IsSettled, MayGoOn, TakesBytes, TakesByte, ends_body, progress_after, ReadsHead, Some, None, false≢true, rules}
 use Rattle.vte_core.proofs.bytes.Classes.{head_ends_nothing, AreInClass-append, final_ends_nothing, parameter_is_head}
-use Rattle.vte_core.proofs.calls.Progress.{come-settled, come-byte, settled-by}
-use Rattle.vte_core.proofs.calls.Stretches.{performs-in, advances-byte, advances-moved, advances-when, advances-then}
+use Rattle.vte_core.proofs.calls.Progress.{progress-settled, progress-byte, settled-by}
+use Rattle.vte_core.proofs.calls.Stretches.{takes_bytes-in, advances-byte, advances-to_same, advances-given, advances-then}
 use Rattle.vte_core.proofs.fields.Heads.{holds-parameter}
 use Rattle.vte_core.proofs.fields.PlaceOfState.{IsPlace, stands-in}
 use Rattle.vte_core.proofs.places.PlaceLeads.{control-head, device-head}
-use Rattle.vte_core.proofs.calls.AddedEvents.{adds-same, keeps-at, reported-at}
+use Rattle.vte_core.proofs.calls.AddedEvents.{adds-same, kept-at, reported-at}
 use Rattle.vte_core.proofs.bytes.Runs.{one_byte}
 use Rattle.vte_core.proofs.places.TextSteps.{no_escape, reads-byte}
 
@@ -134,13 +134,13 @@ head-settled DeviceHead progress = tt
 
 module _ {V : Type 0} {call : ChunkCall V} where
   -- n bytes of a head
-  come-head : {old value : V} {stream : List ℕ} {i : ℕ} (shape : Shape) (n : ℕ) (head : List ℕ)
+  progress-head : {old value : V} {stream : List ℕ} {i : ℕ} (shape : Shape) (n : ℕ) (head : List ℕ)
       → i + n ≤ length call.bytes → AreInClass is_head_byte (take n (drop i call.bytes)) → MayGoOn call value
       → ProgressAt call old value stream i (in_head shape head)
       → ProgressAt call old value stream (i + n) (in_head shape (head ++ take n (drop i call.bytes)))
-  come-head {i} shape zero head within more may_go_on c =
+  progress-head {i} shape zero head within more may_go_on c =
       let same : i + 0 ≡ i = omega arith in rw (append-nil head, same) c
-  come-head {i} shape (suc n) head within more may_go_on c =
+  progress-head {i} shape (suc n) head within more may_go_on c =
       let here : i < length call.bytes = omega (arith, within) in
       let b : ℕ = slice_index call.bytes i in
       let cut : drop i call.bytes ≡ b ∷ drop (i + 1) call.bytes = drop_more call.bytes i 0 here in
@@ -150,9 +150,9 @@ module _ {V : Type 0} {call : ChunkCall V} where
       reads-byte
       (no_escape b (head_ends_nothing (class_of b) both.0)) (head-leads shape head both.0) in
       let one =
-      come-settled place (head-settled_place shape (head ++ b ∷ []))
-      (come-byte here refl may_go_on reads refl place c) in
-      let rest = come-head {i = i + 1} shape n (head ++ b ∷ []) (omega (arith, within)) both.1 may_go_on one in
+      progress-settled place (head-settled_place shape (head ++ b ∷ []))
+      (progress-byte here refl may_go_on reads refl place c) in
+      let rest = progress-head {i = i + 1} shape n (head ++ b ∷ []) (omega (arith, within)) both.1 may_go_on one in
       let far : i + suc n ≡ i + 1 + n = omega arith in
       rw (far, cut) (rw (append_assoc head (b ∷ []) (take n (drop (i + 1) call.bytes))) at rest)
 
@@ -166,15 +166,15 @@ module _ {V : Type 0} {call : ChunkCall V} where
       {parser} {next} shape begun reads may_go_on state s =
       let k = head-place shape call.limit reached parser s.place (stands-in begun s.stands) in
       let here : ProgressAt call old value stream i (in_head shape k.head) =
-      subst (ProgressAt call old value stream i) k.same s.has_come in
+      subst (ProgressAt call old value stream i) k.same s.progress in
       let end : i + (j - i) ≡ j = omega (arith, reads.low) in
       let run : List ℕ = take (j - i) (drop i call.bytes) in
       record {
         place = in_head shape (k.head ++ run);
         stands = head-stands shape progress (k.head ++ run) state (reads.stands k.head k.stands);
         settled = λ _. head-settled_place shape (k.head ++ run);
-        has_come = rw end at
-            (come-head shape (j - i) k.head (omega (arith, reads.high, end)) reads.head_bytes may_go_on here);
+        progress = rw end at
+            (progress-head shape (j - i) k.head (omega (arith, reads.high, end)) reads.head_bytes may_go_on here);
       }
 
 module _ {V : Type 0} {call : ChunkCall V} where
@@ -188,7 +188,7 @@ module _ {V : Type 0} {call : ChunkCall V} where
     settled = λ _. settled-by state (head-settled shape progress);
     outside_runs = λ _ old stream s.
         adds-same (reported-at
-        (stands-head {next = next} shape begun reads (λ does. absurd (false≢true does)) state (keeps-at s)));
+        (stands-head {next = next} shape begun reads (λ does. absurd (false≢true does)) state (kept-at s)));
   }
 
   -- a part of a head and a byte after it, of which the caller says what it does there
@@ -205,18 +205,18 @@ module _ {V : Type 0} {call : ChunkCall V} where
   advances-past_head {B} {progress} {parser} {held} shape begun reads at may_go_on performs settled =
       let head : Machine B = record { state = state_of shape progress; collected = held; command = parser.command } in
       advances-then (advances-head {next = head} shape begun reads may_go_on refl)
-      (advances-when (head-outside_runs shape progress _) (advances-byte at.0 at.1 may_go_on performs settled))
+      (advances-given (head-outside_runs shape progress _) (advances-byte at.0 at.1 may_go_on performs settled))
 
 -- a byte other than CAN, SUB and ESC there
-pub performs-head : {V B : Type 0} {step : V → Event → V} {old new : V} {limit : Option ℕ} {b : ℕ}
+pub takes_bytes-head : {V B : Type 0} {step : V → Event → V} {old new : V} {limit : Option ℕ} {b : ℕ}
     {parser next : Machine B} (shape : Shape) (progress : HeadProgress)
     → parser.state ≡ state_of shape progress → ends_body (class_of b) ≡ false
     → ((head : List ℕ) → HasReadHead parser.collected progress head
     → TakesByte step old new limit (in_head shape head) b next)
     → (place : Place) → IsAtPlace limit parser place → IsSettledPlace place
     → TakesBytes step old new limit place (b ∷ []) next
-performs-head {step} {old} {new} {limit} {b} {parser}
-    {next} shape progress e ordinary takes = performs-in e ordinary (λ place s.
+takes_bytes-head {step} {old} {new} {limit} {b} {parser}
+    {next} shape progress e ordinary takes = takes_bytes-in e ordinary (λ place s.
     let k = head-place shape limit progress parser place s in
     subst (λ p. TakesByte step old new limit p b next) (sym k.same) (takes k.head k.stands))
 
@@ -230,6 +230,6 @@ pub advances-control_sequence : {V B outside : Type 0} {call : ChunkCall V} {old
     → TakesByte call.step old new call.limit (InControlSequence head) b next)
     → IsSettled next.state → k ≡ j + 1 → Advances outside call old new i k parser next
 advances-control_sequence {progress} begun reads at may_go_on final takes settled end =
-    advances-moved (sym end)
+    advances-to_same (sym end)
     (advances-past_head ControlHead begun reads at may_go_on
-    (performs-head ControlHead progress refl (final_ends_nothing _ final) takes) settled)
+    (takes_bytes-head ControlHead progress refl (final_ends_nothing _ final) takes) settled)

@@ -7,7 +7,7 @@ use Rattle.vte_core.proofs.places.PlaceLeads.{escape-end, intermediate-end, cont
 use Rattle.vte_core.proofs.Shapes.{text_outcome-broken}
 use Rattle.vte_core.proofs.streams.After.{added-after, added-reads, after-events, after-left, after-nothing, events-empty, open_at_end-any, after-reads}
 use Rattle.vte_core.proofs.places.TextSteps.{reads-byte, waits-byte}
-use Rattle.vte_core.proofs.calls.Progress.{place-settled_text, reads-item, come-command}
+use Rattle.vte_core.proofs.calls.Progress.{place-settled_text, reads-item, progress-command}
 use Rattle.vte_core.proofs.calls.ToRun.{reads-anew}
 use Rattle.vte_core.specs.Open.{kind_to_close, open_at_end}
 use Rattle.vte_core.specs.Stream.{IsFinished, IsUnfinished}
@@ -160,7 +160,7 @@ refuses-inside {call} {old} {new} {n} {parser} r stream h =
     record {
       place = InSystemCommand k.items;
       stands = stands-by r.refused.inside k.keeps;
-      has_come = come-command (subst (ProgressAt call old new stream n) k.same s.has_come);
+      progress = progress-command (subst (ProgressAt call old new stream n) k.same s.progress);
     }
 
 -- ---- a command stores as many bytes as are open, and outside a command none is open
@@ -174,17 +174,17 @@ stored_is_open {parser} {stream} e h =
     pieces_stored k.keeps
     ∙ sym (ap open_data_count (left-at_place parser stream h ∙ ap (left_at None) k.same))
 
-command-by_place : {B : Type 0} {parser : Machine B} {place : Place} {pieces : List (List ℕ)} {lost : Bool}
+state-by_command : {B : Type 0} {parser : Machine B} {place : Place} {pieces : List (List ℕ)} {lost : Bool}
     → IsAtPlace None parser place → left_at None place ≡ CommandToClose pieces lost
     → parser.state ≡ SystemCommand
-command-by_place s e = search (rules, arith)
+state-by_command s e = search (rules, arith)
 
 -- a command is open in that state alone
 state-in_command : {B : Type 0} (parser : Machine B) (stream : List ℕ) → HasReadWithLimit None parser stream
     → (pieces : List (List ℕ)) (lost : Bool) → (outcome None stream).left ≡ CommandToClose pieces lost
     → parser.state ≡ SystemCommand
 state-in_command parser stream h pieces lost open_command =
-    command-by_place h.stands (sym (left-at_place parser stream h) ∙ open_command)
+    state-by_command h.stands (sym (left-at_place parser stream h) ∙ open_command)
 
 -- of an open command the bytes of its pieces
 pub stores_pieces : {B : Type 0} (parser : Machine B) (stream : List ℕ) → HasReadWithLimit None parser stream

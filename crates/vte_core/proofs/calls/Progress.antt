@@ -1,13 +1,13 @@
 -- How a call comes from one position to the next, to its end, or to a stop. A stretch of bytes that leads to a place
 -- adds its events to those reported so far; at starts among them a call that may stop may stop.
 --
--- `come-nowhere`: the start of a call
--- `come-byte`: past a byte before which the call may stop; `come-carried`: past one inside a character
--- `come-further`: past any stretch of bytes; `come-items`: past data bytes of a command
--- `come-settled`, `come-all`, `come-broken`: where something may start, because no character is open, no byte is left,
--- or the next byte breaks the open one; `come-command`: back from there
--- `come-starts`: there something starts
--- `come-to`, `come-performs`: the public clauses of a call that stops, and of one that reads all
+-- `progress-nothing`: the start of a call
+-- `progress-byte`: past a byte before which the call may stop; `progress-carried`: past one inside a character
+-- `progress-further`: past any stretch of bytes; `progress-items`: past data bytes of a command
+-- `progress-settled`, `progress-all`, `progress-broken`: where something may start, because no character is open, no
+-- byte is left, or the next byte breaks the open one; `progress-command`: back from there
+-- `progress-starts`: there something starts
+-- `progress-comes`, `progress-all_read`: the public clauses of a call that stops, and of one that reads all
 -- `starts-X`, `ends-X`, `settles`: where a call starts, where it stops or ends, and where no character is open
 use Rattle.vte_core.proofs.Common.{◌≡◌, ℕ, ◌<◌, ◌≤◌, inl, inr, true, false, not, eqb, Option, List, [], ◌∷◌, ◌++◌, ap, sym, arith, cases_lt, nat_tests, Machine, Text, Nothing, IsAtPlace, IsPlaceOfState, Place, InText, InSystemCommand, escape, BytesLead, zero, suc, ◌+◌, ◌-◌, length, take, drop, refl, subst, ◌∙◌, append_assoc, slice_index, cases_Bool, append-nil, drop_more, take-add, breaks, breaks_at, IsStart, reported_before, resumed_stream, Event, Print, replacement, after, added, open_character, ProgressAt, ProgressInside, MayGoOn, ChunkCall, IsAfter, IsSettledPlace, open_at, ComesTo, State, StopsExactly, IsSettled, ReadsUpTo, IsAtPosition, IsInsidePosition, HasReadWithLimit, bytes_of, Unfinished, rules}
 use Rattle.vte_core.proofs.fields.PlaceOfState.{stands-in, IsPlace, open_at-settled, stands-place}
@@ -18,7 +18,7 @@ use Rattle.vte_core.proofs.Shapes.{breaks_at-all, breaks_at-settled, breaks_at-b
 use Rattle.vte_core.proofs.bytes.Runs.{one_byte}
 use Rattle.vte_core.proofs.EarlyStops.{added_from, after_from, breaks_there, goes_on_from}
 
--- ---- between characters of a text there is one place
+-- ---- the place of a state in which no character is open
 
 text-by_place : {B : Type 0} (limit : Option ℕ) (parser : Machine B) (place : Place)
     → IsPlaceOfState limit (Text Nothing) parser place → place ≡ InText []
@@ -28,6 +28,26 @@ text-by_place limit parser place s = search (rules, arith)
 pub place-settled_text : {B : Type 0} {limit : Option ℕ} {parser : Machine B} {place : Place}
     → parser.state ≡ Text Nothing → IsAtPlace limit parser place → place ≡ InText []
 place-settled_text {limit} {parser} {place} e s = text-by_place limit parser place (stands-in e s)
+
+-- no character is open there
+by_settled : {B : Type 0} (limit : Option ℕ) (state : State) (parser : Machine B) (place : Place) → IsSettled state
+    → IsPlaceOfState limit state parser place → IsSettledPlace place
+by_settled limit state parser place settled s = search (rules, arith)
+
+settled-place : {B : Type 0} {limit : Option ℕ} (parser : Machine B) → IsSettled parser.state → (place : Place)
+    → IsAtPlace limit parser place → IsSettledPlace place
+settled-place {limit} parser settled place s = by_settled limit parser.state parser place settled s.by
+
+pub settled-by : {state other : State} → state ≡ other → IsSettled other → IsSettled state
+settled-by e settled = subst IsSettled (sym e) settled
+
+pub settled-nothing : (u : Unfinished) → bytes_of u ≡ [] → IsSettled (Text u)
+settled-nothing Nothing e = tt
+settled-nothing _ e = cc
+
+pub settled-outside : (state : State) → ((unfinished : Unfinished) → state ≡ Text unfinished → ⊥) → IsSettled state
+settled-outside (Text u) n = absurd (n u refl)
+settled-outside _ n = tt
 
 -- ---- whether a call asks
 
@@ -55,7 +75,7 @@ reads-item {b} low =
 
 -- ---- the bytes of a call from one position to the next
 
--- `come-X`: of places, not parsers. A stretch adds its events (`stretch-added`), also if it breaks a character.
+-- `progress-X`: of places, not parsers. A stretch adds its events (`stretch-added`), also if it breaks a character.
 
 stretch-ends : (bytes : List ℕ) (i j : ℕ) → i < j → take j bytes ≡ take i bytes ++ take (j - i) (drop i bytes)
 stretch-ends bytes i j further =
@@ -97,29 +117,29 @@ module _ {V : Type 0} {call : ChunkCall V} {old : V} {stream : List ℕ} where
   -- ---- from inside to a place
 
   -- no character is broken here: nothing is reported more
-  come-whole : {value : V} {i : ℕ} {place : Place} → breaks_at stream call.bytes i ≡ false
+  progress-whole : {value : V} {i : ℕ} {place : Place} → breaks_at stream call.bytes i ≡ false
       → ProgressInside call old value stream i place → ProgressAt call old value stream i place
-  come-whole {i} whole c =
+  progress-whole {i} whole c =
       rw (reported-settled call.limit stream call.bytes i whole, resumed_stream-settled stream call.bytes i whole) c
 
-  pub come-settled : {value : V} {i : ℕ} {place : Place} → IsPlace place → IsSettledPlace place
+  pub progress-settled : {value : V} {i : ℕ} {place : Place} → IsPlace place → IsSettledPlace place
       → ProgressInside call old value stream i place → ProgressAt call old value stream i place
-  come-settled {i} {place} is between c =
-      come-whole
+  progress-settled {i} {place} is between c =
+      progress-whole
       (breaks_at-settled stream call.bytes i
       (after-open_character c.is_after is
       ∙ open_at-settled place between)) c
 
-  come-all : {value : V} {i : ℕ} {place : Place} → length call.bytes ≤ i
+  progress-all : {value : V} {i : ℕ} {place : Place} → length call.bytes ≤ i
       → ProgressInside call old value stream i place → ProgressAt call old value stream i place
-  come-all {i} all c = come-whole (breaks_at-all stream call.bytes i all) c
+  progress-all {i} all c = progress-whole (breaks_at-all stream call.bytes i all) c
 
   -- U+FFFD is reported for a character that the next byte breaks, and the parser stands as at first
-  pub come-broken : {value new : V} {i b : ℕ} {place : Place} → IsPlace place → i < length call.bytes
+  pub progress-broken : {value new : V} {i b : ℕ} {place : Place} → IsPlace place → i < length call.bytes
       → b ≡ slice_index call.bytes i → breaks (open_at place) (b ∷ []) ≡ true
       → new ≡ call.step value (Print replacement) → ProgressInside call old value stream i place
       → ProgressAt call old new stream i (InText [])
-  come-broken {i} {b} {place} is_place within is broken performed c =
+  progress-broken {i} {b} {place} is_place within is broken performed c =
       search (
         rules,
         arith,
@@ -135,13 +155,14 @@ module _ {V : Type 0} {call : ChunkCall V} {old : V} {stream : List ℕ} where
 
   -- the performer may go on where they begin, if something starts there, and wherever something
   -- starts among them
-  pub come-further : {value new : V} {i j : ℕ} {place next : Place} {these : List Event} → i < j → j ≤ length call.bytes
+  pub progress-further : {value new : V} {i j : ℕ} {place next : Place} {these : List Event} → i < j
+      → j ≤ length call.bytes
       → (call.may_stop ≡ true → IsStart stream call.bytes i → call.is_terminated value ≡ false)
       → (call.may_stop ≡ true → (k : ℕ) → i < k → k < j
       → call.is_terminated (after call.step old (reported_before call.limit stream call.bytes k)) ≡ false)
       → BytesLead call.limit place (take (j - i) (drop i call.bytes)) these next → new ≡ after call.step value these
       → IsPlace next → ProgressAt call old value stream i place → ProgressInside call old new stream j next
-  come-further {value} {i} {j} {place} {next}
+  progress-further {value} {i} {j} {place} {next}
       {these} in_order within here inside r performed is_place c = record {
         performed =
             performed ∙ ap (λ v. after call.step v these) c.performed
@@ -165,52 +186,53 @@ module _ {V : Type 0} {call : ChunkCall V} {old : V} {stream : List ℕ} where
         ];
       }
 
-  come-one : {value new : V} {i b : ℕ} {place next : Place} {these : List Event} → i < length call.bytes
+  progress-one : {value new : V} {i b : ℕ} {place next : Place} {these : List Event} → i < length call.bytes
       → b ≡ slice_index call.bytes i
       → (call.may_stop ≡ true → IsStart stream call.bytes i → call.is_terminated value ≡ false)
       → BytesLead call.limit place (b ∷ []) these next → new ≡ after call.step value these → IsPlace next
       → ProgressAt call old value stream i place → ProgressInside call old new stream (i + 1) next
-  come-one {i} {b} {place} {next} {these} within is here r =
+  progress-one {i} {b} {place} {next} {these} within is here r =
       let one = one_byte call.bytes i b within is in
-      come-further (omega arith) (omega (arith, within)) here (λ does k past below. absurd (omega (arith, past, below)))
+      progress-further (omega arith) (omega (arith, within)) here
+      (λ does k past below. absurd (omega (arith, past, below)))
       (subst (λ x. BytesLead call.limit place x these next) (sym one) r)
 
   -- after an answer, whatever starts here; after a broken character too
-  pub come-byte : {value new : V} {i b : ℕ} {place next : Place} {these : List Event} → i < length call.bytes
+  pub progress-byte : {value new : V} {i b : ℕ} {place next : Place} {these : List Event} → i < length call.bytes
       → b ≡ slice_index call.bytes i → MayGoOn call value → BytesLead call.limit place (b ∷ []) these next
       → new ≡ after call.step value these → IsPlace next → ProgressAt call old value stream i place
       → ProgressInside call old new stream (i + 1) next
-  come-byte within is may_go_on r performed is_place c =
-      come-one within is (λ does _. may_go_on does) r performed is_place c
+  progress-byte within is may_go_on r performed is_place c =
+      progress-one within is (λ does _. may_go_on does) r performed is_place c
 
   -- inside a character
-  pub come-carried : {value new : V} {i b : ℕ} {place next : Place} {these : List Event} → IsPlace place
+  pub progress-carried : {value new : V} {i b : ℕ} {place next : Place} {these : List Event} → IsPlace place
       → i < length call.bytes → b ≡ slice_index call.bytes i → (open_at place ≡ [] → ⊥)
       → breaks (open_at place) (b ∷ []) ≡ false → BytesLead call.limit place (b ∷ []) these next
       → new ≡ after call.step value these → IsPlace next → ProgressInside call old value stream i place
       → ProgressInside call old new stream (i + 1) next
-  come-carried {i} {b} {place} is_here within is some whole r performed is_place c =
+  progress-carried {i} {b} {place} is_here within is some whole r performed is_place c =
       let ends : open_character (stream ++ take i call.bytes) ≡ open_at place =
       after-open_character c.is_after is_here in
-      come-one within is
+      progress-one within is
       (λ _ start. absurd (no_start within is ends some whole start)) r
       performed is_place
-      (come-whole (breaks_at-byte stream call.bytes i within is ends ∙ whole) c)
+      (progress-whole (breaks_at-byte stream call.bytes i within is ends ∙ whole) c)
 
   -- n data bytes of a command, before which the performer was asked once
-  pub come-items : {value : V} {i : ℕ} (n : ℕ) (items : List ℕ) → i + n ≤ length call.bytes
+  pub progress-items : {value : V} {i : ℕ} (n : ℕ) (items : List ℕ) → i + n ≤ length call.bytes
       → ((k : ℕ) → i ≤ k → k < i + n → 0x20 ≤ slice_index call.bytes k) → MayGoOn call value
       → ProgressAt call old value stream i (InSystemCommand items)
       → ProgressAt call old value stream (i + n) (InSystemCommand (items ++ take n (drop i call.bytes)))
-  come-items {i} zero items within low may_go_on c =
+  progress-items {i} zero items within low may_go_on c =
       let same : i + 0 ≡ i = omega arith in rw (append-nil items, same) c
-  come-items {i} (suc n) items within low may_go_on c =
+  progress-items {i} (suc n) items within low may_go_on c =
       let here : i < length call.bytes = omega (arith, within) in
       let b : ℕ = slice_index call.bytes i in
       let is_item : 0x20 ≤ b = low i (omega arith) (omega arith) in
-      let one = come-settled tt tt (come-byte here refl may_go_on (reads-item is_item) refl tt c) in
+      let one = progress-settled tt tt (progress-byte here refl may_go_on (reads-item is_item) refl tt c) in
       let rest =
-      come-items {i = i + 1} n (items ++ b ∷ []) (omega (arith, within))
+      progress-items {i = i + 1} n (items ++ b ∷ []) (omega (arith, within))
       (λ k from to. low k (omega (arith, from)) (omega (arith, to))) may_go_on one in
       let far : i + suc n ≡ i + 1 + n = omega arith in
       rw (far, drop_more call.bytes i 0 here)
@@ -218,18 +240,19 @@ module _ {V : Type 0} {call : ChunkCall V} {old : V} {stream : List ℕ} where
 
   -- ---- the start of a call
 
-  come-nowhere : {place : Place} → IsAfter call.limit stream place → ProgressInside call old old stream 0 place
-  come-nowhere {place} a = search (rules, arith, added-nothing, append-nil)
+  progress-nothing : {place : Place} → IsAfter call.limit stream place → ProgressInside call old old stream 0 place
+  progress-nothing {place} a = search (rules, arith, added-nothing, append-nil)
 
-  come-back : {value : V} {i : ℕ} {place : Place} → breaks_at stream call.bytes i ≡ false
+  progress-back : {value : V} {i : ℕ} {place : Place} → breaks_at stream call.bytes i ≡ false
       → ProgressAt call old value stream i place → ProgressInside call old value stream i place
-  come-back {i} whole c =
+  progress-back {i} whole c =
       rw (reported-settled call.limit stream call.bytes i whole, resumed_stream-settled stream call.bytes i whole) at c
 
   -- in a command no character was broken
-  pub come-command : {value : V} {i : ℕ} {items : List ℕ} → ProgressAt call old value stream i (InSystemCommand items)
+  pub progress-command : {value : V} {i : ℕ} {items : List ℕ}
+      → ProgressAt call old value stream i (InSystemCommand items)
       → ProgressInside call old value stream i (InSystemCommand items)
-  come-command {value} {i} {items} c = elim (cases_Bool (breaks_at stream call.bytes i)) [
+  progress-command {value} {i} {items} c = elim (cases_Bool (breaks_at stream call.bytes i)) [
     | inl broken ↦
         let a : IsAfter call.limit [] (InSystemCommand items) =
         subst (λ s. IsAfter call.limit s (InSystemCommand items)) (resumed_stream-broken stream call.bytes i broken)
@@ -238,14 +261,14 @@ module _ {V : Type 0} {call : ChunkCall V} {old : V} {stream : List ℕ} where
         sym (after-left after-nothing refl)
         ∙ after-left a tt in
         let f : ⊥ = cc in absurd f
-    | inr whole ↦ come-back whole c
+    | inr whole ↦ progress-back whole c
   ]
 
   -- ---- where something starts
 
-  come-starts : {value : V} {i : ℕ} {place : Place} → IsPlace place → IsSettledPlace place → i < length call.bytes
+  progress-starts : {value : V} {i : ℕ} {place : Place} → IsPlace place → IsSettledPlace place → i < length call.bytes
       → ProgressAt call old value stream i place → IsStart stream call.bytes i
-  come-starts {i} {place} is between within c =
+  progress-starts {i} {place} is between within c =
       search (
         rules,
         arith,
@@ -259,10 +282,10 @@ module _ {V : Type 0} {call : ChunkCall V} {old : V} {stream : List ℕ} where
   -- ---- the end of a call
 
   -- the public clauses of a call that may stop: `starts` comes from the loop's exit
-  come-to : {value : V} {n : ℕ} {place : Place} → call.may_stop ≡ true → n ≤ length call.bytes
+  progress-comes : {value : V} {n : ℕ} {place : Place} → call.may_stop ≡ true → n ≤ length call.bytes
       → (n < length call.bytes → IsStart stream call.bytes n) → ProgressAt call old value stream n place
       → ComesTo call.step call.is_terminated old call.limit stream call.bytes value n
-  come-to {n} does within starts c =
+  progress-comes {n} does within starts c =
       let unread : List ℕ = drop n call.bytes in
       record {
         within = within;
@@ -281,32 +304,13 @@ module _ {V : Type 0} {call : ChunkCall V} {old : V} {stream : List ℕ} where
       }
 
   -- the public clause of a call that reads all bytes
-  come-performs : {value : V} {n : ℕ} {place : Place} → n ≡ length call.bytes
+  progress-all_read : {value : V} {n : ℕ} {place : Place} → n ≡ length call.bytes
       → ProgressAt call old value stream n place → value ≡ after call.step old (added call.limit stream call.bytes)
-  come-performs {n} all c = c.performed ∙ ap (after call.step old) (reported-all call.limit stream call.bytes n all)
+  progress-all_read {n} all c = c.performed ∙ ap (after call.step old) (reported-all call.limit stream call.bytes n all)
 
 -- ---- the same of a parser that stands there
 
--- A settled state has a settled place, so `come-X` applies.
-
-by_settled : {B : Type 0} (limit : Option ℕ) (state : State) (parser : Machine B) (place : Place) → IsSettled state
-    → IsPlaceOfState limit state parser place → IsSettledPlace place
-by_settled limit state parser place settled s = search (rules, arith)
-
-settled-place : {B : Type 0} {limit : Option ℕ} (parser : Machine B) → IsSettled parser.state → (place : Place)
-    → IsAtPlace limit parser place → IsSettledPlace place
-settled-place {limit} parser settled place s = by_settled limit parser.state parser place settled s.by
-
-pub settled-by : {state other : State} → state ≡ other → IsSettled other → IsSettled state
-settled-by e settled = subst IsSettled (sym e) settled
-
-pub settled-nothing : (u : Unfinished) → bytes_of u ≡ [] → IsSettled (Text u)
-settled-nothing Nothing e = tt
-settled-nothing _ e = cc
-
-pub settled-outside : (state : State) → ((unfinished : Unfinished) → state ≡ Text unfinished → ⊥) → IsSettled state
-settled-outside (Text u) n = absurd (n u refl)
-settled-outside _ n = tt
+-- A settled state has a settled place, so `progress-X` applies.
 
 module _ {V B : Type 0} {call : ChunkCall V} where
   -- ---- from inside a character to where something starts
@@ -319,17 +323,18 @@ module _ {V B : Type 0} {call : ChunkCall V} where
         place = s.place;
         stands = s.stands;
         settled = λ _. place_is;
-        has_come = come-settled (stands-place s.stands) place_is s.has_come;
+        progress = progress-settled (stands-place s.stands) place_is s.progress;
       }
 
   pub inside-all : {old value : V} {stream : List ℕ} {i : ℕ} {parser : Machine B}
-      → IsInsidePosition call old value stream i parser → length call.bytes ≤ i → IsAtPosition call old value stream i parser
+      → IsInsidePosition call old value stream i parser → length call.bytes ≤ i
+      → IsAtPosition call old value stream i parser
   inside-all s all =
       record {
         place = s.place;
         stands = s.stands;
         settled = λ within. absurd (omega arith);
-        has_come = come-all all s.has_come;
+        progress = progress-all all s.progress;
       }
 
   pub inside-moved : {old value : V} {stream : List ℕ} {i j : ℕ} {parser : Machine B} → i ≡ j
@@ -340,7 +345,7 @@ module _ {V B : Type 0} {call : ChunkCall V} where
 
   pub starts-inside : {old : V} {stream : List ℕ} {parser : Machine B} → HasReadWithLimit call.limit parser stream
       → IsInsidePosition call old old stream 0 parser
-  starts-inside h = record { place = h.place; stands = h.stands; has_come = come-nowhere h.is_after }
+  starts-inside h = record { place = h.place; stands = h.stands; progress = progress-nothing h.is_after }
 
   pub starts-at : {old : V} {stream : List ℕ} {parser : Machine B} → IsSettled parser.state
       → HasReadWithLimit call.limit parser stream → IsAtPosition call old old stream 0 parser
@@ -350,25 +355,25 @@ module _ {V B : Type 0} {call : ChunkCall V} where
       → n ≤ length call.bytes → IsAtPosition call old value stream n parser
       → ComesTo call.step call.is_terminated old call.limit stream call.bytes value n
   ends-comes {parser} does within s =
-      come-to does within
-      (λ left. come-starts (stands-place s.stands) (s.settled left) left s.has_come) s.has_come
+      progress-comes does within
+      (λ left. progress-starts (stands-place s.stands) (s.settled left) left s.progress) s.progress
 
   pub ends-stops : {old value : V} {stream : List ℕ} {n : ℕ} {parser : Machine B} → call.may_stop ≡ true
       → n ≤ length call.bytes → (n < length call.bytes → call.is_terminated value ≡ true)
       → IsAtPosition call old value stream n parser
       → StopsExactly call.step call.is_terminated old call.limit stream call.bytes value n
   ends-stops does within stops s =
-      record { comes = ends-comes does within s; stops = stops; all = λ all. come-performs all s.has_come }
+      record { comes = ends-comes does within s; stops = stops; all = λ all. progress-all_read all s.progress }
 
   pub ends-reads : {old value : V} {stream : List ℕ} {n : ℕ} {parser : Machine B}
       → IsAtPosition call old value stream n parser
       → HasReadWithLimit call.limit parser (resumed_stream stream call.bytes n)
-  ends-reads s = record { place = s.place; stands = s.stands; is_after = s.has_come.is_after }
+  ends-reads s = record { place = s.place; stands = s.stands; is_after = s.progress.is_after }
 
   -- of a call that reads all bytes
   pub ends-performs : {old value : V} {stream : List ℕ} {n : ℕ} {parser : Machine B} → n ≡ length call.bytes
       → IsAtPosition call old value stream n parser → value ≡ after call.step old (added call.limit stream call.bytes)
-  ends-performs all s = come-performs all s.has_come
+  ends-performs all s = progress-all_read all s.progress
 
   pub ends-reads_all : {old value : V} {stream : List ℕ} {n : ℕ} {parser : Machine B} → n ≡ length call.bytes
       → IsAtPosition call old value stream n parser → HasReadWithLimit call.limit parser (stream ++ call.bytes)

@@ -5,7 +5,7 @@ use Rattle.std.proofs.lemmas.List.{take-take}
 use Rattle.std.proofs.lemmas.Str.{encodes-chars, scalars-chars}
 use Rattle.vte_core.proofs.bytes.Runs.{each-one, chars-one, layout-is_control_character, run_event-no_control, run_event-printed, run-ascii}
 use Rattle.vte_core.proofs.dividing.Utf8Agrees.{cut-text, text_outcome-encodes}
-use Rattle.vte_core.proofs.calls.Progress.{come-further, stretch-added, place-settled_text, settled-by, settles}
+use Rattle.vte_core.proofs.calls.Progress.{progress-further, stretch-added, place-settled_text, settled-by, settles}
 use Rattle.vte_core.proofs.streams.After.{added-reads, after_events-append}
 use Rattle.vte_core.proofs.Shapes.{reported-settled, reported-broken, with_bodies-report}
 use Rattle.vte_core.proofs.EarlyStops.{added-append}
@@ -179,11 +179,11 @@ advances-text {V} {call} {layout} {old} {new} {i} {j} {parser}
     inside-next value stream s =
         let here : s.place ≡ InText [] = place-settled_text e s.stands in
         let c : ProgressAt call value old stream i (InText []) =
-        subst (ProgressAt call value old stream i) here s.has_come in
+        subst (ProgressAt call value old stream i) here s.progress in
         record {
           place = InText [];
           stands = subst (IsAtPlace call.limit parser) here s.stands;
-          has_come =
-              come-further in_order high (λ does _. may_go_on does) (inside value stream c)
+          progress =
+              progress-further in_order high (λ does _. may_go_on does) (inside value stream c)
               (reads-text prints.run) prints.printed refl c;
         }

@@ -112,9 +112,9 @@ cut-text (b ∷ text) more none =
 
 -- It has two to four bytes, at the front of some bytes or in a call's input, and is no control.
 
-printable-whole : {layout : Bool} (p : List ℕ) → is_well_formed p ≡ true → is_control_character (scalar_of p) ≡ false
+utf8_run-whole : {layout : Bool} (p : List ℕ) → is_well_formed p ≡ true → is_control_character (scalar_of p) ≡ false
     → IsUtf8Run layout p
-printable-whole {layout} p whole plain =
+utf8_run-whole {layout} p whole plain =
     let c : ℕ = scalar_of p in
     let same : encodes (c ∷ []) ≡ p = append-nil (encode c) ∙ well_formed_is_encoded p whole in
     let is : chars p ≡ c ∷ [] =
@@ -147,10 +147,10 @@ past_controls b u low plain whole = elim (sequence (b ∷ u) whole) [
 no_control : (c : ℕ) → 0xa0 ≤ c → is_control_character c ≡ false
 no_control c low = grind (arith, nat_tests)
 
-pub printable : {layout : Bool} {b : ℕ} {u : List ℕ} → 0xc2 ≤ b → (b ≡ 0xc2 → 0xa0 ≤ get_or u 0 0)
+pub utf8_run-character : {layout : Bool} {b : ℕ} {u : List ℕ} → 0xc2 ≤ b → (b ≡ 0xc2 → 0xa0 ≤ get_or u 0 0)
     → is_well_formed (b ∷ u) ≡ true → IsUtf8Run layout (b ∷ u)
-printable {b} {u} low plain whole =
-    printable-whole (b ∷ u) whole (no_control (scalar_of (b ∷ u)) (past_controls b u low plain whole))
+utf8_run-character {b} {u} low plain whole =
+    utf8_run-whole (b ∷ u) whole (no_control (scalar_of (b ∷ u)) (past_controls b u low plain whole))
 
 -- ---- the same among other bytes
 
@@ -175,7 +175,7 @@ run-of {layout} bytes from b u within is at low plain whole =
     ∙ ap (λ c. c ∷ take (length u) (drop (from + 1) bytes)) (sym is) ∙ ap (λ x. b ∷ x) (stand-take bytes from 1 u at) in
     subst (λ n. IsUtf8Run layout (take n (drop from bytes)))
     (let e : suc (length u) ≡ from + suc (length u) - from = omega arith in e)
-    (subst (IsUtf8Run layout) (sym same) (printable low plain whole))
+    (subst (IsUtf8Run layout) (sym same) (utf8_run-character low plain whole))
 
 pub run-two : {layout : Bool} (bytes : List ℕ) (from : ℕ) {first second : ℕ} → from + 2 ≤ length bytes
     → first ≡ slice_index bytes from → second ≡ slice_index bytes (from + 1)

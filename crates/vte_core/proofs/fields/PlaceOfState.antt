@@ -106,7 +106,8 @@ keeps-same same keeps = search (rules, arith)
 -- A machine with the state of another, what is collected there and its items has read the same.
 
 -- In a state only what counts in it must be the same.
-place_of_state-same : {B C : Type 0} (limit : Option ℕ) (state : State) (old : Machine B) (new : Machine C) (place : Place)
+place_of_state-same : {B C : Type 0} (limit : Option ℕ) (state : State) (old : Machine B) (new : Machine C)
+    (place : Place)
     → (HasIntermediates state → (ints : List ℕ) → HoldsIntermediates old.collected ints
     → HoldsIntermediates new.collected ints)
     → (IsInHead state → HasIntermediates state → old.collected ≡ new.collected)

@@ -235,9 +235,10 @@ short-malformed b = search (rules, arith)
 pub short_bounded : (limit : Option ℕ) (event : Event) → IsShort event → IsBounded limit event
 short_bounded limit event short = search (rules, arith)
 
-pub tiny_brief : (limit : Option ℕ) (reported : List Event) → IsAtMostOneShort reported → AreFromOneByte limit reported
-tiny_brief limit reported tiny = search (rules, arith)
+pub one_short-from_one_byte : (limit : Option ℕ) (reported : List Event) → IsAtMostOneShort reported
+    → AreFromOneByte limit reported
+one_short-from_one_byte limit reported one_short = search (rules, arith)
 
-pub tiny-both : (limit : Option ℕ) (prefix rest : List Event) → IsAtMostOneShort prefix → IsAtMostOneShort rest
+pub one_short-append : (limit : Option ℕ) (prefix rest : List Event) → IsAtMostOneShort prefix → IsAtMostOneShort rest
     → AreFromOneByte limit (prefix ++ rest)
-tiny-both limit prefix rest t s = search (rules, arith)
+one_short-append limit prefix rest t s = search (rules, arith)

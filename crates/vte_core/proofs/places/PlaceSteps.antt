@@ -3,7 +3,7 @@
 use Rattle.vte_core.proofs.Common.{◌≡◌, ℕ, inl, inr, false, eqb, Option, List, refl, arith, cases_Bool, nat_tests, Class, Control, Cancel, Intermediate, Final, Delete, High, class_of, ends_body, SequenceKind, EscapeSequence, sequence_kind, AreFromOneByte, Event, head_of, is_well_shaped, sequence_event, Leads, Place, InText, AtEscape, InEscape, InControlSequence, InDeviceControl, InDeviceData, InSystemCommand, InIgnoredString, closing_events_at, escape, bell, pieces_of, kept_items, None, ◌≤◌, ◌+◌, open_data_count, left_at, breaks, open_at, sym, false≢true, ◌∙◌, [], ◌∷◌, ◌++◌, Execute, rules}
 use Rattle.vte_core.specs.Class.{Escape}
 use Rattle.vte_core.proofs.places.PlaceLeads.{bounded-head, executed_low, two_at_most, escape-key, escape-intermediate, escape-end, intermediate-more, intermediate-end, byte-dropped, byte-executed, control-head, control-dispatched, control-silent, device-dropped, device-head, device-well_shaped, device-ill_shaped, data-put, data-dropped, data-terminator, command-item, command-control, command-bell, ignored-more}
-use Rattle.vte_core.proofs.places.TextSteps.{byte-cancels, closing_brief, closing_alone_brief, reads-byte, reads-escape, no_escape, cancel_is_no_escape, AreOutsideRuns, FitsLeft, IsLittle, IsOutsideRunsAt, IsText, Steps, step-text}
+use Rattle.vte_core.proofs.places.TextSteps.{byte-cancels, closing_brief, closing_alone_brief, reads-byte, reads-escape, no_escape, cancel_is_no_escape, AreOutsideRuns, FitsLeft, IsSilentOrSettles, IsOutsideRunsAt, IsText, Steps, step-text}
 use Rattle.vte_core.proofs.bytes.Classes.{ends_not_cancel, Spans, spans, below_finals}
 use Rattle.vte_core.proofs.fields.PlaceOfState.{IsPlace}
 use Rattle.vte_core.proofs.fields.Pieces.{few_pieces, pieces_push, some_pieces}
@@ -73,115 +73,116 @@ module _ {limit : Option ℕ} {place next : Place} {b : ℕ} where
 
 -- ---- after ESC
 
-step-final : {limit : Option ℕ} {b : ℕ} {k : SequenceKind} → class_of b ≡ Final → sequence_kind b ≡ k
+step-at_escape_final : {limit : Option ℕ} {b : ℕ} {k : SequenceKind} → class_of b ≡ Final → sequence_kind b ≡ k
     → Steps limit AtEscape b
-step-final {b} {k = EscapeSequence} is k =
+step-at_escape_final {b} {k = EscapeSequence} is k =
     let s = spans b is in
     step-sequenced is refl (tt, tt) (escape-end is refl k) (λ _ _. (omega arith, s.1, omega arith))
     (λ _. tt)
-step-final {k = key} is k = step-silent is refl (tt, tt) (escape-key key is k refl)
+step-at_escape_final {k = key} is k = step-silent is refl (tt, tt) (escape-key key is k refl)
 
-step-escape : {limit : Option ℕ} {b : ℕ} {k : Class} → class_of b ≡ k → ends_body k ≡ false → Steps limit AtEscape b
-step-escape {k = Control} is no_end = step-executed is (tt, tt) (byte-executed refl is)
-step-escape {k = Intermediate} is no_end = step-silent is no_end (tt, tt) (escape-intermediate is)
-step-escape {k = Final} is no_end = step-final is refl
-step-escape {k = Delete} is no_end =
+step-at_escape : {limit : Option ℕ} {b : ℕ} {k : Class} → class_of b ≡ k → ends_body k ≡ false → Steps limit AtEscape b
+step-at_escape {k = Control} is no_end = step-executed is (tt, tt) (byte-executed refl is)
+step-at_escape {k = Intermediate} is no_end = step-silent is no_end (tt, tt) (escape-intermediate is)
+step-at_escape {k = Final} is no_end = step-at_escape_final is refl
+step-at_escape {k = Delete} is no_end =
     step-silent is no_end (tt, tt) (byte-dropped refl is refl)
-step-escape {k = High} is no_end = step-silent is no_end (tt, tt) (byte-dropped refl is refl)
-step-escape {k = Cancel} is no_end = cc
-step-escape {k = Escape} is no_end = cc
-step-escape {b} {k} is no_end =
+step-at_escape {k = High} is no_end = step-silent is no_end (tt, tt) (byte-dropped refl is refl)
+step-at_escape {k = Cancel} is no_end = cc
+step-at_escape {k = Escape} is no_end = cc
+step-at_escape {b} {k} is no_end =
     let s = spans b is in
     step-sequenced is no_end (tt, tt) (escape-end is refl (below_finals b (omega arith)))
     (λ _ _. (omega arith, omega arith, omega arith)) (λ _. tt)
 
 -- ---- after ESC and intermediates
 
-step-intermediate : {limit : Option ℕ} {ints : List ℕ} {b : ℕ} {k : Class} → class_of b ≡ k → ends_body k ≡ false
+step-in_escape : {limit : Option ℕ} {ints : List ℕ} {b : ℕ} {k : Class} → class_of b ≡ k → ends_body k ≡ false
     → Steps limit (InEscape ints) b
-step-intermediate {k = Control} is no_end =
+step-in_escape {k = Control} is no_end =
     step-executed is (tt, tt) (byte-executed refl is)
-step-intermediate {k = Intermediate} is no_end =
+step-in_escape {k = Intermediate} is no_end =
     step-silent is no_end (tt, tt) (intermediate-more is)
-step-intermediate {k = Delete} is no_end =
+step-in_escape {k = Delete} is no_end =
     step-silent is no_end (tt, tt) (byte-dropped refl is refl)
-step-intermediate {k = High} is no_end =
+step-in_escape {k = High} is no_end =
     step-silent is no_end (tt, tt) (byte-dropped refl is refl)
-step-intermediate {k = Cancel} is no_end = cc
-step-intermediate {k = Escape} is no_end = cc
-step-intermediate {ints} {b} {k} is no_end =
+step-in_escape {k = Cancel} is no_end = cc
+step-in_escape {k = Escape} is no_end = cc
+step-in_escape {ints} {b} {k} is no_end =
     let s = spans b is in
     step-sequenced is no_end (tt, tt) (intermediate-end is refl)
     (λ _ _. (two_at_most ints, omega arith, omega arith)) (λ _. tt)
 
 -- ---- in the head of a control sequence
 
-step-control : {limit : Option ℕ} {head : List ℕ} {b : ℕ} {k : Class} → class_of b ≡ k → ends_body k ≡ false
+step-in_control_sequence : {limit : Option ℕ} {head : List ℕ} {b : ℕ} {k : Class} → class_of b ≡ k → ends_body k ≡ false
     → Steps limit (InControlSequence head) b
 unfolding sequence_event
-step-control {k = Control} is no_end =
+step-in_control_sequence {k = Control} is no_end =
     step-executed is (tt, tt) (byte-executed refl is)
-step-control {head} {b} {k = Final} is no_end = elim (cases_Bool (is_well_shaped (head_of head))) [
+step-in_control_sequence {head} {b} {k = Final} is no_end = elim (cases_Bool (is_well_shaped (head_of head))) [
   | inl well ↦
       step-sequenced is no_end (tt, tt) (control-dispatched is well)
       (λ size _. (bounded-head size (head_of head) b (spans b is)).0) (λ _. tt)
   | inr ill ↦ step-silent is no_end (tt, tt) (control-silent is ill)
 ]
-step-control {k = Delete} is no_end =
+step-in_control_sequence {k = Delete} is no_end =
     step-silent is no_end (tt, tt) (byte-dropped refl is refl)
-step-control {k = High} is no_end =
+step-in_control_sequence {k = High} is no_end =
     step-silent is no_end (tt, tt) (byte-dropped refl is refl)
-step-control {k = Cancel} is no_end = cc
-step-control {k = Escape} is no_end = cc
-step-control is no_end = step-silent is no_end (tt, tt) (control-head (rw is refl))
+step-in_control_sequence {k = Cancel} is no_end = cc
+step-in_control_sequence {k = Escape} is no_end = cc
+step-in_control_sequence is no_end = step-silent is no_end (tt, tt) (control-head (rw is refl))
 
 -- ---- in a device control string
 
-step-device : {limit : Option ℕ} {head : List ℕ} {b : ℕ} {k : Class} → class_of b ≡ k → ends_body k ≡ false
+step-in_device_control : {limit : Option ℕ} {head : List ℕ} {b : ℕ} {k : Class} → class_of b ≡ k → ends_body k ≡ false
     → Steps limit (InDeviceControl head) b
 unfolding sequence_event
-step-device {k = Control} is no_end =
+step-in_device_control {k = Control} is no_end =
     step-silent is no_end (tt, tt) (device-dropped is refl)
-step-device {head} {b} {k = Final} is no_end = elim (cases_Bool (is_well_shaped (head_of head))) [
+step-in_device_control {head} {b} {k = Final} is no_end = elim (cases_Bool (is_well_shaped (head_of head))) [
   | inl well ↦
       step-sequenced is no_end (tt, tt) (device-well_shaped is well)
       (λ size _. (bounded-head size (head_of head) b (spans b is)).1) (λ _. tt)
   | inr ill ↦ step-silent is no_end (tt, tt) (device-ill_shaped is ill)
 ]
-step-device {k = Delete} is no_end = step-silent is no_end (tt, tt) (device-dropped is refl)
-step-device {k = High} is no_end = step-silent is no_end (tt, tt) (device-dropped is refl)
-step-device {k = Cancel} is no_end = cc
-step-device {k = Escape} is no_end = cc
-step-device is no_end = step-silent is no_end (tt, tt) (device-head (rw is refl))
+step-in_device_control {k = Delete} is no_end = step-silent is no_end (tt, tt) (device-dropped is refl)
+step-in_device_control {k = High} is no_end = step-silent is no_end (tt, tt) (device-dropped is refl)
+step-in_device_control {k = Cancel} is no_end = cc
+step-in_device_control {k = Escape} is no_end = cc
+step-in_device_control is no_end = step-silent is no_end (tt, tt) (device-head (rw is refl))
 
 -- ---- in its data
 
 delete_is_no_terminator : (b : ℕ) → Spans Delete b → eqb b 0x9c ≡ false
 delete_is_no_terminator b s = grind (arith, nat_tests)
 
-step-data : {limit : Option ℕ} {b : ℕ} {k : Class} → class_of b ≡ k → ends_body k ≡ false → Steps limit InDeviceData b
-step-data {b} {k = Delete} is no_end =
+step-in_device_data : {limit : Option ℕ} {b : ℕ} {k : Class} → class_of b ≡ k → ends_body k ≡ false
+    → Steps limit InDeviceData b
+step-in_device_data {b} {k = Delete} is no_end =
     step-sequenced is no_end (tt, tt)
     (data-dropped (rw is (delete_is_no_terminator b (spans b is))) (rw is refl)) (λ _ _. tt) (λ _. tt)
-step-data {b} {k = High} is no_end = elim (cases_Bool (eqb b 0x9c)) [
+step-in_device_data {b} {k = High} is no_end = elim (cases_Bool (eqb b 0x9c)) [
   | inl ends ↦
       step-sequenced is no_end (tt, tt) (data-terminator is ends) (λ _ _. tt) (λ _. tt)
   | inr other ↦ step-silent is no_end (tt, tt) (data-dropped (rw is other) (rw is refl))
 ]
-step-data {k = Cancel} is no_end = cc
-step-data {k = Escape} is no_end = cc
-step-data is no_end =
+step-in_device_data {k = Cancel} is no_end = cc
+step-in_device_data {k = Escape} is no_end = cc
+step-in_device_data is no_end =
     step-sequenced is no_end (tt, tt) (data-put (rw is refl)) (λ _ _. rw is refl)
     (λ outside. absurd (false≢true (sym outside ∙ rw is refl)))
 
 -- ---- in an operating system command
 
 -- a byte that joins the command, or is dropped there
-step-in_command : {limit : Option ℕ} {items later : List ℕ} {b : ℕ} → eqb b escape ≡ false
+step-joins_command : {limit : Option ℕ} {items later : List ℕ} {b : ℕ} → eqb b escape ≡ false
     → Leads limit (InSystemCommand items) b [] (InSystemCommand later)
     → (limit ≡ None → open_data_count (left_at limit (InSystemCommand later))
     ≤ open_data_count (left_at limit (InSystemCommand items)) + 1) → Steps limit (InSystemCommand items) b
-step-in_command {limit} {items} {later} {b} other leads grows = record {
+step-joins_command {limit} {items} {later} {b} other leads grows = record {
   reported = [];
   next = InSystemCommand later;
   is_place = tt;
@@ -193,20 +194,20 @@ step-in_command {limit} {items} {later} {b} other leads grows = record {
   outside_runs = λ _. tt;
 }
 
-step-command : {limit : Option ℕ} {items : List ℕ} {b : ℕ} {k : Class} → class_of b ≡ k → ends_body k ≡ false
+step-in_system_command : {limit : Option ℕ} {items : List ℕ} {b : ℕ} {k : Class} → class_of b ≡ k → ends_body k ≡ false
     → Steps limit (InSystemCommand items) b
-step-command {limit} {items} {b} {k = Control} is no_end = elim (cases_Bool (eqb b bell)) [
+step-in_system_command {limit} {items} {b} {k = Control} is no_end = elim (cases_Bool (eqb b bell)) [
   | inl ends ↦
       step-sequenced is no_end (tt, tt) (command-bell is ends)
       (λ _ fits. (few_pieces limit items, fits, some_pieces limit items)) (λ _. tt)
   | inr other ↦
-      step-in_command (no_escape-class b is no_end) (command-control is other) (λ _. omega arith)
+      step-joins_command (no_escape-class b is no_end) (command-control is other) (λ _. omega arith)
 ]
-step-command {k = Cancel} is no_end = cc
-step-command {k = Escape} is no_end = cc
-step-command {items} {b} {k} is no_end =
+step-in_system_command {k = Cancel} is no_end = cc
+step-in_system_command {k = Escape} is no_end = cc
+step-in_system_command {items} {b} {k} is no_end =
     let s = spans b is in
-    step-in_command (no_escape-class b is no_end) (command-item (omega arith))
+    step-joins_command (no_escape-class b is no_end) (command-item (omega arith))
     (λ none. rw none (pieces_push items b))
 
 -- ---- any place: by ESC, CAN and SUB, or the lemma of its shape
@@ -215,19 +216,19 @@ step-ordinary : (limit : Option ℕ) (place : Place) (b : ℕ) (k : Class) → I
     → ends_body k ≡ false
     → Steps limit place b
 step-ordinary limit (InText u) b k placed is no_end = step-text limit u b (no_escape-class b is no_end) placed
-step-ordinary limit AtEscape b k placed is no_end = step-escape is no_end
-step-ordinary limit (InEscape intermediates) b k placed is no_end = step-intermediate is no_end
-step-ordinary limit (InControlSequence head) b k placed is no_end = step-control is no_end
-step-ordinary limit (InDeviceControl head) b k placed is no_end = step-device is no_end
-step-ordinary limit InDeviceData b k placed is no_end = step-data is no_end
-step-ordinary limit (InSystemCommand items) b k placed is no_end = step-command is no_end
+step-ordinary limit AtEscape b k placed is no_end = step-at_escape is no_end
+step-ordinary limit (InEscape intermediates) b k placed is no_end = step-in_escape is no_end
+step-ordinary limit (InControlSequence head) b k placed is no_end = step-in_control_sequence is no_end
+step-ordinary limit (InDeviceControl head) b k placed is no_end = step-in_device_control is no_end
+step-ordinary limit InDeviceData b k placed is no_end = step-in_device_data is no_end
+step-ordinary limit (InSystemCommand items) b k placed is no_end = step-in_system_command is no_end
 step-ordinary limit InIgnoredString b k placed is no_end =
     step-silent is no_end (tt, tt) (ignored-more (rw is (ends_not_cancel k no_end)))
 
 -- ESC breaks a character
-little-escape : (limit : Option ℕ) (place : Place) → IsPlace place → IsText place
-    → breaks (open_at place) (escape ∷ []) ≡ false → IsLittle AtEscape (closing_events_at limit place)
-little-escape limit place is text unbroken = search (rules, arith)
+silent_or_settles-escape : (limit : Option ℕ) (place : Place) → IsPlace place → IsText place
+    → breaks (open_at place) (escape ∷ []) ≡ false → IsSilentOrSettles AtEscape (closing_events_at limit place)
+silent_or_settles-escape limit place is text unbroken = search (rules, arith)
 
 outside_runs-closing : (limit : Option ℕ) (place : Place) (b : ℕ) → IsOutsideRunsAt place b
     → AreOutsideRuns (closing_events_at limit place)
@@ -249,7 +250,7 @@ step-by_class limit place b Escape placed is =
       brief = λ size fits. closing_alone_brief limit size place fits;
       grows = λ _. omega arith;
       leaves = inl refl;
-      little = little-escape limit place placed;
+      little = silent_or_settles-escape limit place placed;
       outside_runs = outside_runs-closing limit place _;
     })
 step-by_class limit (InText u) b Cancel placed is = step-text limit u b (cancel_is_no_escape b is) placed

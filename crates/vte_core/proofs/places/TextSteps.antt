@@ -3,7 +3,7 @@
 use Rattle.vte_core.proofs.Common.{◌≡◌, ℕ, false, eqb, Option, List, [], ◌∷◌, ◌++◌, refl, ap, sym, ◌∙◌, append_assoc, arith, nat_tests, Cancel, class_of, ends_body, Event, Leads, BytesLead, report, Place, InText, AtEscape, closing_events_at, rest_outcome, outcome_from, events_from, cut_at_escape, with_bodies, outcome, events, escape, ◌⊎◌, inl, inr, true, cases_Bool, false≢true, AreFromOneByte, IsAtMostOneShort, IsOutsideRuns, is_device_data, Print, ◌≤◌, ◌+◌, None, FitsStore, ToClose, CommandToClose, open_data_count, left_at, replacement, InDeviceData, breaks, open_at, may_continue, is_truncated, is_well_formed, ◌<◌, Execute, InSystemCommand, bell, text_outcome, character_event, is_control_character, append-nil, body_outcome, control_sequence_end, device_data_outcome, device_control_after_head, executed_events, rules}
 use Rattle.vte_core.proofs.Shapes.{report-append, with_bodies-report, text_outcome-broken, breaks-broken, text_outcome-well_formed}
 use Rattle.vte_core.proofs.fields.PlaceOfState.{IsPlace, rest_outcome-nothing, may_continue-truncated}
-use Rattle.vte_core.proofs.places.PlaceLeads.{text-unfinished, text-whole, text-lone, short-character, short-malformed, tiny_brief, tiny-both, executed_low}
+use Rattle.vte_core.proofs.places.PlaceLeads.{text-unfinished, text-whole, text-lone, short-character, short-malformed, one_short-from_one_byte, one_short-append, executed_low}
 use Rattle.vte_core.specs.IgnoredString.{ignored_string_outcome}
 use Rattle.vte_core.specs.machine.Place.{control_sequence_from, device_control_from, escape_from, system_command_from}
 use Rattle.vte_core.proofs.bytes.Classes.{spans}
@@ -80,8 +80,8 @@ abbrev LeavesOpen : Place → List Event → Type 0
 LeavesOpen next reported = (open_at next ≡ []) ⊎ ((reported ≡ []) ⊎ (reported ≡ Print replacement ∷ []))
 
 -- nothing was reported, or one short event after which no character is open
-abbrev pub IsLittle : Place → List Event → Type 0
-IsLittle next reported = (reported ≡ []) ⊎ ((open_at next ≡ []) × IsAtMostOneShort reported)
+abbrev pub IsSilentOrSettles : Place → List Event → Type 0
+IsSilentOrSettles next reported = (reported ≡ []) ⊎ ((open_at next ≡ []) × IsAtMostOneShort reported)
 
 abbrev pub IsText : Place → Type 0
 IsText (InText begun) = Unit {0}
@@ -124,23 +124,24 @@ pub record Steps (limit : Option ℕ) (place : Place) (byte : ℕ) : Type 0 wher
   pub grows : limit ≡ None → open_data_count (left_at limit next) ≤ open_data_count (left_at limit place) + 1
   -- for early stops: nothing is reported where a character is left open
   pub leaves : LeavesOpen next reported
-  pub little : IsText place → breaks (open_at place) (byte ∷ []) ≡ false → IsLittle next reported
+  pub little : IsText place → breaks (open_at place) (byte ∷ []) ≡ false → IsSilentOrSettles next reported
   -- for `advance_to_run`
   pub outside_runs : IsOutsideRunsAt place byte → AreOutsideRuns reported
 
-little-is_short : (next : Place) (reported : List Event) → IsLittle next reported → IsAtMostOneShort reported
-little-is_short next reported little = search (rules, arith)
+silent_or_settles-is_short : (next : Place) (reported : List Event) → IsSilentOrSettles next reported
+    → IsAtMostOneShort reported
+silent_or_settles-is_short next reported little = search (rules, arith)
 
-step-little : {limit : Option ℕ} {begun later : List ℕ} {byte : ℕ} {reported : List Event}
-    → IsLittle (InText later) reported → eqb byte escape ≡ false
+step-silent_or_settles : {limit : Option ℕ} {begun later : List ℕ} {byte : ℕ} {reported : List Event}
+    → IsSilentOrSettles (InText later) reported → eqb byte escape ≡ false
     → Leads limit (InText begun) byte reported (InText later)
     → IsPlace (InText later) → Steps limit (InText begun) byte
-step-little {limit} {begun} {later} {byte} {reported} little other leads is = record {
+step-silent_or_settles {limit} {begun} {later} {byte} {reported} little other leads is = record {
   reported = reported;
   next = InText later;
   is_place = is;
   reads = reads-byte other leads;
-  brief = λ size _. tiny_brief size reported (little-is_short (InText later) reported little);
+  brief = λ size _. one_short-from_one_byte size reported (silent_or_settles-is_short (InText later) reported little);
   grows = λ _. omega (arith, text_left limit later);
   leaves = elim little [ inl nothing ↦ inr (inl nothing) | inr closed ↦ inl closed.0 ];
   little = λ _ _. little;
@@ -153,9 +154,11 @@ step-by_tests : {limit : Option ℕ} {begun : List ℕ} {byte : ℕ} → eqb byt
     → Steps limit (InText begun) byte)
     → Steps limit (InText begun) byte
 step-by_tests {begun} {byte} other neither = elim (cases_Bool (is_well_formed (begun ++ byte ∷ []))) [
-  | inl whole ↦ step-little (inr (refl, short-character (begun ++ byte ∷ []) whole)) other (text-whole whole) refl
+  | inl whole ↦ step-silent_or_settles (inr (refl, short-character (begun ++ byte ∷ []) whole)) other
+      (text-whole whole) refl
   | inr part ↦ elim (cases_Bool (is_truncated (begun ++ byte ∷ []))) [
-    | inl still ↦ step-little (inl refl) other text-unfinished (may_continue-truncated (begun ++ byte ∷ []) still)
+    | inl still ↦ step-silent_or_settles (inl refl) other text-unfinished
+        (may_continue-truncated (begun ++ byte ∷ []) still)
     | inr none ↦ neither part none
   ]
 ]
@@ -163,7 +166,7 @@ step-by_tests {begun} {byte} other neither = elim (cases_Bool (is_well_formed (b
 step-settled : {limit : Option ℕ} {byte : ℕ} → eqb byte escape ≡ false → Steps limit (InText []) byte
 step-settled {byte} other =
     step-by_tests other
-    (λ part none. step-little (inr (refl, short-malformed byte)) other (text-lone part none) refl)
+    (λ part none. step-silent_or_settles (inr (refl, short-malformed byte)) other (text-lone part none) refl)
 
 -- the byte belongs to no character with those before it
 step-broken : (limit : Option ℕ) (begun : List ℕ) (byte : ℕ) → eqb byte escape ≡ false → is_truncated begun ≡ true
@@ -171,7 +174,7 @@ step-broken : (limit : Option ℕ) (begun : List ℕ) (byte : ℕ) → eqb byte 
     → Steps limit (InText begun) byte
 step-broken limit begun byte other more part none =
     let alone : Steps limit (InText []) byte = step-settled other in
-    let little : IsLittle alone.next alone.reported = alone.little tt refl in
+    let little : IsSilentOrSettles alone.next alone.reported = alone.little tt refl in
     record {
       reported = Print replacement ∷ alone.reported;
       next = alone.next;
@@ -183,8 +186,8 @@ step-broken limit begun byte other more part none =
             ∙ ap (report (Print replacement ∷ [])) (alone.reads.reads rest);
       };
       brief =
-          λ size _. tiny-both size (Print replacement ∷ []) alone.reported (refl, refl)
-          (little-is_short alone.next alone.reported little);
+          λ size _. one_short-append size (Print replacement ∷ []) alone.reported (refl, refl)
+          (silent_or_settles-is_short alone.next alone.reported little);
       grows = λ none. omega (arith, alone.grows none);
       leaves =
           elim little [

@@ -20,10 +20,10 @@ after_events-append step value [] ys = refl
 after_events-append step value (x ∷ xs) ys = after_events-append step (step value x) xs ys
 
 -- one byte that is no ESC
-pub takes-performs : {V B : Type 0} {step : V → Event → V} {old new : V} {limit : Option ℕ} {place : Place} {byte : ℕ}
+pub takes_bytes-one : {V B : Type 0} {step : V → Event → V} {old new : V} {limit : Option ℕ} {place : Place} {byte : ℕ}
     {parser : Machine B} → eqb byte escape ≡ false
     → TakesByte step old new limit place byte parser → TakesBytes step old new limit place (byte ∷ []) parser
-takes-performs e t = record {
+takes_bytes-one e t = record {
   reported = t.reported;
   next = t.next;
   performed = t.performed;

@@ -9,9 +9,9 @@ use Rattle.vte_core.specs.Utf8.{Range, from_to, is_in}
 -- second is bound more closely; and after a byte that fits nowhere, for good.
 pub data AutomatonState : Type 0 where
   Between : AutomatonState
-  One : AutomatonState
-  Two : AutomatonState
-  Three : AutomatonState
+  NeedsOne : AutomatonState
+  NeedsTwo : AutomatonState
+  NeedsThree : AutomatonState
   AfterE0 : AutomatonState
   AfterED : AutomatonState
   AfterF0 : AutomatonState
@@ -27,24 +27,24 @@ next_between b =
     if is_layout b then Between
     else if is_in (from_to 0x20 0x7f) b then Between
     else if b == 0xc2 then AfterC2
-    else if is_in (from_to 0xc3 0xdf) b then One
+    else if is_in (from_to 0xc3 0xdf) b then NeedsOne
     else if b == 0xe0 then AfterE0
     else if b == 0xed then AfterED
-    else if is_in (from_to 0xe1 0xef) b then Two
+    else if is_in (from_to 0xe1 0xef) b then NeedsTwo
     else if b == 0xf0 then AfterF0
-    else if is_in (from_to 0xf1 0xf3) b then Three
+    else if is_in (from_to 0xf1 0xf3) b then NeedsThree
     else if b == 0xf4 then AfterF4
     else Failed
 
 unfoldable pub next_state : AutomatonState → ℕ → AutomatonState
 next_state Between b = next_between b
-next_state One b = next_if_in (from_to 0x80 0xbf) Between b
-next_state Two b = next_if_in (from_to 0x80 0xbf) One b
-next_state Three b = next_if_in (from_to 0x80 0xbf) Two b
-next_state AfterE0 b = next_if_in (from_to 0xa0 0xbf) One b
-next_state AfterED b = next_if_in (from_to 0x80 0x9f) One b
-next_state AfterF0 b = next_if_in (from_to 0x90 0xbf) Two b
-next_state AfterF4 b = next_if_in (from_to 0x80 0x8f) Two b
+next_state NeedsOne b = next_if_in (from_to 0x80 0xbf) Between b
+next_state NeedsTwo b = next_if_in (from_to 0x80 0xbf) NeedsOne b
+next_state NeedsThree b = next_if_in (from_to 0x80 0xbf) NeedsTwo b
+next_state AfterE0 b = next_if_in (from_to 0xa0 0xbf) NeedsOne b
+next_state AfterED b = next_if_in (from_to 0x80 0x9f) NeedsOne b
+next_state AfterF0 b = next_if_in (from_to 0x90 0xbf) NeedsTwo b
+next_state AfterF4 b = next_if_in (from_to 0x80 0x8f) NeedsTwo b
 next_state AfterC2 b = next_if_in (from_to 0xa0 0xbf) Between b
 next_state Failed b = Failed
 
@@ -54,37 +54,39 @@ state_after state (b ∷ bytes) = state_after (next_state state b) bytes
 
 -- What the three bytes before a position say of the state there.
 abbrev pub Trails : AutomatonState → ℕ → ℕ → ℕ → Type 0
-Trails Between third second first = (first < 0xc0) × (second < 0xe0) × (third < 0xf0)
-Trails One third second first =
-    (first < 0xc0 → second < 0xe0 → 0xf0 ≤ third) × (first < 0xe0) × (second < 0xf0)
-Trails Two third second first = (first < 0xe0 → 0xf0 ≤ second) × (first < 0xf0)
-Trails Three third second first = 0xf0 ≤ first
-Trails AfterE0 third second first = first ≡ 0xe0
-Trails AfterED third second first = first ≡ 0xed
-Trails AfterF0 third second first = first ≡ 0xf0
-Trails AfterF4 third second first = first ≡ 0xf4
-Trails AfterC2 third second first = (first ≡ 0xc2) × (second < 0xf0)
-Trails Failed third second first = ⊥
+Trails Between three_back two_back one_back = (one_back < 0xc0) × (two_back < 0xe0)
+    × (three_back < 0xf0)
+Trails NeedsOne three_back two_back one_back =
+    (one_back < 0xc0 → two_back < 0xe0 → 0xf0 ≤ three_back) × (one_back < 0xe0) × (two_back < 0xf0)
+Trails NeedsTwo three_back two_back one_back = (one_back < 0xe0 → 0xf0 ≤ two_back)
+    × (one_back < 0xf0)
+Trails NeedsThree three_back two_back one_back = 0xf0 ≤ one_back
+Trails AfterE0 three_back two_back one_back = one_back ≡ 0xe0
+Trails AfterED three_back two_back one_back = one_back ≡ 0xed
+Trails AfterF0 three_back two_back one_back = one_back ≡ 0xf0
+Trails AfterF4 three_back two_back one_back = one_back ≡ 0xf4
+Trails AfterC2 three_back two_back one_back = (one_back ≡ 0xc2) × (two_back < 0xf0)
+Trails Failed three_back two_back one_back = ⊥
 
 -- How many of three bytes are those of a character that they leave open.
 abbrev pub open_count : ℕ → ℕ → ℕ → ℕ
-open_count third second first =
-    if nat_le 0xc0 first then 1
-    else if nat_le 0xe0 second then 2
-    else if nat_le 0xf0 third then 3
+open_count three_back two_back one_back =
+    if nat_le 0xc0 one_back then 1
+    else if nat_le 0xe0 two_back then 2
+    else if nat_le 0xf0 three_back then 3
     else 0
 
 -- In a run a byte may stand after these three.
-pub record Follows (layout : Bool) (third second first byte : ℕ) : Type 0 where
-  pub leads : (state : AutomatonState) → Trails state third second first
-      → Trails (next_state state byte) second first byte
+pub record Follows (layout : Bool) (three_back two_back one_back byte : ℕ) : Type 0 where
+  pub leads : (state : AutomatonState) → Trails state three_back two_back one_back
+      → Trails (next_state state byte) two_back one_back byte
   pub above : layout ≡ false → 0x20 ≤ byte
 
 -- The k-th byte of the window may stand there.
 abbrev pub FollowsAt : Bool → Window → ℕ → Type 0
 FollowsAt layout window k =
-    Follows layout (slice_index window.third k) (slice_index window.second k)
-    (slice_index window.first k) (slice_index window.last k)
+    Follows layout (slice_index window.three_back k) (slice_index window.two_back k)
+    (slice_index window.one_back k) (slice_index window.current k)
 
 -- A byte of ASCII in a run that may have HT, LF and CR.
 abbrev pub IsPlain : ℕ → Type 0

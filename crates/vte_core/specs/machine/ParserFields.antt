@@ -154,7 +154,8 @@ IsPlaceOfState limit (ControlSequence progress) parser (InControlSequence head) 
 IsPlaceOfState limit (DeviceControl progress) parser (InDeviceControl head) =
     HasReadHead parser.collected progress head
 IsPlaceOfState limit DeviceData parser InDeviceData = ⊤
-IsPlaceOfState limit SystemCommand parser (InSystemCommand items) = HoldsItems limit parser.command items
+IsPlaceOfState limit SystemCommand parser (InSystemCommand items) =
+    HoldsItems limit parser.command items
 IsPlaceOfState limit IgnoredString parser InIgnoredString = ⊤
 IsPlaceOfState limit _ parser _ = ⊥
 

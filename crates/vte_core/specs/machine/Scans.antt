@@ -96,7 +96,7 @@ pub record LooksAtMost (most : ℕ) (before after : Reader) : Type 0 where
 -- The window has the bytes from a position on.
 pub record IsWindow (bytes : List ℕ) (from : ℕ) (window : Window) : Type 0 where
   pub within : from + 19 ≤ length bytes
-  pub third : window.third ≡ take 16 (drop from bytes)
-  pub second : window.second ≡ take 16 (drop (from + 1) bytes)
-  pub first : window.first ≡ take 16 (drop (from + 2) bytes)
-  pub last : window.last ≡ take 16 (drop (from + 3) bytes)
+  pub three_back : window.three_back ≡ take 16 (drop from bytes)
+  pub two_back : window.two_back ≡ take 16 (drop (from + 1) bytes)
+  pub one_back : window.one_back ≡ take 16 (drop (from + 2) bytes)
+  pub current : window.current ≡ take 16 (drop (from + 3) bytes)

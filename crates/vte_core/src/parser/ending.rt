@@ -17,7 +17,7 @@ impl<B: Buffer> Machine<B> {
         byte: u8,
     )
         requires { ends_body (class_of byte) ≡ true }
-        ensures performs { (place : Place) → IsAtPlace B.limit self.old place
+        ensures takes { (place : Place) → IsAtPlace B.limit self.old place
             → IsSettledPlace place
             → TakesBytes P.step (P.value_of performer.old)
             (P.value_of performer.new) B.limit place (byte ∷ []) self.new }

@@ -99,7 +99,7 @@ impl<B: Buffer> Machine<B> {
     )
         requires begun { self.old.state ≡ Escape }
         requires other { byte ≢ 0x5b }
-        ensures performs { (place : Place) → IsAtPlace B.limit self.old place
+        ensures takes { (place : Place) → IsAtPlace B.limit self.old place
             → IsSettledPlace place
             → TakesBytes P.step
             (P.value_of performer.old) (P.value_of performer.new) B.limit place

@@ -106,63 +106,63 @@ impl<P: ReceiveAs<G>, G: Granularity> CountedPerform<G> for P {
 
     #[inline(always)]
     fn print_char(&mut self, reader: &mut Reader, c: char) {
-        reader.add(1);
+        reader.count_looks(1);
         ReceiveAs::<G>::print_char(self, c);
     }
 
     #[inline(always)]
     fn print_text(&mut self, reader: &mut Reader, text: &str) {
-        reader.add(text.len());
+        reader.count_looks(text.len());
         ReceiveAs::<G>::print_text(self, text);
     }
 
     #[inline(always)]
     fn execute_control(&mut self, reader: &mut Reader, byte: u8) {
-        reader.add(1);
+        reader.count_looks(1);
         ReceiveAs::<G>::execute_control(self, byte);
     }
 
     #[inline(always)]
     fn hook(&mut self, reader: &mut Reader, collected: &Collected, ignore: bool, byte: u8) {
-        reader.add(1);
+        reader.count_looks(1);
         let (intermediates, action) = (collected.intermediates.as_slice(), char::from(byte));
         Perform::hook(self, &collected.params, intermediates, ignore, action);
     }
 
     #[inline(always)]
     fn put_byte(&mut self, reader: &mut Reader, byte: u8) {
-        reader.add(1);
+        reader.count_looks(1);
         ReceiveAs::<G>::put_byte(self, byte);
     }
 
     #[inline(always)]
     fn put_slice(&mut self, reader: &mut Reader, bytes: &[u8]) {
-        reader.add(bytes.len());
+        reader.count_looks(bytes.len());
         ReceiveAs::<G>::put_slice(self, bytes);
     }
 
     #[inline(always)]
     fn unhook(&mut self, reader: &mut Reader) {
-        reader.add(1);
+        reader.count_looks(1);
         Perform::unhook(self);
     }
 
     #[inline(always)]
     fn osc_dispatch(&mut self, reader: &mut Reader, pieces: &[&[u8]], bell: bool) {
-        reader.add(1);
+        reader.count_looks(1);
         Perform::osc_dispatch(self, pieces, bell);
     }
 
     #[inline(always)]
     fn csi_dispatch(&mut self, reader: &mut Reader, collected: &Collected, ignore: bool, byte: u8) {
-        reader.add(1);
+        reader.count_looks(1);
         let (intermediates, action) = (collected.intermediates.as_slice(), char::from(byte));
         Perform::csi_dispatch(self, &collected.params, intermediates, ignore, action);
     }
 
     #[inline(always)]
     fn esc_dispatch(&mut self, reader: &mut Reader, collected: &Collected, byte: u8) {
-        reader.add(1);
+        reader.count_looks(1);
         let intermediates = collected.intermediates.as_slice();
         Perform::esc_dispatch(self, intermediates, collected.too_many_intermediates, byte);
     }

@@ -26,7 +26,7 @@ impl Reader {
         ensures scans { Scans (IsRun layout) input.entry.bytes.now from result self.old self.new }
         ensures count { 3 * looked self.new + 11 * from ≤ 3 * looked self.old + 11 * result + 66 }
     {
-        if self.open_bytes(input, from) > 0 {
+        if self.count_open_bytes(input, from) > 0 {
             return from;
         }
         let mut at = from;
@@ -38,7 +38,11 @@ impl Reader {
                 break;
             }
             at += 16;
-            plain = if is_ascii(&window.last) { plain + 1 } else { 0 };
+            plain = if is_ascii(&window.current) {
+                plain + 1
+            } else {
+                0
+            };
             if plain >= most {
                 plain = 0;
                 at = self.skip_ascii_blocks(input, at);
@@ -47,7 +51,7 @@ impl Reader {
         if at == from {
             return from;
         }
-        at - self.open_bytes(input, at)
+        at - self.count_open_bytes(input, at)
     }
 
     /// Skips blocks of printed ASCII, HT, LF and CR from a position on, if no character is open.
@@ -65,7 +69,7 @@ impl Reader {
         ensures count { looked self.new + from ≤ looked self.old + result + 35 }
         ensures at_least { looked self.old + result ≤ looked self.new + from }
     {
-        if self.open_bytes(input, from) > 0 {
+        if self.count_open_bytes(input, from) > 0 {
             return from;
         }
         let mut at = from;
@@ -81,7 +85,7 @@ impl Reader {
     /// Returns how many of the three bytes before a position are those of a character that they
     /// leave open.
     #[inline(always)]
-    fn open_bytes(&mut self, input: Input<'_>, at: usize) -> usize
+    fn count_open_bytes(&mut self, input: Input<'_>, at: usize) -> usize
         requires before { 3 ≤ at }
         requires within { at ≤ length input.bytes.now }
         ensures value { result ≡ open_count (slice_index input.entry.bytes.now (at - 3))
@@ -132,10 +136,10 @@ fn continues_run(window: &Window, layout: bool) -> bool
     let mut all = true;
     for k in 0..16 {
         all &= may_follow(
-            window.third[k],
-            window.second[k],
-            window.first[k],
-            window.last[k],
+            window.three_back[k],
+            window.two_back[k],
+            window.one_back[k],
+            window.current[k],
             layout,
         );
     }
@@ -144,21 +148,23 @@ fn continues_run(window: &Window, layout: bool) -> bool
 
 /// Returns whether a byte may follow these three in a run.
 #[inline(always)]
-fn may_follow(third: u8, second: u8, first: u8, byte: u8, layout: bool) -> bool
-    ensures { result ≡ true → Follows layout third second first byte }
+fn may_follow(three_back: u8, two_back: u8, one_back: u8, byte: u8, layout: bool) -> bool
+    ensures { result ≡ true → Follows layout three_back two_back one_back byte }
 {
     // Vectors have one instruction for each of these, and two for a comparison.
-    let wanted = second.saturating_sub(0xdf).max(third.saturating_sub(0xef));
-    let is_open = first.saturating_sub(0xbf).max(wanted) > 0;
+    let wanted = two_back
+        .saturating_sub(0xdf)
+        .max(three_back.saturating_sub(0xef));
+    let is_open = one_back.saturating_sub(0xbf).max(wanted) > 0;
     let is_unused = (byte == 0xc0) | (byte == 0xc1);
     let is_other = ((byte < 0x20) | (byte >= 0xf5)) & !(is_layout(byte) & layout);
     // The second bytes of overlong forms, surrogates, numbers past the last character's (Unicode,
     // table 3-7) and controls.
     let is_low = (byte >= 0x80) & (byte < 0xa0);
     let is_lowest = (byte >= 0x80) & (byte < 0x90);
-    let is_excluded = (((first == 0xe0) | (first == 0xc2)) & is_low)
-        | ((first == 0xed) & !is_low)
-        | ((first == 0xf0) & is_lowest)
-        | ((first == 0xf4) & !is_lowest);
+    let is_excluded = (((one_back == 0xe0) | (one_back == 0xc2)) & is_low)
+        | ((one_back == 0xed) & !is_low)
+        | ((one_back == 0xf0) & is_lowest)
+        | ((one_back == 0xf4) & !is_lowest);
     (is_open == is_continuation(byte)) & !(is_unused | is_other | is_excluded)
 }

@@ -27,12 +27,12 @@ pub(crate) use run::{RunKind, RunRange};
 #[derive(Clone, Copy)]
 pub(crate) struct Reader {}
 
-/// Sixteen bytes (`last`), and those one, two and three places before each of them.
+/// Sixteen bytes (`current`), and those one, two and three places before each of them.
 pub(crate) struct Window {
-    pub(crate) third: [u8; 16],
-    pub(crate) second: [u8; 16],
-    pub(crate) first: [u8; 16],
-    pub(crate) last: [u8; 16],
+    pub(crate) three_back: [u8; 16],
+    pub(crate) two_back: [u8; 16],
+    pub(crate) one_back: [u8; 16],
+    pub(crate) current: [u8; 16],
 }
 
 /// Returns the bytes up to a position.
@@ -52,7 +52,7 @@ pub(crate) fn up_to(input: &[u8], to: usize) -> &[u8] {
 /// `may_follow` tests, may end inside a character: the search then goes back to where it began.
 #[inline(always)]
 #[allow(unsafe_code)]
-pub(crate) unsafe fn text(bytes: &[u8], from: usize, to: usize) -> &str {
+pub(crate) unsafe fn text_between(bytes: &[u8], from: usize, to: usize) -> &str {
     let bytes = &bytes[from..to];
     debug_assert!(str::from_utf8(bytes).is_ok());
     // SAFETY: this is what the caller promises.
@@ -61,7 +61,7 @@ pub(crate) unsafe fn text(bytes: &[u8], from: usize, to: usize) -> &str {
 
 /// Returns the data from one position to another.
 #[inline(always)]
-fn data(bytes: &[u8], from: usize, to: usize) -> &[u8] {
+fn data_between(bytes: &[u8], from: usize, to: usize) -> &[u8] {
     &bytes[from..to]
 }
 
@@ -69,13 +69,13 @@ fn data(bytes: &[u8], from: usize, to: usize) -> &[u8] {
 ///
 /// # Safety
 ///
-/// The bytes of a run of text must be whole characters, as [`text`] says.
+/// The bytes of a run of text must be whole characters, as [`text_between`] says.
 #[allow(unsafe_code)]
 unsafe fn take_run(bytes: &[u8], range: RunRange) -> Run<'_> {
     let taken = match range.kind {
         // SAFETY: this is what the caller promises.
-        RunKind::Text => Taken::Text(unsafe { text(bytes, range.start, range.end) }),
-        RunKind::Data => Taken::Data(data(bytes, range.start, range.end)),
+        RunKind::Text => Taken::Text(unsafe { text_between(bytes, range.start, range.end) }),
+        RunKind::Data => Taken::Data(data_between(bytes, range.start, range.end)),
         RunKind::Nothing => Taken::Nothing,
     };
     Run {
@@ -87,13 +87,13 @@ unsafe fn take_run(bytes: &[u8], range: RunRange) -> Run<'_> {
 
 impl Reader {
     /// Only Rattle's contracts count.
-    fn add(self, count: usize) {
+    fn count_looks(self, count: usize) {
         let _ = count;
     }
 
     /// Returns the byte at an index.
     pub(crate) fn byte_at(self, input: &[u8], index: usize) -> u8 {
-        self.add(1);
+        self.count_looks(1);
         input[index]
     }
 
@@ -101,7 +101,7 @@ impl Reader {
     #[inline(always)]
     pub(crate) fn get_byte(self, input: &[u8], index: usize) -> Option<u8> {
         let byte = *input.get(index)?;
-        self.add(1);
+        self.count_looks(1);
         Some(byte)
     }
 
@@ -109,7 +109,7 @@ impl Reader {
     #[inline(always)]
     pub(crate) fn get_block<const N: usize>(self, input: &[u8], from: usize) -> Option<[u8; N]> {
         let block = *first_chunk::<N>(&input[from..])?;
-        self.add(N);
+        self.count_looks(N);
         Some(block)
     }
 
@@ -119,12 +119,12 @@ impl Reader {
     pub(crate) fn get_window(self, input: &[u8], from: usize) -> Option<Window> {
         let bytes = first_chunk::<19>(&input[from..])?;
         let window = Window {
-            third: *first_chunk::<16>(bytes)?,
-            second: *first_chunk::<16>(&bytes[1..])?,
-            first: *first_chunk::<16>(&bytes[2..])?,
-            last: *first_chunk::<16>(&bytes[3..])?,
+            three_back: *first_chunk::<16>(bytes)?,
+            two_back: *first_chunk::<16>(&bytes[1..])?,
+            one_back: *first_chunk::<16>(&bytes[2..])?,
+            current: *first_chunk::<16>(&bytes[3..])?,
         };
-        self.add(19);
+        self.count_looks(19);
         Some(window)
     }
 
@@ -164,7 +164,7 @@ impl Reader {
         from: usize,
         to: usize,
     ) {
-        performer.put_slice(self, data(input, from, to));
+        performer.put_slice(self, data_between(input, from, to));
     }
 
     /// Appends the bytes from one position to another to an array that has room for them.
@@ -175,7 +175,7 @@ impl Reader {
         to: usize,
         array: &mut ArrayVec<u8, N>,
     ) -> Result<(), CapacityError> {
-        self.add(to - from);
+        self.count_looks(to - from);
         array.try_extend_from_slice(&input[from..to])
     }
 }
@@ -190,7 +190,7 @@ impl Reader {
         to: usize,
         vec: &mut Vec<u8>,
     ) -> Result<(), AllocError> {
-        self.add(to - from);
+        self.count_looks(to - from);
         vec.extend_from_slice(&input[from..to])
     }
 }

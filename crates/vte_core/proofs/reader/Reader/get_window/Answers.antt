@@ -18,12 +18,12 @@ returns c =
     let all = prefix-block _ _ c.args.from 19 c.requires c.in_ok-bytes.ensures.cases in (
       record {
         within = all.0;
-        third =
+        three_back =
             c.in_ok-first_chunk.ensures.cases.same ∙ ap (take 16) all.1
             ∙ take-take 16 19 (drop c.args.from bytes) (omega arith);
-        second = part bytes here _ c.args.from 1 18 all.1 (omega arith) c.in_ok-first_chunk-2.ensures.cases.same;
-        first = part bytes here _ c.args.from 2 17 all.1 (omega arith) c.in_ok-first_chunk-3.ensures.cases.same;
-        last = part bytes here _ c.args.from 3 16 all.1 (omega arith) c.in_ok-first_chunk-4.ensures.cases.same;
+        two_back = part bytes here _ c.args.from 1 18 all.1 (omega arith) c.in_ok-first_chunk-2.ensures.cases.same;
+        one_back = part bytes here _ c.args.from 2 17 all.1 (omega arith) c.in_ok-first_chunk-3.ensures.cases.same;
+        current = part bytes here _ c.args.from 3 16 all.1 (omega arith) c.in_ok-first_chunk-4.ensures.cases.same;
       },
-      c.add.ensures,
+      c.count_looks.ensures,
     )

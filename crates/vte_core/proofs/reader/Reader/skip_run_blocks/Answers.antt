@@ -3,12 +3,12 @@ use Rattle.vte_core.proofs.Common.{◌≡◌, ◌≤◌, ◌<◌, ◌+◌, ◌-�
 use Rattle.vte_core.specs.machine.Scans.{Each}
 use Rattle.vte_core.proofs.bytes.Runs.{run-none}
 use Rattle.vte_core.proofs.automaton_states.Scanned.{run-kept}
-use Rattle.vte_core.proofs.automaton_states.Windows.{above-block, leads-ascii, leads-block, run-before-open}
+use Rattle.vte_core.proofs.automaton_states.Windows.{above-block, trails-ascii, trails-block, run-before-open}
 use Rattle.vte_core.proofs.reader.Reader.skip_run_blocks.Goals.{then-is_ascii, else-is_ascii, then-layout, else-layout}
 use Rattle.vte_core.proofs.reader.Reader.skip_run_blocks.Goals as goal
 
-pub returns-then-open_bytes-gt0-clause-scans : goal.returns-then-open_bytes-gt0-clause-scans
-returns-then-open_bytes-gt0-clause-scans c = search (rules, arith, run-none)
+pub returns-then-count_open_bytes-gt0-clause-scans : goal.returns-then-count_open_bytes-gt0-clause-scans
+returns-then-count_open_bytes-gt0-clause-scans c = search (rules, arith, run-none)
 
 pub overflow_add-plain : goal.overflow_add-plain
 overflow_add-plain c = omega (arith, c.loop-window.invariant.at_most, c.loop-window.auto.at-fits)
@@ -24,7 +24,7 @@ loop-window-preserved c =
       low = omega (arith, v.low);
       high = omega (arith, early, window.within);
       leads =
-          leads-block c.args.layout c.args.input.bytes.now c.in-Some.window c.args.from c.loop-window.at early v.low
+          trails-block c.args.layout c.args.input.bytes.now c.in-Some.window c.args.from c.loop-window.at early v.low
           window fits v.leads 16 (omega arith);
       kept = λ none.
           above-block c.args.layout c.args.input.bytes.now c.in-Some.window c.args.from c.loop-window.at early v.low
@@ -65,17 +65,24 @@ loop-window-preserved-then-plain-most c =
       low = omega (arith, v.low, ascii.low);
       high = ascii.high;
       leads =
-          leads-ascii c.args.input.bytes.now c.args.from (c.loop-window.at + 16)
+          trails-ascii c.args.input.bytes.now c.args.from (c.loop-window.at + 16)
           c.skip_ascii_blocks-at.result (omega (arith, v.low)) ascii.low ascii.high
-          (leads-block c.args.layout c.args.input.bytes.now c.in-Some.window c.args.from c.loop-window.at early v.low
+          (trails-block c.args.layout c.args.input.bytes.now c.in-Some.window c.args.from c.loop-window.at early v.low
           window fits v.leads 16 (omega arith)) ascii.closed ascii.plain;
       kept = λ none. elim c.if-layout.branch [
         | then-layout w ↦ absurd (false≢true (sym none ∙ w.if-layout.true))
         | else-layout w ↦ elim c.if-is_ascii.branch [
           | then-is_ascii a ↦
               absurd
-              (omega
-              (arith, w.most-is, c.if-plain-most.true, a.plain-is, v.at_most, ascii.low, c.skip_ascii_blocks-at.type_inv))
+              (omega (
+                arith,
+                w.most-is,
+                c.if-plain-most.true,
+                a.plain-is,
+                v.at_most,
+                ascii.low,
+                c.skip_ascii_blocks-at.type_inv,
+              ))
           | else-is_ascii a ↦ absurd (omega (arith, w.most-is, c.if-plain-most.true, a.plain-is))
         ]
       ];
@@ -95,8 +102,13 @@ returns-then-at-from-clause-scans c =
       high = c.requires.within;
       are = run-none c.args.layout c.args.input.bytes.now c.args.from;
       at_least =
-          omega
-          (arith, at_least, c.loop-window.invariant.at_least, c.open_bytes.ensures.at_least, c.loop-window.invariant.low);
+          omega (
+            arith,
+            at_least,
+            c.loop-window.invariant.at_least,
+            c.count_open_bytes.ensures.at_least,
+            c.loop-window.invariant.low,
+          );
     }
 
 pub returns-clause-scans : goal.returns-clause-scans
@@ -107,8 +119,8 @@ returns-clause-scans c =
     let at = c.loop-window.at in
     let whole : c.args.from + 16 ≤ at = v.whole (omega (arith, v.low, c.if-at-from.false)) in
     let last =
-    run-before-open bytes c.args.from at (omega (arith, whole)) v.high v.leads c.open_bytes-2.result
-    c.open_bytes-2.ensures.value in
+    run-before-open bytes c.args.from at (omega (arith, whole)) v.high v.leads c.count_open_bytes-2.result
+    c.count_open_bytes-2.ensures.value in
     let kept : c.args.layout ≡ false → Each (λ byte. 0x20 ≤ byte) text 0 (at - c.args.from) =
     λ none k _ low.
     subst (λ byte. 0x20 ≤ byte) (sym (get_or-drop c.args.from bytes k 0))
@@ -118,7 +130,15 @@ returns-clause-scans c =
       low = omega (arith, whole, last.0);
       high = omega (arith, v.high);
       are =
-          run-kept c.args.layout text (at - c.args.from) (at - c.open_bytes-2.result - c.args.from) kept
+          run-kept c.args.layout text (at - c.args.from) (at - c.count_open_bytes-2.result - c.args.from) kept
           (omega (arith, whole, last.0)) last.1;
-      at_least = omega (arith, v.at_least, at_least, c.open_bytes.ensures.at_least, c.open_bytes-2.ensures.at_least, last.0, whole);
+      at_least = omega (
+        arith,
+        v.at_least,
+        at_least,
+        c.count_open_bytes.ensures.at_least,
+        c.count_open_bytes-2.ensures.at_least,
+        last.0,
+        whole,
+      );
     }

@@ -4,14 +4,14 @@
 -- and the larger ones aren't the first (`early`).
 use Rattle.vte_core.proofs.Common.{false, length, ◌*◌, ◌+◌, ◌-◌, ◌≡◌, ◌≤◌, ◌<◌, looked}
 use Rattle.vte_core.specs.machine.Scans.{Each}
-use Rattle.vte_core.proofs.automaton_states.Windows.{Leads}
+use Rattle.vte_core.proofs.automaton_states.Windows.{TrailsAt}
 use Rattle.vte_core.proofs.reader.Reader.skip_run_blocks.Given as goal
 
 abbrev pub invariant-loop-window : goal.invariant-loop-window
 invariant-loop-window l = record {
   low : l.from ≤ l.at;
   high : l.at ≤ length l.input.bytes.now;
-  leads : Leads l.input.bytes.now l.from l.at;
+  leads : TrailsAt l.input.bytes.now l.from l.at;
   kept : l.layout ≡ false → Each (λ byte. 0x20 ≤ byte) l.input.bytes.now l.from l.at;
   whole : l.from < l.at → l.from + 16 ≤ l.at;
   at_least : looked l.initial.self + l.at ≤ looked l.self + l.from;

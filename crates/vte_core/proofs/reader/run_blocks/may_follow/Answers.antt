@@ -29,9 +29,9 @@ passes inside continues unused other excluded all =
 
 pub returns : goal.returns
 returns c = λ all.
-    let t : ℕ = c.args.third in
-    let s : ℕ = c.args.second in
-    let f : ℕ = c.args.first in
+    let t : ℕ = c.args.three_back in
+    let s : ℕ = c.args.two_back in
+    let f : ℕ = c.args.one_back in
     let b : ℕ = c.args.byte in
     let low : Bool = nat_le 0x80 b && nat_lt b 0xa0 in
     let lowest : Bool = nat_le 0x80 b && nat_lt b 0x90 in

@@ -3,7 +3,7 @@
 
 use crate::proved::vte_core::buffer::Buffer;
 use crate::proved::vte_core::parser::{Machine, State};
-use crate::proved::vte_core::reader::{text, CountedPerform, Granularity, Reader};
+use crate::proved::vte_core::reader::{text_between, CountedPerform, Granularity, Reader};
 use crate::proved::vte_core::utf8::{
     character_of_four, character_of_three, character_of_two, is_continuation, may_begin_four,
     may_begin_three, Carried, Unfinished,
@@ -124,7 +124,7 @@ impl<B: Buffer> Machine<B> {
             let end = reader.find_other_run_end(performer, input, next + 3);
             // SAFETY: the character at `from` is whole, and the search passes whole
             // characters.
-            performer.print_text(reader, unsafe { text(input, from, end) });
+            performer.print_text(reader, unsafe { text_between(input, from, end) });
             return end;
         }
         reader.report_character(performer, character_of_four(first, second, third, fourth));

@@ -4,7 +4,7 @@
 use crate::proved::vte_core::buffer::Buffer;
 use crate::proved::vte_core::class::ESCAPE;
 use crate::proved::vte_core::parser::Machine;
-use crate::proved::vte_core::reader::{text, up_to, CountedPerform, Granularity, Reader};
+use crate::proved::vte_core::reader::{text_between, up_to, CountedPerform, Granularity, Reader};
 use crate::proved::vte_core::utf8::{is_lead, is_printed_ascii};
 
 /// The bytes of a text that are read before it is searched for ESC. Shorter texts, and so most,
@@ -33,7 +33,7 @@ fn print_ascii<P: CountedPerform<G> + ?Sized, G: Granularity>(
     if reader.begins_ascii_run(input, from, next) {
         let end = reader.find_ascii_run_end(performer, input, from);
         // SAFETY: ASCII stands at `from`, and the search passes whole characters.
-        performer.print_text(reader, unsafe { text(input, from, end) });
+        performer.print_text(reader, unsafe { text_between(input, from, end) });
         return AsciiRun { end, next: None };
     }
     performer.print_char(reader, char::from(first));
@@ -220,7 +220,7 @@ impl<B: Buffer> Machine<B> {
         if end > from {
             // SAFETY: the search has passed the character at `from`, and passes whole
             // characters.
-            performer.print_text(reader, unsafe { text(input, from, end) });
+            performer.print_text(reader, unsafe { text_between(input, from, end) });
             return end;
         }
         self.read_character::<P, G, MAY_STOP>(reader, performer, input, from, first)

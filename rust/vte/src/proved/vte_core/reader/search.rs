@@ -18,7 +18,7 @@ impl Reader {
         while end < input.len() && is_command_data(input[end]) {
             end += 1;
         }
-        self.add((end - from) + usize::from(end < input.len()));
+        self.count_looks((end - from) + usize::from(end < input.len()));
         end
     }
 
@@ -29,7 +29,7 @@ impl Reader {
         while end < input.len() && is_device_data(input[end]) {
             end += 1;
         }
-        self.add((end - from) + usize::from(end < input.len()));
+        self.count_looks((end - from) + usize::from(end < input.len()));
         end
     }
 
@@ -38,11 +38,11 @@ impl Reader {
         let rest = &input[from..];
         match memchr(ESCAPE, rest) {
             Some(distance) => {
-                self.add(distance + 1);
+                self.count_looks(distance + 1);
                 from + distance
             }
             None => {
-                self.add(rest.len());
+                self.count_looks(rest.len());
                 input.len()
             }
         }

@@ -6,7 +6,7 @@ use Rattle.vte_core.proofs.bytes.Scalars.{second-broken, third-broken, fourth-br
 use Rattle.vte_core.proofs.bytes.Runs.{run-append}
 use Rattle.vte_core.proofs.calls.Characters.{completes-broken, completes-then, completes-whole, goes-nowhere, goes-second, goes-third, unfinished-some}
 use Rattle.vte_core.proofs.calls.BetweenCharacters.{advances-first}
-use Rattle.vte_core.proofs.calls.Stretches.{advances-if}
+use Rattle.vte_core.proofs.calls.Stretches.{advances-weaker}
 use Rattle.vte_core.proofs.calls.TextRuns.{advances-text}
 use Rattle.vte_core.proofs.dividing.Utf8Agrees.{run-four}
 use Rattle.vte_core.proofs.parser.machine.Machine.complete_four.Goals as goal
@@ -98,7 +98,7 @@ pub returns-then-IN_RUNS-clause-advances : goal.returns-then-IN_RUNS-clause-adva
 returns-then-IN_RUNS-clause-advances g c =
     let r = c.requires in
     let in_runs = sym c.IN_RUNS.ensures ∙ c.if-IN_RUNS.true in
-    advances-if (λ given. absurd (false≢true (sym given.0 ∙ in_runs)))
+    advances-weaker (λ given. absurd (false≢true (sym given.0 ∙ in_runs)))
     (advances-text (r.no_stop in_runs) r.may_read.may_go_on r.may_read.begun
     (omega (arith, c.find_other_run_end-end.ensures.scans.low)) c.find_other_run_end-end.ensures.scans.high
     c.report_text.ensures.printed)

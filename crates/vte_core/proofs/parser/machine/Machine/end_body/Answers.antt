@@ -1,21 +1,21 @@
 -- What is open is reported first. Then ESC leads to after ESC, and CAN or SUB is executed and leads to a text.
 use Rattle.vte_core.proofs.Common.{[], ◌∷◌, refl, sym, ap, ◌∙◌, rules, Execute, closing_events_at, arith}
 use Rattle.vte_core.proofs.bytes.Classes.{ends_by_cancel}
-use Rattle.vte_core.proofs.calls.Stretches.{performs-escape, takes-byte}
+use Rattle.vte_core.proofs.calls.Stretches.{takes_bytes-escape, takes-byte}
 use Rattle.vte_core.proofs.fields.PlaceOfState.{stands-place}
-use Rattle.vte_core.proofs.streams.After.{after_events-append, takes-performs}
+use Rattle.vte_core.proofs.streams.After.{after_events-append, takes_bytes-one}
 use Rattle.vte_core.proofs.places.TextSteps.{byte-cancels, cancel_is_no_escape}
 use Rattle.vte_core.proofs.parser.machine.Machine.end_body.Goals as goal
 
-pub returns-then-byte-eq-ESCAPE-clause-performs : goal.returns-then-byte-eq-ESCAPE-clause-performs
-returns-then-byte-eq-ESCAPE-clause-performs g c = search (rules, arith, performs-escape)
+pub returns-then-byte-eq-ESCAPE-clause-takes : goal.returns-then-byte-eq-ESCAPE-clause-takes
+returns-then-byte-eq-ESCAPE-clause-takes g c = search (rules, arith, takes_bytes-escape)
 
-pub returns-clause-performs : goal.returns-clause-performs
-returns-clause-performs g c = λ place s b.
+pub returns-clause-takes : goal.returns-clause-takes
+returns-clause-takes g c = λ place s b.
     let step = g.P.CountedPerform.step in
     let limit = g.B.Buffer.limit in
     let e = ends_by_cancel c.args.byte c.requires c.if-byte-eq-ESCAPE.false in
-    takes-performs (cancel_is_no_escape c.args.byte e)
+    takes_bytes-one (cancel_is_no_escape c.args.byte e)
     (takes-byte
     (c.execute_control.ensures.value ∙ ap (λ v. step v (Execute c.args.byte)) (c.report_end.ensures.reported place s b)
     ∙ sym

@@ -1,36 +1,36 @@
 -- The byte after ESC by its class: a key, an intermediate, another byte that dispatches, a control, or one that is
 -- dropped. In each case the state is that of the place to which the byte leads.
 use Rattle.vte_core.proofs.Common.{[], refl, sym, ◌∙◌, arith, rules, class_of}
-use Rattle.vte_core.proofs.bytes.Classes.{class-control, final_ends_nothing, class-intermediate, left_dispatches, head_ends_nothing, below_final, below_finals}
-use Rattle.vte_core.proofs.calls.Stretches.{performs-in, takes-at_escape, takes-byte, performs-dropped}
+use Rattle.vte_core.proofs.bytes.Classes.{class-control, final_ends_nothing, class-intermediate, other_dispatches, head_ends_nothing, below_final, below_finals}
+use Rattle.vte_core.proofs.calls.Stretches.{takes_bytes-in, takes-at_escape, takes-byte, takes_bytes-dropped}
 use Rattle.vte_core.proofs.calls.Progress.{settled-by}
 use Rattle.vte_core.proofs.fields.PlaceOfState.{stands-by, stands-text_begun}
 use Rattle.vte_core.proofs.places.PlaceLeads.{byte-executed, escape-intermediate, escape-end}
 use Rattle.vte_core.proofs.parser.machine.Machine.read_after_escape.Goals as goal
 
 -- A final byte is a key: what it begins is `begin_or_dispatch`'s.
-pub returns-then-is_final-clause-performs : goal.returns-then-is_final-clause-performs
-returns-then-is_final-clause-performs g c =
+pub returns-then-is_final-clause-takes : goal.returns-then-is_final-clause-takes
+returns-then-is_final-clause-takes g c =
     let is = sym c.is_final.ensures ∙ c.if-is_final.true in
-    performs-in c.requires.begun (final_ends_nothing (class_of c.args.byte) is)
+    takes_bytes-in c.requires.begun (final_ends_nothing (class_of c.args.byte) is)
     (takes-at_escape c.args.self.now (λ holds. c.begin_or_dispatch.ensures.takes (stands-by c.requires.begun holds)))
 
 -- An intermediate is the first of the sequence.
-pub returns-then-is_intermediate-clause-performs : goal.returns-then-is_intermediate-clause-performs
-returns-then-is_intermediate-clause-performs g c =
+pub returns-then-is_intermediate-clause-takes : goal.returns-then-is_intermediate-clause-takes
+returns-then-is_intermediate-clause-takes g c =
     let is = class-intermediate _ (sym c.is_intermediate.ensures ∙ c.if-is_intermediate.true) in
-    performs-in c.requires.begun (rw is refl)
+    takes_bytes-in c.requires.begun (rw is refl)
     (takes-at_escape c.args.self.now (λ holds. takes-byte refl
     (record { by = c.collect.ensures.holds [] holds }) (escape-intermediate is)))
 
 -- Digits, `:`, `;` and markers dispatch: keys begin at `@`, which is later.
-pub returns-then-is_head_byte-clause-performs : goal.returns-then-is_head_byte-clause-performs
-returns-then-is_head_byte-clause-performs g c =
+pub returns-then-is_head_byte-clause-takes : goal.returns-then-is_head_byte-clause-takes
+returns-then-is_head_byte-clause-takes g c =
     let b = c.args.byte in
     let head = sym c.is_head_byte.ensures ∙ c.if-is_head_byte.true in
-    let ends = left_dispatches (class_of b) head (sym c.is_intermediate.ensures ∙ c.if-is_intermediate.false) in
+    let ends = other_dispatches (class_of b) head (sym c.is_intermediate.ensures ∙ c.if-is_intermediate.false) in
     let d = c.dispatch_escape.ensures in
-    performs-in c.requires.begun (head_ends_nothing (class_of b) head)
+    takes_bytes-in c.requires.begun (head_ends_nothing (class_of b) head)
     (takes-at_escape c.args.self.now
     (λ holds. takes-byte
     (rw (holds.kept, holds.too_many_intermediates) at d.reports.value)
@@ -38,18 +38,18 @@ returns-then-is_head_byte-clause-performs g c =
     (escape-end refl ends (below_finals b (below_final b head)))))
 
 -- A control is executed; the place stays after ESC.
-pub returns-then-is_plain_control-clause-performs : goal.returns-then-is_plain_control-clause-performs
-returns-then-is_plain_control-clause-performs g c =
+pub returns-then-is_plain_control-clause-takes : goal.returns-then-is_plain_control-clause-takes
+returns-then-is_plain_control-clause-takes g c =
     let b = c.args.byte in
     let is = class-control _ (sym c.is_plain_control.ensures ∙ c.if-is_plain_control.true) in
-    performs-in c.requires.begun (rw is refl)
+    takes_bytes-in c.requires.begun (rw is refl)
     (takes-at_escape c.args.self.now
     (λ holds. takes-byte c.execute_control.ensures.value (stands-by c.requires.begun holds)
     (byte-executed refl is)))
 
 -- What is left is DEL and 80 to FF, which is dropped.
-pub returns-else-is_plain_control-clause-performs : goal.returns-else-is_plain_control-clause-performs
-returns-else-is_plain_control-clause-performs g c = search (rules, arith, performs-dropped)
+pub returns-else-is_plain_control-clause-takes : goal.returns-else-is_plain_control-clause-takes
+returns-else-is_plain_control-clause-takes g c = search (rules, arith, takes_bytes-dropped)
 
 pub returns-then-is_plain_control-clause-handles : goal.returns-then-is_plain_control-clause-handles
 returns-then-is_plain_control-clause-handles g c = search (rules, arith, settled-by)

@@ -1,9 +1,9 @@
 -- The head first. Then nothing is left, or the next byte ends it: final, CAN, SUB or ESC, a control, or one that is
 -- dropped, by its class.
 use Rattle.vte_core.proofs.Common.{refl, sym, ◌∙◌, rules, class_of}
-use Rattle.vte_core.proofs.bytes.Classes.{class-control, left_is_dropped}
+use Rattle.vte_core.proofs.bytes.Classes.{class-control, other_is_dropped}
 use Rattle.vte_core.proofs.calls.Stretches.{takes-byte}
-use Rattle.vte_core.proofs.calls.Heads.{advances-control_sequence, ControlHead, advances-head, advances-past_head, performs-head}
+use Rattle.vte_core.proofs.calls.Heads.{advances-control_sequence, ControlHead, advances-head, advances-past_head, takes_bytes-head}
 use Rattle.vte_core.proofs.fields.PlaceOfState.{stands-by}
 use Rattle.vte_core.proofs.places.PlaceLeads.{byte-dropped, byte-executed}
 use Rattle.vte_core.proofs.parser.machine.Machine.read_any_head.Goals.{then-ends_body, else-ends_body+then-is_plain_control, else-ends_body+else-is_plain_control}
@@ -38,25 +38,25 @@ returns-in-Some-clause-advances g c =
       | then-ends_body w ↦
           rw (w.self-is, w.performer-is)
           (advances-past_head ControlHead c.requires.begun read.reads.head next c.requires.may_go_on
-          w.end_body.ensures.performs w.end_body.ensures.handles.settled)
+          w.end_body.ensures.takes w.end_body.ensures.handles.settled)
       -- A control.
       | else-ends_body+then-is_plain_control w ↦
           let is = class-control _ (sym w.is_plain_control.ensures ∙ w.if-is_plain_control.true) in
           rw (w.self-is, w.performer-is)
           (advances-past_head ControlHead c.requires.begun read.reads.head next c.requires.may_go_on
-          (performs-head ControlHead progress refl (rw is refl) (λ bytes stands.
+          (takes_bytes-head ControlHead progress refl (rw is refl) (λ bytes stands.
           takes-byte w.execute_control.ensures.value (stands-by refl stands)
           (byte-executed refl is))) tt)
       -- A byte that is dropped.
       | else-ends_body+else-is_plain_control w ↦
           let ordinary = sym c.ends_body.ensures ∙ w.if-ends_body.false in
           let dropped =
-          left_is_dropped (class_of b) (rw c.in-Some.is at read.other)
+          other_is_dropped (class_of b) (rw c.in-Some.is at read.other)
           (sym c.is_final.ensures ∙ c.if-is_final.false) ordinary
           (sym w.is_plain_control.ensures ∙ w.if-is_plain_control.false) in
           rw (w.self-is, w.performer-is)
           (advances-past_head ControlHead c.requires.begun read.reads.head next c.requires.may_go_on
-          (performs-head ControlHead progress refl ordinary (λ bytes stands.
+          (takes_bytes-head ControlHead progress refl ordinary (λ bytes stands.
           takes-byte refl (stands-by refl stands)
           (byte-dropped refl refl dropped))) tt)
     ]

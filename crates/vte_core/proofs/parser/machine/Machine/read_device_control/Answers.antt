@@ -1,8 +1,8 @@
 -- The head first. Then nothing is left, or the next byte hooks, ends the string, or is dropped, by its class.
 use Rattle.vte_core.proofs.Common.{refl, sym, ◌∙◌, rules, class_of}
-use Rattle.vte_core.proofs.bytes.Classes.{final_ends_nothing, left_in_head}
+use Rattle.vte_core.proofs.bytes.Classes.{final_ends_nothing, other_in_head}
 use Rattle.vte_core.proofs.calls.Stretches.{takes-byte}
-use Rattle.vte_core.proofs.calls.Heads.{DeviceHead, advances-head, advances-past_head, match-none, performs-head}
+use Rattle.vte_core.proofs.calls.Heads.{DeviceHead, advances-head, advances-past_head, match-none, takes_bytes-head}
 use Rattle.vte_core.proofs.fields.PlaceOfState.{stands-by}
 use Rattle.vte_core.proofs.places.PlaceLeads.{device-dropped}
 use Rattle.vte_core.proofs.parser.machine.Machine.read_device_control.Goals.{then-is_final, else-is_final+then-ends_body, else-is_final+else-ends_body}
@@ -21,23 +21,23 @@ returns-in-Some g c =
         | then-is_final w ↦
             rw (w.self-is, w.performer-is)
             (advances-past_head DeviceHead c.requires.begun read.reads.head next c.requires.may_go_on
-            (performs-head DeviceHead progress refl
+            (takes_bytes-head DeviceHead progress refl
             (final_ends_nothing (class_of b) (sym c.is_final.ensures ∙ w.if-is_final.true)) w.hook.ensures.takes)
             w.hook.ensures.handles.settled)
         -- CAN, SUB or ESC.
         | else-is_final+then-ends_body w ↦
             rw (w.self-is, w.performer-is)
             (advances-past_head DeviceHead c.requires.begun read.reads.head next c.requires.may_go_on
-            w.end_body.ensures.performs w.end_body.ensures.handles.settled)
+            w.end_body.ensures.takes w.end_body.ensures.handles.settled)
         -- A byte that is dropped.
         | else-is_final+else-ends_body w ↦
             let ordinary = sym w.ends_body.ensures ∙ w.if-ends_body.false in
             let dropped =
-            left_in_head (class_of b) (rw c.in-Some.is at read.other)
+            other_in_head (class_of b) (rw c.in-Some.is at read.other)
             (sym c.is_final.ensures ∙ w.if-is_final.false) ordinary in
             rw (w.self-is, w.performer-is)
             (advances-past_head DeviceHead c.requires.begun read.reads.head next c.requires.may_go_on
-            (performs-head DeviceHead progress refl ordinary (λ bytes stands.
+            (takes_bytes-head DeviceHead progress refl ordinary (λ bytes stands.
             takes-byte refl (stands-by refl stands)
             (device-dropped refl dropped))) tt)
       ];

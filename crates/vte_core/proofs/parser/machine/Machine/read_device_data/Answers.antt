@@ -1,7 +1,7 @@
 -- A call that asks goes on by one data byte; one that does not takes all up to the next byte that is not put.
 use Rattle.vte_core.proofs.Common.{refl, sym, ◌∙◌, arith, rules}
 use Rattle.vte_core.proofs.bytes.Classes.{data_ends_nothing}
-use Rattle.vte_core.proofs.calls.Stretches.{advances-in, takes-in_data, takes-byte, advances-data, first-put, advances-moved, advances-nothing, advances-part, advances-then}
+use Rattle.vte_core.proofs.calls.Stretches.{advances-in, takes-in_data, takes-byte, advances-data, first-put, advances-to_same, advances-nothing, advances-without_promise, advances-then}
 use Rattle.vte_core.proofs.fields.PlaceOfState.{stands-by}
 use Rattle.vte_core.proofs.calls.Progress.{may_stop-none, settled-by}
 use Rattle.vte_core.proofs.places.PlaceLeads.{data-put}
@@ -18,7 +18,7 @@ loop-position-preserved g c =
     let is = sym c.is_device_data.ensures ∙ c.if-not-is_device_data.false in
     record {
       advances = advances-then v.advances
-          (advances-part (advances-in v.begun (omega arith) c.byte_at-byte.ensures.value v.may_go_on
+          (advances-without_promise (advances-in v.begun (omega arith) c.byte_at-byte.ensures.value v.may_go_on
           (data_ends_nothing _ is)
           (takes-in_data c.loop-position.self
           (takes-byte c.put_byte.ensures.value (stands-by v.begun tt)
@@ -37,7 +37,8 @@ returns-then-terminated-clause-advances g c =
     let v = c.loop-position.invariant in
     let is = sym c.is_device_data.ensures ∙ c.if-not-is_device_data.false in
     advances-then v.advances
-    (advances-part (advances-in v.begun (omega arith) c.byte_at-byte.ensures.value v.may_go_on (data_ends_nothing _ is)
+    (advances-without_promise
+    (advances-in v.begun (omega arith) c.byte_at-byte.ensures.value v.may_go_on (data_ends_nothing _ is)
     (takes-in_data c.loop-position.self
     (takes-byte c.put_byte.ensures.value (stands-by v.begun tt)
     (data-put is))) (settled-by v.begun tt)))
@@ -57,7 +58,7 @@ returns-then-not-this-clause-advances g c =
 -- A byte that is no data ends them or is dropped.
 pub returns-then-not-is_device_data-clause-advances : goal.returns-then-not-is_device_data-clause-advances
 returns-then-not-is_device_data-clause-advances g c =
-    advances-then c.loop-position.invariant.advances (advances-part c.read_other_in_data.ensures.advances)
+    advances-then c.loop-position.invariant.advances (advances-without_promise c.read_other_in_data.ensures.advances)
 
 pub returns-clause-advances : goal.returns-clause-advances
-returns-clause-advances g c = advances-moved (omega arith) c.loop-position.invariant.advances
+returns-clause-advances g c = advances-to_same (omega arith) c.loop-position.invariant.advances

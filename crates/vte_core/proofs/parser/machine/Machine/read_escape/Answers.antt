@@ -1,7 +1,7 @@
 -- ESC once more changes nothing. `[` leads to a head, which is read on; any other byte is one step.
 use Rattle.vte_core.proofs.Common.{refl, arith, rules}
 use Rattle.vte_core.proofs.calls.Progress.{settled-by}
-use Rattle.vte_core.proofs.calls.Stretches.{advances-byte, advances-moved, advances-nothing, advances-when, advances-then, advances-again, advances-bracket}
+use Rattle.vte_core.proofs.calls.Stretches.{advances-byte, advances-to_same, advances-nothing, advances-given, advances-then, advances-again, advances-bracket}
 use Rattle.vte_core.proofs.parser.machine.Machine.read_escape.Goals as goal
 
 pub loop-position-init : goal.loop-position-init
@@ -27,8 +27,8 @@ returns-then-byte-ne-ESCAPE-clause-advances g c =
     let v = c.loop-position.invariant in
     let read = c.read_after_escape.ensures in
     advances-then v.advances
-    (advances-when (rw v.begun tt)
-    (advances-byte (omega arith) c.byte_at-byte.ensures.value v.may_go_on read.performs read.handles.settled))
+    (advances-given (rw v.begun tt)
+    (advances-byte (omega arith) c.byte_at-byte.ensures.value v.may_go_on read.takes read.handles.settled))
 
 pub returns-clause-advances : goal.returns-clause-advances
-returns-clause-advances g c = advances-moved (omega arith) c.loop-position.invariant.advances
+returns-clause-advances g c = advances-to_same (omega arith) c.loop-position.invariant.advances

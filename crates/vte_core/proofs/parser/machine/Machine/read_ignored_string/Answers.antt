@@ -1,7 +1,7 @@
 -- Bytes of an ignored string lead back to it, one by one (`advances-by`); then it ends, or the bytes do.
 use Rattle.vte_core.proofs.Common.{◌≡◌, ℕ, zero, suc, ◌+◌, ◌-◌, ◌≤◌, length, refl, arith, Machine, IgnoredString, Advances, MayGoOn, AreIgnored, ChunkCall, rules}
 use Rattle.vte_core.proofs.bytes.Classes.{ends_not_cancel}
-use Rattle.vte_core.proofs.calls.Stretches.{advances-in, takes-in_ignored, takes-byte, advances-moved, advances-nothing, advances-when, advances-then}
+use Rattle.vte_core.proofs.calls.Stretches.{advances-in, takes-in_ignored, takes-byte, advances-to_same, advances-nothing, advances-given, advances-then}
 use Rattle.vte_core.proofs.calls.Progress.{settled-by}
 use Rattle.vte_core.proofs.fields.PlaceOfState.{stands-by}
 use Rattle.vte_core.proofs.places.PlaceLeads.{ignored-more}
@@ -12,11 +12,11 @@ advances-by : {outside V B : Type 0} {call : ChunkCall V} {value : V} {parser : 
     → parser.state ≡ IgnoredString → i + n ≤ length call.bytes → AreIgnored call.bytes i (i + n) → MayGoOn call value
     → Advances outside call value value i (i + n) parser parser
 advances-by zero i begun within are may_go_on =
-    advances-moved (omega arith) (advances-nothing (λ _. settled-by begun tt))
+    advances-to_same (omega arith) (advances-nothing (λ _. settled-by begun tt))
 advances-by {call} {parser} (suc n) i begun within are may_go_on =
     let ordinary = are i (omega arith) (omega arith) in
-    advances-moved (omega arith) (advances-then
-    (advances-when tt (advances-in begun (omega (arith, within)) refl may_go_on ordinary
+    advances-to_same (omega arith) (advances-then
+    (advances-given tt (advances-in begun (omega (arith, within)) refl may_go_on ordinary
     (takes-in_ignored parser
     (takes-byte refl (stands-by begun tt)
     (ignored-more (ends_not_cancel _ ordinary)))) (settled-by begun tt)))
@@ -27,7 +27,7 @@ advances-ignored : {outside V B : Type 0} {call : ChunkCall V} {value : V} {i j 
     → parser.state ≡ IgnoredString → i ≤ j → j ≤ length call.bytes → AreIgnored call.bytes i j → MayGoOn call value
     → Advances outside call value value i j parser parser
 advances-ignored {i} {j} begun low high are may_go_on =
-    advances-moved (omega (arith, low))
+    advances-to_same (omega (arith, low))
     (advances-by (j - i) i begun (omega (arith, low, high))
     (λ k from to. are k from (omega (arith, low, to))) may_go_on)
 

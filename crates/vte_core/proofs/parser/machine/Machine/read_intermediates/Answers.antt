@@ -1,8 +1,8 @@
 -- The byte after intermediates by its class: another intermediate, a byte that dispatches, one that ends the sequence,
 -- a control, or one that is dropped. In each case the machine is at the place to which the byte leads.
 use Rattle.vte_core.proofs.Common.{refl, sym, ◌∙◌, arith, rules, class_of}
-use Rattle.vte_core.proofs.bytes.Classes.{class-control, dispatch_ends_nothing, class-intermediate, left_of_intermediates}
-use Rattle.vte_core.proofs.calls.Stretches.{advances-in, takes-in_escape, takes-byte, advances-byte, advances-nothing, advances-when, advances-then}
+use Rattle.vte_core.proofs.bytes.Classes.{class-control, dispatch_ends_nothing, class-intermediate, other_than_intermediate}
+use Rattle.vte_core.proofs.calls.Stretches.{advances-in, takes-in_escape, takes-byte, advances-byte, advances-nothing, advances-given, advances-then}
 use Rattle.vte_core.proofs.calls.Progress.{settled-by}
 use Rattle.vte_core.proofs.fields.PlaceOfState.{stands-by, stands-text_begun}
 use Rattle.vte_core.proofs.places.PlaceLeads.{byte-dropped, byte-executed, intermediate-end, intermediate-more}
@@ -25,7 +25,7 @@ loop-position-preserved g c =
         | then-is_intermediate w ↦
             let is = class-intermediate _ (sym c.is_intermediate.ensures ∙ w.if-is_intermediate.true) in
             rw w.self-is
-            (advances-when tt (advances-in v.begun (omega arith) c.byte_at-byte.ensures.value v.may_go_on (rw is refl)
+            (advances-given tt (advances-in v.begun (omega arith) c.byte_at-byte.ensures.value v.may_go_on (rw is refl)
             (takes-in_escape parser (λ ints holds. takes-byte refl
             (stands-by v.begun (w.collect.ensures.holds ints holds)) (intermediate-more is)))
             (settled-by v.begun tt)))
@@ -33,11 +33,11 @@ loop-position-preserved g c =
         | else-is_intermediate+else-dispatches_escape+else-ends_body+else-is_plain_control w ↦
             let ordinary = sym w.ends_body.ensures ∙ w.if-ends_body.false in
             let dropped =
-            left_of_intermediates (class_of b) (sym c.is_intermediate.ensures ∙ w.if-is_intermediate.false)
+            other_than_intermediate (class_of b) (sym c.is_intermediate.ensures ∙ w.if-is_intermediate.false)
             (sym w.dispatches_escape.ensures ∙ w.if-dispatches_escape.false) ordinary
             (sym w.is_plain_control.ensures ∙ w.if-is_plain_control.false) in
             rw w.self-is
-            (advances-when tt (advances-in v.begun (omega arith) c.byte_at-byte.ensures.value v.may_go_on ordinary
+            (advances-given tt (advances-in v.begun (omega arith) c.byte_at-byte.ensures.value v.may_go_on ordinary
             (takes-in_escape parser
             (λ ints holds.
             takes-byte refl (stands-by v.begun holds)
@@ -59,7 +59,7 @@ returns-then-dispatches_escape-clause-advances g c =
     let ends = sym c.dispatches_escape.ensures ∙ c.if-dispatches_escape.true in
     let d = c.dispatch_escape.ensures in
     advances-then v.advances
-    (advances-when tt
+    (advances-given tt
     (advances-in v.begun (omega arith) c.byte_at-byte.ensures.value v.may_go_on
     (dispatch_ends_nothing (class_of b) ends)
     (takes-in_escape c.loop-position.self
@@ -73,8 +73,8 @@ returns-then-ends_body-clause-advances g c =
     let v = c.loop-position.invariant in
     let d = c.end_body.ensures in
     advances-then v.advances
-    (advances-when (rw v.begun tt)
-    (advances-byte (omega arith) c.byte_at-byte.ensures.value v.may_go_on d.performs d.handles.settled))
+    (advances-given (rw v.begun tt)
+    (advances-byte (omega arith) c.byte_at-byte.ensures.value v.may_go_on d.takes d.handles.settled))
 
 -- A control is executed inside the sequence.
 pub returns-then-is_plain_control-clause-advances : goal.returns-then-is_plain_control-clause-advances
@@ -83,7 +83,7 @@ returns-then-is_plain_control-clause-advances g c =
     let b = c.byte_at-byte.result in
     let is = class-control _ (sym c.is_plain_control.ensures ∙ c.if-is_plain_control.true) in
     advances-then v.advances
-    (advances-when tt (advances-in v.begun (omega arith) c.byte_at-byte.ensures.value v.may_go_on (rw is refl)
+    (advances-given tt (advances-in v.begun (omega arith) c.byte_at-byte.ensures.value v.may_go_on (rw is refl)
     (takes-in_escape c.loop-position.self
     (λ ints holds. takes-byte c.execute_control.ensures.value (stands-by v.begun holds)
     (byte-executed refl is))) (settled-by v.begun tt)))

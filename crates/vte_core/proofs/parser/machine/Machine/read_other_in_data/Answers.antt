@@ -1,7 +1,7 @@
 -- ST unhooks and leads to a text; any other byte that is no data and ends nothing is dropped.
 use Rattle.vte_core.proofs.Common.{refl, sym, ◌∙◌}
 use Rattle.vte_core.proofs.bytes.Classes.{ends_no_data, terminator_is_high}
-use Rattle.vte_core.proofs.calls.Stretches.{advances-in, takes-in_data, takes-byte, advances-when}
+use Rattle.vte_core.proofs.calls.Stretches.{advances-in, takes-in_data, takes-byte, advances-given}
 use Rattle.vte_core.proofs.fields.PlaceOfState.{stands-by}
 use Rattle.vte_core.proofs.calls.Progress.{settled-by}
 use Rattle.vte_core.proofs.places.PlaceLeads.{data-dropped, data-terminator}
@@ -18,7 +18,7 @@ returns-clause-advances g c =
       | then-byte-eq-STRING_TERMINATOR w ↦
           let is = w.if-byte-eq-STRING_TERMINATOR.true in
           rw (w.self-is, w.performer-is)
-          (advances-when c.requires.other (advances-in r.begun r.within r.looked_at r.may_go_on ordinary
+          (advances-given c.requires.other (advances-in r.begun r.within r.looked_at r.may_go_on ordinary
           (takes-in_data parser
           (takes-byte w.unhook.ensures.value (record { by = (refl, refl) })
           (data-terminator (terminator_is_high is) (rw is refl)))) tt))
@@ -28,7 +28,7 @@ returns-clause-advances g c =
           data-dropped
           (ends_no_data c.args.byte ordinary w.if-byte-eq-STRING_TERMINATOR.false) c.requires.other in
           rw (w.self-is, w.performer-is)
-          (advances-when c.requires.other (advances-in r.begun r.within r.looked_at r.may_go_on ordinary
+          (advances-given c.requires.other (advances-in r.begun r.within r.looked_at r.may_go_on ordinary
           (takes-in_data parser (takes-byte refl (stands-by r.begun tt) dropped))
           (settled-by r.begun tt)))
     ]

@@ -3,9 +3,9 @@
 use Rattle.vte_core.proofs.Common.{◌<◌, length, sym, ◌∙◌, arith, rules, Advances, Text, Nothing}
 use Rattle.vte_core.specs.machine.Prelude.{MayReadByte}
 use Rattle.vte_core.proofs.calls.Progress.{settled-by}
-use Rattle.vte_core.proofs.calls.Stretches.{advances-byte, advances-part, advances-then}
+use Rattle.vte_core.proofs.calls.Stretches.{advances-byte, advances-without_promise, advances-then}
 use Rattle.vte_core.proofs.calls.TextRuns.{advances-text, may_go_on-malformed, may_go_on-text}
-use Rattle.vte_core.proofs.calls.BetweenCharacters.{performs-single}
+use Rattle.vte_core.proofs.calls.BetweenCharacters.{takes_bytes-single}
 use Rattle.vte_core.proofs.parser.machine.Machine.read_runs.Given.{Over}
 use Rattle.vte_core.proofs.parser.machine.Machine.read_runs.Invariants.{call_at}
 use Rattle.vte_core.proofs.parser.machine.Machine.read_runs.Goals.{Joined-is_printed_ascii, then-is_printed_ascii+in-Some, else-is_printed_ascii, Joined-byte-lt160, then-byte-lt160+else-byte-eq-ESCAPE, else-byte-lt160+then-is_lead}
@@ -87,7 +87,7 @@ read_sequence-requires-clause-may_read g c =
 pub returns-then-byte-eq-ESCAPE-clause-advances : goal.returns-then-byte-eq-ESCAPE-clause-advances
 returns-then-byte-eq-ESCAPE-clause-advances g c =
     advances-then (reached g (goal.at.returns-then-byte-eq-ESCAPE-clause-advances g c).Joined-is_printed_ascii)
-    (advances-part c.read_sequence.ensures.advances)
+    (advances-without_promise c.read_sequence.ensures.advances)
 
 -- A control or malformed byte alone below A0, and what a lead byte begins.
 read : (g : Over) (c : Joined-byte-lt160 g)
@@ -99,13 +99,14 @@ read : (g : Over) (c : Joined-byte-lt160 g)
 read g c here = elim c.if-byte-lt160.branch [
   | then-byte-lt160+else-byte-eq-ESCAPE w ↦
       let reported = w.report_lone_byte.ensures in
-      rw (w.self-is, w.performer-is, w.position-is) (advances-part
+      rw (w.self-is, w.performer-is, w.position-is) (advances-without_promise
       (advances-byte here.within here.looked_at here.may_go_on
-      (performs-single here.begun w.if-byte-eq-ESCAPE.false (grind (arith, w.if-byte-lt160.true))
+      (takes_bytes-single here.begun w.if-byte-eq-ESCAPE.false (grind (arith, w.if-byte-lt160.true))
       reported.control reported.malformed)
       (settled-by here.begun tt)))
   | else-byte-lt160+then-is_lead w ↦
-      rw (w.self-is, w.performer-is, w.position-is) (advances-part w.read_run_at_lead-position.ensures.advances)
+      rw (w.self-is, w.performer-is, w.position-is)
+      (advances-without_promise w.read_run_at_lead-position.ensures.advances)
 ]
 
 -- A stop after these.
@@ -143,9 +144,9 @@ loop-position-preserved-else-is_lead g c =
     let here = at g joins.Joined-is_printed_ascii in
     let reported = c.report_lone_byte-else-is_lead.ensures in
     record {
-      advances = advances-then (reached g joins.Joined-is_printed_ascii) (advances-part
+      advances = advances-then (reached g joins.Joined-is_printed_ascii) (advances-without_promise
           (advances-byte here.within here.looked_at here.may_go_on
-          (performs-single here.begun (grind (arith, c.if-byte-lt160.false))
+          (takes_bytes-single here.begun (grind (arith, c.if-byte-lt160.false))
           (sym c.is_lead.ensures ∙ c.if-is_lead.false) reported.control reported.malformed)
           (settled-by here.begun tt)));
       may_go_on = may_go_on-malformed g.P.CountedPerform.layout (call_at g c.args.input.bytes.now)

@@ -1,7 +1,7 @@
 -- ESC in a text, and `[` after it, are two steps of one byte; then the call goes on with the head, or after ESC.
 use Rattle.vte_core.proofs.Common.{refl, arith, Collected, Escape, Machine}
 use Rattle.vte_core.proofs.calls.Progress.{place-settled_text}
-use Rattle.vte_core.proofs.calls.Stretches.{advances-byte, advances-escape, advances-then, performs-escape, advances-bracket}
+use Rattle.vte_core.proofs.calls.Stretches.{advances-byte, advances-escape, advances-then, takes_bytes-escape, advances-bracket}
 use Rattle.vte_core.proofs.parser.machine.Machine.read_sequence.Goals as goal
 
 -- the machine at the ESC
@@ -14,7 +14,7 @@ returns-then-byte_at-eq91-clause-advances g c =
     advances-then
     (advances-escape c.requires.may_read.begun c.requires.may_read.within c.requires.escape
     (advances-byte {next = begun} c.requires.may_read.within refl c.requires.may_read.may_go_on
-    (λ place s between. performs-escape c.requires.escape refl c.begin_escape.ensures place s
+    (λ place s between. takes_bytes-escape c.requires.escape refl c.begin_escape.ensures place s
     (rw (place-settled_text c.requires.may_read.begun s) refl))
     tt))
     (advances-then
@@ -28,7 +28,7 @@ returns-clause-advances g c =
     advances-then
     (advances-escape c.requires.may_read.begun c.requires.may_read.within c.requires.escape
     (advances-byte c.requires.may_read.within refl c.requires.may_read.may_go_on
-    (λ place s between. performs-escape c.requires.escape refl c.begin_escape.ensures place s
+    (λ place s between. takes_bytes-escape c.requires.escape refl c.begin_escape.ensures place s
     (rw (place-settled_text c.requires.may_read.begun s) refl))
     tt))
     c.read_escape.ensures.advances

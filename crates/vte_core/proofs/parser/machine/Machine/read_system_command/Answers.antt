@@ -1,8 +1,8 @@
 -- Data join the open piece. The byte after them ends the command, or is `;`, BEL or a control: by its class, since data
 -- would have been read.
 use Rattle.vte_core.proofs.Common.{◌≡◌, ◌<◌, length, [], ◌∷◌, ◌++◌, refl, sym, subst, ◌∙◌, arith, ne_eqb, Machine, HoldsItems, IsCommandData, rules}
-use Rattle.vte_core.proofs.bytes.Classes.{left_is_control}
-use Rattle.vte_core.proofs.calls.Stretches.{advances-in, takes-in_system_command, takes-byte, advances-items, advances-when, advances-then}
+use Rattle.vte_core.proofs.bytes.Classes.{other_is_control}
+use Rattle.vte_core.proofs.calls.Stretches.{advances-in, takes-in_system_command, takes-byte, advances-items, advances-given, advances-then}
 use Rattle.vte_core.proofs.fields.PlaceOfState.{stands-by}
 use Rattle.vte_core.proofs.fields.Stores.{pieces_held}
 use Rattle.vte_core.proofs.calls.Progress.{settled-by}
@@ -39,7 +39,7 @@ returns-clause-advances g c =
       | then-byte-eq59 w ↦
           let is : byte ≡ 0x3b = w.if-byte-eq59.true in
           rw (w.self-is, w.performer-is)
-          (advances-when tt (advances-in begun within here.1 r.may_go_on ordinary
+          (advances-given tt (advances-in begun within here.1 r.may_go_on ordinary
           (takes-in_system_command after_data (λ items keeps. takes-byte refl
           (stands-by begun
           (subst (λ b. HoldsItems limit w.end_piece.new.self (items ++ b ∷ [])) (sym is)
@@ -48,18 +48,18 @@ returns-clause-advances g c =
       -- BEL: the command is reported.
       | else-byte-eq59+then-byte-eq-BELL w ↦
           rw (w.self-is, w.performer-is)
-          (advances-when tt (advances-in begun within here.1 r.may_go_on ordinary
+          (advances-given tt (advances-in begun within here.1 r.may_go_on ordinary
           (takes-in_system_command after_data
           (λ items keeps. takes-byte
           (rw (pieces_held keeps) w.dispatch.ensures.value) (record { by = (refl, refl) })
-          (command-bell (left_is_control byte ordinary no_data w.if-byte-eq59.false)
+          (command-bell (other_is_control byte ordinary no_data w.if-byte-eq59.false)
           (rw w.if-byte-eq-BELL.true refl)))) tt))
       -- Another control is dropped.
       | else-byte-eq59+else-byte-eq-BELL w ↦
           rw (w.self-is, w.performer-is)
-          (advances-when tt (advances-in begun within here.1 r.may_go_on ordinary
+          (advances-given tt (advances-in begun within here.1 r.may_go_on ordinary
           (takes-in_system_command after_data
           (λ items keeps. takes-byte refl (stands-by begun keeps)
-          (command-control (left_is_control byte ordinary no_data w.if-byte-eq59.false)
+          (command-control (other_is_control byte ordinary no_data w.if-byte-eq59.false)
           (ne_eqb _ _ w.if-byte-eq-BELL.false)))) (settled-by begun tt)))
     ])

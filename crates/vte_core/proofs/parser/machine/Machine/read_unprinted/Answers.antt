@@ -2,14 +2,14 @@
 -- byte that may begin a run.
 use Rattle.vte_core.proofs.Common.{refl, sym, ◌∙◌, arith, rules}
 use Rattle.vte_core.proofs.calls.Progress.{settled-by}
-use Rattle.vte_core.proofs.calls.Stretches.{advances-nothing, advances-then, advances-when}
+use Rattle.vte_core.proofs.calls.Stretches.{advances-nothing, advances-then, advances-given}
 use Rattle.vte_core.proofs.calls.BetweenCharacters.{advances-single}
 use Rattle.vte_core.proofs.bytes.Runs.{ends-unprinted}
 use Rattle.vte_core.proofs.parser.machine.Machine.read_unprinted.Goals as goal
 
 -- A byte that begins a longer one: no run begins here, so the character is none that is printed.
 pub returns-then-is_lead-clause-advances : goal.returns-then-is_lead-clause-advances
-returns-then-is_lead-clause-advances g c = advances-when (refl, c.requires.other) c.read_character.ensures.advances
+returns-then-is_lead-clause-advances g c = advances-given (refl, c.requires.other) c.read_character.ensures.advances
 
 -- The first byte is single: it is no printed ASCII, for no run begins here, and begins no longer one.
 pub loop-byte-init : goal.loop-byte-init

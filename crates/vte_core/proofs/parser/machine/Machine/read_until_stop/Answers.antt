@@ -2,8 +2,8 @@
 -- character, a control or malformed byte alone by two that join.
 use Rattle.vte_core.proofs.Common.{◌≡◌, ◌+◌, ◌<◌, length, slice_index, sym, ◌∙◌, arith, rules, Advances}
 use Rattle.vte_core.proofs.calls.Progress.{settled-by}
-use Rattle.vte_core.proofs.calls.Stretches.{advances-byte, advances-part, advances-then}
-use Rattle.vte_core.proofs.calls.BetweenCharacters.{performs-printed, performs-single}
+use Rattle.vte_core.proofs.calls.Stretches.{advances-byte, advances-without_promise, advances-then}
+use Rattle.vte_core.proofs.calls.BetweenCharacters.{takes_bytes-printed, takes_bytes-single}
 use Rattle.vte_core.proofs.parser.machine.Machine.read_until_stop.Given.{Over}
 use Rattle.vte_core.proofs.parser.machine.Machine.read_until_stop.Invariants.{call_at}
 use Rattle.vte_core.proofs.parser.machine.Machine.read_until_stop.Goals.{Joined-is_printed_ascii, then-is_printed_ascii, else-is_printed_ascii+else-is_lead+else-byte-eq-ESCAPE}
@@ -22,13 +22,13 @@ read_alone g c =
     advances-then v.advances (elim c.if-is_printed_ascii.branch [
       | then-is_printed_ascii w ↦
           let printed = sym c.is_printed_ascii.ensures ∙ w.if-is_printed_ascii.true in
-          rw w.performer-is (advances-part (advances-byte within looked_at v.may_go_on
-          (performs-printed (v.settled within) printed w.from.ensures w.print_char.ensures.value)
+          rw w.performer-is (advances-without_promise (advances-byte within looked_at v.may_go_on
+          (takes_bytes-printed (v.settled within) printed w.from.ensures w.print_char.ensures.value)
           (settled-by (v.settled within) tt)))
       | else-is_printed_ascii+else-is_lead+else-byte-eq-ESCAPE w ↦
           let reported = w.report_lone_byte.ensures in
-          rw w.performer-is (advances-part (advances-byte within looked_at v.may_go_on
-          (performs-single (v.settled within) w.if-byte-eq-ESCAPE.false
+          rw w.performer-is (advances-without_promise (advances-byte within looked_at v.may_go_on
+          (takes_bytes-single (v.settled within) w.if-byte-eq-ESCAPE.false
           (sym w.is_lead.ensures ∙ w.if-is_lead.false) reported.control reported.malformed)
           (settled-by (v.settled within) tt)))
     ])
@@ -36,7 +36,8 @@ read_alone g c =
 -- A stop, after what begins with a lead byte and after any other byte.
 pub returns-then-terminated-clause-advances : goal.returns-then-terminated-clause-advances
 returns-then-terminated-clause-advances g c =
-    advances-then c.loop-position-2.invariant.stands.advances (advances-part c.read_character-position.ensures.advances)
+    advances-then c.loop-position-2.invariant.stands.advances
+    (advances-without_promise c.read_character-position.ensures.advances)
 
 pub returns-then-terminated-2-clause-advances : goal.returns-then-terminated-2-clause-advances
 returns-then-terminated-2-clause-advances g c =
@@ -48,7 +49,7 @@ loop-position-2-preserved-then-is_lead g c =
     let read = c.read_character-position.ensures in
     record {
       stands = record {
-        advances = advances-then c.loop-position-2.invariant.stands.advances (advances-part read.advances);
+        advances = advances-then c.loop-position-2.invariant.stands.advances (advances-without_promise read.advances);
         may_go_on = search rules;
         settled = λ inside. read.text inside;
         low = search rules;

@@ -5,7 +5,7 @@ use Rattle.vte_core.proofs.Common.{ℕ, zero, suc, ◌+◌, ◌<◌, ◌≤◌, 
 use Rattle.vte_core.specs.EarlyStopLaws.{ReportsUnit, ReportsUnits, GoesOnFromPositions, AreReportedAtStart}
 use Rattle.vte_core.proofs.streams.After.{added-nothing, after-open_character}
 use Rattle.vte_core.proofs.places.PlaceLeads.{one_short-append}
-use Rattle.vte_core.proofs.places.TextSteps.{text_at}
+use Rattle.vte_core.proofs.places.Steps.{text_at}
 use Rattle.vte_core.proofs.streams.Parts.{added-broken, resumes-after}
 use Rattle.vte_core.proofs.Shapes.{breaks_at-byte, breaks_at-settled, starts-settled, starts-broken}
 use Rattle.vte_core.proofs.streams.StreamSteps.{added-byte, LeadsTo, leads_to, events_grow, bytes_are_brief, opens_silently}

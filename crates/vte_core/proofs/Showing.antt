@@ -9,7 +9,7 @@ use Rattle.vte_core.proofs.fields.Numbers.{AreSmall, IsFilled, numbered, with_nu
 use Rattle.vte_core.proofs.bytes.Classes.{head_ends_nothing, parameter_is_head}
 use Rattle.vte_core.proofs.places.PlaceLeads.{control-dispatched, control-head, escape-key}
 use Rattle.vte_core.proofs.Shapes.{held-parts, held-well_shaped}
-use Rattle.vte_core.proofs.places.TextSteps.{no_escape, reads-append, reads-byte, reads-escape, reads-nothing}
+use Rattle.vte_core.proofs.places.PartsToStream.{no_escape, reads-append, reads-byte, reads-escape, reads-nothing}
 use Rattle.vte_core.proofs.streams.StreamSteps.{reported_by_stream}
 
 -- ---- what is written

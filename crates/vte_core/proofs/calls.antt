@@ -10,7 +10,7 @@ pub mod Characters
 pub mod BetweenCharacters
 pub mod TextRuns
 -- The head of a sequence.
-pub mod Heads
+pub mod HeadStretches
 -- Calls that return at a run.
 pub mod ToRun
 -- What is open, refused memory, and what the calls of both parsers ensure.

@@ -2,6 +2,9 @@
 
 -- By the kind of place and of byte.
 pub mod PlaceLeads
--- From a text or body to the stream; CAN, SUB and ESC at all places; then all bytes.
+-- From a text or body to the stream.
+pub mod PartsToStream
+-- What a byte does: in a text; CAN, SUB and ESC at all places; then all bytes.
+pub mod Steps
 pub mod TextSteps
 pub mod PlaceSteps

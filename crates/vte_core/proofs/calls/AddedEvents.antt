@@ -6,7 +6,7 @@ use Rattle.vte_core.specs.machine.ToRun.{IsReadOutsideRuns}
 use Rattle.vte_core.proofs.calls.Progress.{stretch-added, starts-at}
 use Rattle.vte_core.proofs.fields.PlaceOfState.{IsPlace}
 use Rattle.vte_core.proofs.places.PlaceSteps.{steps}
-use Rattle.vte_core.proofs.places.TextSteps.{AreOutsideRuns, IsOutsideRunsAt}
+use Rattle.vte_core.proofs.places.Steps.{AreOutsideRuns, IsOutsideRunsAt}
 use Rattle.vte_core.proofs.Shapes.{reported-settled, reported-broken}
 use Rattle.vte_core.proofs.bytes.Runs.{one_byte}
 use Rattle.vte_core.proofs.streams.After.{added-reads, added-nothing}

@@ -12,7 +12,7 @@ use Rattle.vte_core.specs.machine.Prelude.{MayReadByte, Completes}
 use Rattle.vte_core.proofs.places.PlaceLeads.{text-lone, text-unfinished, text-whole}
 use Rattle.vte_core.proofs.streams.StreamSteps.{outside_runs-control}
 use Rattle.vte_core.proofs.calls.AddedEvents.{adds-reads, added-inside, adds-character, keep, kept-at, keeping}
-use Rattle.vte_core.proofs.places.TextSteps.{reads-byte}
+use Rattle.vte_core.proofs.places.PartsToStream.{reads-byte}
 use Rattle.vte_core.proofs.calls.Characters.{in_text}
 
 character_event-printed : (b : ℕ) → is_in (from_to 0x20 0x7f) b ≡ true → character_event b ≡ Print b

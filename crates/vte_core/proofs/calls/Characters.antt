@@ -7,7 +7,7 @@ use Rattle.vte_core.proofs.places.PlaceLeads.{text-unfinished, text-whole}
 use Rattle.vte_core.proofs.streams.After.{carried_is_no_escape, after-open_character}
 use Rattle.vte_core.proofs.Shapes.{breaks-broken, breaks-unfinished, breaks-whole}
 use Rattle.vte_core.proofs.calls.Progress.{progress-settled, progress-broken, progress-carried, inside-all, inside-moved}
-use Rattle.vte_core.proofs.places.TextSteps.{reads-byte}
+use Rattle.vte_core.proofs.places.PartsToStream.{reads-byte}
 use Rattle.vte_core.proofs.bytes.Scalars.{second-open, third-open}
 use Rattle.vte_core.specs.machine.Progress.{Completes}
 use Rattle.vte_core.proofs.streams.StreamSteps.{length-longer}

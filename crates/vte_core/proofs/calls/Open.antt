@@ -6,7 +6,7 @@ use Rattle.vte_core.proofs.fields.PlaceOfState.{IsPlace, stands-place, in_comman
 use Rattle.vte_core.proofs.places.PlaceLeads.{escape-end, intermediate-end, control-head, device-head, data-put, command-item, ignored-more}
 use Rattle.vte_core.proofs.Shapes.{text_outcome-broken}
 use Rattle.vte_core.proofs.streams.After.{added-after, added-reads, after-events, after-left, after-nothing, events-empty, open_at_end-any, after-reads}
-use Rattle.vte_core.proofs.places.TextSteps.{reads-byte, waits-byte}
+use Rattle.vte_core.proofs.places.PartsToStream.{reads-byte, waits-byte}
 use Rattle.vte_core.proofs.calls.Progress.{place-settled_text, reads-item, progress-command}
 use Rattle.vte_core.proofs.calls.ToRun.{reads-anew}
 use Rattle.vte_core.specs.Open.{kind_to_close, open_at_end}

@@ -15,7 +15,7 @@ use Rattle.vte_core.proofs.calls.TextRuns.{reads-text}
 use Rattle.vte_core.proofs.fields.PlaceOfState.{IsPlace, stands-in}
 use Rattle.vte_core.proofs.places.PlaceLeads.{data-put}
 use Rattle.vte_core.proofs.streams.After.{added-nothing, added-reads, after-nothing, after-reads}
-use Rattle.vte_core.proofs.places.TextSteps.{no_escape, reads-append, reads-byte, reads-nothing}
+use Rattle.vte_core.proofs.places.PartsToStream.{no_escape, reads-append, reads-byte, reads-nothing}
 
 -- ---- no run
 

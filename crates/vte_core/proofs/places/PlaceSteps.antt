@@ -3,7 +3,9 @@
 use Rattle.vte_core.proofs.Common.{◌≡◌, ℕ, inl, inr, false, eqb, Option, List, refl, arith, cases_Bool, nat_tests, Class, Control, Cancel, Intermediate, Final, Delete, High, class_of, ends_body, SequenceKind, EscapeSequence, sequence_kind, AreFromOneByte, Event, head_of, is_well_shaped, sequence_event, Leads, Place, InText, AtEscape, InEscape, InControlSequence, InDeviceControl, InDeviceData, InSystemCommand, InIgnoredString, closing_events_at, escape, bell, pieces_of, kept_items, None, ◌≤◌, ◌+◌, open_data_count, left_at, breaks, open_at, sym, false≢true, ◌∙◌, [], ◌∷◌, ◌++◌, Execute, rules}
 use Rattle.vte_core.specs.Class.{Escape}
 use Rattle.vte_core.proofs.places.PlaceLeads.{bounded-head, executed_low, two_at_most, escape-key, escape-intermediate, escape-end, intermediate-more, intermediate-end, byte-dropped, byte-executed, control-head, control-dispatched, control-silent, device-dropped, device-head, device-well_shaped, device-ill_shaped, data-put, data-dropped, data-terminator, command-item, command-control, command-bell, ignored-more}
-use Rattle.vte_core.proofs.places.TextSteps.{byte-cancels, closing_brief, closing_alone_brief, reads-byte, reads-escape, no_escape, cancel_is_no_escape, AreOutsideRuns, FitsLeft, IsSilentOrSettles, IsOutsideRunsAt, IsText, Steps, step-text}
+use Rattle.vte_core.proofs.places.PartsToStream.{reads-byte, reads-escape, no_escape, cancel_is_no_escape}
+use Rattle.vte_core.proofs.places.Steps.{AreOutsideRuns, FitsLeft, IsSilentOrSettles, IsOutsideRunsAt, IsText, Steps}
+use Rattle.vte_core.proofs.places.TextSteps.{byte-cancels, closing_brief, closing_alone_brief, step-text}
 use Rattle.vte_core.proofs.bytes.Classes.{ends_not_cancel, Spans, spans, below_finals}
 use Rattle.vte_core.proofs.fields.PlaceOfState.{IsPlace}
 use Rattle.vte_core.proofs.fields.Pieces.{few_pieces, pieces_push, some_pieces}

@@ -10,7 +10,7 @@ use Rattle.vte_core.proofs.fields.PlaceOfState.{IsPlace, stands-in}
 use Rattle.vte_core.proofs.places.PlaceLeads.{control-head, device-head}
 use Rattle.vte_core.proofs.calls.AddedEvents.{adds-same, kept-at, reported-at}
 use Rattle.vte_core.proofs.bytes.Runs.{one_byte}
-use Rattle.vte_core.proofs.places.TextSteps.{no_escape, reads-byte}
+use Rattle.vte_core.proofs.places.PartsToStream.{no_escape, reads-byte}
 
 -- ---- `ReadsHead` of no bytes, of two stretches, of a byte
 

@@ -5,11 +5,11 @@
 -- one that it finds, and a copy each byte that it copies. A text that is handed over is not loaded
 -- for it. Each event counts one look, and those of a run together as many as it has bytes.
 use Rattle.std.specs.Prelude.{ℕ, ◌+◌}
-use Rattle.vte_core.specs.declared.reader.Looks.{Looks}
+use Rattle.vte_core.specs.declared.reader.looks.Looks.{Looks}
 use Rattle.vte_core.specs.declared.reader.Reader.{Reader}
-use Rattle.vte_core.specs.declared.reader.Trail.{Trail}
-use Rattle.vte_core.specs.declared.reader.Trail.TheOpen.{Trail-F}
-use Rattle.vte_core.specs.declared.reader.Trail.TheFolds.{fold-Trail}
+use Rattle.vte_core.specs.declared.reader.looks.Trail.{Trail}
+use Rattle.vte_core.specs.declared.reader.looks.Trail.TheOpen.{Trail-F}
+use Rattle.vte_core.specs.declared.reader.looks.Trail.TheFolds.{fold-Trail}
 
 -- The count of the last step, added to the counts before it.
 abbrev pub count_step : Trail-F ℕ → ℕ

@@ -12,6 +12,8 @@ mod counted_perform;
 mod granularity;
 // cargo: #[cfg(any(feature = "std", feature = "ansi"))]
 mod long_calls;
+// cargo lacks: only contracts read it
+mod looks;
 mod run;
 mod run_blocks;
 mod run_end;
@@ -21,6 +23,8 @@ use arrayvec::{ArrayVec, CapacityError};
 pub(crate) use counted_perform::CountedPerform;
 pub(crate) use granularity::Granularity;
 pub use granularity::{ByCharacter, InRuns};
+pub(crate) use looks::Looks;
+use looks::Trail;
 pub use run::{Run, Taken};
 pub(crate) use run::{RunKind, RunRange};
 // cargo: #[cfg(any(feature = "std", feature = "ansi"))]
@@ -28,43 +32,6 @@ pub(crate) use run::{RunKind, RunRange};
 use std::alloc::{AllocError, Allocator};
 use std::snapshot::Snapshot;
 use std::{mem, str};
-
-/// The looks so far, and how many there were each time. Only contracts read it.
-#[derive(Drop)]
-// cargo lacks: only contracts read it
-enum Trail {
-    Start,
-    Then(Snapshot<Trail>, usize),
-    Both(Snapshot<Trail>, Snapshot<Trail>),
-}
-
-/// The looks of all calls of a parser. It has no bytes at run time.
-#[derive(Drop)]
-// cargo lacks: only contracts read it
-pub(crate) struct Looks {
-    trail: Snapshot<Trail>,
-}
-
-// cargo lacks: only contracts read it
-impl Looks {
-    /// Creates the count of a parser that has read nothing.
-    pub(crate) fn none() -> Self
-        ensures { counted result ≡ 0 }
-    {
-        Looks {
-            trail: Snapshot::of(&Trail::Start),
-        }
-    }
-
-    /// Adds the looks of a call, whose reader ends.
-    pub(crate) fn add(&mut self, reader: Reader)
-        ensures { counted self.new ≡ counted self.old + looked reader }
-    {
-        let Reader { trail } = reader;
-        let before = mem::replace(&mut self.trail, Snapshot::of(&Trail::Start));
-        self.trail = Snapshot::of(&Trail::Both(before, trail));
-    }
-}
 
 /// The bytes of a call, which has one reader.
 // cargo lacks: a slice serves
@@ -214,7 +181,7 @@ impl Reader {
     {
         // cargo instead: let _ = count;
         let before = mem::replace(&mut self.trail, Snapshot::of(&Trail::Start));
-        // cargo instead:
+        // cargo lacks: only contracts read it
         self.trail = Snapshot::of(&Trail::Then(before, count));
     }
 

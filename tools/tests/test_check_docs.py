@@ -14,7 +14,7 @@ def failures(text, run=True, name="page.md"):
     tool = Tool("check_docs", tracked=lambda: list(map(Path, files)),
                 words=lambda: {"one", "two", "three", "rt"},
                 words_by_file=lambda: [{"one", "two", "rt"}, {"three"}],
-                source_lines=lambda: {"f();", "g(1);"},
+                source_lines=lambda: {"f();", "g(1);"}, sources=lambda: {Path("a.rt"): "f();\n h"},
                 is_in_history=lambda commit: commit == "abc1234")
     page = tool.parts["Page"](write(name, text))
     return [it for _, it in tool.parts["failures"](page, run)]
@@ -22,32 +22,32 @@ def failures(text, run=True, name="page.md"):
 
 # a page, and what is wrong with it
 @pytest.mark.parametrize("page, failure", [
-    ("[a](gone.md)", "broken link: gone.md"),
+    ("[a](gone.md)", "broken link: gone.md"), ("See docs/GONE.md.", "no such page: docs/GONE.md"),
     ("[a](page.md) [b](#some-heading) [c](https://example.org/x)\n## Some *heading*", None),
     ("[a](page.md#no-heading)", "no such heading: page.md#no-heading"),
     ("[a](#no-heading)", "no such heading: #no-heading"),
     ("[a](#an-osc-and-more) [b](#c1)\n# An OSC, and more\n### `C1`", None),
     ("[a](#An-OSC)\n## An OSC", "no such heading: #An-OSC"),
-    ("See docs/GONE.md.", "no such page: docs/GONE.md"),
     ("`src/known.rt`, `./a/src/known`, `src/*.rt`, `out/gone.rt`", None),
     ("`a/target/gone`, `src/NAME.rt`, `/gone/file`", None),
     ("`src/gone.rt`", "no such file or folder: src/gone.rt"),
     ("`known.rt`, `*.rt`, `one.two`", None), ("`one.rt`", "no such file or folder: one.rt"),
     ("`one`, `one::two()`, `three!`, `ansi2txt`, `1b5d`", None),
-    ("`four`", "no source file contains four"),
+    ("`four`", "no source file contains four"), ("```diff\n+++ a.rt\n-f();\n+g();\n  h\n```", None),
     ("`one::four`", "no source file contains four of one::four"),
     ("`one.three`", "no source file contains all parts of one.three"),
     ("```rust\nf();\n    g(1); // why\n// known.rt\n// ..\n```", None),
     *((f"```{kind}\nh();\n```", "no source file contains this line: h();")
       for kind in ("rust", "c", "python", "antt")),
+    *((f"```diff\n{it}\n```", "this diff names no source file") for it in ("-f();", "+++ b.rt")),
+    *((f"```diff\n+++ a.rt\n{it}\n```", f"a.rt doesn't contain this line: {it[1:]}")
+      for it in ("-g();", " h")),
     ("```rust sketch\nh();\n```\n```sh\nh\n```", None), ("Since abc1234.", None),
     ("Since abc1235.", "the history has no commit abc1235"),
-    ("```sh run\ntrue\n```\n```sh\nfalse\n```", None),
-    ("```sh run\nfalse\ntrue\n```", "these commands failed with status 1"),
+    ("```sh run kit\nfalse\ntrue\n```", "these commands failed with status 1"),
     ("```sh run\nexit 7\n```", "these commands failed with status 7"),
     ("```sh run\nexec 2>&-\necho $NO_SUCH_NAME\ntrue\n```", "these commands failed with status"),
-    ("```sh run kit\nexit 7\n```", "these commands failed with status 7"),
-    ("```sh run\ntest -e page.md\n```", None)])
+    ("```sh run\ntrue\n```\n```sh\nfalse\n```", None), ("```sh run\ntest -e page.md\n```", None)])
 def test_pages(page, failure, monkeypatch):
     monkeypatch.setattr(shutil, "which", lambda _: "/bin/rt")
     found = failures(page)

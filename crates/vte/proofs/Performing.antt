@@ -65,11 +65,11 @@ begun-more : (b t : Bool) (n : ℕ) → ((b || t) || nat_lt 0 n) ≡ (b || nat_l
 begun-more b t n = grind (arith, nat_tests)
 
 -- one mode more is set
-pub modes-more : {V W : Type 0} (step : V → Call → V) (timeout : TimeoutMeaning W) (lent : PerformerValue V W)
+pub modes-more : {V W : Type 0} (step : V → Call → V) (timeout : TimeoutMeaning W) (performer : PerformerValue V W)
     (group : List ℕ) (groups : List (List ℕ))
-    → with_private_modes step timeout (with_private_mode step timeout lent (first_number group)) groups
-    ≡ with_private_modes step timeout lent (group ∷ groups)
-modes-more step timeout lent group groups = search (rules, arith, begun-more, set_times-add)
+    → with_private_modes step timeout (with_private_mode step timeout performer (first_number group)) groups
+    ≡ with_private_modes step timeout performer (group ∷ groups)
+modes-more step timeout performer group groups = search (rules, arith, begun-more, set_times-add)
 
 -- ---- a run of text
 
@@ -77,16 +77,16 @@ modes-more step timeout lent group groups = search (rules, arith, begun-more, se
 -- the end, because no character begins with a byte that continues one.
 
 -- A run calls `input` for each character, and neither sets the timeout nor terminates.
-pub performed_run : {V W : Type 0} (step : V → Call → V) (timeout : TimeoutMeaning W) (lent : PerformerValue V W)
+pub performed_run : {V W : Type 0} (step : V → Call → V) (timeout : TimeoutMeaning W) (performer : PerformerValue V W)
     (cs : List ℕ)
-    → performed (with_event step timeout) lent (map Print cs)
-    ≡ record lent {
-      handler = after step lent.handler (map Input cs);
-      last = last_printed_from lent.last (map Print cs);
+    → performed (with_event step timeout) performer (map Print cs)
+    ≡ record performer {
+      handler = after step performer.handler (map Input cs);
+      last = last_printed_from performer.last (map Print cs);
     }
-performed_run step timeout lent [] = refl
-performed_run step timeout lent (c ∷ cs) =
-    performed_run step timeout (with_event step timeout lent (Print c)) cs ∙ rw or-false
+performed_run step timeout performer [] = refl
+performed_run step timeout performer (c ∷ cs) =
+    performed_run step timeout (with_event step timeout performer (Print c)) cs ∙ rw or-false
 
 -- A character at the end of a run is its last.
 last_printed-added : (last : Option ℕ) (cs : List ℕ) (c : ℕ)
@@ -131,28 +131,29 @@ any-sum b m n = grind (arith, nat_tests)
 
 -- what all events together make of a performer's value
 abbrev with_events : {V W : Type 0} → Meaning V W → PerformerValue V W → List Event → PerformerValue V W
-with_events m lent events = record {
-  handler = after m.step lent.handler (calls_from lent.last events);
-  timeout = set_times m.timeout (begin_count events) lent.timeout;
-  last = last_printed_from lent.last events;
-  room = lent.room;
-  terminated = lent.terminated || nat_lt 0 (begin_count events);
-  state_name = lent.state_name;
-  handler_name = lent.handler_name;
+with_events m performer events = record {
+  handler = after m.step performer.handler (calls_from performer.last events);
+  timeout = set_times m.timeout (begin_count events) performer.timeout;
+  last = last_printed_from performer.last events;
+  room = performer.room;
+  terminated = performer.terminated || nat_lt 0 (begin_count events);
+  state_name = performer.state_name;
+  handler_name = performer.handler_name;
 }
 
-performed-events : {V W : Type 0} (m : Meaning V W) (lent : PerformerValue V W) (events : List Event)
-    → All (FitsText lent.room) events
-    → performed (with_event m.step m.timeout) lent events ≡ with_events m lent events
-performed-events m lent [] fit = rw or-false
-performed-events m lent (event ∷ events) fit =
-    performed-events m (with_event m.step m.timeout lent event) events (All-tail (FitsText lent.room) event events fit)
+performed-events : {V W : Type 0} (m : Meaning V W) (performer : PerformerValue V W) (events : List Event)
+    → All (FitsText performer.room) events
+    → performed (with_event m.step m.timeout) performer events ≡ with_events m performer events
+performed-events m performer [] fit = rw or-false
+performed-events m performer (event ∷ events) fit =
+    performed-events m (with_event m.step m.timeout performer event) events
+    (All-tail (FitsText performer.room) event events fit)
     ∙ rw (
-      All-head (FitsText lent.room) event events fit lent.last,
-      ← after_calls-append m.step lent.handler (calls_of lent.last event)
-          (calls_from (last_printed_after lent.last event) events),
-      ← set_times-add m.timeout lent.timeout (begins_in_event event) (begin_count events),
-      any-sum lent.terminated (begins_in_event event) (begin_count events),
+      All-head (FitsText performer.room) event events fit performer.last,
+      ← after_calls-append m.step performer.handler (calls_of performer.last event)
+          (calls_from (last_printed_after performer.last event) events),
+      ← set_times-add m.timeout performer.timeout (begins_in_event event) (begin_count events),
+      any-sum performer.terminated (begins_in_event event) (begin_count events),
     ) refl
 
 -- ---- the performer gives back what it was lent
@@ -170,11 +171,11 @@ module _ {H T B G V W : Type 0} (handler_of : H → V) (timeout_of : T → W) (r
   all_made = made ∙ performed-events m old (added m.limit s.parsed f) fit
 
   state-is : state ≡ new.state.now
-  state-is = back_state (sym (ap (λ lent. lent.state_name) all_made))
+  state-is = back_state (sym (ap (λ performer. performer.state_name) all_made))
 
   -- the text has the same room
   pub room_back : room_of state.text ≡ old.room
-  room_back = rw state-is (ap (λ lent. lent.room) all_made)
+  room_back = rw state-is (ap (λ performer. performer.room) all_made)
 
   pub performer-given_back : {P : Type 0} {view : ParserView P} {parser next : P} {lent : ProcessorState T B}
       {value : V} {handler : H} → ArePartsAt (engine_view m.limit view room_of timeout_of) parser lent value s
@@ -188,7 +189,7 @@ module _ {H T B G V W : Type 0} (handler_of : H → V) (timeout_of : T → W) (r
       (parse m s f)
   performer-given_back {lent} at at_last at_timeout at_handler at_room read back_handler keeps =
       let all = all_made in
-      let is_handler = back_handler (sym (ap (λ lent. lent.handler_name) all)) in
+      let is_handler = back_handler (sym (ap (λ performer. performer.handler_name) all)) in
       let last : old.last ≡ last_printed (events m.limit s.parsed) = at_last ∙ at.last in
       let timeout : old.timeout ≡ s.timeout = at_timeout ∙ at.timeout_is in
       let handler : old.handler ≡ s.handler = at_handler ∙ at.handler_is in
@@ -196,10 +197,12 @@ module _ {H T B G V W : Type 0} (handler_of : H → V) (timeout_of : T → W) (r
         parts_at = record {
           has_read = read;
           last =
-              rw (state-is, events_grow m.limit s.parsed f, last_printed-append, ← last) (ap (λ lent. lent.last) all);
-          timeout_is = rw (state-is, ← timeout) (ap (λ lent. lent.timeout) all);
+              rw (state-is, events_grow m.limit s.parsed f, last_printed-append, ← last)
+              (ap (λ performer. performer.last) all);
+          timeout_is = rw (state-is, ← timeout) (ap (λ performer. performer.timeout) all);
           handler_is =
-              rw (is_handler, added_calls-events m.limit s.parsed f, ← last, ← handler) (ap (λ lent. lent.handler) all);
+              rw (is_handler, added_calls-events m.limit s.parsed f, ← last, ← handler)
+              (ap (λ performer. performer.handler) all);
         };
         memory = rw (room_back, at_room) (keeps (room_of lent.text));
       }
@@ -208,17 +211,17 @@ module _ {H T B G V W : Type 0} (handler_of : H → V) (timeout_of : T → W) (r
 
 -- An update that begins terminates the performer, so the call stops at the end of the shortest prefix that begins one.
 
-terminated_by : {V W : Type 0} (m : Meaning V W) (lent : PerformerValue V W) (events : List Event)
-    → (performed (with_event m.step m.timeout) lent events).terminated
-    ≡ (lent.terminated || nat_lt 0 (begin_count events))
-terminated_by m lent [] = sym (or-false lent.terminated)
-terminated_by m lent (event ∷ events) =
-    terminated_by m (with_event m.step m.timeout lent event) events
-    ∙ any-sum lent.terminated (begins_in_event event) (begin_count events)
+terminated_by : {V W : Type 0} (m : Meaning V W) (performer : PerformerValue V W) (events : List Event)
+    → (performed (with_event m.step m.timeout) performer events).terminated
+    ≡ (performer.terminated || nat_lt 0 (begin_count events))
+terminated_by m performer [] = sym (or-false performer.terminated)
+terminated_by m performer (event ∷ events) =
+    terminated_by m (with_event m.step m.timeout performer event) events
+    ∙ any-sum performer.terminated (begins_in_event event) (begin_count events)
 
 module _ {V W : Type 0} (m : Meaning V W) {old new : PerformerValue V W} (goes_on : old.terminated ≡ false)
     {p r : List ℕ} {n : ℕ}
-    (stop : StopsExactly (with_event m.step m.timeout) (λ lent. lent.terminated) old m.limit p r new n) where
+    (stop : StopsExactly (with_event m.step m.timeout) (λ performer. performer.terminated) old m.limit p r new n) where
   prefix : IsPrefix m.limit p r (length (prefix_to_begin m.limit p r))
   prefix = prefix-is m.limit p r
 
@@ -261,7 +264,7 @@ module _ {V W : Type 0} (m : Meaning V W) {old new : PerformerValue V W} (goes_o
 
   pub stop_terminated : new.terminated ≡ nat_lt 0 (begin_count (added m.limit p (prefix_to_begin m.limit p r)))
   stop_terminated =
-      ap (λ lent. lent.terminated) stop_performs
+      ap (λ performer. performer.terminated) stop_performs
       ∙ terminated_by m old (added m.limit p (prefix_to_begin m.limit p r)) ∙ rw goes_on
 
   pub stop_stream : resumed_stream p r n ≡ p ++ prefix_to_begin m.limit p r

@@ -42,7 +42,8 @@ module _ {N : ℕ} {V W : Type 0} {step : PerformerValue V W → Event → Perfo
   short_parses r = search (rules, arith, short_fits)
 
   pub short_stops : {read : ℕ}
-      → ReadsUntilTerminated step (λ lent. lent.terminated) read old new bytes (reading_of parser) (reading_of next)
+      → ReadsUntilTerminated step (λ performer. performer.terminated) read old new bytes (reading_of parser)
+      (reading_of next)
       → AdvancesUntilStop limited_parser_view (Some N) step parser next old new bytes read
   short_stops r = record {
     within = r.within;
@@ -97,8 +98,8 @@ module _ {A V W : Type 0} {step : PerformerValue V W → Event → PerformerValu
   }
 
   pub long_stops : (result : Result ℕ Refused)
-      → ReadsLong 5 step (λ lent. lent.terminated) old new bytes parser next result
-      (ReadsUntilTerminated step (λ lent. lent.terminated))
+      → ReadsLong 5 step (λ performer. performer.terminated) old new bytes parser next result
+      (ReadsUntilTerminated step (λ performer. performer.terminated))
       → AdvancesUntilStop long_parser_view None step parser next old new bytes (read_count result)
   long_stops (Ok read) r = record {
     within = r.reads.within;

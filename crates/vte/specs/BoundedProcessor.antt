@@ -19,5 +19,6 @@ parser_within processor = processor.engine.parser
 -- `HasParsedAndHolds`, with room for a text that is joined from all data of a command.
 pub record HasParsedAndHoldsWithin {T A W : Type 0} {N : ℕ} (timeout_of : T → W)
     (processor : BoundedProcessor T A N) (parsed held : List ℕ) (timeout : W) : Type 0 where
-  pub stands : EngineHasParsedAndHolds (bounded_engine_view timeout_of) processor.engine parsed held timeout
+  pub stands : EngineHasParsedAndHolds (bounded_engine_view timeout_of) processor.engine parsed held
+      timeout
   pub has_room : HasTextRoom N processor.engine.state.text.size

@@ -66,7 +66,8 @@ module _ {V W : Type 0} (m : Meaning V W) where
     handler_is = e.handler_is;
   }
 
-  pub steps_told : (s t : State V W) (steps : List Step) → TakesSteps m s steps t → HasDelivered m s (given_bytes steps) t
+  pub steps_told : (s t : State V W) (steps : List Step) → TakesSteps m s steps t
+      → HasDelivered m s (given_bytes steps) t
   steps_told s t steps run =
       let g = replay_grows m s t steps run in
       delivers g.more g.parsed_is (g.each_once ∙ ap (λ held. g.more ++ held) (append-nil t.held))

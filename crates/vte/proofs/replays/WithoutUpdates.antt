@@ -51,7 +51,8 @@ module _ {V W : Type 0} {Before : ProcessorPredicate W} (old : V) {stream : List
 
     more_is : replayed.delivers.more ≡ given_bytes steps
     more_is =
-        sym (replayed.delivers.each_once ∙ ap (λ held. replayed.delivers.more ++ held) plain.none_held ∙ append-nil replayed.delivers.more)
+        let more = replayed.delivers.more in
+        sym (replayed.delivers.each_once ∙ ap (λ held. more ++ held) plain.none_held ∙ append-nil more)
 
     parsed_all : replayed.next.parsed ≡ stream ++ given_bytes steps
     parsed_all = replayed.delivers.parsed_is ∙ ap (λ more. stream ++ more) more_is

@@ -30,8 +30,8 @@ abbrev pub stop_if_due : {V W : Type 0} → Meaning V W → Bool → State V W �
 stop_if_due m pending s = if is_stopped pending s then stop m s else s
 
 -- A parsing turn, after a stop if need be, was refused memory.
-abbrev pub ParsesAndHalts : {V W : Type 0} → Meaning V W → Bool → State V W → List ℕ → State V W → List ℕ → Type 0
-ParsesAndHalts m pending s bytes t left =
+abbrev pub ParsesUntilRefused : {V W : Type 0} → Meaning V W → Bool → State V W → List ℕ → State V W → List ℕ → Type 0
+ParsesUntilRefused m pending s bytes t left =
     (is_held pending s bytes ≡ false) × ParsingTurnIsRefused m (stop_if_due m pending s) bytes t left
 
 module _ {V W : Type 0} (m : Meaning V W) where
@@ -44,10 +44,11 @@ module _ {V W : Type 0} (m : Meaning V W) where
   turn-parses pending s r parses = search (rules, arith)
 
   pub refused-parses : (pending : Bool) (s t : State V W) (r left : List ℕ) → TurnIsRefused m pending s r t left
-      → ParsesAndHalts m pending s r t left
+      → ParsesUntilRefused m pending s r t left
   refused-parses pending s t r left o = search (rules, arith)
 
-  pub refused-by_parsing : (pending : Bool) (s t : State V W) (r left : List ℕ) → ParsesAndHalts m pending s r t left
+  pub refused-by_parsing : (pending : Bool) (s t : State V W) (r left : List ℕ)
+      → ParsesUntilRefused m pending s r t left
       → TurnIsRefused m pending s r t left
   refused-by_parsing pending s t r left o = search (rules, arith)
 

@@ -1,8 +1,8 @@
 -- From turns to a call: what the private functions ensure of parser, hold and handler is put together into `HasTurned`
--- and `HasHalted`, and the loop over turns into `TakesTurns` and `TakesTurnsUntilRefused`.
-use Rattle.vte.proofs.Common.{◌≡◌, ℕ, ◌+◌, ◌-◌, ◌<◌, ◌≤◌, Bool, true, List, [], ◌++◌, length, take, drop, refl, ap, sym, ◌∙◌, arith, length-drop, append_assoc, Result, Ok, Err, append_cancel_right, drop_all, drop-drop, take_all, take-append-drop, Refused, ProcessorState, Engine, Meaning, held_of, rules, false, MatchResult, EndsTurn, inside_turn, HasAdvanced, EngineIsAt, HasTaken, EngineView, KeepsMemory, EngineHasMemory, EngineReads, EngineStops, EngineIsAtKeeping, EndsParsingTurn, HasHalted, HasParsedPrefix, HasParsedWithoutBegin, ArePartsAt, ArePartsAtKeeping, ArePartsAtWithMemory, HasTurned, State, TakesTurnsUntilRefused, TakesTurns, all_bytes, turn, hold_turn, parse, stop, between_turns, done, LacksMemoryForSome, Reserves}
+-- and `HasBeenRefused`, and the loop over turns into `TakesTurns` and `TakesTurnsUntilRefused`.
+use Rattle.vte.proofs.Common.{◌≡◌, ℕ, ◌+◌, ◌-◌, ◌<◌, ◌≤◌, Bool, true, List, [], ◌++◌, length, take, drop, refl, ap, sym, ◌∙◌, arith, length-drop, append_assoc, Result, Ok, Err, append_cancel_right, drop_all, drop-drop, take_all, take-append-drop, Refused, ProcessorState, Engine, Meaning, held_of, rules, false, MatchResult, EndsTurn, inside_turn, HasAdvanced, EngineIsAt, HasTaken, EngineView, KeepsMemory, EngineHasMemory, EngineReads, EngineStops, EngineIsAtKeeping, EndsParsingTurn, HasBeenRefused, HasParsedPrefix, HasParsedWithoutBegin, ArePartsAt, ArePartsAtKeeping, ArePartsAtWithMemory, HasTurned, State, TakesTurnsUntilRefused, TakesTurns, all_bytes, turn, hold_turn, parse, stop, between_turns, done, LacksMemoryForSome, Reserves}
 use Rattle.vte.proofs.turns.EachOnce.{grown_bytes, refused-by_parsing, is_held, stop_if_due, turn-holds, turn-parses}
-use Rattle.vte.proofs.turns.Slices.{until_refused-all, parsing-halts, takes-one, until_refused-grows, until_refused-on, until_refused-well, taken_on}
+use Rattle.vte.proofs.turns.Slices.{until_refused-all, parsing-refused, takes-one, until_refused-grows, until_refused-on, until_refused-well, taken_on}
 
 -- an engine stands where its parts do
 module _ {P B T A V W : Type 0} {view : EngineView P B T W} {engine : Engine P B T A} {value : V} {s : State V W}
@@ -103,16 +103,16 @@ ends_turn {m} {s} {bytes} pending allowed parses keeps (Ok read) less e = record
         rest = rw (turn-parses m pending s bytes parses) e.parsed.rest;
         is_at = rw (turn-parses m pending s bytes parses) (after-next keeps e.parsed.is_at);
       };
-  halted = tt;
+  refused = tt;
 }
 ends_turn {m} {s} {bytes} pending allowed parses keeps (Err refused) less e = record {
   turned = tt;
-  halted = record {
+  refused = record {
     next = parse m (stop_if_due m pending s) (take refused.read bytes);
     takes = inside_turn done pending allowed
         (refused-by_parsing m pending s _ bytes _
-        (parses, parsing-halts m (stop_if_due m pending s) bytes e.halted less));
-    is_at = after-next keeps e.halted.is_at;
+        (parses, parsing-refused m (stop_if_due m pending s) bytes e.refused less));
+    is_at = after-next keeps e.refused.is_at;
   };
 }
 
@@ -187,13 +187,13 @@ module _ {V W : Type 0} (m : Meaning V W) (s : State V W) (bytes : List ℕ) whe
   has_taken-reached r = has_taken-turns r.here (between_turns r.takes) r.is_at
 
   -- a turn was refused memory
-  pub reached-halted : {P B T A : Type 0} {view : EngineView P B T W} {first mid new : Engine P B T A}
+  pub reached-refused : {P B T A : Type 0} {view : EngineView P B T W} {first mid new : Engine P B T A}
       {before value : V}
       {count read n : ℕ}
       → (r : HasReached count read (EngineIsAtKeeping view first mid before)) → read ≤ length bytes
-      → HasHalted m r.here (take (length bytes - read) (drop read bytes)) n (EngineIsAtKeeping view mid new value)
+      → HasBeenRefused m r.here (take (length bytes - read) (drop read bytes)) n (EngineIsAtKeeping view mid new value)
       → HasTaken m s bytes (read + n) (EngineIsAtKeeping view first new value)
-  reached-halted {read} {n} r inside h =
+  reached-refused {read} {n} r inside h =
       let slice = take (length bytes - read) (drop read bytes) in
       let is : slice ≡ drop read bytes = rest-is bytes read inside in
       let left : drop n slice ≡ drop (read + n) bytes = rw (is, drop-drop n read bytes) in

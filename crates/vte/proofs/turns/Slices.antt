@@ -1,9 +1,9 @@
 -- A parsing turn by its slices, turns that are refused memory, and a hold turn by its parts. Slices in which no update
 -- begins add up to a longer prefix, so the turn ends where the prefix of the whole does; where one is refused,
 -- `ParsingTurnIsRefused` says how far it came.
-use Rattle.vte.proofs.Common.{◌≡◌, ℕ, ◌+◌, ◌-◌, ◌<◌, ◌≤◌, inl, Bool, true, false, nat_lt, List, [], ◌∷◌, ◌++◌, length, take, drop, refl, ap, sym, subst, ◌∙◌, arith, length-append, length-drop, append_assoc, drop-append-add, take-add, nat_tests, append-nil, drop_all, length-take-le, take-append-drop, take_all, take_at, added, IsSteady, begin_count, IsOutsideUpdate, Meaning, HoldsWellAt, HasHalted, HasParsedPrefix, HasParsedWithoutBegin, HasTakenParsingTurn, TakesAllTurns, ParsingTurn, ParsingTurnIsRefused, State, TakesTurnsUntilRefused, TakesTurns, prefix_to_begin, between_turns, done, kind_of, parsing_turn, parse, turn, turns, inside_turn, length-take, Engine, IsAdded, held_of, released_of, still_held, set_times, EngineIsAt, EngineView, EngineIsAtKeeping, ArePartsAt, ArePartsAtKeeping, ArePartsAtWithMemory, after_last_end, extend, from_begin_update, hold_turn, release, inr, stop, with_held, rules}
+use Rattle.vte.proofs.Common.{◌≡◌, ℕ, ◌+◌, ◌-◌, ◌<◌, ◌≤◌, inl, Bool, true, false, nat_lt, List, [], ◌∷◌, ◌++◌, length, take, drop, refl, ap, sym, subst, ◌∙◌, arith, length-append, length-drop, append_assoc, drop-append-add, take-add, nat_tests, append-nil, drop_all, length-take-le, take-append-drop, take_all, take_at, added, IsSteady, begin_count, IsOutsideUpdate, Meaning, HoldsWellAt, HasBeenRefused, HasParsedPrefix, HasParsedWithoutBegin, HasTakenParsingTurn, TakesAllTurns, ParsingTurn, ParsingTurnIsRefused, State, TakesTurnsUntilRefused, TakesTurns, prefix_to_begin, between_turns, done, kind_of, parsing_turn, parse, turn, turns, inside_turn, length-take, Engine, IsAdded, held_of, released_of, still_held, set_times, EngineIsAt, EngineView, EngineIsAtKeeping, ArePartsAt, ArePartsAtKeeping, ArePartsAtWithMemory, after_last_end, extend, from_begin_update, hold_turn, release, inr, stop, with_held, rules}
 use Rattle.vte.proofs.Performing.{after_calls-append, added_calls-append, added_calls-nothing, set_times-add}
-use Rattle.vte.proofs.turns.EachOnce.{Progresses, grows_on, stop_if_due_grows, stop_if_due_none, parse_grows, turns_grow, ParsesAndHalts, refused-parses, stop_if_due, turn-parses, taken_well, hold_turn-all, hold_turn-rest}
+use Rattle.vte.proofs.turns.EachOnce.{Progresses, grows_on, stop_if_due_grows, stop_if_due_none, parse_grows, turns_grow, ParsesUntilRefused, refused-parses, stop_if_due, turn-parses, taken_well, hold_turn-all, hold_turn-rest}
 use Rattle.vte.proofs.updates.Prefixes.{begin_count-added, prefix-after, prefix-all, prefix-more, prefix-some, begin_count-nothing, begin_count-none}
 use Rattle.std.proofs.lemmas.List.{nil_from_length}
 use Rattle.vte.proofs.updates.Sequences.{cases_Option, stays_held, suffix-length}
@@ -12,7 +12,7 @@ use Rattle.vte.specs.declared.ansi.updates.hold.SyncState.{SyncState}
 -- ---- the slices of a parsing turn
 
 -- `parsing-more` goes on by a slice in which no update begins. The loop ends with all bytes (`parsing-all`), a begin
--- (`parsing-ends`) or refused memory (`parsing-halts`).
+-- (`parsing-ends`) or refused memory (`parsing-refused`).
 
 pub slice_size : (bytes : List ℕ) (read : ℕ) {count : ℕ} → read ≤ length bytes → count ≤ length bytes - read
     → length (take (read + count - read) (drop read bytes)) ≡ count
@@ -118,21 +118,21 @@ module _ {V W : Type 0} (m : Meaning V W) (s : State V W) (bytes : List ℕ) whe
         is_at = rw (all, ← parse-append m s (take read bytes) prefix) at.is_at;
       }
 
-  pub parsing-halts : {read : ℕ} {IsNowAt : State V W → Type 0} → HasParsedWithoutBegin m s bytes read IsNowAt
+  pub parsing-refused : {read : ℕ} {IsNowAt : State V W → Type 0} → HasParsedWithoutBegin m s bytes read IsNowAt
       → read < length bytes
       → ParsingTurnIsRefused m s bytes (parse m s (take read bytes)) (drop read bytes)
-  parsing-halts {read} o less = search (rules, arith, take-append-drop, length-drop)
+  parsing-refused {read} o less = search (rules, arith, take-append-drop, length-drop)
 
 -- ---- a turn that is refused memory
 
-pub halted-nothing : {V W : Type 0} (m : Meaning V W) {s : State V W} {bytes : List ℕ} {IsNowAt : State V W → Type 0}
-    → IsNowAt s → HasHalted m s bytes 0 IsNowAt
-halted-nothing m {s} at = record { next = s; takes = between_turns done; is_at = at }
+pub refused-nothing : {V W : Type 0} (m : Meaning V W) {s : State V W} {bytes : List ℕ} {IsNowAt : State V W → Type 0}
+    → IsNowAt s → HasBeenRefused m s bytes 0 IsNowAt
+refused-nothing m {s} at = record { next = s; takes = between_turns done; is_at = at }
 
 -- ---- turns of a call, and one after them that is refused memory
 
 -- The refused turn leaves nothing held and is outside an update, so a further call with the unread bytes does what it
--- would have done (`halted-goes_on`).
+-- would have done (`until_refused-goes_on`).
 
 module _ {V W : Type 0} (m : Meaning V W) where
   pub takes-one : {s : State V W} {bytes : List ℕ} (pending : Bool) → 0 < length bytes
@@ -153,8 +153,8 @@ module _ {V W : Type 0} (m : Meaning V W) where
       → TakesTurnsUntilRefused m s bytes u rest
   until_refused-on s t u bytes left rest first (between_turns more) =
       between_turns (taken_on s t u bytes left rest first more)
-  until_refused-on s t u bytes left rest first (inside_turn more pending allowed halts) =
-      inside_turn (taken_on s t _ bytes left _ first more) pending allowed halts
+  until_refused-on s t u bytes left rest first (inside_turn more pending allowed refused) =
+      inside_turn (taken_on s t _ bytes left _ first more) pending allowed refused
 
   -- where nothing is left, no turn was refused memory
   pub until_refused-all : {s t : State V W} {bytes : List ℕ} → TakesTurnsUntilRefused m s bytes t []
@@ -163,9 +163,9 @@ module _ {V W : Type 0} (m : Meaning V W) where
 
   -- ---- what is parsed and held then
 
-  halts-grows : (pending : Bool) {s t : State V W} {bytes left : List ℕ} → ParsesAndHalts m pending s bytes t left
+  refused-grows : (pending : Bool) {s t : State V W} {bytes left : List ℕ} → ParsesUntilRefused m pending s bytes t left
       → Progresses s t bytes left
-  halts-grows pending {s} (parses, h) =
+  refused-grows pending {s} (parses, h) =
       rw h.state_is
       (grows_on (stop_if_due_grows m pending)
       (parse_grows m h.prefix (stop_if_due_none m pending s) h.bytes_are))
@@ -173,66 +173,69 @@ module _ {V W : Type 0} (m : Meaning V W) where
   pub until_refused-grows : {s t : State V W} {bytes left : List ℕ} → TakesTurnsUntilRefused m s bytes t left
       → Progresses s t bytes left
   until_refused-grows (between_turns taken) = turns_grow m taken
-  until_refused-grows {t} {left} (inside_turn {reached = u} {rest} taken pending allowed halts) =
+  until_refused-grows {t} {left} (inside_turn {reached = u} {rest} taken pending allowed refused) =
       grows_on (turns_grow m taken)
-      (halts-grows pending (refused-parses m pending u t rest left halts))
+      (refused-grows pending (refused-parses m pending u t rest left refused))
 
   -- outside an update, and with nothing held
-  halts-outside : (pending : Bool) (s t : State V W) (bytes left : List ℕ) → IsSteady m.timeout → HoldsWellAt m s
+  refused-outside : (pending : Bool) (s t : State V W) (bytes left : List ℕ) → IsSteady m.timeout → HoldsWellAt m s
       → m.timeout.allows s.timeout pending
-      → ParsesAndHalts m pending s bytes t left → IsOutsideUpdate m.timeout t.held t.timeout
-  halts-outside pending s t bytes left steady well allowed (parses, h) = search (rules, arith)
+      → ParsesUntilRefused m pending s bytes t left → IsOutsideUpdate m.timeout t.held t.timeout
+  refused-outside pending s t bytes left steady well allowed (parses, h) = search (rules, arith)
 
-  halts-held : (pending : Bool) (s t : State V W) (bytes left : List ℕ)
-      → ParsesAndHalts m pending s bytes t left → t.held ≡ []
-  halts-held pending s t bytes left (parses, h) = ap (λ t. t.held) h.state_is ∙ stop_if_due_none m pending s
+  refused-held : (pending : Bool) (s t : State V W) (bytes left : List ℕ)
+      → ParsesUntilRefused m pending s bytes t left → t.held ≡ []
+  refused-held pending s t bytes left (parses, h) = ap (λ t. t.held) h.state_is ∙ stop_if_due_none m pending s
 
   pub until_refused-well : {s t : State V W} {bytes left : List ℕ} → TakesTurnsUntilRefused m s bytes t left
       → HoldsWellAt m s
       → HoldsWellAt m t
   until_refused-well (between_turns taken) well = taken_well m taken well
-  until_refused-well {t} {left} (inside_turn {reached = u} {rest} taken pending allowed halts) well =
-      let opens = refused-parses m pending u t rest left halts in
-      let nothing = halts-held pending u t rest left opens in
+  until_refused-well {t} {left} (inside_turn {reached = u} {rest} taken pending allowed refused) well =
+      let opens = refused-parses m pending u t rest left refused in
+      let nothing = refused-held pending u t rest left opens in
       record {
         no_end = rw nothing refl;
         fits = rw nothing (omega arith);
         steady =
             λ steady.
-            inl (halts-outside pending u t rest left steady (taken_well m taken well) allowed
+            inl (refused-outside pending u t rest left steady (taken_well m taken well) allowed
             opens);
       }
 
   -- ---- the unread bytes in a further call
 
-  halts-goes_on : (pending : Bool) (s t : State V W) (bytes left : List ℕ) → ParsesAndHalts m pending s bytes t left
+  refused-goes_on : (pending : Bool) (s t : State V W) (bytes left : List ℕ)
+      → ParsesUntilRefused m pending s bytes t left
       → turn m false t left ≡ turn m pending s bytes
-  halts-goes_on pending s t bytes left (parses, h) =
+  refused-goes_on pending s t bytes left (parses, h) =
       let none : kind_of false (length t.held) (length left) ≡ ParsingTurn =
-      rw (halts-held pending s t bytes left (parses, h)) refl in
+      rw (refused-held pending s t bytes left (parses, h)) refl in
       rw (none, turn-parses m pending s bytes parses) (parsing_turn-goes_on m (stop_if_due m pending s) t bytes left h)
 
-  halted-turn_goes_on : (pending : Bool) {s t end : State V W} {bytes left : List ℕ}
+  refused-turn_goes_on : (pending : Bool) {s t end : State V W} {bytes left : List ℕ}
       → m.timeout.allows s.timeout pending
-      → ParsesAndHalts m pending s bytes t left
+      → ParsesUntilRefused m pending s bytes t left
       → IsOutsideUpdate m.timeout t.held t.timeout → TakesTurns m t left end [] → TakesTurns m s bytes end []
-  halted-turn_goes_on pending allowed h out done = absurd (omega (arith, h.1.some_left))
-  halted-turn_goes_on pending {s} {t} {end} {bytes} {left = b ∷ left} allowed h out (turns other allows more) =
+  refused-turn_goes_on pending allowed h out done = absurd (omega (arith, h.1.some_left))
+  refused-turn_goes_on pending {s} {t} {end} {bytes} {left = b ∷ left} allowed h out (turns other allows more) =
       let same : turn m other t (b ∷ left) ≡ turn m pending s bytes =
-      rw (out.not_pending.1 other allows) (halts-goes_on pending s t bytes (b ∷ left) h) in
+      rw (out.not_pending.1 other allows) (refused-goes_on pending s t bytes (b ∷ left) h) in
       let some : 0 < length bytes =
       omega (arith, h.1.some_left, ap length h.1.bytes_are, length-append h.1.prefix (b ∷ left)) in
       taken_on s _ end bytes _ [] (takes-one pending some allowed)
       (subst (λ x. TakesTurns m x.state x.rest end []) same more)
 
-  pub halted-goes_on : (s t end : State V W) (bytes left : List ℕ) → IsSteady m.timeout → HoldsWellAt m s
+  pub until_refused-goes_on : (s t end : State V W) (bytes left : List ℕ) → IsSteady m.timeout → HoldsWellAt m s
       → TakesTurnsUntilRefused m s bytes t left → TakesAllTurns m t left end → TakesAllTurns m s bytes end
-  halted-goes_on s t end bytes left steady well (between_turns taken) more = taken_on s t end bytes left [] taken more
-  halted-goes_on s t end bytes left steady well (inside_turn {reached = u} {rest} taken pending allowed halts) more =
-      let opens = refused-parses m pending u t rest left halts in
-      let out = halts-outside pending u t rest left steady (taken_well m taken well) allowed opens
+  until_refused-goes_on s t end bytes left steady well (between_turns taken) more =
+      taken_on s t end bytes left [] taken more
+  until_refused-goes_on s t end bytes left steady well (inside_turn {reached = u} {rest} taken pending allowed refused)
+      more =
+      let opens = refused-parses m pending u t rest left refused in
+      let out = refused-outside pending u t rest left steady (taken_well m taken well) allowed opens
       in
-      taken_on s u end bytes rest [] taken (halted-turn_goes_on pending allowed opens out more)
+      taken_on s u end bytes rest [] taken (refused-turn_goes_on pending allowed opens out more)
 
 -- ---- a hold turn
 

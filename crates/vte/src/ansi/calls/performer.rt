@@ -48,7 +48,7 @@ impl<'s, 'h, H: InputAs<G>, T: Timeout + Drop, B: TextBuffer + Drop, G> Perform
 
     ghost step = { with_event H.step (timeout_meaning T.set T.clear T.allows) };
 
-    ghost is_terminated = { λ lent. lent.terminated };
+    ghost is_terminated = { λ performer. performer.terminated };
 
     // cargo: #[inline]
     fn print(&mut self, c: char) {
@@ -120,7 +120,7 @@ impl<'s, 'h, H: HandlerText, T: Timeout + Drop, B: TextBuffer + Drop> PerformThr
     ghost use Rattle.std.proofs.Math.Bool.{or-false};
 
     // A character begins no update.
-    ghost no_stop = { λ lent c goes_on. or-false lent.terminated ∙ goes_on };
+    ghost no_stop = { λ performer c goes_on. or-false performer.terminated ∙ goes_on };
 }
 
 impl<'s, 'h, H: Handler, T: Timeout + Drop, B: TextBuffer + Drop, G> Performer<'s, 'h, H, T, B, G> {

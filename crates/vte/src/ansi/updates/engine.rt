@@ -5,7 +5,7 @@ ghost use Rattle.vte.specs.Views.{EngineHasParsedAndHolds, engine_view};
 ghost use Rattle.vte.specs.ProcessorCalls.{held_of};
 ghost use Rattle.vte.specs.machine.Hold.{released_of};
 ghost use Rattle.vte.specs.Processor.{State, hold_turn, meaning_of, most_held, parse, set_times, stop};
-ghost use Rattle.vte.specs.machine.Engine.{EngineIsAtKeeping, EndsParsingTurn, EndsTurn, ArePartsAt, ArePartsAtKeeping, ArePartsAtWithMemory, LeadOn};
+ghost use Rattle.vte.specs.machine.Engine.{EngineIsAtKeeping, EndsParsingTurn, EndsTurn, ArePartsAt, ArePartsAtKeeping, ArePartsAtWithMemory, EngineLeadsOn};
 ghost use Rattle.vte.specs.LongProcessor.{EngineReads, EngineStops, LacksMemoryForSome, Reserves};
 ghost use Rattle.vte_handler.specs.Timeout.{timeout_meaning};
 
@@ -166,7 +166,7 @@ impl<P: EventParser + Drop, B: TextBuffer + Drop, T: Timeout + Drop, A: Allocato
         requires some { 0 < length bytes.now }
         ensures within { MatchResult result (λ read. read ≤ length bytes.now)
             (λ refused. refused.read < length bytes.now) }
-        ensures turned { LeadOn (engine_view P.limit P.view B.room T.value_of) self.old
+        ensures turned { EngineLeadsOn (engine_view P.limit P.view B.room T.value_of) self.old
             self.new (H.value_of handler.old) (H.value_of handler.new)
             (λ s. EndsTurn (meaning_of P.limit H.step T.set T.clear T.allows) s bytes.now result) }
         ensures lacks { IfErr result
@@ -205,7 +205,7 @@ impl<P: EventParser + Drop, B: TextBuffer + Drop, T: Timeout + Drop, A: Allocato
         requires none { held_of self.old.hold ≡ [] }
         ensures within { MatchResult result (λ read. read ≤ length bytes.now)
             (λ refused. refused.read < length bytes.now) }
-        ensures parsed { LeadOn (engine_view P.limit P.view B.room T.value_of) self.old
+        ensures parsed { EngineLeadsOn (engine_view P.limit P.view B.room T.value_of) self.old
             self.new (H.value_of handler.old) (H.value_of handler.new)
             (λ s. EndsParsingTurn (meaning_of P.limit H.step T.set T.clear T.allows) s bytes.now
             result) }
@@ -250,7 +250,7 @@ impl<P: EventParser + Drop, B: TextBuffer + Drop, T: Timeout + Drop, A: Allocato
     fn hold_bytes<H: Handler, G: ParseAs<H, T, P>>(&mut self, handler: &mut H, bytes: &[u8])
         requires some { 0 < length bytes.now }
         requires room { length (held_of self.old.hold) + length bytes.now ≤ most_held }
-        ensures { LeadOn (engine_view P.limit P.view B.room T.value_of) self.old self.new
+        ensures { EngineLeadsOn (engine_view P.limit P.view B.room T.value_of) self.old self.new
             (H.value_of handler.old) (H.value_of handler.new)
             (λ s IsNowAt. P.view.has_memory self.old.parser (B.room self.old.state.text) s.parsed
             (length s.held + length bytes.now) →

@@ -2,7 +2,7 @@
 -- it is pending or bytes are held, and the turn parses.
 use Rattle.vte.proofs.Common.{◌≡◌, ◌<◌, length, refl, sym, ◌∙◌, arith, nat_tests, nat_le, most_held, held_of, inr, true, false, and-false, ◌+◌, meaning_of, engine_view, EngineIsAtKeeping}
 use Rattle.vte.proofs.turns.EachOnce.{is_held, is_stopped, stop_if_due}
-use Rattle.vte.proofs.turns.Slices.{halted-nothing}
+use Rattle.vte.proofs.turns.Slices.{refused-nothing}
 use Rattle.vte.proofs.turns.EngineTurns.{after-next, ends_turn, kept-next, next-at, stops-next, turned_hold}
 use Rattle.vte.proofs.ansi.updates.engine.Engine.turn.Goals as goal
 use Rattle.vte.proofs.ansi.updates.engine.Engine.turn.Goals.{else-pending-via-else-pending, else-pending-via-then-pending+else-has_room, else-pending-2+else-len-gt0, then-pending-2, then-pending-2-via-else-pending-2+then-len-gt0, then-pending-2-via-then-pending-2}
@@ -58,13 +58,13 @@ returns-then-has_room-clause-turned g c = λ s at.
           (after-next here.memory
           (c.hold_bytes.ensures s here.engine_at
           (c.if-not-reserve.ensures.reserved.room refl _ _ _ here.engine_at.stands)));
-      halted = tt;
+      refused = tt;
     }
 
 -- Memory was refused before anything was read.
 pub returns-then-not-reserve-clause-turned : goal.returns-then-not-reserve-clause-turned
 returns-then-not-reserve-clause-turned g c =
-    λ s at. record { turned = tt; halted = halted-nothing _ (kept-next c.reserve.ensures.reserved (next-at at)) }
+    λ s at. record { turned = tt; refused = refused-nothing _ (kept-next c.reserve.ensures.reserved (next-at at)) }
 
 -- Memory was refused for all bytes, which fit the hold.
 pub returns-then-not-reserve-clause-lacks : goal.returns-then-not-reserve-clause-lacks

@@ -1,6 +1,6 @@
 -- Lemmas of single functions of `ansi/calls`, most of them cited by attributes in the code: loops that make calls,
 -- colours, and texts that are joined.
-use Rattle.vte.proofs.Common.{◌≡◌, ◌≤◌, ◌<◌, ◌+◌, ◌-◌, ℕ, zero, suc, List, [], ◌∷◌, length, map, Option, None, Some, refl, arith, take, drop, Bor, take_all, ok_or, slice_index_or, id_of, link_to, palette_entry_calls, palette_entries_calls, attributes_from, decimal_number, Call, after, nat_tests, kind_reading, map-id, first_component, ◌^◌, ◌==◌, length-slice_split, split_by, Bool, sym, slice_split_first, slice_split_none, fails_before_first, ◌∙◌, true, false, ◌++◌, ap, get_or, false_from_ne_true, append-nil, drop_more, concat, join_with_byte, is_utf8, IsUtf8, append_assoc, length-append, decimal, text_to_join, joined_texts, text_in, filter_map, FitsRoom, joined_size}
+use Rattle.vte.proofs.Common.{◌≡◌, ◌≤◌, ◌<◌, ◌+◌, ◌-◌, ℕ, zero, suc, List, [], ◌∷◌, length, map, Option, None, Some, refl, arith, take, drop, Bor, take_all, ok_or, slice_index_or, id_of, link_to, palette_entry_calls, palette_entries_calls, attributes_from, decimal_number, Call, after, nat_tests, kind_reading, map-id, first_component, ◌^◌, ◌==◌, length-slice_split, split_by, Bool, sym, slice_split_first, slice_split_none, fails_before_first, ◌∙◌, true, false, ◌++◌, ap, get_or, false_from_ne_true, append-nil, drop_more, concat, join_with_byte, is_utf8, IsUtf8, append_assoc, length-append, decimal, text_to_join, joined_texts, text_in, filter_map, FitsTextSize, joined_size}
 use Rattle.std.specs.Result.{result_ok}
 use Rattle.vte.proofs.Performing.{after_calls-append}
 use Rattle.std.proofs.Math.Nat.{pow-le-pow_right}
@@ -118,7 +118,7 @@ left_size (Some text) = length text.now + 1
 
 -- ---- texts joined one by one
 
--- The buffer holds what was joined, the rest adds the others, and there is room for them (`Joins`).
+-- The buffer holds what was joined, the rest adds the others, and they fit (`Joins`).
 
 -- what texts add after others
 abbrev joined_more : Bool → List (List ℕ) → List ℕ
@@ -134,15 +134,14 @@ joined-all : (texts : List (List ℕ)) → joined_more true texts ≡ join_with_
 joined-all [] = refl
 joined-all (text ∷ texts) = sym (joined-text_to_join text texts)
 
--- the text holds what was joined, the texts of the pieces that are left add the rest, and there is
--- room for them
-pub record Joins (keeps_all : Bool) (room : ℕ) (text : List ℕ) (is_first : Bool)
+-- the text holds what was joined, the texts of the pieces that are left add the rest, and they fit
+pub record Joins (keeps_all : Bool) (size : ℕ) (text : List ℕ) (is_first : Bool)
     (left all : List (List ℕ)) : Type 0 where
   pub joins : text ++ joined_more is_first (filter_map (text_in keeps_all) left) ≡ joined_texts keeps_all all
-  pub fits : length text + joined_size left ≤ room
+  pub fits : length text + joined_size left ≤ size
 
-pub joins-begin : {keeps_all : Bool} {room : ℕ} {text : List ℕ} {all : List (List ℕ)} → text ≡ [] → FitsRoom room all
-    → Joins keeps_all room text true all all
+pub joins-begin : {keeps_all : Bool} {size : ℕ} {text : List ℕ} {all : List (List ℕ)} → text ≡ []
+    → FitsTextSize size all → Joins keeps_all size text true all all
 joins-begin {keeps_all} {all} empty fits =
     record { joins = rw empty (joined-all (filter_map (text_in keeps_all) all)); fits = rw empty (omega (arith, fits)) }
 
@@ -163,26 +162,26 @@ text_to_join-length true text = omega arith
 text_to_join-length false text = omega arith
 
 module _ (keeps_all : Bool) (pieces : List (Bor (List ℕ))) (i : ℕ) (d : Bor (List ℕ)) (inside : i < length pieces)
-    {room : ℕ} {text : List ℕ} {is_first : Bool}
+    {size : ℕ} {text : List ℕ} {is_first : Bool}
     {all : List (List ℕ)}
-    (before : Joins keeps_all room text is_first (map (λ piece. piece.now) (drop i pieces)) all) where
+    (before : Joins keeps_all size text is_first (map (λ piece. piece.now) (drop i pieces)) all) where
   abbrev piece : List ℕ
   piece = (get_or pieces i d).now
 
   abbrev left : List (List ℕ)
   left = map (λ (piece : Bor (List ℕ)). piece.now) (drop (i + 1) pieces)
 
-  opened : Joins keeps_all room text is_first (piece ∷ left) all
+  opened : Joins keeps_all size text is_first (piece ∷ left) all
   opened = rw (drop_more pieces i d inside) at before
 
-  -- there is room for the next text
-  pub joins-room : {part : List ℕ} → Some part ≡ text_in keeps_all piece → length text + length part + 1 ≤ room
-  joins-room {part} is =
+  -- the next text fits
+  pub joins-fits : {part : List ℕ} → Some part ≡ text_in keeps_all piece → length text + length part + 1 ≤ size
+  joins-fits {part} is =
       omega (arith, text-short keeps_all piece part is, opened.fits, length-append piece (concat left))
 
   -- a piece has a text
   pub joins-more : {part : List ℕ} → Some part ≡ text_in keeps_all piece
-      → Joins keeps_all room (text ++ text_to_join is_first part) false left all
+      → Joins keeps_all size (text ++ text_to_join is_first part) false left all
   joins-more {part} is = record {
     joins =
         append_assoc text (text_to_join is_first part) _
@@ -198,7 +197,7 @@ module _ (keeps_all : Bool) (pieces : List (Bor (List ℕ))) (i : ℕ) (d : Bor 
   }
 
   -- a piece has no text
-  pub joins-same : None ≡ text_in keeps_all piece → Joins keeps_all room text is_first left all
+  pub joins-same : None ≡ text_in keeps_all piece → Joins keeps_all size text is_first left all
   joins-same none =
       record {
         joins = rw (texts-same keeps_all piece left none) at opened.joins;
@@ -220,7 +219,7 @@ pub one_text : (keeps_all : Bool) (piece : List ℕ) (found : Option (Bor (List 
 one_text keeps_all piece None nothing is empty = rw (← is, empty) refl
 one_text keeps_all piece (Some text) nothing is empty = rw (← is) refl
 
--- ---- room for a number
+-- ---- the size of a number
 
 pub few_digits : (n : ℕ) → n < 256 → length (decimal n) ≤ 3
 few_digits n low = length-decimal-le 3 n (omega arith) (omega arith) (omega arith)

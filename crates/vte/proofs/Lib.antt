@@ -4,7 +4,7 @@
 pub mod Common
 -- The two sequences of updates: in held bytes, and where bytes are parsed.
 pub mod updates
--- From events to calls, with room for them.
+-- From events to calls, with memory for them.
 pub mod Performing
 pub mod Rooms
 -- From slices of bytes and holds to the turns of a call.

@@ -124,7 +124,7 @@ last_of_text text s t taken last is same o =
 
 -- ---- the value after events
 
--- One by one, events make of it what `with_events` says of all, if they fit the room.
+-- One by one, events make of it what `with_events` says of all, if they fit the text.
 
 any-sum : (b : Bool) (m n : ℕ) → ((b || nat_lt 0 m) || nat_lt 0 n) ≡ (b || nat_lt 0 (m + n))
 any-sum b m n = grind (arith, nat_tests)
@@ -135,21 +135,21 @@ with_events m performer events = record {
   handler = after m.step performer.handler (calls_from performer.last events);
   timeout = set_times m.timeout (begin_count events) performer.timeout;
   last = last_printed_from performer.last events;
-  room = performer.room;
+  text_size = performer.text_size;
   terminated = performer.terminated || nat_lt 0 (begin_count events);
   state_name = performer.state_name;
   handler_name = performer.handler_name;
 }
 
 performed-events : {V W : Type 0} (m : Meaning V W) (performer : PerformerValue V W) (events : List Event)
-    → All (FitsText performer.room) events
+    → All (FitsText performer.text_size) events
     → performed (with_event m.step m.timeout) performer events ≡ with_events m performer events
 performed-events m performer [] fit = rw or-false
 performed-events m performer (event ∷ events) fit =
     performed-events m (with_event m.step m.timeout performer event) events
-    (All-tail (FitsText performer.room) event events fit)
+    (All-tail (FitsText performer.text_size) event events fit)
     ∙ rw (
-      All-head (FitsText performer.room) event events fit performer.last,
+      All-head (FitsText performer.text_size) event events fit performer.last,
       ← after_calls-append m.step performer.handler (calls_of performer.last event)
           (calls_from (last_printed_after performer.last event) events),
       ← set_times-add m.timeout performer.timeout (begins_in_event event) (begin_count events),
@@ -160,34 +160,34 @@ performed-events m performer (event ∷ events) fit =
 
 -- What comes back has the value of `with_events`, so the parts stand at the state after `parse`.
 
-module _ {H T B G V W : Type 0} (handler_of : H → V) (timeout_of : T → W) (room_of : B → ℕ) (m : Meaning V W)
+module _ {H T B G V W : Type 0} (handler_of : H → V) (timeout_of : T → W) (text_size_of : B → ℕ) (m : Meaning V W)
     (s : State V W) (f : List ℕ)
     (old : PerformerValue V W) (new : Performer H T B G) {state : ProcessorState T B}
-    (fit : All (FitsText old.room) (added m.limit s.parsed f))
-    (made : performer_value handler_of timeout_of room_of new
+    (fit : All (FitsText old.text_size) (added m.limit s.parsed f))
+    (made : performer_value handler_of timeout_of text_size_of new
     ≡ performed (with_event m.step m.timeout) old (added m.limit s.parsed f))
     (back_state : old.state_name ≡ new.state.ghost_name → state ≡ new.state.now) where
-  all_made : performer_value handler_of timeout_of room_of new ≡ with_events m old (added m.limit s.parsed f)
+  all_made : performer_value handler_of timeout_of text_size_of new ≡ with_events m old (added m.limit s.parsed f)
   all_made = made ∙ performed-events m old (added m.limit s.parsed f) fit
 
   state-is : state ≡ new.state.now
   state-is = back_state (sym (ap (λ performer. performer.state_name) all_made))
 
-  -- the text has the same room
-  pub room_back : room_of state.text ≡ old.room
-  room_back = rw state-is (ap (λ performer. performer.room) all_made)
+  -- the text has the same size
+  pub text_size_back : text_size_of state.text ≡ old.text_size
+  text_size_back = rw state-is (ap (λ performer. performer.text_size) all_made)
 
   pub performer-given_back : {P : Type 0} {view : ParserView P} {parser next : P} {lent : ProcessorState T B}
-      {value : V} {handler : H} → ArePartsAt (engine_view m.limit view room_of timeout_of) parser lent value s
+      {value : V} {handler : H} → ArePartsAt (engine_view m.limit view text_size_of timeout_of) parser lent value s
       → old.last ≡ lent.preceding_char → old.timeout ≡ timeout_of lent.timeout → old.handler ≡ value
-      → old.room ≡ room_of lent.text
+      → old.text_size ≡ text_size_of lent.text
       → view.has_read next (s.parsed ++ f)
       → (old.handler_name ≡ new.handler.ghost_name → handler ≡ new.handler.now)
       → ((size : ℕ) → KeepsMemory (view.has_memory parser size) (view.has_memory next size))
-      → ArePartsAtKeeping (engine_view m.limit view room_of timeout_of) parser lent next state
+      → ArePartsAtKeeping (engine_view m.limit view text_size_of timeout_of) parser lent next state
       (handler_of handler)
       (parse m s f)
-  performer-given_back {lent} at at_last at_timeout at_handler at_room read back_handler keeps =
+  performer-given_back {lent} at at_last at_timeout at_handler at_text_size read back_handler keeps =
       let all = all_made in
       let is_handler = back_handler (sym (ap (λ performer. performer.handler_name) all)) in
       let last : old.last ≡ last_printed (events m.limit s.parsed) = at_last ∙ at.last in
@@ -204,7 +204,7 @@ module _ {H T B G V W : Type 0} (handler_of : H → V) (timeout_of : T → W) (r
               rw (is_handler, added_calls-events m.limit s.parsed f, ← last, ← handler)
               (ap (λ performer. performer.handler) all);
         };
-        memory = rw (room_back, at_room) (keeps (room_of lent.text));
+        keeps_memory = rw (text_size_back, at_text_size) (keeps (text_size_of lent.text));
       }
 
 -- ---- an early stop reads the prefix

@@ -51,7 +51,7 @@ module _ (limit : Option ℕ) (parsed prefix : List ℕ) where
 
 -- ---- from a state to the end of a list of calls
 
--- `tells-X`: what the handler is told from the state after X, it is told from the state before, after the calls of X.
+-- `delivers-X`: what the handler is told from the state after X, it is told from the state before, after the calls of X.
 
 module _ {V W : Type 0} (m : Meaning V W) (end : State V W) where
   -- what the handler still receives if bytes were parsed, with these stops, and its value is this

@@ -29,7 +29,7 @@ module _ {P B T A V W : Type 0} {view : EngineView P B T W} {engine : Engine P B
 module _ {P B T A V W : Type 0} {view : EngineView P B T W} {value : V} {s : State V W} where
   pub next-at : {engine : Engine P B T A} → EngineIsAt view engine value s
       → EngineIsAtKeeping view engine engine value s
-  next-at at = record { engine_at = at; memory = λ stream count had. had }
+  next-at at = record { engine_at = at; keeps_memory = λ stream count had. had }
 
   pub after-next : {old mid new : Engine P B T A} → KeepsMemory (EngineHasMemory view old) (EngineHasMemory view mid)
       → EngineIsAtKeeping view mid new value s → EngineIsAtKeeping view old new value s
@@ -41,7 +41,7 @@ module _ {P B T A V W : Type 0} {view : EngineView P B T W} {value : V} {s : Sta
   kept-next r at = record {
     engine_at = record
         { stands = r.same s.parsed s.held s.timeout at.engine_at.stands; handler_is = at.engine_at.handler_is };
-    memory = λ stream count had. r.memory stream count (at.memory stream count had);
+    keeps_memory = λ stream count had. r.keeps_memory stream count (at.keeps_memory stream count had);
   }
 
 -- a slice is parsed with the memory that was taken for it
@@ -61,7 +61,10 @@ module _ {P B T A V W : Type 0} {view : EngineView P B T W} {m : Meaning V W} {s
       let all : length slice + 0 ≡ length s.held + count = omega (arith, size, ap length none) in
       let p =
       parses (parse m s (take read bytes)) 0
-      (record { parts_at = parts-at here.engine_at; room = rw all (reserved.room refl _ _ _ here.engine_at.stands) }) in
+      (record {
+        parts_at = parts-at here.engine_at;
+        memory = rw all (reserved.memory refl _ _ _ here.engine_at.stands);
+      }) in
       record {
         count = p.count;
         begins_is = p.begins_is;
@@ -69,7 +72,7 @@ module _ {P B T A V W : Type 0} {view : EngineView P B T W} {m : Meaning V W} {s
           engine_at = at-parts
               {engine = record taken { parser = parser; state = state }} p.is_at.parts_at here.engine_at.stands.holds
               none;
-          memory = λ stream more had. p.is_at.memory stream more (here.memory stream more had);
+          keeps_memory = λ stream more had. p.is_at.keeps_memory stream more (here.keeps_memory stream more had);
         };
       }
 
@@ -165,7 +168,7 @@ module _ {V W : Type 0} (m : Meaning V W) (s : State V W) (bytes : List ℕ) whe
         enough = omega (arith, r.enough, turned.progress left);
         takes = rw rest at
             (taken_on m s r.here _ bytes slice _ (rw is r.takes) (takes-one m turned.pending left turned.allowed));
-        is_at = after-next r.is_at.memory turned.is_at;
+        is_at = after-next r.is_at.keeps_memory turned.is_at;
       }
 
   has_taken-turns : {read : ℕ} {IsNowAt : State V W → Type 0} (t : State V W)
@@ -199,7 +202,7 @@ module _ {V W : Type 0} (m : Meaning V W) (s : State V W) (bytes : List ℕ) whe
       let left : drop n slice ≡ drop (read + n) bytes = rw (is, drop-drop n read bytes) in
       has_taken-turns h.next
       (rw left at (until_refused-on m s r.here h.next bytes slice (drop n slice) (rw is r.takes) h.takes))
-      (after-next r.is_at.memory h.is_at)
+      (after-next r.is_at.keeps_memory h.is_at)
 
   -- a call that has read all its bytes
   pub has_advanced : {read : ℕ} {IsNowAt : State V W → Type 0} → HasTaken m s bytes read IsNowAt → length bytes ≤ read
@@ -235,7 +238,7 @@ module _ {P B T A V W : Type 0} {view : EngineView P B T W} {m : Meaning V W} {o
     takes = λ s at. rw (is s at) at (taken-at (has_taken-reached m s bytes (reaches s at)));
     within = tt;
     lacks = tt;
-    memory = λ s at. (reaches s at).is_at.memory;
+    keeps_memory = λ s at. (reaches s at).is_at.keeps_memory;
   }
 
   pub engine_reads-until : {refused : Refused}
@@ -248,5 +251,5 @@ module _ {P B T A V W : Type 0} {view : EngineView P B T W} {m : Meaning V W} {o
         takes = λ s at. taken-at (taken s at);
         within = less;
         lacks = lacks;
-        memory = λ s at. (taken s at).is_at.memory;
+        keeps_memory = λ s at. (taken s at).is_at.keeps_memory;
       }

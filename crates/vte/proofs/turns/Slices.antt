@@ -274,14 +274,14 @@ module _ {P B T A V W : Type 0} {view : EngineView P B T W} (m : Meaning V W) {s
     {old : Engine P B T A} {hold : SyncState A} {timeout : T} {begins : ℕ} {value : V}
     (at : EngineIsAt view old value s) (added : IsAdded s.held more hold begins)
     (is_set : view.timeout_of timeout ≡ set_times m.timeout begins (view.timeout_of old.state.timeout))
-    (room : view.parser.has_memory old.parser (view.room_of old.state.text) s.parsed
+    (memory : view.parser.has_memory old.parser (view.text_size_of old.state.text) s.parsed
     (length s.held + length more)) where
   abbrev set : Engine P B T A
   set = record old { hold = hold; state = record old.state { timeout = timeout } }
 
   -- there is memory to parse so many more bytes
-  abbrev HasRoom : List ℕ → ℕ → Type 0
-  HasRoom = view.parser.has_memory old.parser (view.room_of old.state.text)
+  abbrev HasMemoryFor : List ℕ → ℕ → Type 0
+  HasMemoryFor = view.parser.has_memory old.parser (view.text_size_of old.state.text)
 
   extended : ArePartsAt view set.parser set.state value (extend m s more)
   extended = record {
@@ -295,11 +295,11 @@ module _ {P B T A V W : Type 0} {view : EngineView P B T W} (m : Meaning V W) {s
   pub turned_cut : {last : Engine P B T A} {next : V} → 0 < length (held_of hold)
       → ((t : State V W) (n : ℕ) → ArePartsAt view set.parser set.state value t
       → (0 < length (released_of hold)
-      → HasRoom t.parsed (length (released_of hold) + n))
+      → HasMemoryFor t.parsed (length (released_of hold) + n))
       → ArePartsAtKeeping view set.parser set.state last.parser last.state next (parse m t (released_of hold)))
       → ((t : State V W) (n : ℕ) → ArePartsAtWithMemory view set.parser set.state value t
       (length (released_of hold) + n)
-      → view.parser.has_memory last.parser (view.room_of last.state.text) (t.parsed ++ released_of hold) n)
+      → view.parser.has_memory last.parser (view.text_size_of last.state.text) (t.parsed ++ released_of hold) n)
       → last.hold ≡ hold → EngineIsAtKeeping view old last next (hold_turn m s more)
   turned_cut {last} {next} some parses leaves kept =
       let t = extend m s more in
@@ -313,10 +313,10 @@ module _ {P B T A V W : Type 0} {view : EngineView P B T W} (m : Meaning V W) {s
             (stays_held all).suffix,
         length-append s.held more,
       )) in
-      let ready : HasRoom s.parsed
+      let ready : HasMemoryFor s.parsed
       (length (released_of hold) + rest)
       =
-      rw sum room in
+      rw sum memory in
       let there = parses t rest extended (λ some. ready) in
       let parsed : ArePartsAt view last.parser last.state next
       (parse m t (take (length all - length (still_held all)) all)) =
@@ -331,18 +331,18 @@ module _ {P B T A V W : Type 0} {view : EngineView P B T W} (m : Meaning V W) {s
             has_memory =
                 λ some.
                 rw (added.released_is, added.held_is) at (leaves t rest
-                (record { parts_at = extended; room = ready }));
+                (record { parts_at = extended; memory = ready }));
           };
           handler_is = parsed.handler_is;
         };
-        memory = there.memory;
+        keeps_memory = there.keeps_memory;
       })
 
   -- the update is stopped
   pub turned_stop : {last : Engine P B T A} {next : V} → 0 < length more → length (held_of hold) ≡ 0
       → ((t : State V W) (n : ℕ) → ArePartsAt view set.parser set.state value t → released_of hold ≡ t.held
       → held_of hold ≡ []
-      → (0 < length t.held → HasRoom t.parsed
+      → (0 < length t.held → HasMemoryFor t.parsed
       (length t.held + n))
       → EngineIsAtKeeping view set last next (stop m t))
       → EngineIsAtKeeping view old last next (hold_turn m s more)
@@ -354,6 +354,6 @@ module _ {P B T A V W : Type 0} {view : EngineView P B T W} (m : Meaning V W) {s
       added.released_is ∙ rw nothing (take_all (length all - 0) all (omega arith)) in
       let sum : length all + 0 ≡ length s.held + length more = omega (arith, length-append s.held more) in
       let there : EngineIsAtKeeping view set last next (stop m (extend m s more)) =
-      stops (extend m s more) 0 extended whole none (λ some. rw sum room) in
+      stops (extend m s more) 0 extended whole none (λ some. rw sum memory) in
       rw (holds-none m s more (omega (arith, some, length-append s.held more)) nothing)
-      (record { engine_at = there.engine_at; memory = there.memory })
+      (record { engine_at = there.engine_at; keeps_memory = there.keeps_memory })

@@ -26,15 +26,15 @@ pub record ArePartsAt {P B T V W : Type 0} (view : EngineView P B T W) (parser :
 pub record ArePartsAtWithMemory {P B T V W : Type 0} (view : EngineView P B T W) (parser : P)
     (lent : ProcessorState T B) (value : V) (state : State V W) (count : ℕ) : Type 0 where
   pub parts_at : ArePartsAt view parser lent value state
-  pub room : view.parser.has_memory parser (view.room_of lent.text) state.parsed count
+  pub memory : view.parser.has_memory parser (view.text_size_of lent.text) state.parsed count
 
 -- `ArePartsAt`, with the memory that was there before.
 pub record ArePartsAtKeeping {P B T V W : Type 0} (view : EngineView P B T W) (parser : P)
     (lent : ProcessorState T B) (next : P) (back : ProcessorState T B)
     (value : V) (state : State V W) : Type 0 where
   pub parts_at : ArePartsAt view next back value state
-  pub memory : KeepsMemory (view.parser.has_memory parser (view.room_of lent.text))
-      (view.parser.has_memory next (view.room_of back.text))
+  pub keeps_memory : KeepsMemory (view.parser.has_memory parser (view.text_size_of lent.text))
+      (view.parser.has_memory next (view.text_size_of back.text))
 
 -- The engine and the handler's value are as the state says.
 abbrev pub EngineIsAt : {P B T A V W : Type 0} → EngineView P B T W → Engine P B T A → V
@@ -47,7 +47,7 @@ pub record EngineIsAtKeeping {P B T A V W : Type 0} (view : EngineView P B T W)
     (engine next : Engine P B T A)
     (value : V) (state : State V W) : Type 0 where
   pub engine_at : EngineIsAt view next value state
-  pub memory : KeepsMemory (EngineHasMemory view engine) (EngineHasMemory view next)
+  pub keeps_memory : KeepsMemory (EngineHasMemory view engine) (EngineHasMemory view next)
 
 -- From each state that the engine is at, it leads on as `ends` says.
 abbrev pub EngineLeadsOn : {P B T A V W : Type 0} → EngineView P B T W → Engine P B T A

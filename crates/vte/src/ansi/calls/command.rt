@@ -2,7 +2,7 @@
 ghost use Rattle.std.specs.Prelude.{◌≡◌, ◌≤◌, bytes_eq, codes, map};
 ghost use Rattle.vte.specs.CommandCalls.{all_reset, clipboard_calls, color_calls, dynamic_color_calls, dynamic_calls, dynamic_colors, link_calls, link_to, palette_calls, pointer_calls, reset_calls, shape_calls, system_command_calls, palette_entry_calls, title_calls};
 ghost use Rattle.vte_types.specs.Words.{entry_of};
-ghost use Rattle.vte.specs.machine.Performer.{FitsRoom};
+ghost use Rattle.vte.specs.machine.Performer.{FitsTextSize};
 ghost use Rattle.vte.specs.Numbers.{decimal_number};
 ghost use Rattle.vte_handler.specs.Call.{SetHyperlink};
 ghost use Rattle.vte_handler.specs.Handler.{after};
@@ -28,11 +28,11 @@ pub(crate) fn perform_system_command<H: Handler, B: TextBuffer>(
     pieces: &[&[u8]],
     bell_terminated: bool,
 )
-    requires { FitsRoom (B.room text.old) (map (λ piece. piece.now) pieces.now) }
+    requires { FitsTextSize (B.text_size text.old) (map (λ piece. piece.now) pieces.now) }
     ensures told { H.value_of handler.new
         ≡ after H.step (H.value_of handler.old)
         (system_command_calls (map (λ piece. piece.now) pieces.now) bell_terminated) }
-    ensures same { B.room text.new ≡ B.room text.old }
+    ensures same { B.text_size text.new ≡ B.text_size text.old }
 {
     laws::words_differ_from_other_texts();
     if let [first, texts @ ..] = pieces {
@@ -59,10 +59,10 @@ pub(crate) fn perform_system_command<H: Handler, B: TextBuffer>(
 /// Sets the title that these pieces make: 0 and 2. A title of one piece is lent, and not copied.
 #[tactic(auto, using(crate::proofs::Commands::one_text))]
 fn set_title<H: Handler, B: TextBuffer>(handler: &mut H, text: &mut B, texts: &[&[u8]])
-    requires { FitsRoom (B.room text.old) (map (λ piece. piece.now) texts.now) }
+    requires { FitsTextSize (B.text_size text.old) (map (λ piece. piece.now) texts.now) }
     ensures told { H.value_of handler.new
         ≡ after H.step (H.value_of handler.old) (title_calls (map (λ piece. piece.now) texts.now)) }
-    ensures same { B.room text.new ≡ B.room text.old }
+    ensures same { B.text_size text.new ≡ B.text_size text.old }
 {
     match texts {
         [] => {}
@@ -136,10 +136,10 @@ fn set_palette<H: Handler>(handler: &mut H, texts: &[&[u8]], terminator: &str)
 /// Sets the link that these pieces make. A URI of one piece is lent, and not copied.
 #[tactic(auto, using(crate::proofs::Commands::one_text))]
 fn set_link<H: Handler, B: TextBuffer>(handler: &mut H, text: &mut B, texts: &[&[u8]])
-    requires { FitsRoom (B.room text.old) (map (λ piece. piece.now) texts.now) }
+    requires { FitsTextSize (B.text_size text.old) (map (λ piece. piece.now) texts.now) }
     ensures told { H.value_of handler.new
         ≡ after H.step (H.value_of handler.old) (link_calls (map (λ piece. piece.now) texts.now)) }
-    ensures same { B.room text.new ≡ B.room text.old }
+    ensures same { B.text_size text.new ≡ B.text_size text.old }
 {
     match texts {
         [] | [_] => {}

@@ -1,4 +1,4 @@
--- There is room for texts, so nothing is refused and all bytes are read (`refused-never-within`).
+-- There is memory for texts, so nothing is refused and all bytes are read (`refused-never-within`).
 use Rattle.vte.proofs.replays.Standings.{refused-never-within}
 use Rattle.vte.proofs.ansi.bounded_processor.BoundedProcessor.advance.Goals as goal
 

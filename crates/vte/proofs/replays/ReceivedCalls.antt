@@ -3,7 +3,7 @@
 -- positions of later stops only grow.
 use Rattle.vte.proofs.Common.{◌≡◌, ◌≤◌, ℕ, ◌+◌, ◌-◌, inl, inr, Bool, Option, List, [], ◌∷◌, ◌++◌, length, take, refl, ap, sym, ◌∙◌, arith, append_assoc, length-append, cases_Bool, append-nil, subst, drop_all, take-append-add, take-append_seam, take_all, after, Step, Advance, StopSync, added_calls, Meaning, TakesSteps, calls_after, after_last_end, from_begin_update, hold_turn, AreInOrder, calls, calls_between, calls_with_stops, events, State, TakesTurns, TakesTurnsUntilRefused, between_turns, inside_turn, prefix_to_begin, extend, release, parsing_turn, stop, turn, done, turns}
 use Rattle.vte.proofs.Performing.{after_calls-append, added_calls-append}
-use Rattle.vte.proofs.turns.EachOnce.{hold_turn-all, hold_turn-rest, is_held, is_stopped, refused-parses, stop_if_due, turn-holds, turn-parses}
+use Rattle.vte.proofs.turns.TurnKinds.{hold_turn-all, hold_turn-rest, is_held, is_stopped, refused-parses, stop_if_due, turn-holds, turn-parses}
 use Rattle.vte.proofs.updates.Sequences.{cases_Option}
 
 -- ---- the calls between two positions: those of a prefix, then those of the rest
@@ -51,7 +51,8 @@ module _ (limit : Option ℕ) (parsed prefix : List ℕ) where
 
 -- ---- from a state to the end of a list of calls
 
--- `delivers-X`: what the handler is told from the state after X, it is told from the state before, after the calls of X.
+-- `delivers-X`: what the handler receives from the state after X on, it receives from the state before on, after the
+-- calls of X.
 
 module _ {V W : Type 0} (m : Meaning V W) (end : State V W) where
   -- what the handler still receives if bytes were parsed, with these stops, and its value is this

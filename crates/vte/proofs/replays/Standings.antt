@@ -8,7 +8,7 @@ use Rattle.vte.specs.declared.ansi.processor.Processor.{Processor}
 use Rattle.vte.specs.declared.ansi.calls.joined_text.TheConstants.{TEXT_SIZE}
 use Rattle.vte.specs.declared.ansi.bounded_processor.BoundedProcessor.{BoundedProcessor}
 use Rattle.vte.specs.declared.ansi.long_processor.LongProcessor.{LongProcessor}
-use Rattle.vte.proofs.turns.Slices.{until_refused-grows}
+use Rattle.vte.proofs.turns.RefusedTurns.{until_refused-grows}
 
 -- ---- with the usual limit
 

@@ -1,8 +1,10 @@
 -- From turns to a call: what the private functions ensure of parser, hold and handler is put together into `HasTurned`
 -- and `HasBeenRefused`, and the loop over turns into `TakesTurns` and `TakesTurnsUntilRefused`.
 use Rattle.vte.proofs.Common.{◌≡◌, ℕ, ◌+◌, ◌-◌, ◌<◌, ◌≤◌, Bool, true, List, [], ◌++◌, length, take, drop, refl, ap, sym, ◌∙◌, arith, length-drop, append_assoc, Result, Ok, Err, append_cancel_right, drop_all, drop-drop, take_all, take-append-drop, Refused, ProcessorState, Engine, Meaning, held_of, rules, false, MatchResult, EndsTurn, inside_turn, HasAdvanced, EngineIsAt, HasTaken, EngineView, KeepsMemory, EngineHasMemory, EngineReads, EngineStops, EngineIsAtKeeping, EndsParsingTurn, HasBeenRefused, HasParsedPrefix, HasParsedWithoutBegin, ArePartsAt, ArePartsAtKeeping, ArePartsAtWithMemory, HasTurned, State, TakesTurnsUntilRefused, TakesTurns, all_bytes, turn, hold_turn, parse, stop, between_turns, done, LacksMemoryForSome, Reserves}
-use Rattle.vte.proofs.turns.EachOnce.{grown_bytes, refused-by_parsing, is_held, stop_if_due, turn-holds, turn-parses}
-use Rattle.vte.proofs.turns.Slices.{until_refused-all, parsing-refused, takes-one, until_refused-grows, until_refused-on, until_refused-well, taken_on}
+use Rattle.vte.proofs.turns.TurnKinds.{refused-by_parsing, is_held, stop_if_due, turn-holds, turn-parses}
+use Rattle.vte.proofs.turns.EachOnce.{grown_bytes}
+use Rattle.vte.proofs.turns.Slices.{parsing-refused}
+use Rattle.vte.proofs.turns.RefusedTurns.{until_refused-all, takes-one, until_refused-grows, until_refused-on, until_refused-well, taken_on}
 
 -- an engine stands where its parts do
 module _ {P B T A V W : Type 0} {view : EngineView P B T W} {engine : Engine P B T A} {value : V} {s : State V W}

@@ -1,8 +1,8 @@
 -- By the timeout's answer: the bytes are held while an update is pending and they fit the hold. Otherwise it is
 -- stopped if it is pending or bytes are held, and the turn parses.
 use Rattle.vte.proofs.Common.{◌≡◌, ◌<◌, length, refl, sym, ◌∙◌, arith, nat_tests, nat_le, most_held, held_of, inr, true, false, and-false, ◌+◌, meaning_of, engine_view, EngineIsAtKeeping}
-use Rattle.vte.proofs.turns.EachOnce.{is_held, is_stopped, stop_if_due}
-use Rattle.vte.proofs.turns.Slices.{refused-nothing}
+use Rattle.vte.proofs.turns.TurnKinds.{is_held, is_stopped, stop_if_due}
+use Rattle.vte.proofs.turns.RefusedTurns.{refused-nothing}
 use Rattle.vte.proofs.turns.EngineTurns.{after-next, ends_turn, kept-next, next-at, stops-next, turned_hold}
 use Rattle.vte.proofs.ansi.updates.engine.Engine.turn.Goals as goal
 use Rattle.vte.proofs.ansi.updates.engine.Engine.turn.Goals.{else-pending-via-else-pending, else-pending-via-then-pending+else-has_room, else-pending-2+else-len-gt0, then-pending-2, then-pending-2-via-else-pending-2+then-len-gt0, then-pending-2-via-then-pending-2}

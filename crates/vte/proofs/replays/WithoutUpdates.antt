@@ -2,7 +2,7 @@
 -- `plain_call`): nothing is ever held, so there are no stops. By induction over turns: each one parses, and ends with
 -- nothing held.
 use Rattle.vte.proofs.Common.{◌≡◌, ℕ, List, [], ◌∷◌, ◌++◌, refl, ap, sym, ◌∙◌, append-nil, after, Step, Advance, StopSync, added_calls, Meaning, TakesSteps, calls, events, State, turn, done, turns, Bor, HasAdvanced, HasReplayed, TakesAllTurns, given_bytes, true, false, HasParsedAll, IsAt, Replays, ProcessorPredicate}
-use Rattle.vte.proofs.Performing.{after_calls-append, calls_whole}
+use Rattle.vte.proofs.EventCalls.{after_calls-append, calls_whole}
 use Rattle.vte.specs.ProcessorCalls.{AreAdvances, IsNeverPending, ParsesAll}
 use Rattle.vte.proofs.replays.ReceivedCalls.{calls_between-whole}
 use Rattle.vte.proofs.replays.ReplayedSteps.{advance_runs}

@@ -2,7 +2,7 @@
 -- turn ends where the prefix of the whole does: with all bytes (`parsing-all`) or a begin (`parsing-ends`). If memory
 -- for a slice is refused, `ParsingTurnIsRefused` says how far it came (`parsing-refused`).
 use Rattle.vte.proofs.Common.{◌≡◌, ℕ, ◌+◌, ◌-◌, ◌<◌, ◌≤◌, Bool, true, false, nat_lt, List, [], ◌++◌, length, take, drop, refl, ap, sym, ◌∙◌, arith, length-append, length-drop, append_assoc, take-add, nat_tests, append-nil, drop_all, length-take-le, take-append-drop, take_all, take_at, added, begin_count, Meaning, HasParsedPrefix, HasParsedWithoutBegin, HasTakenParsingTurn, ParsingTurnIsRefused, State, prefix_to_begin, parse, rules}
-use Rattle.vte.proofs.Performing.{after_calls-append, added_calls-append, added_calls-nothing, set_times-add}
+use Rattle.vte.proofs.EventCalls.{after_calls-append, added_calls-append, added_calls-nothing, set_times-add}
 use Rattle.vte.proofs.updates.Prefixes.{begin_count-added, prefix-after, prefix-all, prefix-more, prefix-some, begin_count-nothing, begin_count-none}
 
 pub slice_size : (bytes : List ℕ) (read : ℕ) {count : ℕ} → read ≤ length bytes → count ≤ length bytes - read

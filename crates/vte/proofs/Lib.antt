@@ -4,12 +4,13 @@
 pub mod Common
 -- The two sequences of updates: in held bytes, and where bytes are parsed.
 pub mod updates
--- From events to calls, with room for them.
-pub mod Performing
-pub mod Rooms
+-- From events to calls, and to a performer's value, with memory for them.
+pub mod EventCalls
+pub mod PerformedEvents
+pub mod EnoughMemory
 -- From slices of bytes and holds to the turns of a call.
 pub mod turns
 -- From turns to processors, and from calls to lists of them.
 pub mod replays
--- Lemmas of single functions.
-pub mod Commands
+-- Of the functions that make calls: loops, colours and texts.
+pub mod calls

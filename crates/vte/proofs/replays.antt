@@ -7,4 +7,4 @@ pub mod ReplayedSteps
 -- Lists of calls without an update.
 pub mod WithoutUpdates
 -- The public contracts of the processors, from those of their engine.
-pub mod Standings
+pub mod ProcessorAndEngine

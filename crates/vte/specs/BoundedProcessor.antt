@@ -2,7 +2,7 @@
 -- limit is 1,024.
 use Rattle.std.specs.Prelude.{ℕ, List}
 use Rattle.vte_core.specs.declared.parser.Parser.{Parser}
-use Rattle.vte.specs.Memory.{HasTextRoom}
+use Rattle.vte.specs.Memory.{HasTextMemory}
 use Rattle.vte.specs.ProcessorCalls.{held_of}
 use Rattle.vte.specs.Views.{EngineHasParsedAndHolds, bounded_engine_view}
 use Rattle.vte.specs.declared.ansi.bounded_processor.BoundedProcessor.{BoundedProcessor}
@@ -16,8 +16,9 @@ timeout_within processor = processor.engine.state.timeout
 abbrev pub parser_within : {T A : Type 0} {N : ℕ} → BoundedProcessor T A N → Parser N
 parser_within processor = processor.engine.parser
 
--- `HasParsedAndHolds`, with room for a text that is joined from all data of a command.
+-- `HasParsedAndHolds`, with memory for a text that is joined from all data of a command.
 pub record HasParsedAndHoldsWithin {T A W : Type 0} {N : ℕ} (timeout_of : T → W)
     (processor : BoundedProcessor T A N) (parsed held : List ℕ) (timeout : W) : Type 0 where
-  pub stands : EngineHasParsedAndHolds (bounded_engine_view timeout_of) processor.engine parsed held timeout
-  pub has_room : HasTextRoom N processor.engine.state.text.size
+  pub stands : EngineHasParsedAndHolds (bounded_engine_view timeout_of) processor.engine parsed held
+      timeout
+  pub has_memory : HasTextMemory N processor.engine.state.text.size

@@ -32,13 +32,14 @@ pub record LacksMemoryForSome {P B T A W : Type 0} (view : EngineView P B T W)
 pub record Reserves {P B T A W : Type 0} (view : EngineView P B T W)
     (old new : Engine P B T A) (more : ℕ) (result : Bool) : Type 0 where
   -- The processor stands where it stood.
-  pub same : (parsed held : List ℕ) (timeout : W) → EngineHasParsedAndHolds view old parsed held timeout
+  pub same : (parsed held : List ℕ) (timeout : W)
+      → EngineHasParsedAndHolds view old parsed held timeout
       → EngineHasParsedAndHolds view new parsed held timeout
   -- On `true`, there is memory for all of them.
-  pub room : result ≡ true → (parsed held : List ℕ) (timeout : W)
+  pub memory : result ≡ true → (parsed held : List ℕ) (timeout : W)
       → EngineHasParsedAndHolds view new parsed held timeout
       → EngineHasMemory view new parsed (length held + more)
-  pub memory : KeepsMemory (EngineHasMemory view old) (EngineHasMemory view new)
+  pub keeps_memory : KeepsMemory (EngineHasMemory view old) (EngineHasMemory view new)
   -- It says the same of the last command's data.
   pub lost : view.parser.lost new.parser ≡ view.parser.lost old.parser
   -- On `false`, there isn't.
@@ -65,19 +66,21 @@ module _ {P B T A V W : Type 0} (view : EngineView P B T W) (meaning : Meaning V
     (engine next : Engine P B T A) (old new : V) where
   -- `stop_sync` and `stop_sync_text`
   pub record EngineStops : Type 0 where
-    pub stops : StopsSync meaning (EngineHasParsedAndHolds view engine) (EngineHasParsedAndHolds view next) old new
-    pub memory : (state : State V W) → IsAt (EngineHasParsedAndHolds view engine) old state
+    pub stops : StopsSync meaning (EngineHasParsedAndHolds view engine)
+        (EngineHasParsedAndHolds view next) old new
+    pub keeps_memory : (state : State V W) → IsAt (EngineHasParsedAndHolds view engine) old state
         → KeepsMemory (EngineHasMemory view engine) (EngineHasMemory view next)
 
   -- `advance` and `advance_text`
   pub record EngineReads (bytes : List ℕ) (result : Result (Unit {0}) Refused) : Type 0 where
     -- The bytes read are those that the first turns of the call read.
     pub takes : (state : State V W) → IsAt (EngineHasParsedAndHolds view engine) old state
-        → HasTaken meaning state bytes (read_of result bytes) (IsAt (EngineHasParsedAndHolds view next) new)
+        → HasTaken meaning state bytes (read_of result bytes)
+        (IsAt (EngineHasParsedAndHolds view next) new)
     -- A refused call left some bytes, and there is no memory for these.
     pub within : IfErr result (λ refused. refused.read < length bytes)
     pub lacks : IfErr result (λ refused. LacksMemoryForSome view next (length bytes - refused.read))
-    pub memory : (state : State V W) → IsAt (EngineHasParsedAndHolds view engine) old state
+    pub keeps_memory : (state : State V W) → IsAt (EngineHasParsedAndHolds view engine) old state
         → KeepsMemory (EngineHasMemory view engine) (EngineHasMemory view next)
 
 abbrev pub StopsLong : {T A V W : Type 0} → (T → W) → Meaning V W

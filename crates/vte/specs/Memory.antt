@@ -7,7 +7,7 @@ use Rattle.vte.specs.declared.ansi.long_processor.LongProcessor.{LongProcessor}
 use Rattle.vte.specs.declared.ansi.calls.joined_text.TheConstants.{SEPARATORS}
 
 -- A text that is joined from this many bytes, with separators, fits a buffer of `size` bytes.
-pub record HasTextRoom (limit size : ℕ) : Type 0 where
+pub record HasTextMemory (limit size : ℕ) : Type 0 where
   pub joined : limit + SEPARATORS ≤ size
   -- The size of the text is a number of 64 bits.
   pub counted : limit + SEPARATORS < 2 ^ 64

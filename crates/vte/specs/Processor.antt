@@ -195,8 +195,8 @@ pub record IsInsideUpdate {W : Type 0} (limit : Option ℕ) (meaning : TimeoutMe
   pub pending : AllowsOnly meaning timeout true
   pub begun : EndsInBegin limit parsed ⊎ (begins_with begin_update held ≡ true)
 
--- The hold contains no end-update, and fits its room. If the timeout is steady, nothing is held
--- outside an update.
+-- The hold contains no end-update, and has at most `most_held` bytes. If the timeout is steady,
+-- nothing is held outside an update.
 pub record HoldsWell {W : Type 0} (limit : Option ℕ) (meaning : TimeoutMeaning W)
     (parsed held : List ℕ) (timeout : W) : Type 0 where
   pub no_end : after_last_end held ≡ None

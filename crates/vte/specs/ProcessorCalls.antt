@@ -114,7 +114,8 @@ abbrev pub IsNeverPending : {W : Type 0} → (W → Bool → Type 0) → Type 0
 IsNeverPending {W} allows = (value : W) (pending : Bool) → allows value pending → pending ≡ false
 
 -- The whole stream was parsed, and nothing is held.
-pub record HasParsedAll {W : Type 0} (Stands : ProcessorPredicate W) (stream : List ℕ) : Type 0 where
+pub record HasParsedAll {W : Type 0} (Stands : ProcessorPredicate W) (stream : List ℕ)
+    : Type 0 where
   pub timeout : W
   pub stands : Stands stream [] timeout
 

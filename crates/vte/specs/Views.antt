@@ -8,7 +8,7 @@ use Rattle.vte_core.specs.declared.parser.Parser.{Parser}
 use Rattle.vte_core.specs.declared.parser.long.LongParser.{LongParser}
 use Rattle.vte_core.specs.Stream.{events}
 use Rattle.vte.specs.Calls.{last_printed}
-use Rattle.vte.specs.Memory.{HasTextRoom, ParserHasMemory}
+use Rattle.vte.specs.Memory.{HasTextMemory, ParserHasMemory}
 use Rattle.vte.specs.ProcessorCalls.{held_of}
 use Rattle.vte.specs.declared.ansi.updates.engine.Engine.{Engine}
 use Rattle.vte.specs.declared.ansi.calls.growing_text.GrowingText.{GrowingText}
@@ -24,7 +24,7 @@ pub record ParserView (P : Type 0) : Type 1 where
 abbrev pub limited_parser_view : {N : ℕ} → ParserView (Parser N)
 limited_parser_view {N} = record {
   has_read = HasRead;
-  has_memory = λ parser size stream count. HasTextRoom N size;
+  has_memory = λ parser size stream count. HasTextMemory N size;
   lost = lost_data;
 }
 
@@ -36,13 +36,13 @@ long_parser_view =
 pub record EngineView (P B T W : Type 0) : Type 1 where
   pub limit : Option ℕ
   pub parser : ParserView P
-  pub room_of : B → ℕ
+  pub text_size_of : B → ℕ
   pub timeout_of : T → W
 
 abbrev pub engine_view : {P B T W : Type 0} → Option ℕ → ParserView P → (B → ℕ) → (T → W)
     → EngineView P B T W
-engine_view limit parser room_of timeout_of =
-    record { limit = limit; parser = parser; room_of = room_of; timeout_of = timeout_of }
+engine_view limit parser text_size_of timeout_of =
+    record { limit = limit; parser = parser; text_size_of = text_size_of; timeout_of = timeout_of }
 
 -- The parts of a processor with a limit of its own.
 abbrev pub bounded_engine_view : {N : ℕ} {T A W : Type 0} → (T → W)
@@ -59,7 +59,7 @@ long_engine_view timeout_of = engine_view None long_parser_view (λ text. text.s
 abbrev pub EngineHasMemory : {P B T A W : Type 0} → EngineView P B T W → Engine P B T A
     → (stream : List ℕ) → (count : ℕ) → Type 0
 EngineHasMemory view engine =
-    view.parser.has_memory engine.parser (view.room_of engine.state.text)
+    view.parser.has_memory engine.parser (view.text_size_of engine.state.text)
 
 -- The engine has parsed bytes, and holds those that follow, with memory to parse them. It knows the
 -- last printed character.

@@ -76,5 +76,5 @@ pub record Strips (parser next : Saved) (bytes old_text text : List ℕ)
   -- Whatever the parser's bytes are, what was written is in the buffer.
   pub room : written ≤ length text
   -- With less than the least room the result says so, and nothing is read or written.
-  pub too_little : length old_text < least_text → (result ≡ no_room) × (written ≡ 0) × (next ≡ parser)
-      × (text ≡ old_text)
+  pub too_little : length old_text < least_text
+      → (result ≡ no_room) × (written ≡ 0) × (next ≡ parser) × (text ≡ old_text)

@@ -1,9 +1,9 @@
 -- What the handler receives by a list of calls, first by what is done in a state, then by the rest of the list
--- (`delivers-replay`). By induction over the list: the calls before a stop are those of the bytes up to it, and positions
--- of later stops only grow.
+-- (`delivers-replay`). By induction over the list: the calls before a stop are those of the bytes up to it, and
+-- positions of later stops only grow.
 use Rattle.vte.proofs.Common.{◌≡◌, ◌≤◌, ℕ, ◌+◌, ◌-◌, inl, inr, Bool, Option, List, [], ◌∷◌, ◌++◌, length, take, refl, ap, sym, ◌∙◌, arith, append_assoc, length-append, cases_Bool, append-nil, subst, drop_all, take-append-add, take-append_seam, take_all, after, Step, Advance, StopSync, added_calls, Meaning, TakesSteps, calls_after, after_last_end, from_begin_update, hold_turn, AreInOrder, calls, calls_between, calls_with_stops, events, State, TakesTurns, TakesTurnsUntilRefused, between_turns, inside_turn, prefix_to_begin, extend, release, parsing_turn, stop, turn, done, turns}
-use Rattle.vte.proofs.Performing.{after_calls-append, added_calls-append}
-use Rattle.vte.proofs.turns.EachOnce.{hold_turn-all, hold_turn-rest, is_held, is_stopped, refused-parses, stop_if_due, turn-holds, turn-parses}
+use Rattle.vte.proofs.EventCalls.{after_calls-append, added_calls-append}
+use Rattle.vte.proofs.turns.TurnKinds.{hold_turn-all, hold_turn-rest, is_held, is_stopped, refused-parses, stop_if_due, turn-holds, turn-parses}
 use Rattle.vte.proofs.updates.Sequences.{cases_Option}
 
 -- ---- the calls between two positions: those of a prefix, then those of the rest
@@ -51,7 +51,8 @@ module _ (limit : Option ℕ) (parsed prefix : List ℕ) where
 
 -- ---- from a state to the end of a list of calls
 
--- `tells-X`: what the handler is told from the state after X, it is told from the state before, after the calls of X.
+-- `delivers-X`: what the handler receives from the state after X on, it receives from the state before on, after the
+-- calls of X.
 
 module _ {V W : Type 0} (m : Meaning V W) (end : State V W) where
   -- what the handler still receives if bytes were parsed, with these stops, and its value is this
@@ -104,9 +105,9 @@ module _ {V W : Type 0} (m : Meaning V W) (end : State V W) where
         handler_is = rw calls_between-none rest.handler_is;
       })
 
-  delivers-parsing : (state : State V W) (bytes : List ℕ) → DeliversAt (parsing_turn m state bytes).state → DeliversAt state
-  delivers-parsing state bytes =
-      delivers-parse (prefix_to_begin m.limit state.parsed bytes)
+  delivers-parsing : (state : State V W) (bytes : List ℕ) → DeliversAt (parsing_turn m state bytes).state
+      → DeliversAt state
+  delivers-parsing state bytes = delivers-parse (prefix_to_begin m.limit state.parsed bytes)
 
   delivers-release : (state : State V W) (kept : List ℕ) → DeliversAt (release m state kept) → DeliversAt state
   delivers-release state [] = delivers-stop state
@@ -157,9 +158,9 @@ module _ {V W : Type 0} (m : Meaning V W) (end : State V W) where
       → TakesSteps m state steps reached → TakesTurnsUntilRefused m reached bytes end left → DeliversAt state
   delivers-refused state reached steps bytes left taken (between_turns more) =
       delivers-steps state reached steps taken (delivers-turns reached end bytes left more delivers-nothing)
-  delivers-refused state reached steps bytes left taken (inside_turn {reached = mid} {rest} more pending allowed halts) =
-      let halted = (refused-parses m pending mid end rest left halts).1 in
+  delivers-refused state reached steps bytes left taken (inside_turn {reached = mid} {rest} more pending _ refused) =
+      let parsed = (refused-parses m pending mid end rest left refused).1 in
       delivers-steps state reached steps taken
       (delivers-turns reached mid bytes rest more
       (delivers-due pending mid
-      (delivers-parse halted.prefix (subst (λ state. DeliversAt state) halted.state_is delivers-nothing))))
+      (delivers-parse parsed.prefix (subst (λ state. DeliversAt state) parsed.state_is delivers-nothing))))

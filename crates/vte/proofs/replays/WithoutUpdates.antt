@@ -2,7 +2,7 @@
 -- `plain_call`): nothing is ever held, so there are no stops. By induction over turns: each one parses, and ends with
 -- nothing held.
 use Rattle.vte.proofs.Common.{◌≡◌, ℕ, List, [], ◌∷◌, ◌++◌, refl, ap, sym, ◌∙◌, append-nil, after, Step, Advance, StopSync, added_calls, Meaning, TakesSteps, calls, events, State, turn, done, turns, Bor, HasAdvanced, HasReplayed, TakesAllTurns, given_bytes, true, false, HasParsedAll, IsAt, Replays, ProcessorPredicate}
-use Rattle.vte.proofs.Performing.{after_calls-append, calls_whole}
+use Rattle.vte.proofs.EventCalls.{after_calls-append, calls_whole}
 use Rattle.vte.specs.ProcessorCalls.{AreAdvances, IsNeverPending, ParsesAll}
 use Rattle.vte.proofs.replays.ReceivedCalls.{calls_between-whole}
 use Rattle.vte.proofs.replays.ReplayedSteps.{advance_runs}
@@ -51,7 +51,8 @@ module _ {V W : Type 0} {Before : ProcessorPredicate W} (old : V) {stream : List
 
     more_is : replayed.delivers.more ≡ given_bytes steps
     more_is =
-        sym (replayed.delivers.each_once ∙ ap (λ held. replayed.delivers.more ++ held) plain.none_held ∙ append-nil replayed.delivers.more)
+        let more = replayed.delivers.more in
+        sym (replayed.delivers.each_once ∙ ap (λ held. more ++ held) plain.none_held ∙ append-nil more)
 
     parsed_all : replayed.next.parsed ≡ stream ++ given_bytes steps
     parsed_all = replayed.delivers.parsed_is ∙ ap (λ more. stream ++ more) more_is

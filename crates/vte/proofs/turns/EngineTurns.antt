@@ -1,8 +1,10 @@
 -- From turns to a call: what the private functions ensure of parser, hold and handler is put together into `HasTurned`
--- and `HasHalted`, and the loop over turns into `TakesTurns` and `TakesTurnsUntilRefused`.
-use Rattle.vte.proofs.Common.{◌≡◌, ℕ, ◌+◌, ◌-◌, ◌<◌, ◌≤◌, Bool, true, List, [], ◌++◌, length, take, drop, refl, ap, sym, ◌∙◌, arith, length-drop, append_assoc, Result, Ok, Err, append_cancel_right, drop_all, drop-drop, take_all, take-append-drop, Refused, ProcessorState, Engine, Meaning, held_of, rules, false, MatchResult, EndsTurn, inside_turn, HasAdvanced, EngineIsAt, HasTaken, EngineView, KeepsMemory, EngineHasMemory, EngineReads, EngineStops, EngineIsAtKeeping, EndsParsingTurn, HasHalted, HasParsedPrefix, HasParsedWithoutBegin, ArePartsAt, ArePartsAtKeeping, ArePartsAtWithMemory, HasTurned, State, TakesTurnsUntilRefused, TakesTurns, all_bytes, turn, hold_turn, parse, stop, between_turns, done, LacksMemoryForSome, Reserves}
-use Rattle.vte.proofs.turns.EachOnce.{grown_bytes, refused-by_parsing, is_held, stop_if_due, turn-holds, turn-parses}
-use Rattle.vte.proofs.turns.Slices.{until_refused-all, parsing-halts, takes-one, until_refused-grows, until_refused-on, until_refused-well, taken_on}
+-- and `HasBeenRefused`, and the loop over turns into `TakesTurns` and `TakesTurnsUntilRefused`.
+use Rattle.vte.proofs.Common.{◌≡◌, ℕ, ◌+◌, ◌-◌, ◌<◌, ◌≤◌, Bool, true, List, [], ◌++◌, length, take, drop, refl, ap, sym, ◌∙◌, arith, length-drop, append_assoc, Result, Ok, Err, append_cancel_right, drop_all, drop-drop, take_all, take-append-drop, Refused, ProcessorState, Engine, Meaning, held_of, rules, false, MatchResult, EndsTurn, inside_turn, HasAdvanced, EngineIsAt, HasTaken, EngineView, KeepsMemory, EngineHasMemory, EngineReads, EngineStops, EngineIsAtKeeping, EndsParsingTurn, HasBeenRefused, HasParsedPrefix, HasParsedWithoutBegin, ArePartsAt, ArePartsAtKeeping, ArePartsAtWithMemory, HasTurned, State, TakesTurnsUntilRefused, TakesTurns, all_bytes, turn, hold_turn, parse, stop, between_turns, done, LacksMemoryForSome, Reserves}
+use Rattle.vte.proofs.turns.TurnKinds.{refused-by_parsing, is_held, stop_if_due, turn-holds, turn-parses}
+use Rattle.vte.proofs.turns.EachOnce.{grown_bytes}
+use Rattle.vte.proofs.turns.Slices.{parsing-refused}
+use Rattle.vte.proofs.turns.RefusedTurns.{until_refused-all, takes-one, until_refused-grows, until_refused-on, until_refused-well, taken_on}
 
 -- an engine stands where its parts do
 module _ {P B T A V W : Type 0} {view : EngineView P B T W} {engine : Engine P B T A} {value : V} {s : State V W}
@@ -29,7 +31,7 @@ module _ {P B T A V W : Type 0} {view : EngineView P B T W} {engine : Engine P B
 module _ {P B T A V W : Type 0} {view : EngineView P B T W} {value : V} {s : State V W} where
   pub next-at : {engine : Engine P B T A} → EngineIsAt view engine value s
       → EngineIsAtKeeping view engine engine value s
-  next-at at = record { engine_at = at; memory = λ stream count had. had }
+  next-at at = record { engine_at = at; keeps_memory = λ stream count had. had }
 
   pub after-next : {old mid new : Engine P B T A} → KeepsMemory (EngineHasMemory view old) (EngineHasMemory view mid)
       → EngineIsAtKeeping view mid new value s → EngineIsAtKeeping view old new value s
@@ -41,7 +43,7 @@ module _ {P B T A V W : Type 0} {view : EngineView P B T W} {value : V} {s : Sta
   kept-next r at = record {
     engine_at = record
         { stands = r.same s.parsed s.held s.timeout at.engine_at.stands; handler_is = at.engine_at.handler_is };
-    memory = λ stream count had. r.memory stream count (at.memory stream count had);
+    keeps_memory = λ stream count had. r.keeps_memory stream count (at.keeps_memory stream count had);
   }
 
 -- a slice is parsed with the memory that was taken for it
@@ -61,7 +63,10 @@ module _ {P B T A V W : Type 0} {view : EngineView P B T W} {m : Meaning V W} {s
       let all : length slice + 0 ≡ length s.held + count = omega (arith, size, ap length none) in
       let p =
       parses (parse m s (take read bytes)) 0
-      (record { parts_at = parts-at here.engine_at; room = rw all (reserved.room refl _ _ _ here.engine_at.stands) }) in
+      (record {
+        parts_at = parts-at here.engine_at;
+        memory = rw all (reserved.memory refl _ _ _ here.engine_at.stands);
+      }) in
       record {
         count = p.count;
         begins_is = p.begins_is;
@@ -69,7 +74,7 @@ module _ {P B T A V W : Type 0} {view : EngineView P B T W} {m : Meaning V W} {s
           engine_at = at-parts
               {engine = record taken { parser = parser; state = state }} p.is_at.parts_at here.engine_at.stands.holds
               none;
-          memory = λ stream more had. p.is_at.memory stream more (here.memory stream more had);
+          keeps_memory = λ stream more had. p.is_at.keeps_memory stream more (here.keeps_memory stream more had);
         };
       }
 
@@ -103,16 +108,16 @@ ends_turn {m} {s} {bytes} pending allowed parses keeps (Ok read) less e = record
         rest = rw (turn-parses m pending s bytes parses) e.parsed.rest;
         is_at = rw (turn-parses m pending s bytes parses) (after-next keeps e.parsed.is_at);
       };
-  halted = tt;
+  refused = tt;
 }
 ends_turn {m} {s} {bytes} pending allowed parses keeps (Err refused) less e = record {
   turned = tt;
-  halted = record {
+  refused = record {
     next = parse m (stop_if_due m pending s) (take refused.read bytes);
     takes = inside_turn done pending allowed
         (refused-by_parsing m pending s _ bytes _
-        (parses, parsing-halts m (stop_if_due m pending s) bytes e.halted less));
-    is_at = after-next keeps e.halted.is_at;
+        (parses, parsing-refused m (stop_if_due m pending s) bytes e.refused less));
+    is_at = after-next keeps e.refused.is_at;
   };
 }
 
@@ -165,7 +170,7 @@ module _ {V W : Type 0} (m : Meaning V W) (s : State V W) (bytes : List ℕ) whe
         enough = omega (arith, r.enough, turned.progress left);
         takes = rw rest at
             (taken_on m s r.here _ bytes slice _ (rw is r.takes) (takes-one m turned.pending left turned.allowed));
-        is_at = after-next r.is_at.memory turned.is_at;
+        is_at = after-next r.is_at.keeps_memory turned.is_at;
       }
 
   has_taken-turns : {read : ℕ} {IsNowAt : State V W → Type 0} (t : State V W)
@@ -187,19 +192,19 @@ module _ {V W : Type 0} (m : Meaning V W) (s : State V W) (bytes : List ℕ) whe
   has_taken-reached r = has_taken-turns r.here (between_turns r.takes) r.is_at
 
   -- a turn was refused memory
-  pub reached-halted : {P B T A : Type 0} {view : EngineView P B T W} {first mid new : Engine P B T A}
+  pub reached-refused : {P B T A : Type 0} {view : EngineView P B T W} {first mid new : Engine P B T A}
       {before value : V}
       {count read n : ℕ}
       → (r : HasReached count read (EngineIsAtKeeping view first mid before)) → read ≤ length bytes
-      → HasHalted m r.here (take (length bytes - read) (drop read bytes)) n (EngineIsAtKeeping view mid new value)
+      → HasBeenRefused m r.here (take (length bytes - read) (drop read bytes)) n (EngineIsAtKeeping view mid new value)
       → HasTaken m s bytes (read + n) (EngineIsAtKeeping view first new value)
-  reached-halted {read} {n} r inside h =
+  reached-refused {read} {n} r inside h =
       let slice = take (length bytes - read) (drop read bytes) in
       let is : slice ≡ drop read bytes = rest-is bytes read inside in
       let left : drop n slice ≡ drop (read + n) bytes = rw (is, drop-drop n read bytes) in
       has_taken-turns h.next
       (rw left at (until_refused-on m s r.here h.next bytes slice (drop n slice) (rw is r.takes) h.takes))
-      (after-next r.is_at.memory h.is_at)
+      (after-next r.is_at.keeps_memory h.is_at)
 
   -- a call that has read all its bytes
   pub has_advanced : {read : ℕ} {IsNowAt : State V W → Type 0} → HasTaken m s bytes read IsNowAt → length bytes ≤ read
@@ -235,7 +240,7 @@ module _ {P B T A V W : Type 0} {view : EngineView P B T W} {m : Meaning V W} {o
     takes = λ s at. rw (is s at) at (taken-at (has_taken-reached m s bytes (reaches s at)));
     within = tt;
     lacks = tt;
-    memory = λ s at. (reaches s at).is_at.memory;
+    keeps_memory = λ s at. (reaches s at).is_at.keeps_memory;
   }
 
   pub engine_reads-until : {refused : Refused}
@@ -248,5 +253,5 @@ module _ {P B T A V W : Type 0} {view : EngineView P B T W} {m : Meaning V W} {o
         takes = λ s at. taken-at (taken s at);
         within = less;
         lacks = lacks;
-        memory = λ s at. (taken s at).is_at.memory;
+        keeps_memory = λ s at. (taken s at).is_at.keeps_memory;
       }

@@ -1,18 +1,9 @@
--- A parsing turn by its slices, turns that are refused memory, and a hold turn by its parts. Slices in which no update
--- begins add up to a longer prefix, so the turn ends where the prefix of the whole does; where one is refused,
--- `ParsingTurnIsRefused` says how far it came.
-use Rattle.vte.proofs.Common.{◌≡◌, ℕ, ◌+◌, ◌-◌, ◌<◌, ◌≤◌, inl, Bool, true, false, nat_lt, List, [], ◌∷◌, ◌++◌, length, take, drop, refl, ap, sym, subst, ◌∙◌, arith, length-append, length-drop, append_assoc, drop-append-add, take-add, nat_tests, append-nil, drop_all, length-take-le, take-append-drop, take_all, take_at, added, IsSteady, begin_count, IsOutsideUpdate, Meaning, HoldsWellAt, HasHalted, HasParsedPrefix, HasParsedWithoutBegin, HasTakenParsingTurn, TakesAllTurns, ParsingTurn, ParsingTurnIsRefused, State, TakesTurnsUntilRefused, TakesTurns, prefix_to_begin, between_turns, done, kind_of, parsing_turn, parse, turn, turns, inside_turn, length-take, Engine, IsAdded, held_of, released_of, still_held, set_times, EngineIsAt, EngineView, EngineIsAtKeeping, ArePartsAt, ArePartsAtKeeping, ArePartsAtWithMemory, after_last_end, extend, from_begin_update, hold_turn, release, inr, stop, with_held, rules}
-use Rattle.vte.proofs.Performing.{after_calls-append, added_calls-append, added_calls-nothing, set_times-add}
-use Rattle.vte.proofs.turns.EachOnce.{Progresses, grows_on, stop_if_due_grows, stop_if_due_none, parse_grows, turns_grow, ParsesAndHalts, refused-parses, stop_if_due, turn-parses, taken_well, hold_turn-all, hold_turn-rest}
+-- A parsing turn by its slices. Slices in which no update begins add up to a longer prefix (`parsing-more`), so the
+-- turn ends where the prefix of the whole does: with all bytes (`parsing-all`) or a begin (`parsing-ends`). If memory
+-- for a slice is refused, `ParsingTurnIsRefused` says how far it came (`parsing-refused`).
+use Rattle.vte.proofs.Common.{◌≡◌, ℕ, ◌+◌, ◌-◌, ◌<◌, ◌≤◌, Bool, true, false, nat_lt, List, [], ◌++◌, length, take, drop, refl, ap, sym, ◌∙◌, arith, length-append, length-drop, append_assoc, take-add, nat_tests, append-nil, drop_all, length-take-le, take-append-drop, take_all, take_at, added, begin_count, Meaning, HasParsedPrefix, HasParsedWithoutBegin, HasTakenParsingTurn, ParsingTurnIsRefused, State, prefix_to_begin, parse, rules}
+use Rattle.vte.proofs.EventCalls.{after_calls-append, added_calls-append, added_calls-nothing, set_times-add}
 use Rattle.vte.proofs.updates.Prefixes.{begin_count-added, prefix-after, prefix-all, prefix-more, prefix-some, begin_count-nothing, begin_count-none}
-use Rattle.std.proofs.lemmas.List.{nil_from_length}
-use Rattle.vte.proofs.updates.Sequences.{cases_Option, stays_held, suffix-length}
-use Rattle.vte.specs.declared.ansi.updates.hold.SyncState.{SyncState}
-
--- ---- the slices of a parsing turn
-
--- `parsing-more` goes on by a slice in which no update begins. The loop ends with all bytes (`parsing-all`), a begin
--- (`parsing-ends`) or refused memory (`parsing-halts`).
 
 pub slice_size : (bytes : List ℕ) (read : ℕ) {count : ℕ} → read ≤ length bytes → count ≤ length bytes - read
     → length (take (read + count - read) (drop read bytes)) ≡ count
@@ -20,25 +11,12 @@ slice_size bytes read {count} inside at_most =
     length-take-le (read + count - read) (drop read bytes) (rw length-drop (omega arith)) ∙ omega arith
 
 module _ {V W : Type 0} (m : Meaning V W) where
-  parse-nothing : (s : State V W) → parse m s [] ≡ s
+  pub parse-nothing : (s : State V W) → parse m s [] ≡ s
   parse-nothing s = rw (begin_count-nothing m.limit s.parsed, added_calls-nothing m.limit s.parsed, append-nil) refl
 
-  parse-append : (s : State V W) (a b : List ℕ) → parse m (parse m s a) b ≡ parse m s (a ++ b)
+  pub parse-append : (s : State V W) (a b : List ℕ) → parse m (parse m s a) b ≡ parse m s (a ++ b)
   parse-append s a b =
       search (rules, arith, begin_count-added, set_times-add, added_calls-append, after_calls-append, append_assoc)
-
-  parsing_turn-goes_on : (s t : State V W) (bytes left : List ℕ) → ParsingTurnIsRefused m s bytes t left
-      → parsing_turn m t left ≡ parsing_turn m s bytes
-  parsing_turn-goes_on s t bytes left h =
-      let prefix = prefix_to_begin m.limit (s.parsed ++ h.prefix) left in
-      rw (
-        h.state_is,
-        ← h.bytes_are,
-        prefix-after m.limit s.parsed h.prefix left h.none_begin,
-        length-append,
-        drop-append-add h.prefix left (length prefix),
-      )
-      (ap (λ t. record { state = t; rest = drop (length prefix) left }) (parse-append s h.prefix prefix))
 
 -- where no update begins in bytes, they are their own prefix
 module _ {V W : Type 0} {m : Meaning V W} {s : State V W} {bytes : List ℕ} {n : ℕ} {b : Bool} {IsNowAt : State V W
@@ -118,239 +96,7 @@ module _ {V W : Type 0} (m : Meaning V W) (s : State V W) (bytes : List ℕ) whe
         is_at = rw (all, ← parse-append m s (take read bytes) prefix) at.is_at;
       }
 
-  pub parsing-halts : {read : ℕ} {IsNowAt : State V W → Type 0} → HasParsedWithoutBegin m s bytes read IsNowAt
+  pub parsing-refused : {read : ℕ} {IsNowAt : State V W → Type 0} → HasParsedWithoutBegin m s bytes read IsNowAt
       → read < length bytes
       → ParsingTurnIsRefused m s bytes (parse m s (take read bytes)) (drop read bytes)
-  parsing-halts {read} o less = search (rules, arith, take-append-drop, length-drop)
-
--- ---- a turn that is refused memory
-
-pub halted-nothing : {V W : Type 0} (m : Meaning V W) {s : State V W} {bytes : List ℕ} {IsNowAt : State V W → Type 0}
-    → IsNowAt s → HasHalted m s bytes 0 IsNowAt
-halted-nothing m {s} at = record { next = s; takes = between_turns done; is_at = at }
-
--- ---- turns of a call, and one after them that is refused memory
-
--- The refused turn leaves nothing held and is outside an update, so a further call with the unread bytes does what it
--- would have done (`halted-goes_on`).
-
-module _ {V W : Type 0} (m : Meaning V W) where
-  pub takes-one : {s : State V W} {bytes : List ℕ} (pending : Bool) → 0 < length bytes
-      → m.timeout.allows s.timeout pending
-      → TakesTurns m s bytes (turn m pending s bytes).state (turn m pending s bytes).rest
-  takes-one {bytes = []} pending some allowed = absurd (omega arith)
-  takes-one {bytes = b ∷ bytes} pending some allowed = turns pending allowed done
-
-  -- turns go on with those of the rest
-  pub taken_on : (s t u : State V W) (bytes left rest : List ℕ) → TakesTurns m s bytes t left
-      → TakesTurns m t left u rest → TakesTurns m s bytes u rest
-  taken_on s t u bytes left rest done more = more
-  taken_on s t u (b ∷ bytes) left rest (turns pending allowed first) more =
-      turns pending allowed (taken_on _ t u _ left rest first more)
-
-  pub until_refused-on : (s t u : State V W) (bytes left rest : List ℕ) → TakesTurns m s bytes t left
-      → TakesTurnsUntilRefused m t left u rest
-      → TakesTurnsUntilRefused m s bytes u rest
-  until_refused-on s t u bytes left rest first (between_turns more) =
-      between_turns (taken_on s t u bytes left rest first more)
-  until_refused-on s t u bytes left rest first (inside_turn more pending allowed halts) =
-      inside_turn (taken_on s t _ bytes left _ first more) pending allowed halts
-
-  -- where nothing is left, no turn was refused memory
-  pub until_refused-all : {s t : State V W} {bytes : List ℕ} → TakesTurnsUntilRefused m s bytes t []
-      → TakesTurns m s bytes t []
-  until_refused-all h = search (rules, arith)
-
-  -- ---- what is parsed and held then
-
-  halts-grows : (pending : Bool) {s t : State V W} {bytes left : List ℕ} → ParsesAndHalts m pending s bytes t left
-      → Progresses s t bytes left
-  halts-grows pending {s} (parses, h) =
-      rw h.state_is
-      (grows_on (stop_if_due_grows m pending)
-      (parse_grows m h.prefix (stop_if_due_none m pending s) h.bytes_are))
-
-  pub until_refused-grows : {s t : State V W} {bytes left : List ℕ} → TakesTurnsUntilRefused m s bytes t left
-      → Progresses s t bytes left
-  until_refused-grows (between_turns taken) = turns_grow m taken
-  until_refused-grows {t} {left} (inside_turn {reached = u} {rest} taken pending allowed halts) =
-      grows_on (turns_grow m taken)
-      (halts-grows pending (refused-parses m pending u t rest left halts))
-
-  -- outside an update, and with nothing held
-  halts-outside : (pending : Bool) (s t : State V W) (bytes left : List ℕ) → IsSteady m.timeout → HoldsWellAt m s
-      → m.timeout.allows s.timeout pending
-      → ParsesAndHalts m pending s bytes t left → IsOutsideUpdate m.timeout t.held t.timeout
-  halts-outside pending s t bytes left steady well allowed (parses, h) = search (rules, arith)
-
-  halts-held : (pending : Bool) (s t : State V W) (bytes left : List ℕ)
-      → ParsesAndHalts m pending s bytes t left → t.held ≡ []
-  halts-held pending s t bytes left (parses, h) = ap (λ t. t.held) h.state_is ∙ stop_if_due_none m pending s
-
-  pub until_refused-well : {s t : State V W} {bytes left : List ℕ} → TakesTurnsUntilRefused m s bytes t left
-      → HoldsWellAt m s
-      → HoldsWellAt m t
-  until_refused-well (between_turns taken) well = taken_well m taken well
-  until_refused-well {t} {left} (inside_turn {reached = u} {rest} taken pending allowed halts) well =
-      let opens = refused-parses m pending u t rest left halts in
-      let nothing = halts-held pending u t rest left opens in
-      record {
-        no_end = rw nothing refl;
-        fits = rw nothing (omega arith);
-        steady =
-            λ steady.
-            inl (halts-outside pending u t rest left steady (taken_well m taken well) allowed
-            opens);
-      }
-
-  -- ---- the unread bytes in a further call
-
-  halts-goes_on : (pending : Bool) (s t : State V W) (bytes left : List ℕ) → ParsesAndHalts m pending s bytes t left
-      → turn m false t left ≡ turn m pending s bytes
-  halts-goes_on pending s t bytes left (parses, h) =
-      let none : kind_of false (length t.held) (length left) ≡ ParsingTurn =
-      rw (halts-held pending s t bytes left (parses, h)) refl in
-      rw (none, turn-parses m pending s bytes parses) (parsing_turn-goes_on m (stop_if_due m pending s) t bytes left h)
-
-  halted-turn_goes_on : (pending : Bool) {s t end : State V W} {bytes left : List ℕ}
-      → m.timeout.allows s.timeout pending
-      → ParsesAndHalts m pending s bytes t left
-      → IsOutsideUpdate m.timeout t.held t.timeout → TakesTurns m t left end [] → TakesTurns m s bytes end []
-  halted-turn_goes_on pending allowed h out done = absurd (omega (arith, h.1.some_left))
-  halted-turn_goes_on pending {s} {t} {end} {bytes} {left = b ∷ left} allowed h out (turns other allows more) =
-      let same : turn m other t (b ∷ left) ≡ turn m pending s bytes =
-      rw (out.not_pending.1 other allows) (halts-goes_on pending s t bytes (b ∷ left) h) in
-      let some : 0 < length bytes =
-      omega (arith, h.1.some_left, ap length h.1.bytes_are, length-append h.1.prefix (b ∷ left)) in
-      taken_on s _ end bytes _ [] (takes-one pending some allowed)
-      (subst (λ x. TakesTurns m x.state x.rest end []) same more)
-
-  pub halted-goes_on : (s t end : State V W) (bytes left : List ℕ) → IsSteady m.timeout → HoldsWellAt m s
-      → TakesTurnsUntilRefused m s bytes t left → TakesAllTurns m t left end → TakesAllTurns m s bytes end
-  halted-goes_on s t end bytes left steady well (between_turns taken) more = taken_on s t end bytes left [] taken more
-  halted-goes_on s t end bytes left steady well (inside_turn {reached = u} {rest} taken pending allowed halts) more =
-      let opens = refused-parses m pending u t rest left halts in
-      let out = halts-outside pending u t rest left steady (taken_well m taken well) allowed opens
-      in
-      taken_on s u end bytes rest [] taken (halted-turn_goes_on pending allowed opens out more)
-
--- ---- a hold turn
-
--- Bytes join the hold, the timeout is set as often as they begin updates, and what the hold releases is parsed.
-
-module _ {V W : Type 0} (m : Meaning V W) where
-  abbrev cut : State V W → List ℕ → State V W
-  cut t kept = with_held (parse m t (take (length t.held - length kept) t.held)) kept
-
-  release-some : (t : State V W) (kept : List ℕ) → 0 < length kept → release m t kept ≡ cut t kept
-  release-some t [] some = absurd (omega arith)
-  release-some t (b ∷ kept) some = refl
-
-  -- some bytes stay held, or none
-  holds-some : (s : State V W) (r : List ℕ) → 0 < length (still_held (s.held ++ r))
-      → hold_turn m s r ≡ cut (extend m s r) (still_held (s.held ++ r))
-  holds-some s r some = elim (cases_Option (after_last_end (s.held ++ r))) [
-    | inl none ↦
-        let all = s.held ++ r in
-        let is : still_held all ≡ all = rw none refl in
-        let no_prefix : length all - length all ≡ 0 = omega arith in
-        hold_turn-all m s r none
-        ∙ rw (is, no_prefix) (sym (ap (λ t. with_held t all) (parse-nothing m (extend m s r))))
-    | inr last ↦
-        let is : still_held (s.held ++ r) ≡ from_begin_update last.0 = rw last.1 refl in
-        hold_turn-rest m s r last.1
-        ∙ rw is (release-some (extend m s r) (from_begin_update last.0) (rw is at some))
-  ]
-
-  holds-none : (s : State V W) (r : List ℕ) → 0 < length (s.held ++ r) → still_held (s.held ++ r) ≡ []
-      → hold_turn m s r ≡ stop m (extend m s r)
-  holds-none s r some none = search (rules, arith)
-
--- the hold has the new bytes, and the timeout was set as often as they begin updates
-module _ {P B T A V W : Type 0} {view : EngineView P B T W} (m : Meaning V W) {s : State V W} {more : List ℕ}
-    {old : Engine P B T A} {hold : SyncState A} {timeout : T} {begins : ℕ} {value : V}
-    (at : EngineIsAt view old value s) (added : IsAdded s.held more hold begins)
-    (is_set : view.timeout_of timeout ≡ set_times m.timeout begins (view.timeout_of old.state.timeout))
-    (room : view.parser.has_memory old.parser (view.room_of old.state.text) s.parsed
-    (length s.held + length more)) where
-  abbrev set : Engine P B T A
-  set = record old { hold = hold; state = record old.state { timeout = timeout } }
-
-  -- there is memory to parse so many more bytes
-  abbrev HasRoom : List ℕ → ℕ → Type 0
-  HasRoom = view.parser.has_memory old.parser (view.room_of old.state.text)
-
-  extended : ArePartsAt view set.parser set.state value (extend m s more)
-  extended = record {
-    has_read = at.stands.has_read;
-    last = at.stands.last;
-    timeout_is = is_set ∙ rw (at.stands.timeout_is, added.begins_are);
-    handler_is = at.handler_is;
-  }
-
-  -- the released bytes are parsed, and the others stay held, with memory to parse them
-  pub turned_cut : {last : Engine P B T A} {next : V} → 0 < length (held_of hold)
-      → ((t : State V W) (n : ℕ) → ArePartsAt view set.parser set.state value t
-      → (0 < length (released_of hold)
-      → HasRoom t.parsed (length (released_of hold) + n))
-      → ArePartsAtKeeping view set.parser set.state last.parser last.state next (parse m t (released_of hold)))
-      → ((t : State V W) (n : ℕ) → ArePartsAtWithMemory view set.parser set.state value t
-      (length (released_of hold) + n)
-      → view.parser.has_memory last.parser (view.room_of last.state.text) (t.parsed ++ released_of hold) n)
-      → last.hold ≡ hold → EngineIsAtKeeping view old last next (hold_turn m s more)
-  turned_cut {last} {next} some parses leaves kept =
-      let t = extend m s more in
-      let all = s.held ++ more in
-      let rest = length (held_of hold) in
-      let sum : length (released_of hold) + rest ≡ length s.held + length more = rw (added.released_is, added.held_is) (
-      omega (
-        arith,
-        length-take (length all - length (still_held all)) all,
-        suffix-length
-            (stays_held all).suffix,
-        length-append s.held more,
-      )) in
-      let ready : HasRoom s.parsed
-      (length (released_of hold) + rest)
-      =
-      rw sum room in
-      let there = parses t rest extended (λ some. ready) in
-      let parsed : ArePartsAt view last.parser last.state next
-      (parse m t (take (length all - length (still_held all)) all)) =
-      rw added.released_is at there.parts_at in
-      rw (holds-some m s more (rw added.held_is at some)) (record {
-        engine_at = record {
-          stands = record {
-            has_read = parsed.has_read;
-            last = parsed.last;
-            timeout_is = parsed.timeout_is;
-            holds = rw kept added.held_is;
-            has_memory =
-                λ some.
-                rw (added.released_is, added.held_is) at (leaves t rest
-                (record { parts_at = extended; room = ready }));
-          };
-          handler_is = parsed.handler_is;
-        };
-        memory = there.memory;
-      })
-
-  -- the update is stopped
-  pub turned_stop : {last : Engine P B T A} {next : V} → 0 < length more → length (held_of hold) ≡ 0
-      → ((t : State V W) (n : ℕ) → ArePartsAt view set.parser set.state value t → released_of hold ≡ t.held
-      → held_of hold ≡ []
-      → (0 < length t.held → HasRoom t.parsed
-      (length t.held + n))
-      → EngineIsAtKeeping view set last next (stop m t))
-      → EngineIsAtKeeping view old last next (hold_turn m s more)
-  turned_stop {last} {next} some is stops =
-      let all = s.held ++ more in
-      let none : held_of hold ≡ [] = nil_from_length (held_of hold) is in
-      let nothing : still_held all ≡ [] = sym added.held_is ∙ none in
-      let whole : released_of hold ≡ all =
-      added.released_is ∙ rw nothing (take_all (length all - 0) all (omega arith)) in
-      let sum : length all + 0 ≡ length s.held + length more = omega (arith, length-append s.held more) in
-      let there : EngineIsAtKeeping view set last next (stop m (extend m s more)) =
-      stops (extend m s more) 0 extended whole none (λ some. rw sum room) in
-      rw (holds-none m s more (omega (arith, some, length-append s.held more)) nothing)
-      (record { engine_at = there.engine_at; memory = there.memory })
+  parsing-refused {read} o less = search (rules, arith, take-append-drop, length-drop)

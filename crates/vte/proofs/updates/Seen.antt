@@ -225,7 +225,7 @@ module _ {held more text : List ℕ} {start : ℕ} (e : IsHeldTail held more tex
       record { no_begin = rw tail at neither.no_begin; no_end = rw tail at neither.no_end })
       seen
 
-  -- there is no room for a sequence in the last seven bytes
+  -- the last seven bytes are too few for a sequence
   pub seen-nothing : (unread : ℕ) → unread ≡ length text - 7
       → HasSeen all (length more) (start + unread) (start + length text) 0
   seen-nothing unread is =

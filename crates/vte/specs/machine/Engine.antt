@@ -26,15 +26,15 @@ pub record ArePartsAt {P B T V W : Type 0} (view : EngineView P B T W) (parser :
 pub record ArePartsAtWithMemory {P B T V W : Type 0} (view : EngineView P B T W) (parser : P)
     (lent : ProcessorState T B) (value : V) (state : State V W) (count : ℕ) : Type 0 where
   pub parts_at : ArePartsAt view parser lent value state
-  pub room : view.parser.has_memory parser (view.room_of lent.text) state.parsed count
+  pub memory : view.parser.has_memory parser (view.text_size_of lent.text) state.parsed count
 
 -- `ArePartsAt`, with the memory that was there before.
 pub record ArePartsAtKeeping {P B T V W : Type 0} (view : EngineView P B T W) (parser : P)
     (lent : ProcessorState T B) (next : P) (back : ProcessorState T B)
     (value : V) (state : State V W) : Type 0 where
   pub parts_at : ArePartsAt view next back value state
-  pub memory : KeepsMemory (view.parser.has_memory parser (view.room_of lent.text))
-      (view.parser.has_memory next (view.room_of back.text))
+  pub keeps_memory : KeepsMemory (view.parser.has_memory parser (view.text_size_of lent.text))
+      (view.parser.has_memory next (view.text_size_of back.text))
 
 -- The engine and the handler's value are as the state says.
 abbrev pub EngineIsAt : {P B T A V W : Type 0} → EngineView P B T W → Engine P B T A → V
@@ -47,12 +47,12 @@ pub record EngineIsAtKeeping {P B T A V W : Type 0} (view : EngineView P B T W)
     (engine next : Engine P B T A)
     (value : V) (state : State V W) : Type 0 where
   pub engine_at : EngineIsAt view next value state
-  pub memory : KeepsMemory (EngineHasMemory view engine) (EngineHasMemory view next)
+  pub keeps_memory : KeepsMemory (EngineHasMemory view engine) (EngineHasMemory view next)
 
 -- From each state that the engine is at, it leads on as `ends` says.
-abbrev pub LeadOn : {P B T A V W : Type 0} → EngineView P B T W → Engine P B T A → Engine P B T A
-    → V → V → (State V W → (State V W → Type 0) → Type 0) → Type 0
-LeadOn view engine next old new ends =
+abbrev pub EngineLeadsOn : {P B T A V W : Type 0} → EngineView P B T W → Engine P B T A
+    → Engine P B T A → V → V → (State V W → (State V W → Type 0) → Type 0) → Type 0
+EngineLeadsOn view engine next old new ends =
     (state : State _ _) → EngineIsAt view engine old state
     → ends state (EngineIsAtKeeping view engine next new)
 
@@ -89,7 +89,7 @@ module _ {V W : Type 0} (meaning : Meaning V W) (state : State V W) (bytes : Lis
     pub is_at : IsNowAt (parse meaning state (take read bytes))
 
   -- A turn that was refused memory has read `read` bytes.
-  pub record HasHalted (read : ℕ) (IsNowAt : State V W → Type 0) : Type 0 where
+  pub record HasBeenRefused (read : ℕ) (IsNowAt : State V W → Type 0) : Type 0 where
     pub next : State V W
     pub takes : TakesTurnsUntilRefused meaning state bytes next (drop read bytes)
     pub is_at : IsNowAt next
@@ -97,10 +97,10 @@ module _ {V W : Type 0} (meaning : Meaning V W) (state : State V W) (bytes : Lis
   -- How a turn ends, if memory for it may be refused.
   pub record EndsTurn (result : Result ℕ Refused) (IsNowAt : State V W → Type 0) : Type 0 where
     pub turned : IfOk result (λ read. HasTurned read IsNowAt)
-    pub halted : IfErr result (λ refused. HasHalted refused.read IsNowAt)
+    pub refused : IfErr result (λ refused. HasBeenRefused refused.read IsNowAt)
 
   -- How a parsing turn ends, if memory for it may be refused.
   pub record EndsParsingTurn (result : Result ℕ Refused) (IsNowAt : State V W → Type 0)
       : Type 0 where
     pub parsed : IfOk result (λ read. HasTakenParsingTurn read IsNowAt)
-    pub halted : IfErr result (λ refused. HasParsedWithoutBegin refused.read IsNowAt)
+    pub refused : IfErr result (λ refused. HasParsedWithoutBegin refused.read IsNowAt)

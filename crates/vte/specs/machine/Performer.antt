@@ -40,11 +40,11 @@ text_to_join false text = 0x3b ∷ text
 abbrev pub joined_size : List (List ℕ) → ℕ
 joined_size pieces = length (concat pieces) + length pieces
 
-abbrev pub FitsRoom : ℕ → List (List ℕ) → Type 0
-FitsRoom room pieces = joined_size pieces ≤ room
+abbrev pub FitsTextSize : ℕ → List (List ℕ) → Type 0
+FitsTextSize text_size pieces = joined_size pieces ≤ text_size
 
-abbrev pub fits_room : ℕ → List (List ℕ) → Bool
-fits_room room pieces = nat_le (joined_size pieces) room
+abbrev pub fits_text_size : ℕ → List (List ℕ) → Bool
+fits_text_size text_size pieces = nat_le (joined_size pieces) text_size
 
 -- ---- a performer
 
@@ -55,29 +55,29 @@ pub record PerformerValue (V W : Type 0) : Type 0 where
   pub handler : V
   pub timeout : W
   pub last : Option ℕ
-  pub room : ℕ
+  pub text_size : ℕ
   pub terminated : Bool
   pub state_name : GName
   pub handler_name : GName
 
 -- The calls of an event. A command that doesn't fit the buffer for texts makes none.
 abbrev pub calls_made : ℕ → Option ℕ → Event → List Call
-calls_made room last (OscDispatch pieces bell) =
-    if fits_room room pieces then system_command_calls pieces bell else []
-calls_made room last event = calls_of last event
+calls_made text_size last (OscDispatch pieces bell) =
+    if fits_text_size text_size pieces then system_command_calls pieces bell else []
+calls_made text_size last event = calls_of last event
 
--- With this room, the calls of the event are made.
+-- With a text of this size, the calls of the event are made.
 abbrev pub FitsText : ℕ → Event → Type 0
-FitsText room event = (last : Option ℕ) → calls_made room last event ≡ calls_of last event
+FitsText text_size event = (last : Option ℕ) → calls_made text_size last event ≡ calls_of last event
 
 -- An event that begins an update terminates the performer.
 abbrev pub with_event : {V W : Type 0}
     → (V → Call → V) → TimeoutMeaning W → PerformerValue V W → Event → PerformerValue V W
 with_event step timeout performer event = record {
-  handler = after step performer.handler (calls_made performer.room performer.last event);
+  handler = after step performer.handler (calls_made performer.text_size performer.last event);
   timeout = set_times timeout (begins_in_event event) performer.timeout;
   last = last_printed_after performer.last event;
-  room = performer.room;
+  text_size = performer.text_size;
   terminated = performer.terminated || nat_lt 0 (begins_in_event event);
   state_name = performer.state_name;
   handler_name = performer.handler_name;

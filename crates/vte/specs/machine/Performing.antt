@@ -20,11 +20,11 @@ use Rattle.vte_handler.specs.Timeout.{TimeoutMeaning}
 
 abbrev pub performer_value : {H T B G V W : Type 0}
     → (H → V) → (T → W) → (B → ℕ) → Performer H T B G → PerformerValue V W
-performer_value handler_of timeout_of room_of performer = record {
+performer_value handler_of timeout_of text_size_of performer = record {
   handler = handler_of performer.handler.now;
   timeout = timeout_of performer.state.now.timeout;
   last = performer.state.now.preceding_char;
-  room = room_of performer.state.now.text;
+  text_size = text_size_of performer.state.now.text;
   terminated = performer.terminated;
   state_name = performer.state.ghost_name;
   handler_name = performer.handler.ghost_name;
@@ -55,9 +55,9 @@ pub record HasPerformed {P V W : Type 0} (view : ParserView P) (limit : Option �
     (old new : PerformerValue V W)
     (stream bytes : List ℕ) (more : ℕ) : Type 0 where
   pub performs : new ≡ performed step old (added limit stream bytes)
-  pub fits : All (FitsText old.room) (added limit stream bytes)
+  pub fits : All (FitsText old.text_size) (added limit stream bytes)
   pub reads : view.has_read next (stream ++ bytes)
-  pub room : view.has_memory next old.room (stream ++ bytes) more
+  pub memory : view.has_memory next old.text_size (stream ++ bytes) more
 
 -- A parser has read `read` of the bytes after a stream: up to an event that terminates the
 -- performer, or all.
@@ -66,7 +66,7 @@ pub record HasStopped {P V W : Type 0} (view : ParserView P) (limit : Option ℕ
     (old new : PerformerValue V W)
     (stream bytes : List ℕ) (read : ℕ) : Type 0 where
   pub stops : StopsExactly step (λ performer. performer.terminated) old limit stream bytes new read
-  pub fits : All (FitsText old.room) (added limit stream bytes)
+  pub fits : All (FitsText old.text_size) (added limit stream bytes)
   pub reads : view.has_read next (resumed_stream stream bytes read)
 
 -- After each stream that the parser has read, it performs all bytes if it has memory for them.
@@ -76,9 +76,9 @@ pub record AdvancesAll {P V W : Type 0} (view : ParserView P) (limit : Option �
     (old new : PerformerValue V W)
     (bytes : List ℕ) : Type 0 where
   pub parses : (stream : List ℕ) (more : ℕ) → view.has_read parser stream
-      → view.has_memory parser old.room stream (length bytes + more)
+      → view.has_memory parser old.text_size stream (length bytes + more)
       → HasPerformed view limit step next old new stream bytes more
-  pub memory : (size : ℕ)
+  pub keeps_memory : (size : ℕ)
       → KeepsMemory (view.has_memory parser size) (view.has_memory next size)
 
 pub record AdvancesUntilStop {P V W : Type 0} (view : ParserView P) (limit : Option ℕ)
@@ -87,7 +87,7 @@ pub record AdvancesUntilStop {P V W : Type 0} (view : ParserView P) (limit : Opt
     (bytes : List ℕ) (read : ℕ) : Type 0 where
   pub within : read ≤ length bytes
   pub stops : (stream : List ℕ) (more : ℕ) → view.has_read parser stream
-      → view.has_memory parser old.room stream (length bytes + more)
+      → view.has_memory parser old.text_size stream (length bytes + more)
       → HasStopped view limit step next old new stream bytes read
-  pub memory : (size : ℕ)
+  pub keeps_memory : (size : ℕ)
       → KeepsMemory (view.has_memory parser size) (view.has_memory next size)

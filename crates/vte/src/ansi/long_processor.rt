@@ -34,8 +34,8 @@ pub struct LongProcessor<T: Timeout + Drop, A: Allocator> {
 
 /// A clone goes on as the processor would, if so does that of its timeout.
 impl<T: Timeout + Clone + Drop, A: Allocator + Clone> Clone for LongProcessor<T, A> {
-    ghost is_clone = { λ processor copy. IsCopyOfProcessor T.is_clone T.value_of (timeout_long processor)
-        (timeout_long copy) (HasParsedAndHoldsLong T.value_of processor)
+    ghost is_clone = { λ processor copy. IsCopyOfProcessor T.is_clone T.value_of
+        (timeout_long processor) (timeout_long copy) (HasParsedAndHoldsLong T.value_of processor)
         (HasParsedAndHoldsLong T.value_of copy) (reading_of_long (parser_long processor))
         (reading_of_long (parser_long copy))
         × KeepsMemory (HasMemory processor) (HasMemory copy) };

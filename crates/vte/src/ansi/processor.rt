@@ -46,8 +46,8 @@ pub struct Processor<T: Timeout + Drop, A: Allocator> {
 
 /// A clone goes on as the processor would, if so does that of its timeout.
 impl<T: Timeout + Clone + Drop, A: Allocator + Clone> Clone for Processor<T, A> {
-    ghost is_clone = { λ processor copy. IsCopyOfProcessor T.is_clone T.value_of (timeout_in processor)
-        (timeout_in copy) (HasParsedAndHolds T.value_of processor)
+    ghost is_clone = { λ processor copy. IsCopyOfProcessor T.is_clone T.value_of
+        (timeout_in processor) (timeout_in copy) (HasParsedAndHolds T.value_of processor)
         (HasParsedAndHolds T.value_of copy) (reading_of (parser_in processor))
         (reading_of (parser_in copy)) };
 

@@ -2,7 +2,7 @@
 ghost use Rattle.std.specs.Prelude.{◌≡◌, ◌≤◌, bytes_eq, codes, map};
 ghost use Rattle.vte.specs.CommandCalls.{all_reset, clipboard_calls, color_calls, dynamic_color_calls, dynamic_calls, dynamic_colors, link_calls, link_to, palette_calls, pointer_calls, reset_calls, shape_calls, system_command_calls, palette_entry_calls, title_calls};
 ghost use Rattle.vte_types.specs.Words.{entry_of};
-ghost use Rattle.vte.specs.machine.Performer.{FitsRoom};
+ghost use Rattle.vte.specs.machine.Performer.{FitsTextSize};
 ghost use Rattle.vte.specs.Numbers.{decimal_number};
 ghost use Rattle.vte_handler.specs.Call.{SetHyperlink};
 ghost use Rattle.vte_handler.specs.Handler.{after};
@@ -28,11 +28,11 @@ pub(crate) fn perform_system_command<H: Handler, B: TextBuffer>(
     pieces: &[&[u8]],
     bell_terminated: bool,
 )
-    requires { FitsRoom (B.room text.old) (map (λ piece. piece.now) pieces.now) }
+    requires { FitsTextSize (B.text_size text.old) (map (λ piece. piece.now) pieces.now) }
     ensures told { H.value_of handler.new
         ≡ after H.step (H.value_of handler.old)
         (system_command_calls (map (λ piece. piece.now) pieces.now) bell_terminated) }
-    ensures same { B.room text.new ≡ B.room text.old }
+    ensures same { B.text_size text.new ≡ B.text_size text.old }
 {
     laws::words_differ_from_other_texts();
     if let [first, texts @ ..] = pieces {
@@ -57,12 +57,12 @@ pub(crate) fn perform_system_command<H: Handler, B: TextBuffer>(
 }
 
 /// Sets the title that these pieces make: 0 and 2. A title of one piece is lent, and not copied.
-#[tactic(auto, using(crate::proofs::Commands::one_text))]
+#[tactic(auto, using(crate::proofs::calls::JoinedTexts::one_text))]
 fn set_title<H: Handler, B: TextBuffer>(handler: &mut H, text: &mut B, texts: &[&[u8]])
-    requires { FitsRoom (B.room text.old) (map (λ piece. piece.now) texts.now) }
+    requires { FitsTextSize (B.text_size text.old) (map (λ piece. piece.now) texts.now) }
     ensures told { H.value_of handler.new
         ≡ after H.step (H.value_of handler.old) (title_calls (map (λ piece. piece.now) texts.now)) }
-    ensures same { B.room text.new ≡ B.room text.old }
+    ensures same { B.text_size text.new ≡ B.text_size text.old }
 {
     match texts {
         [] => {}
@@ -96,7 +96,7 @@ fn set_color<H: Handler>(handler: &mut H, prefix: &str, index: usize, terminator
 }
 
 /// Sets a colour of the palette, or asks for it.
-#[tactic(auto, using(crate::proofs::Commands::few_digits))]
+#[tactic(auto, using(crate::proofs::calls::Colors::few_digits))]
 fn set_palette_entry<H: Handler>(handler: &mut H, index: &[u8], color: &[u8], terminator: &str)
     ensures { H.value_of handler.new
         ≡ after H.step (H.value_of handler.old)
@@ -117,7 +117,7 @@ fn set_palette_entry<H: Handler>(handler: &mut H, index: &[u8], color: &[u8], te
 }
 
 /// Sets colours of the palette, or asks for them: 4. Each index is followed by its colour.
-#[tactic(auto, using(crate::proofs::Commands::entry_made))]
+#[tactic(auto, using(crate::proofs::calls::Loops::entry_made))]
 fn set_palette<H: Handler>(handler: &mut H, texts: &[&[u8]], terminator: &str)
     ensures { H.value_of handler.new
         ≡ after H.step (H.value_of handler.old)
@@ -134,12 +134,12 @@ fn set_palette<H: Handler>(handler: &mut H, texts: &[&[u8]], terminator: &str)
 }
 
 /// Sets the link that these pieces make. A URI of one piece is lent, and not copied.
-#[tactic(auto, using(crate::proofs::Commands::one_text))]
+#[tactic(auto, using(crate::proofs::calls::JoinedTexts::one_text))]
 fn set_link<H: Handler, B: TextBuffer>(handler: &mut H, text: &mut B, texts: &[&[u8]])
-    requires { FitsRoom (B.room text.old) (map (λ piece. piece.now) texts.now) }
+    requires { FitsTextSize (B.text_size text.old) (map (λ piece. piece.now) texts.now) }
     ensures told { H.value_of handler.new
         ≡ after H.step (H.value_of handler.old) (link_calls (map (λ piece. piece.now) texts.now)) }
-    ensures same { B.room text.new ≡ B.room text.old }
+    ensures same { B.text_size text.new ≡ B.text_size text.old }
 {
     match texts {
         [] | [_] => {}
@@ -152,7 +152,7 @@ fn set_link<H: Handler, B: TextBuffer>(handler: &mut H, text: &mut B, texts: &[&
 }
 
 /// Begins a link to a URI, or ends one if it is empty.
-#[tactic(auto, using(crate::proofs::Commands::some_link))]
+#[tactic(auto, using(crate::proofs::calls::JoinedTexts::some_link))]
 fn set_link_to<H: Handler>(handler: &mut H, parameters: &[u8], uri: &str)
     ensures { H.value_of handler.new
         ≡ H.step (H.value_of handler.old) (SetHyperlink (link_to parameters.now uri.now)) }
@@ -180,7 +180,7 @@ fn set_dynamic_color<H: Handler>(handler: &mut H, code: usize, terminator: &str,
 }
 
 /// Sets such colours, or asks for them: 10, 11 or 12, and those after it, one for each text.
-#[tactic(auto, using(crate::proofs::Performing::appended))]
+#[tactic(auto, using(crate::proofs::EventCalls::appended))]
 fn set_dynamic_colors<H: Handler>(handler: &mut H, first: usize, texts: &[&[u8]], terminator: &str)
     requires { first ≤ 12 }
     ensures { H.value_of handler.new
@@ -247,7 +247,7 @@ fn use_clipboard<H: Handler>(handler: &mut H, texts: &[&[u8]], terminator: &str)
 }
 
 /// Resets all colours of the palette.
-#[tactic(auto, using(crate::proofs::Commands::one_less), unfolding(crate::specs::CommandCalls::all_reset))]
+#[tactic(auto, using(crate::proofs::calls::Loops::one_less), unfolding(crate::specs::CommandCalls::all_reset))]
 fn reset_all<H: Handler>(handler: &mut H)
     ensures { H.value_of handler.new ≡ after H.step (H.value_of handler.old) all_reset }
 {

@@ -1,14 +1,14 @@
-//! A text that grows when room is asked for.
+//! A text whose buffer grows on request.
 ghost use Rattle.std.specs.Prelude.{◌≡◌, ◌≤◌, string_bytes, string_capacity};
 
 use crate::ansi::calls::text_buffer::TextBuffer;
 use std::alloc::{AllocError, Allocator};
 
-/// A joined text, with as much room as was asked for.
+/// A joined text, in a buffer of the size that was asked for.
 #[derive(Drop)]
 pub(crate) struct GrowingText<A: Allocator> {
     text: String<A>,
-    // for how many bytes room was asked
+    // the size that was asked for, in bytes
     size: usize,
     ghost fits: { size ≤ string_capacity text },
 }
@@ -36,7 +36,7 @@ impl<A: Allocator> GrowingText<A> {
 
     /// Gives back its memory.
     pub(crate) fn free(&mut self)
-        ensures room { self.new.size ≡ 0 }
+        ensures size { self.new.size ≡ 0 }
         ensures memory { string_capacity self.new.text ≡ 0 }
     {
         self.text.clear();
@@ -48,7 +48,7 @@ impl<A: Allocator> GrowingText<A> {
 impl<A: Allocator> TextBuffer for GrowingText<A> {
     ghost held = { λ buffer. string_bytes buffer.text };
 
-    ghost room = { λ buffer. buffer.size };
+    ghost text_size = { λ buffer. buffer.size };
 
     fn capacity(&self) -> usize {
         self.size
@@ -71,12 +71,12 @@ impl<A: Allocator> TextBuffer for GrowingText<A> {
     }
 
     fn push(&mut self, c: char) {
-        // There is room.
+        // It fits.
         let _ = self.text.push(c);
     }
 
     fn push_str(&mut self, part: &str) {
-        // There is room.
+        // It fits.
         let _ = self.text.push_str(part);
     }
 

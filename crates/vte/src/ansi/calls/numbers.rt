@@ -95,9 +95,9 @@ pub(crate) fn parse_number(digits: &[u8]) -> Option<u8>
 /// Appends a number to a text.
 #[tactic(auto, using(std::proofs::lemmas::Fmt::decimal_digit, std::proofs::lemmas::Fmt::decimal_step))]
 pub(crate) fn push_number<B: TextBuffer>(text: &mut B, number: u8)
-    requires { length (B.held text.old) + length (decimal number) ≤ B.room text.old }
+    requires { length (B.held text.old) + length (decimal number) ≤ B.text_size text.old }
     ensures pushed { B.held text.new ≡ B.held text.old ++ decimal number }
-    ensures same { B.room text.new ≡ B.room text.old }
+    ensures same { B.text_size text.new ≡ B.text_size text.old }
 {
     if number < 10 {
         text.push(char::from(b'0' + number));

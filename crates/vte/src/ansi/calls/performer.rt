@@ -4,7 +4,7 @@ ghost use Rattle.std.specs.Str.{chars};
 ghost use Rattle.vte_core.specs.Event.{Print};
 ghost use Rattle.vte.specs.Calls.{last_printed_from};
 ghost use Rattle.vte.specs.machine.Performing.{performer_value, with_private_mode, with_private_modes};
-ghost use Rattle.vte.specs.machine.Performer.{fits_room};
+ghost use Rattle.vte.specs.machine.Performer.{fits_text_size};
 ghost use Rattle.vte_handler.specs.Timeout.{timeout_meaning};
 
 use crate::ansi::calls::command::perform_system_command;
@@ -44,11 +44,11 @@ impl<'s, 'h, H: InputAs<G>, T: Timeout + Drop, B: TextBuffer + Drop, G> Perform
 
     ghost Value = { PerformerValue H.Value T.Value };
 
-    ghost value_of = { performer_value H.value_of T.value_of B.room };
+    ghost value_of = { performer_value H.value_of T.value_of B.text_size };
 
     ghost step = { with_event H.step (timeout_meaning T.set T.clear T.allows) };
 
-    ghost is_terminated = { λ lent. lent.terminated };
+    ghost is_terminated = { λ performer. performer.terminated };
 
     // cargo: #[inline]
     fn print(&mut self, c: char) {
@@ -106,7 +106,7 @@ impl<'s, 'h, H: HandlerText, T: Timeout + Drop, B: TextBuffer + Drop> PerformTex
     }
 
     #[inline(always)]
-    #[tactic(auto, using(crate::proofs::Performing::performed_run))]
+    #[tactic(auto, using(crate::proofs::EventCalls::performed_run))]
     fn print_text(&mut self, text: &str) {
         self.handler.input_text(text);
         self.state.preceding_char = last_char(text, self.state.preceding_char);
@@ -120,15 +120,15 @@ impl<'s, 'h, H: HandlerText, T: Timeout + Drop, B: TextBuffer + Drop> PerformThr
     ghost use Rattle.std.proofs.Math.Bool.{or-false};
 
     // A character begins no update.
-    ghost no_stop = { λ lent c goes_on. or-false lent.terminated ∙ goes_on };
+    ghost no_stop = { λ performer c goes_on. or-false performer.terminated ∙ goes_on };
 }
 
 impl<'s, 'h, H: Handler, T: Timeout + Drop, B: TextBuffer + Drop, G> Performer<'s, 'h, H, T, B, G> {
     /// Sets the private modes, group by group.
     fn set_private_modes(&mut self, params: &Params)
-        ensures { performer_value H.value_of T.value_of B.room self.new
+        ensures { performer_value H.value_of T.value_of B.text_size self.new
             ≡ with_private_modes H.step (timeout_meaning T.set T.clear T.allows)
-            (performer_value H.value_of T.value_of B.room self.old) params.now }
+            (performer_value H.value_of T.value_of B.text_size self.old) params.now }
     {
         for group in params {
             self.set_private_mode(first_number(group));
@@ -137,9 +137,9 @@ impl<'s, 'h, H: Handler, T: Timeout + Drop, B: TextBuffer + Drop, G> Performer<'
 
     /// Sets a private mode. For that of updates it sets the timeout before the call.
     fn set_private_mode(&mut self, number: u16)
-        ensures { performer_value H.value_of T.value_of B.room self.new
+        ensures { performer_value H.value_of T.value_of B.text_size self.new
             ≡ with_private_mode H.step (timeout_meaning T.set T.clear T.allows)
-            (performer_value H.value_of T.value_of B.room self.old) number }
+            (performer_value H.value_of T.value_of B.text_size self.old) number }
     {
         if number == NamedPrivateMode::SyncUpdate as u16 {
             self.state
@@ -152,7 +152,7 @@ impl<'s, 'h, H: Handler, T: Timeout + Drop, B: TextBuffer + Drop, G> Performer<'
 }
 
 /// Returns the last character of a text, or the one before it if the text is empty.
-#[tactic(auto, using(crate::proofs::Performing::last_of_text))]
+#[tactic(auto, using(crate::proofs::EventCalls::last_of_text))]
 // cargo: #[inline(always)]
 fn last_char(text: &str, before: Option<char>) -> Option<char>
     ensures { result ≡ last_printed_from before (map Print (chars text.now)) }
@@ -162,14 +162,14 @@ fn last_char(text: &str, before: Option<char>) -> Option<char>
 
 /// Returns whether the joined pieces fit a buffer of this size.
 fn pieces_fit(pieces: &[&[u8]], size: usize) -> bool
-    ensures { result ≡ fits_room size (map (λ piece. piece.now) pieces.now) }
+    ensures { result ≡ fits_text_size size (map (λ piece. piece.now) pieces.now) }
 {
-    let mut room = size;
+    let mut left = size;
     for piece in pieces {
-        if piece.len() >= room {
+        if piece.len() >= left {
             return false;
         }
-        room -= piece.len() + 1;
+        left -= piece.len() + 1;
     }
     true
 }

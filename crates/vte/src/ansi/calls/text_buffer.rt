@@ -3,41 +3,41 @@ ghost use Rattle.std.specs.Prelude.{◌≡◌, true, false, ◌+◌, ◌≤◌, 
 
 use arrayvec::ArrayString;
 
-/// Holds a text, of as many bytes as it has room for.
+/// Holds a text, up to its size.
 pub(crate) trait TextBuffer {
     /// The text.
     ghost held: { Self → List ℕ };
 
-    /// How many bytes there is room for, in all.
-    ghost room: { Self → ℕ };
+    /// How many bytes the text may have.
+    ghost text_size: { Self → ℕ };
 
-    /// Returns how many bytes there is room for, in all.
+    /// Returns how many bytes the text may have.
     fn capacity(&self) -> usize
-        ensures { result ≡ room self.now };
+        ensures { result ≡ text_size self.now };
 
-    /// Makes room for `size` bytes in all, and returns whether it is there.
+    /// Makes room for a text of `size` bytes, and returns whether it is there.
     fn reserve(&mut self, size: usize) -> bool
-        ensures room { result ≡ true → size ≤ room self.new }
-        ensures kept { room self.old ≤ room self.new }
-        ensures lacks { result ≡ false → room self.new < size };
+        ensures enough { result ≡ true → size ≤ text_size self.new }
+        ensures kept { text_size self.old ≤ text_size self.new }
+        ensures lacks { result ≡ false → text_size self.new < size };
 
-    /// Empties the text. Its room stays.
+    /// Empties the text. Its size stays.
     fn clear(&mut self)
         ensures empty { held self.new ≡ [] }
-        ensures same { room self.new ≡ room self.old };
+        ensures same { text_size self.new ≡ text_size self.old };
 
     /// Appends a character of one byte.
     fn push(&mut self, c: char)
         requires ascii { c < 128 }
-        requires fits { length (held self.old) + 1 ≤ room self.old }
+        requires fits { length (held self.old) + 1 ≤ text_size self.old }
         ensures pushed { held self.new ≡ held self.old ++ c ∷ [] }
-        ensures same { room self.new ≡ room self.old };
+        ensures same { text_size self.new ≡ text_size self.old };
 
     /// Appends a text.
     fn push_str(&mut self, part: &str)
-        requires { length (held self.old) + length part.now ≤ room self.old }
+        requires { length (held self.old) + length part.now ≤ text_size self.old }
         ensures pushed { held self.new ≡ held self.old ++ part.now }
-        ensures same { room self.new ≡ room self.old };
+        ensures same { text_size self.new ≡ text_size self.old };
 
     /// Returns the text.
     fn as_str(&self) -> &str
@@ -47,7 +47,7 @@ pub(crate) trait TextBuffer {
 impl<const N: usize> TextBuffer for ArrayString<N> {
     ghost held = { λ text. text.bytes };
 
-    ghost room = { λ text. N };
+    ghost text_size = { λ text. N };
 
     fn capacity(&self) -> usize {
         self.capacity()

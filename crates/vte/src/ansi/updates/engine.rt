@@ -5,7 +5,7 @@ ghost use Rattle.vte.specs.Views.{EngineHasParsedAndHolds, engine_view};
 ghost use Rattle.vte.specs.ProcessorCalls.{held_of};
 ghost use Rattle.vte.specs.machine.Hold.{released_of};
 ghost use Rattle.vte.specs.Processor.{State, hold_turn, meaning_of, most_held, parse, set_times, stop};
-ghost use Rattle.vte.specs.machine.Engine.{EngineIsAtKeeping, EndsParsingTurn, EndsTurn, ArePartsAt, ArePartsAtKeeping, ArePartsAtWithMemory, LeadOn};
+ghost use Rattle.vte.specs.machine.Engine.{EngineIsAtKeeping, EndsParsingTurn, EndsTurn, ArePartsAt, ArePartsAtKeeping, ArePartsAtWithMemory, EngineLeadsOn};
 ghost use Rattle.vte.specs.LongProcessor.{EngineReads, EngineStops, LacksMemoryForSome, Reserves};
 ghost use Rattle.vte_handler.specs.Timeout.{timeout_meaning};
 
@@ -44,7 +44,8 @@ impl<P: EventParser + Drop, B: TextBuffer + Drop, T: Timeout + Drop, A: Allocato
     pub(crate) fn new(alloc: A, parser: P, text: B, timeout: T) -> Result<Self, T>
         requires reads { P.view.has_read parser [] }
         ensures stands { MatchResult result
-            (λ engine. EngineHasParsedAndHolds (engine_view P.limit P.view B.room T.value_of) engine
+            (λ engine. EngineHasParsedAndHolds
+            (engine_view P.limit P.view B.text_size T.value_of) engine
             [] [] (T.value_of timeout)) (λ back. back ≡ timeout) }
         ensures timeout { IfOk result (λ engine. engine.state.timeout ≡ timeout) }
         ensures text { IfOk result (λ engine. engine.state.text ≡ text) }
@@ -72,7 +73,7 @@ impl<P: EventParser + Drop, B: TextBuffer + Drop, T: Timeout + Drop, A: Allocato
         handler: &mut H,
         bytes: &[u8],
     ) -> Result<(), Refused>
-        ensures { EngineReads (engine_view P.limit P.view B.room T.value_of)
+        ensures { EngineReads (engine_view P.limit P.view B.text_size T.value_of)
             (meaning_of P.limit H.step T.set T.clear T.allows)
             self.old self.new (H.value_of handler.old) (H.value_of handler.new) bytes.now result }
     {
@@ -98,7 +99,7 @@ impl<P: EventParser + Drop, B: TextBuffer + Drop, T: Timeout + Drop, A: Allocato
     // stops are rare: kept out of a turn, they leave its loop over bytes as it is
     // cargo: #[inline(never)]
     pub(crate) fn stop<H: Handler, G: ParseAs<H, T, P>>(&mut self, handler: &mut H)
-        ensures stopped { EngineStops (engine_view P.limit P.view B.room T.value_of)
+        ensures stopped { EngineStops (engine_view P.limit P.view B.text_size T.value_of)
             (meaning_of P.limit H.step T.set T.clear T.allows) self.old self.new
             (H.value_of handler.old) (H.value_of handler.new) }
         ensures none { held_of self.new.hold ≡ [] }
@@ -111,13 +112,13 @@ impl<P: EventParser + Drop, B: TextBuffer + Drop, T: Timeout + Drop, A: Allocato
     /// update has ended.
     fn end_update<H: Handler, G: ParseAs<H, T, P>>(&mut self, handler: &mut H)
         ensures stops { (s : State H.Value T.Value) (n : ℕ)
-            → ArePartsAt (engine_view P.limit P.view B.room T.value_of) self.old.parser
+            → ArePartsAt (engine_view P.limit P.view B.text_size T.value_of) self.old.parser
             self.old.state (H.value_of handler.old) s →
             released_of self.old.hold ≡ s.held → held_of self.old.hold ≡ []
             → (0 < length s.held
-            → P.view.has_memory self.old.parser (B.room self.old.state.text) s.parsed
+            → P.view.has_memory self.old.parser (B.text_size self.old.state.text) s.parsed
             (length s.held + n)) →
-            EngineIsAtKeeping (engine_view P.limit P.view B.room T.value_of) self.old self.new
+            EngineIsAtKeeping (engine_view P.limit P.view B.text_size T.value_of) self.old self.new
             (H.value_of handler.new) (stop (meaning_of P.limit H.step T.set T.clear T.allows) s) }
         ensures hold { self.new.hold ≡ self.old.hold }
     {
@@ -129,21 +130,21 @@ impl<P: EventParser + Drop, B: TextBuffer + Drop, T: Timeout + Drop, A: Allocato
     /// Parses the released bytes.
     fn parse_released<H: Handler, G: ParseAs<H, T, P>>(&mut self, handler: &mut H)
         ensures parsed { (s : State H.Value T.Value) (n : ℕ)
-            → ArePartsAt (engine_view P.limit P.view B.room T.value_of) self.old.parser
+            → ArePartsAt (engine_view P.limit P.view B.text_size T.value_of) self.old.parser
             self.old.state (H.value_of handler.old) s →
             (0 < length (released_of self.old.hold)
-            → P.view.has_memory self.old.parser (B.room self.old.state.text) s.parsed
+            → P.view.has_memory self.old.parser (B.text_size self.old.state.text) s.parsed
             (length (released_of self.old.hold) + n)) →
             ArePartsAtKeeping
-            (engine_view P.limit P.view B.room T.value_of) self.old.parser self.old.state
+            (engine_view P.limit P.view B.text_size T.value_of) self.old.parser self.old.state
             self.new.parser self.new.state (H.value_of handler.new)
             (parse (meaning_of P.limit H.step T.set T.clear T.allows) s
             (released_of self.old.hold)) }
-        ensures room { (s : State H.Value T.Value) (n : ℕ) →
+        ensures memory { (s : State H.Value T.Value) (n : ℕ) →
             ArePartsAtWithMemory
-            (engine_view P.limit P.view B.room T.value_of) self.old.parser self.old.state
+            (engine_view P.limit P.view B.text_size T.value_of) self.old.parser self.old.state
             (H.value_of handler.old) s (length (released_of self.old.hold) + n) →
-            P.view.has_memory self.new.parser (B.room self.new.state.text)
+            P.view.has_memory self.new.parser (B.text_size self.new.state.text)
             (s.parsed ++ released_of self.old.hold) n }
         ensures hold { self.new.hold ≡ self.old.hold }
     {
@@ -166,11 +167,11 @@ impl<P: EventParser + Drop, B: TextBuffer + Drop, T: Timeout + Drop, A: Allocato
         requires some { 0 < length bytes.now }
         ensures within { MatchResult result (λ read. read ≤ length bytes.now)
             (λ refused. refused.read < length bytes.now) }
-        ensures turned { LeadOn (engine_view P.limit P.view B.room T.value_of) self.old
+        ensures turned { EngineLeadsOn (engine_view P.limit P.view B.text_size T.value_of) self.old
             self.new (H.value_of handler.old) (H.value_of handler.new)
             (λ s. EndsTurn (meaning_of P.limit H.step T.set T.clear T.allows) s bytes.now result) }
         ensures lacks { IfErr result
-            (λ refused. LacksMemoryForSome (engine_view P.limit P.view B.room T.value_of)
+            (λ refused. LacksMemoryForSome (engine_view P.limit P.view B.text_size T.value_of)
             self.new (length bytes.now - refused.read)) }
     {
         let pending = self.state.timeout.pending_timeout();
@@ -205,12 +206,12 @@ impl<P: EventParser + Drop, B: TextBuffer + Drop, T: Timeout + Drop, A: Allocato
         requires none { held_of self.old.hold ≡ [] }
         ensures within { MatchResult result (λ read. read ≤ length bytes.now)
             (λ refused. refused.read < length bytes.now) }
-        ensures parsed { LeadOn (engine_view P.limit P.view B.room T.value_of) self.old
+        ensures parsed { EngineLeadsOn (engine_view P.limit P.view B.text_size T.value_of) self.old
             self.new (H.value_of handler.old) (H.value_of handler.new)
             (λ s. EndsParsingTurn (meaning_of P.limit H.step T.set T.clear T.allows) s bytes.now
             result) }
         ensures lacks { IfErr result
-            (λ refused. LacksMemoryForSome (engine_view P.limit P.view B.room T.value_of)
+            (λ refused. LacksMemoryForSome (engine_view P.limit P.view B.text_size T.value_of)
             self.new (length bytes.now - refused.read)) }
     {
         let mut read = 0;
@@ -238,7 +239,7 @@ impl<P: EventParser + Drop, B: TextBuffer + Drop, T: Timeout + Drop, A: Allocato
     /// Takes memory for the held bytes and for this many more, and returns whether it is there.
     pub(crate) fn reserve(&mut self, more: usize) -> bool
         ensures reserved { Reserves
-            (engine_view P.limit P.view B.room T.value_of) self.old self.new more result }
+            (engine_view P.limit P.view B.text_size T.value_of) self.old self.new more result }
         ensures hold { self.new.hold ≡ self.old.hold }
     {
         self.parser
@@ -249,11 +250,11 @@ impl<P: EventParser + Drop, B: TextBuffer + Drop, T: Timeout + Drop, A: Allocato
     // cargo: #[inline]
     fn hold_bytes<H: Handler, G: ParseAs<H, T, P>>(&mut self, handler: &mut H, bytes: &[u8])
         requires some { 0 < length bytes.now }
-        requires room { length (held_of self.old.hold) + length bytes.now ≤ most_held }
-        ensures { LeadOn (engine_view P.limit P.view B.room T.value_of) self.old self.new
-            (H.value_of handler.old) (H.value_of handler.new)
-            (λ s IsNowAt. P.view.has_memory self.old.parser (B.room self.old.state.text) s.parsed
-            (length s.held + length bytes.now) →
+        requires fits { length (held_of self.old.hold) + length bytes.now ≤ most_held }
+        ensures { EngineLeadsOn (engine_view P.limit P.view B.text_size T.value_of) self.old
+            self.new (H.value_of handler.old) (H.value_of handler.new)
+            (λ s IsNowAt. P.view.has_memory self.old.parser (B.text_size self.old.state.text)
+            s.parsed (length s.held + length bytes.now) →
             IsNowAt (hold_turn (meaning_of P.limit H.step T.set T.clear T.allows) s bytes.now)) }
     {
         let begins = self.hold.add(bytes);

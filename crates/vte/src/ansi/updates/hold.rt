@@ -3,16 +3,16 @@ ghost use Rattle.std.proofs.Props.{props};
 ghost use Rattle.std.specs.Prelude.{◌≡◌, ◌+◌, ◌≤◌, [], None, length, drop, IfOk, vec_capacity};
 ghost use Rattle.vte.specs.Synchronized.{after_last_end};
 ghost use Rattle.vte.specs.Processor.{most_held};
-ghost use Rattle.vte.specs.declared.ansi.updates.hold.TheConstants.{ROOM};
+ghost use Rattle.vte.specs.declared.ansi.updates.hold.TheConstants.{CAPACITY};
 
 use crate::ansi::updates::release::find_release;
 use std::alloc::{AllocError, Allocator};
 
-/// The memory of a hold.
-const ROOM: usize = 2_097_152;
+/// The memory of a hold, in bytes.
+const CAPACITY: usize = 2_097_152;
 
 /// The most bytes that are held at once: two less, as in `vte`.
-pub(crate) const MAX_HELD: usize = ROOM - 2;
+pub(crate) const MAX_HELD: usize = CAPACITY - 2;
 
 /// The held bytes, none of which end an update, after those that were released last.
 #[derive(Drop)]
@@ -24,7 +24,7 @@ pub(crate) struct SyncState<A: Allocator> {
     ghost no_end: { after_last_end (drop released bytes.items) ≡ None } by { Prim.hlevel props },
     ghost fits: { length (drop released bytes.items) ≤ most_held },
     // The memory never grows.
-    ghost room: { ROOM ≤ vec_capacity bytes },
+    ghost capacity: { CAPACITY ≤ vec_capacity bytes },
 }
 
 impl<A: Allocator + Clone> Clone for SyncState<A> {
@@ -49,7 +49,7 @@ impl<A: Allocator> SyncState<A> {
     pub(crate) fn new(alloc: A) -> Result<Self, AllocError>
         ensures { IfOk result (λ hold. held_of hold ≡ []) }
     {
-        let bytes = Vec::with_capacity(alloc, ROOM)?;
+        let bytes = Vec::with_capacity(alloc, CAPACITY)?;
         Ok(SyncState { bytes, released: 0 })
     }
 
@@ -75,7 +75,7 @@ impl<A: Allocator> SyncState<A> {
     {
         self.forget_released();
         let len = self.bytes.len();
-        // There is room, so nothing is allocated.
+        // The bytes fit, so nothing is allocated.
         let _ = self.bytes.extend_from_slice(more);
         // An end may begin in the last seven of the old bytes.
         let start = len.saturating_sub(7);

@@ -9,7 +9,7 @@ ghost use Rattle.vte.specs.Views.{ParserView, engine_view, limited_parser_view};
 ghost use Rattle.vte.specs.Memory.{KeepsMemory};
 ghost use Rattle.vte_handler.specs.Timeout.{timeout_meaning};
 
-use crate::ansi::calls::joined_text::{SEPARATORS, TEXT_ROOM};
+use crate::ansi::calls::joined_text::{SEPARATORS, TEXT_SIZE};
 use crate::ansi::calls::performer::{Performer, ProcessorState};
 use crate::ansi::calls::text_buffer::TextBuffer;
 use arrayvec::ArrayString;
@@ -23,7 +23,7 @@ pub(crate) type ProcessorParser = Parser<1024>;
 
 /// The buffer of a processor for joined texts.
 // cargo lacks: not used
-pub(crate) type ProcessorText = ArrayString<TEXT_ROOM>;
+pub(crate) type ProcessorText = ArrayString<TEXT_SIZE>;
 
 /// A parser whose events a processor interprets.
 pub(crate) trait EventParser {
@@ -38,13 +38,13 @@ pub(crate) trait EventParser {
     fn reserve<B: TextBuffer>(&mut self, text: &mut B, held: usize, more: usize) -> bool
         ensures reads { (stream : List ℕ) → view.has_read self.old stream
             → view.has_read self.new stream }
-        ensures room { result ≡ true → (stream : List ℕ) → view.has_read self.new stream
-            → view.has_memory self.new (B.room text.new) stream (held + more) }
-        ensures memory { KeepsMemory (view.has_memory self.old (B.room text.old))
-            (view.has_memory self.new (B.room text.new)) }
+        ensures memory { result ≡ true → (stream : List ℕ) → view.has_read self.new stream
+            → view.has_memory self.new (B.text_size text.new) stream (held + more) }
+        ensures keeps_memory { KeepsMemory (view.has_memory self.old (B.text_size text.old))
+            (view.has_memory self.new (B.text_size text.new)) }
         ensures lost { view.lost self.new ≡ view.lost self.old }
         ensures lacks { result ≡ false → (stream : List ℕ) → view.has_read self.new stream
-            → ¬ view.has_memory self.new (B.room text.new) stream (held + more) };
+            → ¬ view.has_memory self.new (B.text_size text.new) stream (held + more) };
 }
 
 impl<const N: usize> EventParser for Parser<N> {
@@ -68,7 +68,7 @@ pub(crate) trait ParseAs<H: Handler, T: Timeout + Drop, P: EventParser>: Sized {
         performer: &mut Performer<'_, '_, H, T, B, Self>,
         bytes: &[u8],
     )
-        ensures { let value = performer_value H.value_of T.value_of B.room in
+        ensures { let value = performer_value H.value_of T.value_of B.text_size in
             AdvancesAll P.view P.limit
             (with_event H.step (timeout_meaning T.set T.clear T.allows))
             parser.old parser.new (value performer.old) (value performer.new) bytes.now };
@@ -79,14 +79,14 @@ pub(crate) trait ParseAs<H: Handler, T: Timeout + Drop, P: EventParser>: Sized {
         performer: &mut Performer<'_, '_, H, T, B, Self>,
         bytes: &[u8],
     ) -> usize
-        ensures { let value = performer_value H.value_of T.value_of B.room in
+        ensures { let value = performer_value H.value_of T.value_of B.text_size in
             AdvancesUntilStop P.view P.limit
             (with_event H.step (timeout_meaning T.set T.clear T.allows))
             parser.old parser.new (value performer.old) (value performer.new)
             bytes.now result };
 }
 
-#[tactic(auto, using(crate::proofs::Rooms::short_parses))]
+#[tactic(auto, using(crate::proofs::EnoughMemory::short_parses))]
 impl<H: Handler, T: Timeout + Drop, const N: usize> ParseAs<H, T, Parser<N>> for ByCharacter {
     #[inline(always)]
     fn advance<B: TextBuffer + Drop>(
@@ -107,7 +107,7 @@ impl<H: Handler, T: Timeout + Drop, const N: usize> ParseAs<H, T, Parser<N>> for
     }
 }
 
-#[tactic(auto, using(crate::proofs::Rooms::short_parses))]
+#[tactic(auto, using(crate::proofs::EnoughMemory::short_parses))]
 impl<H: HandlerText, T: Timeout + Drop, const N: usize> ParseAs<H, T, Parser<N>> for InRuns {
     #[inline(always)]
     fn advance<B: TextBuffer + Drop>(
@@ -137,17 +137,17 @@ pub(crate) fn parse_all<
     G: ParseAs<H, T, P>,
 >(parser: &mut P, state: &mut ProcessorState<T, B>, handler: &mut H, bytes: &[u8])
     ensures parsed { (s : State H.Value T.Value) (n : ℕ)
-        → ArePartsAtWithMemory (engine_view P.limit P.view B.room T.value_of) parser.old
+        → ArePartsAtWithMemory (engine_view P.limit P.view B.text_size T.value_of) parser.old
         state.old (H.value_of handler.old) s (length bytes.now + n) →
         ArePartsAtKeeping
-        (engine_view P.limit P.view B.room T.value_of) parser.old state.old parser.new
+        (engine_view P.limit P.view B.text_size T.value_of) parser.old state.old parser.new
         state.new
         (H.value_of handler.new)
         (parse (meaning_of P.limit H.step T.set T.clear T.allows) s bytes.now) }
-    ensures room { (s : State H.Value T.Value) (n : ℕ)
-        → ArePartsAtWithMemory (engine_view P.limit P.view B.room T.value_of) parser.old
+    ensures memory { (s : State H.Value T.Value) (n : ℕ)
+        → ArePartsAtWithMemory (engine_view P.limit P.view B.text_size T.value_of) parser.old
         state.old (H.value_of handler.old) s (length bytes.now + n) →
-        P.view.has_memory parser.new (B.room state.new.text) (s.parsed ++ bytes.now) n }
+        P.view.has_memory parser.new (B.text_size state.new.text) (s.parsed ++ bytes.now) n }
 {
     let mut performer = Performer {
         state,
@@ -169,11 +169,11 @@ pub(crate) fn parse_until_begin<
 >(parser: &mut P, state: &mut ProcessorState<T, B>, handler: &mut H, bytes: &[u8]) -> (usize, bool)
     ensures within { result.0 ≤ length bytes.now }
     ensures stops { (s : State H.Value T.Value) (n : ℕ)
-        → ArePartsAtWithMemory (engine_view P.limit P.view B.room T.value_of) parser.old
+        → ArePartsAtWithMemory (engine_view P.limit P.view B.text_size T.value_of) parser.old
         state.old (H.value_of handler.old) s (length bytes.now + n) →
         HasParsedPrefix (meaning_of P.limit H.step T.set T.clear T.allows) s bytes.now result.0
         result.1 (ArePartsAtKeeping
-        (engine_view P.limit P.view B.room T.value_of) parser.old state.old parser.new
+        (engine_view P.limit P.view B.text_size T.value_of) parser.old state.old parser.new
         state.new
         (H.value_of handler.new)) }
 {

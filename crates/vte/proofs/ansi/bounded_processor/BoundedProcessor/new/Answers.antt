@@ -1,5 +1,5 @@
--- The parser has read nothing, and the room that it was given stays with the engine.
-use Rattle.vte.proofs.Common.{Err, HasTextRoom, [], ap, subst, sym, rules, ◌∙◌}
+-- The parser has read nothing, and the memory that it was given stays with the engine.
+use Rattle.vte.proofs.Common.{Err, HasTextMemory, [], ap, subst, sym, rules, ◌∙◌}
 use Rattle.std.proofs.lemmas.Result.{err_from_is_err_and}
 use Rattle.vte.proofs.ansi.bounded_processor.BoundedProcessor.new.Goals as goal
 
@@ -9,15 +9,15 @@ new-requires g c = record { reads = c.reserve.ensures.reads [] c.new_with_size-p
 pub returns : goal.returns
 returns g c =
     let reads = c.reserve.ensures.reads [] c.new_with_size-parser.ensures in
-    let room = c.reserve.ensures.room c.if-not-reserve.false [] reads in
-    let has_room = subst (λ text. HasTextRoom g.row.N text.size) (sym c.in_ok-engine.ensures.text) room in
+    let memory = c.reserve.ensures.memory c.if-not-reserve.false [] reads in
+    let has_memory = subst (λ text. HasTextMemory g.row.N text.size) (sym c.in_ok-engine.ensures.text) memory in
     record {
-      stands = record { stands = c.in_ok-engine.ensures.stands; has_room = has_room };
+      stands = record { stands = c.in_ok-engine.ensures.stands; has_memory = has_memory };
       holds_well = search rules;
       timeout = search rules;
       parses_all = record {
         timeout = _;
-        stands = record { stands = c.in_ok-engine.ensures.stands; has_room = has_room };
+        stands = record { stands = c.in_ok-engine.ensures.stands; has_memory = has_memory };
       };
     }
 

@@ -1,9 +1,13 @@
 -- The text that is looked up is the name itself.
-use Rattle.vte.proofs.Common.{◌≡◌, ◌∙◌, ap, rules}
+use Rattle.vte.proofs.Common.{◌≡◌, ◌∙◌, None, Option, Some, ap, ok_or, refl, rules}
 use Rattle.std.specs.Result.{result_ok}
-use Rattle.vte.proofs.Commands.{ok_or-found}
 use Rattle.vte_types.specs.CursorIcon.{icon_of}
 use Rattle.vte.proofs.ansi.calls.command.icon_named.Goals as goal
+
+-- what was found, whatever the error
+ok_or-found : {A E : Type 0} (found : Option A) (error : E) → result_ok (ok_or found error) ≡ found
+ok_or-found None error = refl
+ok_or-found (Some x) error = refl
 
 pub returns : goal.returns
 returns c =

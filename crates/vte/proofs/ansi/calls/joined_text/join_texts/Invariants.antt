@@ -1,12 +1,12 @@
--- The texts so far are joined, and the room is the same.
+-- The texts so far are joined, and the size is the same.
 use Rattle.vte.proofs.Common.{◌≡◌, drop, map}
-use Rattle.vte.proofs.Commands.{Joins}
+use Rattle.vte.proofs.calls.JoinedTexts.{Joins}
 use Rattle.vte.proofs.ansi.calls.joined_text.join_texts.Given as goal
 
 abbrev pub invariant-loop-piece : goal.invariant-loop-piece
 invariant-loop-piece g l = record {
-  joins : Joins l.keeps_all (g.B.TextBuffer.room l.fn.text) (g.B.TextBuffer.held l.text) l.is_first
+  joins : Joins l.keeps_all (g.B.TextBuffer.text_size l.fn.text) (g.B.TextBuffer.held l.text) l.is_first
       (map (λ piece. piece.now) (drop l.piece-index l.pieces))
       (map (λ piece. piece.now) l.pieces);
-  same : g.B.TextBuffer.room l.text ≡ g.B.TextBuffer.room l.fn.text;
+  same : g.B.TextBuffer.text_size l.text ≡ g.B.TextBuffer.text_size l.fn.text;
 }

@@ -1,8 +1,8 @@
 -- An early stop reads the prefix up to the begin of an update (`updates/Prefixes`), and what was lent comes back with
 -- its calls.
 use Rattle.vte.proofs.Common.{drop, length, refl, meaning_of, prefix_to_begin}
-use Rattle.vte.proofs.Performing.{performer-given_back, stops_at_prefix, stop_performs, stop_stream, stop_terminated}
-use Rattle.vte.proofs.Rooms.{prefix_fits}
+use Rattle.vte.proofs.PerformedEvents.{performer-given_back, stops_at_prefix, stop_performs, stop_stream, stop_terminated}
+use Rattle.vte.proofs.EnoughMemory.{prefix_fits}
 use Rattle.vte.proofs.turns.EachOnce.{prefix-rest}
 use Rattle.vte.proofs.ansi.updates.parsing.parse_until_begin.Goals as goal
 
@@ -11,17 +11,18 @@ returns-clause-stops g c = λ s n ready.
     let m = meaning_of g.P.EventParser.limit g.H.Handler.step g.T.Timeout.set g.T.Timeout.clear g.T.Timeout.allows in
     let bytes = c.args.bytes.now in
     let prefix = prefix_to_begin g.P.EventParser.limit s.parsed bytes in
-    let p = c.advance_until_begin-read.ensures.stops s.parsed n ready.parts_at.has_read ready.room in
+    let p = c.advance_until_begin-read.ensures.stops s.parsed n ready.parts_at.has_read ready.memory in
     let fit =
-    prefix_fits (g.B.TextBuffer.room c.args.state.now.text) g.P.EventParser.limit s.parsed prefix
+    prefix_fits (g.B.TextBuffer.text_size c.args.state.now.text) g.P.EventParser.limit s.parsed prefix
     (drop (length prefix) bytes)
     (rw (prefix-rest g.P.EventParser.limit s.parsed bytes) p.fits) in
     record {
       count = stops_at_prefix m refl p.stops;
       begins_is = stop_terminated m refl p.stops;
       is_at =
-          performer-given_back g.H.Handler.value_of g.T.Timeout.value_of g.B.TextBuffer.room m s prefix _
+          performer-given_back g.H.Handler.value_of g.T.Timeout.value_of g.B.TextBuffer.text_size m s prefix _
           c.advance_until_begin-read.new.performer fit (stop_performs m refl p.stops)
           c.state-1.given.1 ready.parts_at refl refl refl refl
-          (rw (stop_stream m refl p.stops) at p.reads) c.handler-1.given.1 c.advance_until_begin-read.ensures.memory;
+          (rw (stop_stream m refl p.stops) at p.reads) c.handler-1.given.1
+          c.advance_until_begin-read.ensures.keeps_memory;
     }

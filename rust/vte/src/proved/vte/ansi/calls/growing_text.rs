@@ -1,14 +1,14 @@
 // Written by tools/erase from crates/vte/src/ansi/calls/growing_text.rt: edit that one.
-//! A text that grows when room is asked for.
+//! A text whose buffer grows on request.
 
 use crate::prelude::String;
 use crate::proved::vte::ansi::calls::text_buffer::TextBuffer;
 
-/// A joined text, with as much room as was asked for.
+/// A joined text, in a buffer of the size that was asked for.
 #[derive(Clone)]
 pub(crate) struct GrowingText {
     text: String,
-    // for how many bytes room was asked
+    // the size that was asked for, in bytes
     size: usize,
 }
 
@@ -57,13 +57,13 @@ impl TextBuffer for GrowingText {
 
     #[inline]
     fn push(&mut self, c: char) {
-        // There is room.
+        // It fits.
         let _ = self.text.push(c);
     }
 
     #[inline]
     fn push_str(&mut self, part: &str) {
-        // There is room.
+        // It fits.
         let _ = self.text.push_str(part);
     }
 

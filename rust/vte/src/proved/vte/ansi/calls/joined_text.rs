@@ -4,7 +4,7 @@
 use crate::proved::vte::ansi::calls::text_buffer::TextBuffer;
 
 /// How much longer than its pieces a joined text may be: by a `;` for each of 16. It has at most
-/// 15, but `push_part` asks for the room of one for each piece.
+/// 15, but `push_part` asks for the size of one for each piece.
 pub(crate) const SEPARATORS: usize = 16;
 
 /// Joins pieces with `;` between them. One that isn't UTF-8 counts as empty if all are kept, and is

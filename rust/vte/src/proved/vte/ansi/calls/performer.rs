@@ -123,12 +123,12 @@ fn last_char(text: &str, before: Option<char>) -> Option<char> {
 
 /// Returns whether the joined pieces fit a buffer of this size.
 fn pieces_fit(pieces: &[&[u8]], size: usize) -> bool {
-    let mut room = size;
+    let mut left = size;
     for piece in pieces {
-        if piece.len() >= room {
+        if piece.len() >= left {
             return false;
         }
-        room -= piece.len() + 1;
+        left -= piece.len() + 1;
     }
     true
 }

@@ -3,15 +3,15 @@
 
 use crate::adapter::array_string::ArrayString;
 
-/// Holds a text, of as many bytes as it has room for.
+/// Holds a text, up to its size.
 pub(crate) trait TextBuffer {
-    /// Returns how many bytes there is room for, in all.
+    /// Returns how many bytes the text may have.
     fn capacity(&self) -> usize;
 
-    /// Makes room for `size` bytes in all, and returns whether it is there.
+    /// Makes room for a text of `size` bytes, and returns whether it is there.
     fn reserve(&mut self, size: usize) -> bool;
 
-    /// Empties the text. Its room stays.
+    /// Empties the text. Its size stays.
     fn clear(&mut self);
 
     /// Appends a character of one byte.

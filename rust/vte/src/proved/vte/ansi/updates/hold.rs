@@ -4,11 +4,11 @@
 use crate::prelude::{AllocError, Vec};
 use crate::proved::vte::ansi::updates::release::find_release;
 
-/// The memory of a hold.
-const ROOM: usize = 2_097_152;
+/// The memory of a hold, in bytes.
+const CAPACITY: usize = 2_097_152;
 
 /// The most bytes that are held at once: two less, as in `vte`.
-pub(crate) const MAX_HELD: usize = ROOM - 2;
+pub(crate) const MAX_HELD: usize = CAPACITY - 2;
 
 /// The held bytes, none of which end an update, after those that were released last.
 #[derive(Clone)]
@@ -21,7 +21,7 @@ impl SyncState {
     /// Allocates the memory.
     #[inline]
     pub(crate) fn new() -> Result<Self, AllocError> {
-        let bytes = Vec::with_capacity(ROOM)?;
+        let bytes = Vec::with_capacity(CAPACITY)?;
         Ok(SyncState { bytes, released: 0 })
     }
 
@@ -43,7 +43,7 @@ impl SyncState {
     pub(crate) fn add(&mut self, more: &[u8]) -> usize {
         self.forget_released();
         let len = self.bytes.len();
-        // There is room, so nothing is allocated.
+        // The bytes fit, so nothing is allocated.
         let _ = self.bytes.extend_from_slice(more);
         // An end may begin in the last seven of the old bytes.
         let start = len.saturating_sub(7);

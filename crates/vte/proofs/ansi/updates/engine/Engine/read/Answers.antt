@@ -1,6 +1,6 @@
 -- A turn more leads on (`reaches-more`), until all bytes are read or a turn is refused memory.
 use Rattle.vte.proofs.Common.{◌≡◌, ◌+◌, ◌-◌, length, take, drop, arith}
-use Rattle.vte.proofs.turns.EngineTurns.{engine_reads-all, reached-halted, next-at, reaches-more, reaches-nothing, engine_reads-until, rest-size}
+use Rattle.vte.proofs.turns.EngineTurns.{engine_reads-all, reached-refused, next-at, reaches-more, reaches-nothing, engine_reads-until, rest-size}
 use Rattle.vte.proofs.ansi.updates.engine.Engine.read.Goals as goal
 
 -- Before the first turn nothing is read.
@@ -56,7 +56,7 @@ returns-in-Err g c =
     engine_reads-until c.args.bytes.now
     (λ s at.
     (let r = c.loop-turn.invariant.reaches s at in
-    reached-halted _ s b r c.loop-turn.invariant.within (c.in-Err.ensures.turned r.here r.is_at.engine_at).halted))
+    reached-refused _ s b r c.loop-turn.invariant.within (c.in-Err.ensures.turned r.here r.is_at.engine_at).refused))
     (omega (arith, c.loop-turn.invariant.within, c.in-Err.ensures.within, size))
     (rw left at c.in-Err.ensures.lacks)
 

@@ -6,7 +6,7 @@ use Rattle.vte.proofs.ansi.updates.engine.Engine.read.Given as goal
 abbrev pub invariant-loop-turn : goal.invariant-loop-turn
 invariant-loop-turn g l =
     let m = meaning_of g.P.EventParser.limit g.H.Handler.step g.T.Timeout.set g.T.Timeout.clear g.T.Timeout.allows in
-    let view = engine_view g.P.EventParser.limit g.P.EventParser.view g.B.TextBuffer.room g.T.Timeout.value_of in
+    let view = engine_view g.P.EventParser.limit g.P.EventParser.view g.B.TextBuffer.text_size g.T.Timeout.value_of in
     record {
       within : l.read ≤ length l.bytes;
       some : l._turn < length l.bytes → l.read < length l.bytes;

@@ -1,4 +1,4 @@
--- What the parser reserves: the parsed and held bytes stay as they were, and there is room for as many more.
+-- What the parser reserves: the parsed and held bytes stay as they were, and there is memory for as many more.
 use Rattle.vte.proofs.Common.{length}
 use Rattle.vte.proofs.ansi.updates.engine.Engine.reserve.Goals as goal
 
@@ -9,12 +9,12 @@ returns-clause-reserved g c = record {
     last = had.last;
     timeout_is = had.timeout_is;
     holds = had.holds;
-    has_memory = λ some. c.reserve.ensures.memory parsed (length held) (had.has_memory some);
+    has_memory = λ some. c.reserve.ensures.keeps_memory parsed (length held) (had.has_memory some);
   };
-  room =
+  memory =
       λ yes parsed held timeout had.
-      rw (← had.holds, ← c.len.ensures.count) (c.reserve.ensures.room yes parsed had.has_read);
-  memory = c.reserve.ensures.memory;
+      rw (← had.holds, ← c.len.ensures.count) (c.reserve.ensures.memory yes parsed had.has_read);
+  keeps_memory = c.reserve.ensures.keeps_memory;
   lost = c.reserve.ensures.lost;
   lacks = λ no stream reads. rw (← c.len.ensures.count) (c.reserve.ensures.lacks no stream reads);
 }

@@ -21,7 +21,7 @@ returns-then-not-reserve-clause-parsed g c = λ s at.
     let o = (c.loop-slice.invariant.reaches s at).1 in
     record {
       parsed = tt;
-      halted = record { none_begin = o.none_begin; is_at = kept-next c.reserve.ensures.reserved o.is_at };
+      refused = record { none_begin = o.none_begin; is_at = kept-next c.reserve.ensures.reserved o.is_at };
     }
 
 -- A slice in which an update begins ends the turn there; one that has the last byte, and begins none, ends it too.
@@ -39,14 +39,14 @@ returns-then-begins-clause-parsed g c = λ s at.
           record {
             parsed = parsing-ends _ s c.args.bytes.now _ o c.loop-slice.invariant.within refl e
                 w.if-begins.true;
-            halted = tt;
+            refused = tt;
           }
       -- None does, and all bytes are read.
       | then-begins-via-else-begins+then-read-bytes w ↦
           record {
             parsed = parsing-all _ s c.args.bytes.now (parsing-more _ s c.args.bytes.now _ o refl e w.if-begins.false)
                 (omega (arith, w.if-read-bytes.true));
-            halted = tt;
+            refused = tt;
           }
     ]
 
@@ -90,4 +90,4 @@ loop-slice-preserved g c =
 pub returns-clause-parsed : goal.returns-clause-parsed
 returns-clause-parsed g c = λ s at.
     let o = c.loop-slice.invariant.reaches s at in
-    record { parsed = parsing-all _ s c.args.bytes.now o.1 (omega (arith, o.0, c.loop-slice-test.false)); halted = tt }
+    record { parsed = parsing-all _ s c.args.bytes.now o.1 (omega (arith, o.0, c.loop-slice-test.false)); refused = tt }

@@ -5,7 +5,7 @@ use Rattle.vte.proofs.ansi.updates.engine.Engine.take_parsing_turn.Given as goal
 abbrev pub invariant-loop-slice : goal.invariant-loop-slice
 invariant-loop-slice g l =
     let m = meaning_of g.P.EventParser.limit g.H.Handler.step g.T.Timeout.set g.T.Timeout.clear g.T.Timeout.allows in
-    let view = engine_view g.P.EventParser.limit g.P.EventParser.view g.B.TextBuffer.room g.T.Timeout.value_of in
+    let view = engine_view g.P.EventParser.limit g.P.EventParser.view g.B.TextBuffer.text_size g.T.Timeout.value_of in
     record {
       within : l.read ≤ length l.bytes;
       some : l._slice < length l.bytes → l.read < length l.bytes;

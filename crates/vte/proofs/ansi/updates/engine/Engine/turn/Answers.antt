@@ -1,8 +1,8 @@
--- By the timeout's answer: the bytes are held while an update is pending and there is room. Otherwise it is stopped if
--- it is pending or bytes are held, and the turn parses.
+-- By the timeout's answer: the bytes are held while an update is pending and they fit the hold. Otherwise it is
+-- stopped if it is pending or bytes are held, and the turn parses.
 use Rattle.vte.proofs.Common.{◌≡◌, ◌<◌, length, refl, sym, ◌∙◌, arith, nat_tests, nat_le, most_held, held_of, inr, true, false, and-false, ◌+◌, meaning_of, engine_view, EngineIsAtKeeping}
-use Rattle.vte.proofs.turns.EachOnce.{is_held, is_stopped, stop_if_due}
-use Rattle.vte.proofs.turns.Slices.{halted-nothing}
+use Rattle.vte.proofs.turns.TurnKinds.{is_held, is_stopped, stop_if_due}
+use Rattle.vte.proofs.turns.RefusedTurns.{refused-nothing}
 use Rattle.vte.proofs.turns.EngineTurns.{after-next, ends_turn, kept-next, next-at, stops-next, turned_hold}
 use Rattle.vte.proofs.ansi.updates.engine.Engine.turn.Goals as goal
 use Rattle.vte.proofs.ansi.updates.engine.Engine.turn.Goals.{else-pending-via-else-pending, else-pending-via-then-pending+else-has_room, else-pending-2+else-len-gt0, then-pending-2, then-pending-2-via-else-pending-2+then-len-gt0, then-pending-2-via-then-pending-2}
@@ -12,7 +12,7 @@ pub returns-clause-turned : goal.returns-clause-turned
 returns-clause-turned g c = λ s at.
     let pending = c.pending_timeout-pending.result in
     let parses : is_held pending s c.args.bytes.now ≡ false = elim c.else-pending.branch [
-      -- No room.
+      -- The bytes don't fit the hold.
       | else-pending-via-then-pending+else-has_room w ↦
           let full : nat_le (length s.held + length c.args.bytes.now) most_held ≡ false =
           rw (← at.stands.holds) (sym w.has_room.ensures ∙ w.if-has_room.false) in
@@ -21,7 +21,7 @@ returns-clause-turned g c = λ s at.
       | else-pending-via-else-pending w ↦ rw w.if-pending.false refl
     ] in
     let m = meaning_of g.P.EventParser.limit g.H.Handler.step g.T.Timeout.set g.T.Timeout.clear g.T.Timeout.allows in
-    let view = engine_view g.P.EventParser.limit g.P.EventParser.view g.B.TextBuffer.room g.T.Timeout.value_of in
+    let view = engine_view g.P.EventParser.limit g.P.EventParser.view g.B.TextBuffer.text_size g.T.Timeout.value_of in
     let here : EngineIsAtKeeping view c.args.self.now c.if-pending-2.self (g.H.Handler.value_of c.if-pending-2.handler)
     (stop_if_due m pending s) = elim c.if-pending-2.branch [
       -- Stopped first.
@@ -42,29 +42,29 @@ returns-clause-turned g c = λ s at.
           rw (w.self-is, w.handler-is, free) (next-at at)
     ] in
     ends_turn pending
-    (rw at.stands.timeout_is at c.pending_timeout-pending.ensures) parses here.memory _
+    (rw at.stands.timeout_is at c.pending_timeout-pending.ensures) parses here.keeps_memory _
     c.take_parsing_turn.ensures.within
     (c.take_parsing_turn.ensures.parsed _ here.engine_at)
 
--- A hold turn: an update is pending, and there is room for all bytes and memory for them.
+-- A hold turn: an update is pending, the bytes fit the hold, and there is memory for them.
 pub returns-then-has_room-clause-turned : goal.returns-then-has_room-clause-turned
 returns-then-has_room-clause-turned g c = λ s at.
     let here = kept-next c.reserve.ensures.reserved (next-at at) in
-    let room : nat_le (length s.held + length c.args.bytes.now) most_held ≡ true =
+    let fits : nat_le (length s.held + length c.args.bytes.now) most_held ≡ true =
     rw (← at.stands.holds) (sym c.has_room.ensures ∙ c.if-has_room.true) in
-    let held : is_held c.pending_timeout-pending.result s c.args.bytes.now ≡ true = rw (c.if-pending.true, room) refl in
+    let held : is_held c.pending_timeout-pending.result s c.args.bytes.now ≡ true = rw (c.if-pending.true, fits) refl in
     record {
       turned = turned_hold _ (rw at.stands.timeout_is at c.pending_timeout-pending.ensures) held refl
-          (after-next here.memory
+          (after-next here.keeps_memory
           (c.hold_bytes.ensures s here.engine_at
-          (c.if-not-reserve.ensures.reserved.room refl _ _ _ here.engine_at.stands)));
-      halted = tt;
+          (c.if-not-reserve.ensures.reserved.memory refl _ _ _ here.engine_at.stands)));
+      refused = tt;
     }
 
 -- Memory was refused before anything was read.
 pub returns-then-not-reserve-clause-turned : goal.returns-then-not-reserve-clause-turned
 returns-then-not-reserve-clause-turned g c =
-    λ s at. record { turned = tt; halted = halted-nothing _ (kept-next c.reserve.ensures.reserved (next-at at)) }
+    λ s at. record { turned = tt; refused = refused-nothing _ (kept-next c.reserve.ensures.reserved (next-at at)) }
 
 -- Memory was refused for all bytes, which fit the hold.
 pub returns-then-not-reserve-clause-lacks : goal.returns-then-not-reserve-clause-lacks

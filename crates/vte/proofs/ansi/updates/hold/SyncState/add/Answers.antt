@@ -24,7 +24,7 @@ invariant_of-self g c =
       within = rw is (omega (arith, added.released));
       no_end = rw (is, added.released, stays-is) (stays_held all).no_end;
       fits = rw (is, length-drop) (omega (arith, c.requires, length-append old c.args.more.now));
-      room = search rules;
+      capacity = search rules;
     }
 
 pub returns : goal.returns

@@ -1,6 +1,6 @@
--- With room for all bytes, a parser reads them all, and each command's joined text fits. No command has more data than
--- was stored and read, nor more separators than 16; so the contracts of both parsers become those of one.
-use Rattle.vte.proofs.Common.{ℕ, ◌+◌, ◌≤◌, All, Option, Some, None, List, ◌++◌, length, Result, Ok, Err, false, arith, take-append_seam, All-drop, All-take, Event, added, events, LongParser, Refused, added-append, counts_data, events_are_bounded, AdvancesAll, AdvancesUntilStop, FitsText, HasTextRoom, PerformerValue, ParserHasMemory, KeepsMemory, limited_parser_view, long_parser_view, rules}
+-- With memory for all bytes, a parser reads them all, and each command's joined text fits. No command has more data
+-- than was stored and read, nor more separators than 16; so the contracts of both parsers become those of one.
+use Rattle.vte.proofs.Common.{ℕ, ◌+◌, ◌≤◌, All, Option, Some, None, List, ◌++◌, length, Result, Ok, Err, false, arith, take-append_seam, All-drop, All-take, Event, added, events, LongParser, Refused, added-append, counts_data, events_are_bounded, AdvancesAll, AdvancesUntilStop, FitsText, HasTextMemory, PerformerValue, ParserHasMemory, KeepsMemory, limited_parser_view, long_parser_view, rules}
 use Rattle.vte_core.specs.EventBounds.{IsBounded}
 use Rattle.vte_core.specs.LongParserCalls.{ReadsLong}
 use Rattle.vte_core.specs.LongParser.{memory_of, open_command_size, read_count}
@@ -8,11 +8,11 @@ use Rattle.vte_core.specs.Parser.{reading_of}
 use Rattle.vte_core.specs.declared.parser.Parser.{Parser}
 use Rattle.vte_core.specs.Advance.{ReadsBytes, ReadsUntilTerminated}
 
--- ---- a text with room for the data and 16 separators holds what is joined of a command
+-- ---- a text of the size of the data and 16 separators holds what is joined of a command
 
 events_fit : (size n : ℕ) (events : List Event) → n + 16 ≤ size → All (IsBounded (Some n)) events
     → All (FitsText size) events
-events_fit size n events room are = search (rules, arith)
+events_fit size n events memory are = search (rules, arith)
 
 -- what fits of all bytes fits of a prefix
 pub prefix_fits : (size : ℕ) (limit : Option ℕ) (p prefix rest : List ℕ)
@@ -27,10 +27,10 @@ prefix_fits size limit p prefix rest all =
 
 -- ---- the parser with a limit, which bounds a command's data
 
-short_fits : (limit size : ℕ) (stream bytes : List ℕ) → HasTextRoom limit size
+short_fits : (limit size : ℕ) (stream bytes : List ℕ) → HasTextMemory limit size
     → All (FitsText size) (added (Some limit) stream bytes)
-short_fits limit size stream bytes room =
-    events_fit size limit (added (Some limit) stream bytes) (omega (arith, room.joined))
+short_fits limit size stream bytes memory =
+    events_fit size limit (added (Some limit) stream bytes) (omega (arith, memory.joined))
     (All-drop (IsBounded (Some limit)) (length (events (Some limit) stream)) (events (Some limit) (stream ++ bytes))
     (events_are_bounded (Some limit) (stream ++ bytes)))
 
@@ -42,38 +42,40 @@ module _ {N : ℕ} {V W : Type 0} {step : PerformerValue V W → Event → Perfo
   short_parses r = search (rules, arith, short_fits)
 
   pub short_stops : {read : ℕ}
-      → ReadsUntilTerminated step (λ lent. lent.terminated) read old new bytes (reading_of parser) (reading_of next)
+      → ReadsUntilTerminated step (λ performer. performer.terminated) read old new bytes (reading_of parser)
+      (reading_of next)
       → AdvancesUntilStop limited_parser_view (Some N) step parser next old new bytes read
   short_stops r = record {
     within = r.within;
     stops =
-        λ stream n reads room. record {
+        λ stream n reads memory. record {
           stops = r.stops stream reads;
-          fits = short_fits N old.room stream bytes room;
+          fits = short_fits N old.text_size stream bytes memory;
           reads = r.reads stream reads;
         };
-    memory = λ size stream count had. had;
+    keeps_memory = λ size stream count had. had;
   }
 
 -- ---- the parser without a limit
 
 -- memory that is there stays
-keeps_room : {A : Type 0} {parser next : LongParser A} {size room : ℕ} → memory_of parser ≤ memory_of next
-    → size ≤ room → KeepsMemory (ParserHasMemory parser size) (ParserHasMemory next room)
-keeps_room more larger = search (rules, arith)
+keeps_enough : {A : Type 0} {parser next : LongParser A} {size larger : ℕ} → memory_of parser ≤ memory_of next
+    → size ≤ larger → KeepsMemory (ParserHasMemory parser size) (ParserHasMemory next larger)
+keeps_enough more at_most = search (rules, arith)
 
 module _ {A : Type 0} {parser : LongParser A} {size : ℕ} (stream bytes : List ℕ) (n : ℕ)
-    (room : ParserHasMemory parser size stream (length bytes + n)) where
+    (memory : ParserHasMemory parser size stream (length bytes + n)) where
   enough : open_command_size stream + length bytes ≤ memory_of parser
-  enough = omega (arith, room.kept)
+  enough = omega (arith, memory.kept)
 
   long_fits : All (FitsText size) (added None stream bytes)
   long_fits =
-      events_fit size (open_command_size stream + length bytes) (added None stream bytes) (omega (arith, room.joined))
+      events_fit size (open_command_size stream + length bytes) (added None stream bytes) (omega (arith, memory.joined))
       (let counts = counts_data stream bytes in counts.reported)
 
-  room_left : (next : LongParser A) → memory_of parser ≤ memory_of next → ParserHasMemory next size (stream ++ bytes) n
-  room_left next kept = search (rules, arith, counts_data)
+  memory_left : (next : LongParser A) → memory_of parser ≤ memory_of next
+      → ParserHasMemory next size (stream ++ bytes) n
+  memory_left next kept = search (rules, arith, counts_data)
 
 -- a call for which there is memory is refused none
 module _ {A V W : Type 0} {step : PerformerValue V W → Event → PerformerValue V W} {old new : PerformerValue V W}
@@ -83,35 +85,39 @@ module _ {A V W : Type 0} {step : PerformerValue V W → Event → PerformerValu
       → ReadsLong 5 step (λ _. false) old new bytes parser next result (λ (_ : Unit {0}). ReadsBytes step)
       → AdvancesAll long_parser_view None step parser next old new bytes
   long_parses (Ok _) r = record {
-    parses = λ stream n read room. record {
+    parses = λ stream n read memory. record {
       performs = r.reads.performs stream read;
-      fits = long_fits stream bytes n room;
+      fits = long_fits stream bytes n memory;
       reads = r.reads.reads stream read;
-      room = room_left stream bytes n room next r.memory;
+      memory = memory_left stream bytes n memory next r.memory;
     };
-    memory = λ size. keeps_room r.memory (omega arith);
+    keeps_memory = λ size. keeps_enough r.memory (omega arith);
   }
   long_parses (Err refused) r = record {
-    parses = λ stream n read room. absurd (omega (arith, r.refuses.lacks_all stream read, enough stream bytes n room));
-    memory = λ size. keeps_room r.memory (omega arith);
+    parses =
+        λ stream n read memory.
+        absurd (omega (arith, r.refuses.lacks_all stream read, enough stream bytes n memory));
+    keeps_memory = λ size. keeps_enough r.memory (omega arith);
   }
 
   pub long_stops : (result : Result ℕ Refused)
-      → ReadsLong 5 step (λ lent. lent.terminated) old new bytes parser next result
-      (ReadsUntilTerminated step (λ lent. lent.terminated))
+      → ReadsLong 5 step (λ performer. performer.terminated) old new bytes parser next result
+      (ReadsUntilTerminated step (λ performer. performer.terminated))
       → AdvancesUntilStop long_parser_view None step parser next old new bytes (read_count result)
   long_stops (Ok read) r = record {
     within = r.reads.within;
     stops =
-        λ stream n reads room. record {
+        λ stream n reads memory. record {
           stops = r.reads.stops stream reads;
-          fits = long_fits stream bytes n room;
+          fits = long_fits stream bytes n memory;
           reads = r.reads.reads stream reads;
         };
-    memory = λ size. keeps_room r.memory (omega arith);
+    keeps_memory = λ size. keeps_enough r.memory (omega arith);
   }
   long_stops (Err refused) r = record {
     within = omega (arith, r.refuses.within);
-    stops = λ stream n reads room. absurd (omega (arith, r.refuses.lacks_all stream reads, enough stream bytes n room));
-    memory = λ size. keeps_room r.memory (omega arith);
+    stops =
+        λ stream n reads memory.
+        absurd (omega (arith, r.refuses.lacks_all stream reads, enough stream bytes n memory));
+    keeps_memory = λ size. keeps_enough r.memory (omega arith);
   }

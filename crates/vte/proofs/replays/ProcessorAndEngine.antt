@@ -1,21 +1,21 @@
 -- The contracts of the three processors, from `EngineReads` and `EngineStops` of their engine: a processor stands where
 -- its engine does. They differ in whether a call may be refused memory.
-use Rattle.vte.proofs.Common.{ℕ, List, length, Result, Ok, Err, arith, Bor, Refused, EngineView, Meaning, State, usual_limit, HasAdvanced, HasParsedAndHolds, HasTaken, IsAt, ReadsInTurns, EngineReads, ProcessorPredicate, EngineHasParsedAndHolds, ◌≡◌, refl, rules, limited_parser_view, engine_view, HasTextRoom, HasParsedAndHoldsWithin, EngineStops, StopsSync, bounded_engine_view, stop, [], ◌+◌, ◌-◌, ◌<◌, ◌++◌, ap, length-append, counts_data, AdvancesLong, HasMemory, HasParsedAndHoldsLong, LacksMemoryLong, drop, length-drop, long_engine_view}
+use Rattle.vte.proofs.Common.{ℕ, List, length, Result, Ok, Err, arith, Bor, Refused, EngineView, Meaning, State, usual_limit, HasAdvanced, HasParsedAndHolds, HasTaken, IsAt, ReadsInTurns, EngineReads, ProcessorPredicate, EngineHasParsedAndHolds, ◌≡◌, refl, rules, limited_parser_view, engine_view, HasTextMemory, HasParsedAndHoldsWithin, EngineStops, StopsSync, bounded_engine_view, stop, [], ◌+◌, ◌-◌, ◌<◌, ◌++◌, ap, length-append, counts_data, AdvancesLong, HasMemory, HasParsedAndHoldsLong, LacksMemoryLong, drop, length-drop, long_engine_view}
 use Rattle.vte_core.specs.declared.parser.Parser.{Parser}
 use Rattle.vte.proofs.replays.WithoutUpdates.{plain_call}
 use Rattle.vte.proofs.turns.EngineTurns.{has_advanced, taken-to}
 use Rattle.vte.specs.declared.ansi.processor.Processor.{Processor}
-use Rattle.vte.specs.declared.ansi.calls.joined_text.TheConstants.{TEXT_ROOM}
+use Rattle.vte.specs.declared.ansi.calls.joined_text.TheConstants.{TEXT_SIZE}
 use Rattle.vte.specs.declared.ansi.bounded_processor.BoundedProcessor.{BoundedProcessor}
 use Rattle.vte.specs.declared.ansi.long_processor.LongProcessor.{LongProcessor}
-use Rattle.vte.proofs.turns.Slices.{until_refused-grows}
+use Rattle.vte.proofs.turns.RefusedTurns.{until_refused-grows}
 
 -- ---- with the usual limit
 
 -- There is always memory.
 
 abbrev limited : {B T W : Type 0} → (T → W) → EngineView (Parser 1024) B T W
-limited timeout_of = engine_view usual_limit limited_parser_view (λ text. TEXT_ROOM) timeout_of
+limited timeout_of = engine_view usual_limit limited_parser_view (λ text. TEXT_SIZE) timeout_of
 
 module _ {T A V W : Type 0} {timeout_of : T → W} {processor : Processor T A} {value : V} (s : State V W) where
   is_at-engine : IsAt (HasParsedAndHolds timeout_of processor) value s
@@ -53,7 +53,7 @@ refused-never bytes (Err refused) r =
 
 -- ---- with a limit of its own
 
--- The engine keeps the room for texts that it has, so no memory is refused.
+-- The engine keeps the memory for texts that it has, so no memory is refused.
 
 module _ {T A V W : Type 0} {N : ℕ} {timeout_of : T → W} {processor : BoundedProcessor T A N} {value : V}
     (s : State V W) where
@@ -61,10 +61,10 @@ module _ {T A V W : Type 0} {N : ℕ} {timeout_of : T → W} {processor : Bounde
       → IsAt (EngineHasParsedAndHolds (bounded_engine_view timeout_of) processor.engine) value s
   is_at-bounded_engine at = record { stands = at.stands.stands; handler_is = at.handler_is }
 
-  is_at-bounded : HasTextRoom N processor.engine.state.text.size
+  is_at-bounded : HasTextMemory N processor.engine.state.text.size
       → IsAt (EngineHasParsedAndHolds (bounded_engine_view timeout_of) processor.engine) value s
       → IsAt (HasParsedAndHoldsWithin timeout_of processor) value s
-  is_at-bounded room at = search (rules, arith)
+  is_at-bounded memory at = search (rules, arith)
 
 module _ {T A V W : Type 0} {N : ℕ} {timeout_of : T → W} {m : Meaning V W} {old new : BoundedProcessor T A N}
     {before value : V} where
@@ -72,7 +72,7 @@ module _ {T A V W : Type 0} {N : ℕ} {timeout_of : T → W} {m : Meaning V W} {
       → StopsSync m (HasParsedAndHoldsWithin timeout_of old) (HasParsedAndHoldsWithin timeout_of new) before value
   stops_within r = record {
     stops = λ s at.
-        is_at-bounded (stop m s) (r.memory s (is_at-bounded_engine s at) [] 0 at.stands.has_room)
+        is_at-bounded (stop m s) (r.keeps_memory s (is_at-bounded_engine s at) [] 0 at.stands.has_memory)
         (r.stops.stops s (is_at-bounded_engine s at));
     each_once = r.stops.each_once;
     holds_well = r.stops.holds_well;
@@ -84,18 +84,18 @@ module _ {T A V W : Type 0} {N : ℕ} {timeout_of : T → W} {m : Meaning V W} {
       bytes.now
   refused-never-within bytes (Ok all) r =
       reads_in_turns bytes (λ s at.
-      taken-to (λ t. is_at-bounded t (r.memory s (is_at-bounded_engine s at) [] 0 at.stands.has_room))
+      taken-to (λ t. is_at-bounded t (r.keeps_memory s (is_at-bounded_engine s at) [] 0 at.stands.has_memory))
       (r.takes s (is_at-bounded_engine s at))) refl
   refused-never-within bytes (Err refused) r =
       reads_in_turns bytes {read = length bytes.now} (λ s at. absurd (
       let t = r.takes s (is_at-bounded_engine s at) in
       r.lacks.lacks t.next.parsed t.is_at.stands.has_read
-      (r.memory s (is_at-bounded_engine s at) [] 0 at.stands.has_room))) refl
+      (r.keeps_memory s (is_at-bounded_engine s at) [] 0 at.stands.has_memory))) refl
 
 -- ---- without a limit
 
--- A call is refused no memory that was there for all its bytes: room for the held and the given bytes at the start
--- leaves room for what is left, turn by turn.
+-- A call is refused no memory that was there for all its bytes: enough for the held and the given bytes at the start
+-- leaves enough for what is left, turn by turn.
 
 module _ {T A V W : Type 0} {timeout_of : T → W} {m : Meaning V W} {new : LongProcessor T A} {value : V}
     {s : State V W} {bytes : List ℕ} where
@@ -103,7 +103,7 @@ module _ {T A V W : Type 0} {timeout_of : T → W} {m : Meaning V W} {new : Long
       → HasTaken m s bytes read (IsAt (HasParsedAndHoldsLong timeout_of new) value)
       → LacksMemoryLong timeout_of new (length bytes - read)
       → HasMemory new s.parsed (length s.held + length bytes) → ⊥
-  had_memory read less taken lacks room =
+  had_memory read less taken lacks had =
       let t = taken.next in
       let g = until_refused-grows m taken.takes in
       let counts = counts_data s.parsed g.more in
@@ -121,9 +121,9 @@ module _ {T A V W : Type 0} {timeout_of : T → W} {m : Meaning V W} {new : Long
       ) in
       let held = ap length taken.is_at.stands.holds in
       lacks.lacks t.parsed taken.is_at.stands.has_read (record {
-        kept = omega (arith, left, room.kept, lacks.within, less, sum, held);
-        joined = omega (arith, left, room.joined, lacks.within, less, sum, held);
-        counted = omega (arith, left, room.counted, lacks.within, less, sum, held);
+        kept = omega (arith, left, had.kept, lacks.within, less, sum, held);
+        joined = omega (arith, left, had.joined, lacks.within, less, sum, held);
+        counted = omega (arith, left, had.counted, lacks.within, less, sum, held);
       })
 
 pub advances_long : {T A V W : Type 0} {timeout_of : T → W} {m : Meaning V W} {old new : LongProcessor T A}
@@ -133,11 +133,11 @@ pub advances_long : {T A V W : Type 0} {timeout_of : T → W} {m : Meaning V W} 
 advances_long bytes (Ok all) r = record {
   reads = r;
   all = reads_in_turns bytes r.takes refl;
-  enough = λ s at room. refl;
+  enough = λ s at had. refl;
 }
 advances_long bytes (Err refused) r = record {
   reads = r;
   all = tt;
-  enough = λ s at room.
-      absurd (had_memory refused.read r.within (r.takes s at) r.lacks (r.memory s at _ _ room));
+  enough = λ s at had.
+      absurd (had_memory refused.read r.within (r.takes s at) r.lacks (r.keeps_memory s at _ _ had));
 }

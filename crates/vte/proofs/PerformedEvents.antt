@@ -1,0 +1,158 @@
+-- A performer's value after the events of bytes. The handler and the state that it was lent come back as they are
+-- after the bytes, and an early stop reads the prefix up to the begin of an update.
+use Rattle.vte.proofs.Common.{◌≡◌, ℕ, List, [], ◌∷◌, ◌++◌, refl, ap, ◌∙◌, Event, added, events, events_grow, after, calls_from, last_printed_after, last_printed, last_printed_from, ◌+◌, Bool, ◌||◌, nat_lt, arith, nat_tests, set_times, PerformerValue, length, sym, or-false, with_event, ◌<◌, inl, inr, false, All, take, cases_lt, false≢true, All-head, All-tail, reported_before, resumed_stream, StopsExactly, starts-settled, resumed_stream-settled, reported-settled, ProcessorState, begin_count, begins_in_event, calls_of, performer_value, Meaning, FitsText, engine_view, ArePartsAt, ArePartsAtKeeping, KeepsMemory, State, parse, prefix_to_begin, ParserView}
+use Rattle.vte_core.specs.Event.{after as performed}
+use Rattle.vte.specs.declared.ansi.calls.performer.Performer.{Performer}
+use Rattle.vte.proofs.updates.Prefixes.{IsPrefix, open_character-prefix, prefix-is, begin_count-told, breaks_at-prefix}
+use Rattle.vte.proofs.EventCalls.{after_calls-append, last_printed-append, added_calls-events, set_times-add}
+
+-- ---- the value after events
+
+-- One by one, events make of it what `with_events` says of all, if they fit the text.
+
+any-sum : (b : Bool) (m n : ℕ) → ((b || nat_lt 0 m) || nat_lt 0 n) ≡ (b || nat_lt 0 (m + n))
+any-sum b m n = grind (arith, nat_tests)
+
+-- what all events together make of a performer's value
+abbrev with_events : {V W : Type 0} → Meaning V W → PerformerValue V W → List Event → PerformerValue V W
+with_events m performer events = record {
+  handler = after m.step performer.handler (calls_from performer.last events);
+  timeout = set_times m.timeout (begin_count events) performer.timeout;
+  last = last_printed_from performer.last events;
+  text_size = performer.text_size;
+  terminated = performer.terminated || nat_lt 0 (begin_count events);
+  state_name = performer.state_name;
+  handler_name = performer.handler_name;
+}
+
+performed-events : {V W : Type 0} (m : Meaning V W) (performer : PerformerValue V W) (events : List Event)
+    → All (FitsText performer.text_size) events
+    → performed (with_event m.step m.timeout) performer events ≡ with_events m performer events
+performed-events m performer [] fit = rw or-false
+performed-events m performer (event ∷ events) fit =
+    performed-events m (with_event m.step m.timeout performer event) events
+    (All-tail (FitsText performer.text_size) event events fit)
+    ∙ rw (
+      All-head (FitsText performer.text_size) event events fit performer.last,
+      ← after_calls-append m.step performer.handler (calls_of performer.last event)
+          (calls_from (last_printed_after performer.last event) events),
+      ← set_times-add m.timeout performer.timeout (begins_in_event event) (begin_count events),
+      any-sum performer.terminated (begins_in_event event) (begin_count events),
+    ) refl
+
+-- ---- the performer gives back what it was lent
+
+-- What comes back has the value of `with_events`, so the parts stand at the state after `parse`.
+
+module _ {H T B G V W : Type 0} (handler_of : H → V) (timeout_of : T → W) (text_size_of : B → ℕ) (m : Meaning V W)
+    (s : State V W) (f : List ℕ)
+    (old : PerformerValue V W) (new : Performer H T B G) {state : ProcessorState T B}
+    (fit : All (FitsText old.text_size) (added m.limit s.parsed f))
+    (made : performer_value handler_of timeout_of text_size_of new
+    ≡ performed (with_event m.step m.timeout) old (added m.limit s.parsed f))
+    (back_state : old.state_name ≡ new.state.ghost_name → state ≡ new.state.now) where
+  all_made : performer_value handler_of timeout_of text_size_of new ≡ with_events m old (added m.limit s.parsed f)
+  all_made = made ∙ performed-events m old (added m.limit s.parsed f) fit
+
+  state-is : state ≡ new.state.now
+  state-is = back_state (sym (ap (λ performer. performer.state_name) all_made))
+
+  -- the text has the same size
+  pub text_size_back : text_size_of state.text ≡ old.text_size
+  text_size_back = rw state-is (ap (λ performer. performer.text_size) all_made)
+
+  pub performer-given_back : {P : Type 0} {view : ParserView P} {parser next : P} {lent : ProcessorState T B}
+      {value : V} {handler : H} → ArePartsAt (engine_view m.limit view text_size_of timeout_of) parser lent value s
+      → old.last ≡ lent.preceding_char → old.timeout ≡ timeout_of lent.timeout → old.handler ≡ value
+      → old.text_size ≡ text_size_of lent.text
+      → view.has_read next (s.parsed ++ f)
+      → (old.handler_name ≡ new.handler.ghost_name → handler ≡ new.handler.now)
+      → ((size : ℕ) → KeepsMemory (view.has_memory parser size) (view.has_memory next size))
+      → ArePartsAtKeeping (engine_view m.limit view text_size_of timeout_of) parser lent next state
+      (handler_of handler)
+      (parse m s f)
+  performer-given_back {lent} at at_last at_timeout at_handler at_text_size read back_handler keeps =
+      let all = all_made in
+      let is_handler = back_handler (sym (ap (λ performer. performer.handler_name) all)) in
+      let last : old.last ≡ last_printed (events m.limit s.parsed) = at_last ∙ at.last in
+      let timeout : old.timeout ≡ s.timeout = at_timeout ∙ at.timeout_is in
+      let handler : old.handler ≡ s.handler = at_handler ∙ at.handler_is in
+      record {
+        parts_at = record {
+          has_read = read;
+          last =
+              rw (state-is, events_grow m.limit s.parsed f, last_printed-append, ← last)
+              (ap (λ performer. performer.last) all);
+          timeout_is = rw (state-is, ← timeout) (ap (λ performer. performer.timeout) all);
+          handler_is =
+              rw (is_handler, added_calls-events m.limit s.parsed f, ← last, ← handler)
+              (ap (λ performer. performer.handler) all);
+        };
+        keeps_memory = rw (text_size_back, at_text_size) (keeps (text_size_of lent.text));
+      }
+
+-- ---- an early stop reads the prefix
+
+-- An update that begins terminates the performer, so the call stops at the end of the shortest prefix that begins one.
+
+terminated_by : {V W : Type 0} (m : Meaning V W) (performer : PerformerValue V W) (events : List Event)
+    → (performed (with_event m.step m.timeout) performer events).terminated
+    ≡ (performer.terminated || nat_lt 0 (begin_count events))
+terminated_by m performer [] = sym (or-false performer.terminated)
+terminated_by m performer (event ∷ events) =
+    terminated_by m (with_event m.step m.timeout performer event) events
+    ∙ any-sum performer.terminated (begins_in_event event) (begin_count events)
+
+module _ {V W : Type 0} (m : Meaning V W) {old new : PerformerValue V W} (goes_on : old.terminated ≡ false)
+    {p r : List ℕ} {n : ℕ}
+    (stop : StopsExactly (with_event m.step m.timeout) (λ performer. performer.terminated) old m.limit p r new n) where
+  prefix : IsPrefix m.limit p r (length (prefix_to_begin m.limit p r))
+  prefix = prefix-is m.limit p r
+
+  terminated_at : (i : ℕ) → (performed (with_event m.step m.timeout) old (reported_before m.limit p r i)).terminated
+      ≡ nat_lt 0 (begin_count (added m.limit p (take i r)))
+  terminated_at i = terminated_by m old (reported_before m.limit p r i) ∙ rw (goes_on, begin_count-told m.limit p r i)
+
+  size-not_before : n < length (prefix_to_begin m.limit p r) → ⊥
+  size-not_before less =
+      let f = prefix in
+      let ends = stop.stops (omega (arith, f.within)) in
+      let none = rw (stop.comes.performed, terminated_at n, f.before n less) at ends in
+      false≢true none
+
+  size-not_after : length (prefix_to_begin m.limit p r) < n → ⊥
+  size-not_after less =
+      let f = prefix in
+      let k = length (prefix_to_begin m.limit p r) in
+      let within : k < length r = omega (arith, stop.comes.within) in
+      let goes_on =
+      rw (terminated_at k) at (stop.comes.earlier k less
+      (starts-settled within (open_character-prefix f within))) in
+      grind (arith, nat_tests, f.begins within)
+
+  pub stops_at_prefix : n ≡ length (prefix_to_begin m.limit p r)
+  stops_at_prefix = elim (cases_lt n (length (prefix_to_begin m.limit p r))) [
+    | inl less ↦ absurd (size-not_before less)
+    | inr at_least ↦ elim (cases_lt (length (prefix_to_begin m.limit p r)) n) [
+      | inl less ↦ absurd (size-not_after less)
+      | inr most ↦ omega arith
+    ]
+  ]
+
+  pub stop_performs : new ≡ performed (with_event m.step m.timeout) old (added m.limit p (prefix_to_begin m.limit p r))
+  stop_performs =
+      let f =
+      prefix in
+      rw (f.is, ← stops_at_prefix, ← reported-settled m.limit p r n (rw stops_at_prefix (breaks_at-prefix f)))
+      stop.comes.performed
+
+  pub stop_terminated : new.terminated ≡ nat_lt 0 (begin_count (added m.limit p (prefix_to_begin m.limit p r)))
+  stop_terminated =
+      ap (λ performer. performer.terminated) stop_performs
+      ∙ terminated_by m old (added m.limit p (prefix_to_begin m.limit p r)) ∙ rw goes_on
+
+  pub stop_stream : resumed_stream p r n ≡ p ++ prefix_to_begin m.limit p r
+  stop_stream =
+      let f =
+      prefix in rw (f.is, ← stops_at_prefix)
+      (resumed_stream-settled p r n (rw stops_at_prefix (breaks_at-prefix f)))

@@ -1,0 +1,58 @@
+-- Colours by numbers and by texts: which are no colour, and how much is read of them.
+use Rattle.vte.proofs.Common.{◌≡◌, ◌≤◌, ◌<◌, ◌+◌, ◌-◌, ℕ, List, [], ◌∷◌, length, map, None, Some, refl, arith, drop, nat_tests, kind_reading, map-id, first_component, ◌^◌, ◌==◌, length-slice_split, split_by, decimal}
+use Rattle.std.proofs.Math.Nat.{pow-le-pow_right}
+use Rattle.vte.specs.Colors.{color_of_parts}
+use Rattle.std.proofs.lemmas.Fmt.{length-decimal-le}
+
+-- ---- colours by numbers
+
+-- A colour of which a component is missing or is none is no colour: by the number of components that are left.
+
+module _ {A : Type 0} (number : A → ℕ) where
+  pub no_red : (left : List A) → None ≡ first_component (map number left)
+      → None ≡ (kind_reading 2 (map number left)).color
+  no_red [] part = cc
+  no_red (r ∷ left) part = grind (arith, nat_tests)
+
+  pub after_red : (left : List A) → None ≡ first_component (map number left)
+      → drop 1 left ≡ drop (kind_reading 2 (map number left)).used left
+  after_red [] part = cc
+  after_red (r ∷ left) part = grind (arith, nat_tests)
+
+  pub after_green : (left : List A) (red : ℕ) → Some red ≡ first_component (map number left)
+      → None ≡ first_component (map number (drop 1 left))
+      → drop 1 (drop 1 left) ≡ drop (kind_reading 2 (map number left)).used left
+  after_green left red r part = grind (arith, nat_tests)
+
+  pub after_blue : (left : List A) (red green : ℕ) → Some red ≡ first_component (map number left)
+      → Some green ≡ first_component (map number (drop 1 left))
+      → None ≡ first_component (map number (drop 1 (drop 1 left)))
+      → drop 1 (drop 1 (drop 1 left)) ≡ drop (kind_reading 2 (map number left)).used left
+  after_blue left red green r g part = grind (arith, nat_tests)
+
+pub themselves : (numbers : List ℕ) → map (λ number. number) numbers ≡ numbers
+themselves numbers = map-id numbers
+
+-- ---- colours by texts
+
+-- Four parts and more are none, and three hex digits give a small number.
+
+further_part : (r g b : List ℕ) (parts : List (List ℕ)) (n : ℕ) → length parts ≡ n + 1
+    → color_of_parts (r ∷ g ∷ b ∷ parts) ≡ None
+further_part r g b [] n e = absurd (omega (arith, e))
+further_part r g b (part ∷ parts) n e = refl
+
+-- four parts and more are no colour
+pub fourth_part : (r g b rest : List ℕ) → color_of_parts (r ∷ g ∷ b ∷ split_by 0x2f rest) ≡ None
+fourth_part r g b rest =
+    further_part r g b (split_by 0x2f rest) _ (length-slice_split (λ (byte : ℕ). byte == 0x2f) rest)
+
+-- three hex digits at most give little
+pub few_hex_digits : (i number : ℕ) → i ≤ 3 → number < 16 ^ i → number < 4096
+few_hex_digits i number at_most small = let k : 16 ^ i ≤ 16 ^ 3 = pow-le-pow_right {n = 16} (omega arith) at_most in
+    omega (arith, k, small)
+
+-- ---- the number of a colour of the palette
+
+pub few_digits : (n : ℕ) → n < 256 → length (decimal n) ≤ 3
+few_digits n low = length-decimal-le 3 n (omega arith) (omega arith) (omega arith)

@@ -1,0 +1,111 @@
+-- Texts that are joined one by one: the buffer holds what was joined, the rest adds the others, and they fit (`Joins`).
+-- A title or a link of one piece needs no joining.
+use Rattle.vte.proofs.Common.{◌≡◌, ◌≤◌, ◌<◌, ◌+◌, ◌-◌, ℕ, List, [], ◌∷◌, length, map, Option, None, Some, refl, arith, drop, Bor, id_of, link_to, Bool, sym, ◌∙◌, true, false, ◌++◌, ap, get_or, false_from_ne_true, append-nil, drop_more, concat, join_with_byte, is_utf8, IsUtf8, append_assoc, length-append, text_to_join, joined_texts, text_in, filter_map, FitsTextSize, joined_size}
+use Rattle.std.proofs.lemmas.Str.{IsUtf8-from_is_utf8, is_utf8-from_IsUtf8}
+use Rattle.std.specs.Option.{option_map, unwrap_or}
+
+-- what texts add after others
+abbrev joined_more : Bool → List (List ℕ) → List ℕ
+joined_more is_first [] = []
+joined_more is_first (text ∷ texts) = text_to_join is_first text ++ joined_more false texts
+
+joined-text_to_join : (text : List ℕ) (texts : List (List ℕ))
+    → join_with_byte 0x3b (text ∷ texts) ≡ text ++ joined_more false texts
+joined-text_to_join text [] = sym (append-nil text)
+joined-text_to_join text (next ∷ texts) = ap (λ more. text ++ (0x3b ∷ more)) (joined-text_to_join next texts)
+
+joined-all : (texts : List (List ℕ)) → joined_more true texts ≡ join_with_byte 0x3b texts
+joined-all [] = refl
+joined-all (text ∷ texts) = sym (joined-text_to_join text texts)
+
+-- the text holds what was joined, the texts of the pieces that are left add the rest, and they fit
+pub record Joins (keeps_all : Bool) (size : ℕ) (text : List ℕ) (is_first : Bool)
+    (left all : List (List ℕ)) : Type 0 where
+  pub joins : text ++ joined_more is_first (filter_map (text_in keeps_all) left) ≡ joined_texts keeps_all all
+  pub fits : length text + joined_size left ≤ size
+
+pub joins-begin : {keeps_all : Bool} {size : ℕ} {text : List ℕ} {all : List (List ℕ)} → text ≡ []
+    → FitsTextSize size all → Joins keeps_all size text true all all
+joins-begin {keeps_all} {all} empty fits =
+    record { joins = rw empty (joined-all (filter_map (text_in keeps_all) all)); fits = rw empty (omega (arith, fits)) }
+
+texts-more : (keeps_all : Bool) (piece : List ℕ) {part : List ℕ} (left : List (List ℕ))
+    → Some part ≡ text_in keeps_all piece
+    → filter_map (text_in keeps_all) (piece ∷ left) ≡ part ∷ filter_map (text_in keeps_all) left
+texts-more keeps_all piece left has = rw (← has) refl
+
+texts-same : (keeps_all : Bool) (piece : List ℕ) (left : List (List ℕ)) → None ≡ text_in keeps_all piece
+    → filter_map (text_in keeps_all) (piece ∷ left) ≡ filter_map (text_in keeps_all) left
+texts-same keeps_all piece left none = rw (← none) refl
+
+text-short : (keeps_all : Bool) (piece part : List ℕ) → Some part ≡ text_in keeps_all piece → length part ≤ length piece
+text-short keeps_all piece part is = grind arith
+
+text_to_join-length : (is_first : Bool) (text : List ℕ) → length (text_to_join is_first text) ≤ length text + 1
+text_to_join-length true text = omega arith
+text_to_join-length false text = omega arith
+
+module _ (keeps_all : Bool) (pieces : List (Bor (List ℕ))) (i : ℕ) (d : Bor (List ℕ)) (inside : i < length pieces)
+    {size : ℕ} {text : List ℕ} {is_first : Bool}
+    {all : List (List ℕ)}
+    (before : Joins keeps_all size text is_first (map (λ piece. piece.now) (drop i pieces)) all) where
+  abbrev piece : List ℕ
+  piece = (get_or pieces i d).now
+
+  abbrev left : List (List ℕ)
+  left = map (λ (piece : Bor (List ℕ)). piece.now) (drop (i + 1) pieces)
+
+  opened : Joins keeps_all size text is_first (piece ∷ left) all
+  opened = rw (drop_more pieces i d inside) at before
+
+  -- the next text fits
+  pub joins-fits : {part : List ℕ} → Some part ≡ text_in keeps_all piece → length text + length part + 1 ≤ size
+  joins-fits {part} is =
+      omega (arith, text-short keeps_all piece part is, opened.fits, length-append piece (concat left))
+
+  -- a piece has a text
+  pub joins-more : {part : List ℕ} → Some part ≡ text_in keeps_all piece
+      → Joins keeps_all size (text ++ text_to_join is_first part) false left all
+  joins-more {part} is = record {
+    joins =
+        append_assoc text (text_to_join is_first part) _
+        ∙ (rw (texts-more keeps_all piece left is) at opened.joins);
+    fits = omega (
+      arith,
+      text-short keeps_all piece part is,
+      opened.fits,
+      length-append text (text_to_join is_first part),
+      length-append piece (concat left),
+      text_to_join-length is_first part,
+    );
+  }
+
+  -- a piece has no text
+  pub joins-same : None ≡ text_in keeps_all piece → Joins keeps_all size text is_first left all
+  joins-same none =
+      record {
+        joins = rw (texts-same keeps_all piece left none) at opened.joins;
+        fits = omega (arith, opened.fits, length-append piece (concat left));
+      }
+
+-- ---- pieces that may be no text
+
+pub no_utf8 : (text : List ℕ) → ¬ (IsUtf8 text) → is_utf8 text ≡ false
+no_utf8 text never = false_from_ne_true _ (λ is. never (IsUtf8-from_is_utf8 text is))
+
+pub is_text : (text : List ℕ) → IsUtf8 text → is_utf8 text ≡ true
+is_text text is = is_utf8-from_IsUtf8 text is
+
+-- one piece needs no joining
+pub one_text : (keeps_all : Bool) (piece : List ℕ) (found : Option (Bor (List ℕ))) (nothing : Bor (List ℕ))
+    → option_map (λ text. text.now) found ≡ text_in keeps_all piece
+    → nothing.now ≡ [] → joined_texts keeps_all (piece ∷ []) ≡ (unwrap_or found nothing).now
+one_text keeps_all piece None nothing is empty = rw (← is, empty) refl
+one_text keeps_all piece (Some text) nothing is empty = rw (← is) refl
+
+-- ---- the link to a text
+
+pub some_link : (parameters uri : List ℕ) → (uri ≡ [] → ⊥)
+    → link_to parameters uri ≡ Some (record { id = id_of parameters; uri = uri })
+some_link parameters [] some = absurd (some refl)
+some_link parameters (byte ∷ uri) some = refl

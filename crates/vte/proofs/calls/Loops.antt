@@ -1,0 +1,31 @@
+-- Loops that make calls one by one: what is left gives what all gave. The invariant is an equation between the value
+-- now and the value after all calls, and each round takes one call off its prefix.
+use Rattle.vte.proofs.Common.{◌≡◌, ◌≤◌, ◌<◌, ◌+◌, ◌-◌, ℕ, zero, suc, List, [], ◌∷◌, length, map, refl, arith, take, drop, Bor, take_all, slice_index_or, palette_entry_calls, palette_entries_calls, attributes_from, decimal_number, Call, after}
+use Rattle.vte.proofs.EventCalls.{after_calls-append}
+
+-- one more of those that are left
+pub one_less : (n i : ℕ) → i < n → n - i ≡ suc (n - (i + 1))
+one_less n i inside = omega arith
+
+module _ {V : Type 0} (step : V → Call → V) (old new all : V) where
+  -- one entry is read
+  pub entry_made : (terminator : List ℕ) (left : List (Bor (List ℕ))) (d e : Bor (List ℕ)) → 2 ≤ length left
+      → new
+      ≡ after step old
+      (palette_entry_calls terminator (decimal_number (slice_index_or left 0 d).now) (slice_index_or left 1 e).now)
+      → after step old (palette_entries_calls terminator (map (λ piece. piece.now) left)) ≡ all
+      → after step new
+      (palette_entries_calls terminator (map (λ piece. piece.now) (take (length left - 2) (drop 2 left))))
+      ≡ all
+  entry_made terminator [] d e some made before = absurd (omega arith)
+  entry_made terminator (index ∷ []) d e some made before = absurd (omega arith)
+  entry_made terminator (index ∷ color ∷ rest) d e some made before =
+      let left : take (length (index ∷ color ∷ rest) - 2) rest ≡ rest = take_all _ rest (omega arith) in
+      rw (left, made) (rw after_calls-append at before)
+
+-- the attributes after groups that are used up
+pub attributes_after : (n : ℕ) (groups : List (List ℕ)) → attributes_from n groups ≡ attributes_from 0 (drop n groups)
+attributes_after zero [] = refl
+attributes_after zero (group ∷ groups) = refl
+attributes_after (suc n) [] = refl
+attributes_after (suc n) (group ∷ groups) = attributes_after n groups

@@ -1,0 +1,125 @@
+-- A hold turn, of states and of the engine: bytes join the hold, the timeout is set as often as they begin updates, and
+-- what the hold releases is parsed, with a stop if nothing stays held.
+use Rattle.vte.proofs.Common.{◌≡◌, ℕ, ◌+◌, ◌-◌, ◌<◌, inl, List, [], ◌∷◌, ◌++◌, length, take, refl, ap, sym, ◌∙◌, arith, length-append, take_all, added, Meaning, State, parse, length-take, Engine, IsAdded, held_of, released_of, still_held, set_times, EngineIsAt, EngineView, EngineIsAtKeeping, ArePartsAt, ArePartsAtKeeping, ArePartsAtWithMemory, after_last_end, extend, from_begin_update, hold_turn, release, inr, stop, with_held, rules}
+use Rattle.std.proofs.lemmas.List.{nil_from_length}
+use Rattle.vte.proofs.updates.Sequences.{cases_Option, stays_held, suffix-length}
+use Rattle.vte.specs.declared.ansi.updates.hold.SyncState.{SyncState}
+use Rattle.vte.proofs.turns.TurnKinds.{hold_turn-all, hold_turn-rest}
+use Rattle.vte.proofs.turns.Slices.{parse-nothing}
+
+module _ {V W : Type 0} (m : Meaning V W) where
+  abbrev cut : State V W → List ℕ → State V W
+  cut t kept = with_held (parse m t (take (length t.held - length kept) t.held)) kept
+
+  release-some : (t : State V W) (kept : List ℕ) → 0 < length kept → release m t kept ≡ cut t kept
+  release-some t [] some = absurd (omega arith)
+  release-some t (b ∷ kept) some = refl
+
+  -- some bytes stay held, or none
+  holds-some : (s : State V W) (r : List ℕ) → 0 < length (still_held (s.held ++ r))
+      → hold_turn m s r ≡ cut (extend m s r) (still_held (s.held ++ r))
+  holds-some s r some = elim (cases_Option (after_last_end (s.held ++ r))) [
+    | inl none ↦
+        let all = s.held ++ r in
+        let is : still_held all ≡ all = rw none refl in
+        let no_prefix : length all - length all ≡ 0 = omega arith in
+        hold_turn-all m s r none
+        ∙ rw (is, no_prefix) (sym (ap (λ t. with_held t all) (parse-nothing m (extend m s r))))
+    | inr last ↦
+        let is : still_held (s.held ++ r) ≡ from_begin_update last.0 = rw last.1 refl in
+        hold_turn-rest m s r last.1
+        ∙ rw is (release-some (extend m s r) (from_begin_update last.0) (rw is at some))
+  ]
+
+  holds-none : (s : State V W) (r : List ℕ) → 0 < length (s.held ++ r) → still_held (s.held ++ r) ≡ []
+      → hold_turn m s r ≡ stop m (extend m s r)
+  holds-none s r some none = search (rules, arith)
+
+-- the hold has the new bytes, and the timeout was set as often as they begin updates
+module _ {P B T A V W : Type 0} {view : EngineView P B T W} (m : Meaning V W) {s : State V W} {more : List ℕ}
+    {old : Engine P B T A} {hold : SyncState A} {timeout : T} {begins : ℕ} {value : V}
+    (at : EngineIsAt view old value s) (added : IsAdded s.held more hold begins)
+    (is_set : view.timeout_of timeout ≡ set_times m.timeout begins (view.timeout_of old.state.timeout))
+    (memory : view.parser.has_memory old.parser (view.text_size_of old.state.text) s.parsed
+    (length s.held + length more)) where
+  abbrev set : Engine P B T A
+  set = record old { hold = hold; state = record old.state { timeout = timeout } }
+
+  -- there is memory to parse so many more bytes
+  abbrev HasMemoryFor : List ℕ → ℕ → Type 0
+  HasMemoryFor = view.parser.has_memory old.parser (view.text_size_of old.state.text)
+
+  extended : ArePartsAt view set.parser set.state value (extend m s more)
+  extended = record {
+    has_read = at.stands.has_read;
+    last = at.stands.last;
+    timeout_is = is_set ∙ rw (at.stands.timeout_is, added.begins_are);
+    handler_is = at.handler_is;
+  }
+
+  -- the released bytes are parsed, and the others stay held, with memory to parse them
+  pub turned_cut : {last : Engine P B T A} {next : V} → 0 < length (held_of hold)
+      → ((t : State V W) (n : ℕ) → ArePartsAt view set.parser set.state value t
+      → (0 < length (released_of hold)
+      → HasMemoryFor t.parsed (length (released_of hold) + n))
+      → ArePartsAtKeeping view set.parser set.state last.parser last.state next (parse m t (released_of hold)))
+      → ((t : State V W) (n : ℕ) → ArePartsAtWithMemory view set.parser set.state value t
+      (length (released_of hold) + n)
+      → view.parser.has_memory last.parser (view.text_size_of last.state.text) (t.parsed ++ released_of hold) n)
+      → last.hold ≡ hold → EngineIsAtKeeping view old last next (hold_turn m s more)
+  turned_cut {last} {next} some parses leaves kept =
+      let t = extend m s more in
+      let all = s.held ++ more in
+      let rest = length (held_of hold) in
+      let sum : length (released_of hold) + rest ≡ length s.held + length more = rw (added.released_is, added.held_is) (
+      omega (
+        arith,
+        length-take (length all - length (still_held all)) all,
+        suffix-length
+            (stays_held all).suffix,
+        length-append s.held more,
+      )) in
+      let ready : HasMemoryFor s.parsed
+      (length (released_of hold) + rest)
+      =
+      rw sum memory in
+      let there = parses t rest extended (λ some. ready) in
+      let parsed : ArePartsAt view last.parser last.state next
+      (parse m t (take (length all - length (still_held all)) all)) =
+      rw added.released_is at there.parts_at in
+      rw (holds-some m s more (rw added.held_is at some)) (record {
+        engine_at = record {
+          stands = record {
+            has_read = parsed.has_read;
+            last = parsed.last;
+            timeout_is = parsed.timeout_is;
+            holds = rw kept added.held_is;
+            has_memory =
+                λ some.
+                rw (added.released_is, added.held_is) at (leaves t rest
+                (record { parts_at = extended; memory = ready }));
+          };
+          handler_is = parsed.handler_is;
+        };
+        keeps_memory = there.keeps_memory;
+      })
+
+  -- the update is stopped
+  pub turned_stop : {last : Engine P B T A} {next : V} → 0 < length more → length (held_of hold) ≡ 0
+      → ((t : State V W) (n : ℕ) → ArePartsAt view set.parser set.state value t → released_of hold ≡ t.held
+      → held_of hold ≡ []
+      → (0 < length t.held → HasMemoryFor t.parsed
+      (length t.held + n))
+      → EngineIsAtKeeping view set last next (stop m t))
+      → EngineIsAtKeeping view old last next (hold_turn m s more)
+  turned_stop {last} {next} some is stops =
+      let all = s.held ++ more in
+      let none : held_of hold ≡ [] = nil_from_length (held_of hold) is in
+      let nothing : still_held all ≡ [] = sym added.held_is ∙ none in
+      let whole : released_of hold ≡ all =
+      added.released_is ∙ rw nothing (take_all (length all - 0) all (omega arith)) in
+      let sum : length all + 0 ≡ length s.held + length more = omega (arith, length-append s.held more) in
+      let there : EngineIsAtKeeping view set last next (stop m (extend m s more)) =
+      stops (extend m s more) 0 extended whole none (λ some. rw sum memory) in
+      rw (holds-none m s more (omega (arith, some, length-append s.held more)) nothing)
+      (record { engine_at = there.engine_at; keeps_memory = there.keeps_memory })

@@ -1,0 +1,139 @@
+-- Turns of a call, of which the last may be refused memory: what is parsed and held then, and what the unread bytes do
+-- in a further call. The refused turn leaves nothing held and is outside an update, so they do what they would have
+-- done (`until_refused-goes_on`).
+use Rattle.vte.proofs.Common.{◌≡◌, ℕ, ◌+◌, ◌-◌, ◌<◌, inl, Bool, false, List, [], ◌∷◌, ◌++◌, length, drop, refl, ap, subst, ◌∙◌, arith, length-append, drop-append-add, IsSteady, IsOutsideUpdate, Meaning, HoldsWellAt, HasBeenRefused, TakesAllTurns, ParsingTurn, ParsingTurnIsRefused, State, TakesTurnsUntilRefused, TakesTurns, prefix_to_begin, between_turns, done, kind_of, parsing_turn, turn, turns, inside_turn, rules}
+use Rattle.vte.proofs.updates.Prefixes.{prefix-after}
+use Rattle.vte.proofs.turns.TurnKinds.{stop_if_due, turn-parses, ParsesUntilRefused, refused-parses}
+use Rattle.vte.proofs.turns.EachOnce.{Progresses, grows_on, stop_if_due_none, stop_if_due_grows, parse_grows, turns_grow}
+use Rattle.vte.proofs.turns.HoldFacts.{taken_well}
+use Rattle.vte.proofs.turns.Slices.{parse-append}
+
+-- ---- turns of a call, and one after them that is refused memory
+
+pub refused-nothing : {V W : Type 0} (m : Meaning V W) {state : State V W} {bytes : List ℕ}
+    {IsNowAt : State V W → Type 0} → IsNowAt state → HasBeenRefused m state bytes 0 IsNowAt
+refused-nothing m {state} at = record { next = state; takes = between_turns done; is_at = at }
+
+module _ {V W : Type 0} (m : Meaning V W) where
+  pub takes-one : {state : State V W} {bytes : List ℕ} (pending : Bool) → 0 < length bytes
+      → m.timeout.allows state.timeout pending
+      → TakesTurns m state bytes (turn m pending state bytes).state (turn m pending state bytes).rest
+  takes-one {bytes = []} pending some allowed = absurd (omega arith)
+  takes-one {bytes = b ∷ bytes} pending some allowed = turns pending allowed done
+
+  -- turns go on with those of the rest
+  pub taken_on : (state reached next : State V W) (bytes left rest : List ℕ) → TakesTurns m state bytes reached left
+      → TakesTurns m reached left next rest → TakesTurns m state bytes next rest
+  taken_on state reached next bytes left rest done more = more
+  taken_on state reached next (b ∷ bytes) left rest (turns pending allowed first) more =
+      turns pending allowed (taken_on _ reached next _ left rest first more)
+
+  pub until_refused-on : (state reached next : State V W) (bytes left rest : List ℕ)
+      → TakesTurns m state bytes reached left
+      → TakesTurnsUntilRefused m reached left next rest
+      → TakesTurnsUntilRefused m state bytes next rest
+  until_refused-on state reached next bytes left rest first (between_turns more) =
+      between_turns (taken_on state reached next bytes left rest first more)
+  until_refused-on state reached next bytes left rest first (inside_turn more pending allowed refused) =
+      inside_turn (taken_on state reached _ bytes left _ first more) pending allowed refused
+
+  -- where nothing is left, no turn was refused memory
+  pub until_refused-all : {state next : State V W} {bytes : List ℕ} → TakesTurnsUntilRefused m state bytes next []
+      → TakesTurns m state bytes next []
+  until_refused-all h = search (rules, arith)
+
+  -- ---- what is parsed and held then
+
+  refused-grows : (pending : Bool) {state next : State V W} {bytes left : List ℕ}
+      → ParsesUntilRefused m pending state bytes next left
+      → Progresses state next bytes left
+  refused-grows pending {state} (parses, h) =
+      rw h.state_is
+      (grows_on (stop_if_due_grows m pending)
+      (parse_grows m h.prefix (stop_if_due_none m pending state) h.bytes_are))
+
+  pub until_refused-grows : {state next : State V W} {bytes left : List ℕ}
+      → TakesTurnsUntilRefused m state bytes next left
+      → Progresses state next bytes left
+  until_refused-grows (between_turns taken) = turns_grow m taken
+  until_refused-grows {next} {left} (inside_turn {reached} {rest} taken pending allowed refused) =
+      grows_on (turns_grow m taken)
+      (refused-grows pending (refused-parses m pending reached next rest left refused))
+
+  -- outside an update, and with nothing held
+  refused-outside : (pending : Bool) (state next : State V W) (bytes left : List ℕ) → IsSteady m.timeout
+      → HoldsWellAt m state
+      → m.timeout.allows state.timeout pending
+      → ParsesUntilRefused m pending state bytes next left → IsOutsideUpdate m.timeout next.held next.timeout
+  refused-outside pending state next bytes left steady well allowed (parses, h) = search (rules, arith)
+
+  refused-held : (pending : Bool) (state next : State V W) (bytes left : List ℕ)
+      → ParsesUntilRefused m pending state bytes next left → next.held ≡ []
+  refused-held pending state next bytes left (parses, h) =
+      ap (λ next. next.held) h.state_is ∙ stop_if_due_none m pending state
+
+  pub until_refused-well : {state next : State V W} {bytes left : List ℕ}
+      → TakesTurnsUntilRefused m state bytes next left
+      → HoldsWellAt m state
+      → HoldsWellAt m next
+  until_refused-well (between_turns taken) well = taken_well m taken well
+  until_refused-well {next} {left} (inside_turn {reached} {rest} taken pending allowed refused) well =
+      let opens = refused-parses m pending reached next rest left refused in
+      let nothing = refused-held pending reached next rest left opens in
+      record {
+        no_end = rw nothing refl;
+        fits = rw nothing (omega arith);
+        steady =
+            λ steady.
+            inl (refused-outside pending reached next rest left steady (taken_well m taken well) allowed
+            opens);
+      }
+
+  -- ---- the unread bytes in a further call
+
+  parsing_turn-goes_on : (state next : State V W) (bytes left : List ℕ) → ParsingTurnIsRefused m state bytes next left
+      → parsing_turn m next left ≡ parsing_turn m state bytes
+  parsing_turn-goes_on state next bytes left h =
+      let prefix = prefix_to_begin m.limit (state.parsed ++ h.prefix) left in
+      rw (
+        h.state_is,
+        ← h.bytes_are,
+        prefix-after m.limit state.parsed h.prefix left h.none_begin,
+        length-append,
+        drop-append-add h.prefix left (length prefix),
+      )
+      (ap (λ next. record { state = next; rest = drop (length prefix) left }) (parse-append m state h.prefix prefix))
+
+  refused-goes_on : (pending : Bool) (state next : State V W) (bytes left : List ℕ)
+      → ParsesUntilRefused m pending state bytes next left
+      → turn m false next left ≡ turn m pending state bytes
+  refused-goes_on pending state next bytes left (parses, h) =
+      let none : kind_of false (length next.held) (length left) ≡ ParsingTurn =
+      rw (refused-held pending state next bytes left (parses, h)) refl in
+      rw (none, turn-parses m pending state bytes parses)
+      (parsing_turn-goes_on (stop_if_due m pending state) next bytes left h)
+
+  refused-turn_goes_on : (pending : Bool) {state next end : State V W} {bytes left : List ℕ}
+      → m.timeout.allows state.timeout pending
+      → ParsesUntilRefused m pending state bytes next left
+      → IsOutsideUpdate m.timeout next.held next.timeout → TakesTurns m next left end []
+      → TakesTurns m state bytes end []
+  refused-turn_goes_on pending allowed h out done = absurd (omega (arith, h.1.some_left))
+  refused-turn_goes_on pending {state} {next} {end} {bytes} {left = b ∷ left} allowed h out (turns other allows more) =
+      let same : turn m other next (b ∷ left) ≡ turn m pending state bytes =
+      rw (out.not_pending.1 other allows) (refused-goes_on pending state next bytes (b ∷ left) h) in
+      let some : 0 < length bytes =
+      omega (arith, h.1.some_left, ap length h.1.bytes_are, length-append h.1.prefix (b ∷ left)) in
+      taken_on state _ end bytes _ [] (takes-one pending some allowed)
+      (subst (λ x. TakesTurns m x.state x.rest end []) same more)
+
+  pub until_refused-goes_on : (state next end : State V W) (bytes left : List ℕ) → IsSteady m.timeout
+      → HoldsWellAt m state
+      → TakesTurnsUntilRefused m state bytes next left → TakesAllTurns m next left end → TakesAllTurns m state bytes end
+  until_refused-goes_on state next end bytes left steady well (between_turns taken) more =
+      taken_on state next end bytes left [] taken more
+  until_refused-goes_on state next end bytes left steady well
+      (inside_turn {reached} {rest} taken pending allowed refused) more =
+      let opens = refused-parses m pending reached next rest left refused in
+      let out = refused-outside pending reached next rest left steady (taken_well m taken well) allowed opens in
+      taken_on state reached end bytes rest [] taken (refused-turn_goes_on pending allowed opens out more)

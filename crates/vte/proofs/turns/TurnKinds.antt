@@ -1,0 +1,49 @@
+-- What a turn is, by cases: a hold turn by whether the hold has an end-update, and any turn by whether its bytes are
+-- held. If they aren't, an update that is due is stopped first, and the bytes are parsed.
+use Rattle.vte.proofs.Common.{◌≡◌, refl, Bool, true, false, List, [], Some, None, ◌++◌, ◌+◌, ◌||◌, ℕ, length, nat_le, nat_lt, arith, Meaning, ParsingTurnIsRefused, State, TurnIsRefused, after_last_end, extend, from_begin_update, hold_turn, most_held, parsing_turn, release, stop, turn, ◌-◌, rules}
+use Rattle.std.specs.Prelude.{◌&&◌, if◌then◌else◌}
+
+-- ---- hold turns
+
+module _ {V W : Type 0} (m : Meaning V W) (state : State V W) (bytes : List ℕ) where
+  pub hold_turn-all : after_last_end (state.held ++ bytes) ≡ None → hold_turn m state bytes ≡ extend m state bytes
+  hold_turn-all none = rw none refl
+
+  pub hold_turn-rest : {rest : List ℕ} → after_last_end (state.held ++ bytes) ≡ Some rest
+      → hold_turn m state bytes ≡ release m (extend m state bytes) (from_begin_update rest)
+  hold_turn-rest is = rw is refl
+
+-- ---- whether bytes are held, and what is stopped before they are parsed
+
+abbrev pub is_held : {V W : Type 0} → Bool → State V W → List ℕ → Bool
+is_held pending state bytes = pending && nat_le (length state.held + length bytes) most_held
+
+abbrev pub is_stopped : {V W : Type 0} → Bool → State V W → Bool
+is_stopped pending state = pending || nat_lt 0 (length state.held)
+
+abbrev pub stop_if_due : {V W : Type 0} → Meaning V W → Bool → State V W → State V W
+stop_if_due m pending state = if is_stopped pending state then stop m state else state
+
+-- A parsing turn, after a stop if need be, was refused memory.
+abbrev pub ParsesUntilRefused : {V W : Type 0} → Meaning V W → Bool → State V W → List ℕ → State V W → List ℕ → Type 0
+ParsesUntilRefused m pending state bytes next left =
+    (is_held pending state bytes ≡ false) × ParsingTurnIsRefused m (stop_if_due m pending state) bytes next left
+
+module _ {V W : Type 0} (m : Meaning V W) where
+  pub turn-holds : (pending : Bool) (state : State V W) (bytes : List ℕ) → is_held pending state bytes ≡ true
+      → turn m pending state bytes ≡ record { state = hold_turn m state bytes; rest = [] }
+  turn-holds pending state bytes held = search (rules, arith)
+
+  pub turn-parses : (pending : Bool) (state : State V W) (bytes : List ℕ) → is_held pending state bytes ≡ false
+      → turn m pending state bytes ≡ parsing_turn m (stop_if_due m pending state) bytes
+  turn-parses pending state bytes parses = search (rules, arith)
+
+  pub refused-parses : (pending : Bool) (state next : State V W) (bytes left : List ℕ)
+      → TurnIsRefused m pending state bytes next left
+      → ParsesUntilRefused m pending state bytes next left
+  refused-parses pending state next bytes left o = search (rules, arith)
+
+  pub refused-by_parsing : (pending : Bool) (state next : State V W) (bytes left : List ℕ)
+      → ParsesUntilRefused m pending state bytes next left
+      → TurnIsRefused m pending state bytes next left
+  refused-by_parsing pending state next bytes left o = search (rules, arith)

@@ -29,9 +29,9 @@ fn color_by_parts(text: &[u8]) -> Option<Rgb>
         return None;
     }
     Some(Rgb {
-        r: share_of(r)?,
-        g: share_of(g)?,
-        b: share_of(b)?,
+        r: scale_to_255(r)?,
+        g: scale_to_255(g)?,
+        b: scale_to_255(b)?,
     })
 }
 
@@ -43,14 +43,14 @@ fn color_by_thirds(digits: &[u8]) -> Option<Rgb>
     if digits.len() != 3 * count {
         return None;
     }
-    let r = top_of(&digits[..count])?;
-    let g = top_of(&digits[count..][..count])?;
-    let b = top_of(&digits[2 * count..])?;
+    let r = top_eight_bits(&digits[..count])?;
+    let g = top_eight_bits(&digits[count..][..count])?;
+    let b = top_eight_bits(&digits[2 * count..])?;
     Some(Rgb { r, g, b })
 }
 
 /// Returns the number that hex digits write.
-fn hex_value(digits: &[u8]) -> Option<u32>
+fn read_hex(digits: &[u8]) -> Option<u32>
     requires { length digits.now ≤ 4 }
     ensures value { result ≡ hex_number digits.now }
     ensures below { IfSome result (λ number. number < 16 ^ length digits.now) }
@@ -63,7 +63,7 @@ fn hex_value(digits: &[u8]) -> Option<u32>
 }
 
 /// Scales a number to 255, from the greatest number of as many digits.
-fn share_of(digits: &[u8]) -> Option<u8>
+fn scale_to_255(digits: &[u8]) -> Option<u8>
     ensures { result ≡ component_by scaled_to_255 digits.now }
 {
     let greatest = match digits.len() {
@@ -73,11 +73,11 @@ fn share_of(digits: &[u8]) -> Option<u8>
         4 => 0xffff,
         _ => return None,
     };
-    Some((255 * hex_value(digits)? / greatest) as u8)
+    Some((255 * read_hex(digits)? / greatest) as u8)
 }
 
 /// Returns the top eight bits of a number of this many digits.
-fn top_of(digits: &[u8]) -> Option<u8>
+fn top_eight_bits(digits: &[u8]) -> Option<u8>
     ensures { result ≡ component_by top_eight_bits digits.now }
 {
     let range = match digits.len() {
@@ -87,5 +87,5 @@ fn top_of(digits: &[u8]) -> Option<u8>
         4 => 0x10000,
         _ => return None,
     };
-    Some((256 * hex_value(digits)? / range) as u8)
+    Some((256 * read_hex(digits)? / range) as u8)
 }

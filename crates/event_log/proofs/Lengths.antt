@@ -51,7 +51,7 @@ length_numbers (x ∷ y ∷ group) small =
 
 length_shown : (groups : List (List ℕ)) → AreGroups groups → length (shown groups) ≤ 224
 unfolding shown
-length_shown groups h = omega (arith, joined groups h.filled h.small, h.few)
+length_shown groups h = omega (arith, joined groups h.filled h.small, h.at_most)
   where
     joined : (groups : List (List ℕ)) → All (λ group. 0 < length group) groups → All (All IsSmallNumber) groups
         → length (join_with_byte semicolon (map group_text groups)) ≤ 7 * count_of groups

@@ -1,6 +1,6 @@
 -- Each given byte is parsed or held, once and in order. Each turn and stop keeps `Progresses`: parsed, held and left
 -- bytes together are those of before, and `Progresses` composes over the turns of a call and over calls.
-use Rattle.vte.proofs.Common.{◌≡◌, inl, inr, refl, Bool, List, [], ◌++◌, ◌+◌, ℕ, length, cases_Bool, arith, Meaning, State, after_last_end, extend, hold_turn, release, stop, turn, ◌-◌, Option, ◌∷◌, drop, ap, sym, ◌∙◌, append_assoc, take-append-drop, Step, Advance, StopSync, TakesSteps, given_bytes, TakesTurns, all_bytes, prefix_to_begin, append-nil, parse, done, turns, rules}
+use Rattle.vte.proofs.Common.{◌≡◌, inl, inr, refl, Bool, List, [], ◌++◌, ℕ, length, cases_Bool, arith, Meaning, State, after_last_end, extend, hold_turn, release, stop, turn, ◌-◌, Option, ◌∷◌, drop, ap, sym, ◌∙◌, append_assoc, take-append-drop, Step, Advance, StopSync, TakesSteps, given_bytes, TakesTurns, all_bytes, prefix_to_begin, append-nil, parse, done, turns, rules}
 use Rattle.std.proofs.lemmas.List.{nil_from_length}
 use Rattle.vte.proofs.updates.Prefixes.{prefix-is}
 use Rattle.vte.proofs.updates.Sequences.{cases_Option, stays-is}

@@ -1,6 +1,6 @@
 -- Turns and stops keep `HoldsWell`: by cases of the timeout's answer and of what a hold turn keeps, which is all, or
 -- starts with a begin-update, or is nothing.
-use Rattle.vte.proofs.Common.{◌≡◌, inl, inr, refl, Bool, true, List, [], ◌++◌, ◌+◌, ℕ, zero, suc, length, cases_Bool, arith, nat_tests, Meaning, State, after_last_end, extend, from_begin_update, hold_turn, most_held, parsing_turn, release, stop, turn, ◌-◌, ◌∷◌, take, ap, TakesTurns, prefix_to_begin, append-nil, done, turns, ◌<◌, ◌≤◌, length-append, cases_lt, added, TimeoutMeaning, AllowsOnly, IsSteady, begin_count, IsOutsideUpdate, IsInsideUpdate, set_times, update_nanos, HoldsWellAt, begin_update, begins_ending_in_last, part_after_last_end, rules}
+use Rattle.vte.proofs.Common.{◌≡◌, inl, inr, refl, Bool, true, List, [], ◌++◌, ℕ, zero, suc, length, cases_Bool, arith, nat_tests, Meaning, State, after_last_end, extend, from_begin_update, hold_turn, most_held, parsing_turn, release, stop, turn, ◌-◌, ◌∷◌, take, ap, TakesTurns, prefix_to_begin, append-nil, done, turns, ◌<◌, ◌≤◌, length-append, cases_lt, added, TimeoutMeaning, AllowsOnly, IsSteady, begin_count, IsOutsideUpdate, IsInsideUpdate, set_times, update_nanos, HoldsWellAt, begin_update, begins_ending_in_last, part_after_last_end, rules}
 use Rattle.vte.proofs.updates.Prefixes.{prefix-is}
 use Rattle.vte.proofs.updates.Sequences.{cases_Option, StaysHeld, begins_with-append, stays_held, suffix-length}
 use Rattle.vte.proofs.turns.TurnKinds.{is_held, stop_if_due, hold_turn-all, hold_turn-rest, turn-holds, turn-parses}

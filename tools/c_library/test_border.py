@@ -104,8 +104,8 @@ def test_most_bytes_of_a_call(library):
     """A call reads at most 4 GiB less one byte, so that a place has four bytes."""
     no_reserve = 0x4000
     pages = mmap.mmap(-1, 2 ** 32 + 9, mmap.MAP_PRIVATE | mmap.MAP_ANONYMOUS | no_reserve)
+    pages.madvise(mmap.MADV_HUGEPAGE)
     zeros, parser = (c_char * len(pages)).from_buffer(pages), Parser(library)
-    # what means nothing is read in a second
     parser.feed(b"\x1b_")
     assert parser.feed(zeros)[0] == 2 ** 32 - 1
 

@@ -191,7 +191,7 @@ impl<B: Buffer> Machine<B> {
     ) -> usize
         requires final_byte { is_final (class_of byte) ≡ true }
         requires joined { self.old.collected.joined ≡ joined }
-        requires room { position + 1 < 2 ^ 64 }
+        requires no_overflow { position + 1 < 2 ^ 64 }
         ensures next { result ≡ position + 1 }
         ensures takes { (head : List ℕ) → HasReadHead self.old.collected progress head
             → TakesByte P.step (P.value_of performer.old) (P.value_of performer.new) B.limit
@@ -217,7 +217,7 @@ impl<B: Buffer> Machine<B> {
         byte: u8,
         position: usize,
     ) -> usize
-        requires room { position + 1 < 2 ^ 64 }
+        requires no_overflow { position + 1 < 2 ^ 64 }
         ensures next { result ≡ position + 1 }
         ensures dispatches { Dispatches P.step (P.value_of performer.old) (P.value_of performer.new)
             (CsiDispatch self.old.collected.params self.old.collected.intermediates.items ignore

@@ -22,8 +22,8 @@ returns-then-is_final g c =
       moves = search rules;
     }
 
-pub end_control_sequence-requires-clause-room : goal.end_control_sequence-requires-clause-room
-end_control_sequence-requires-clause-room g c =
+pub end_control_sequence-requires-clause-no_overflow : goal.end_control_sequence-requires-clause-no_overflow
+end_control_sequence-requires-clause-no_overflow g c =
     let next = rw c.in-Some.is at c.read_head-head.ensures.reads.next in search rules
 
 -- CAN, SUB and ESC leave it, a control is executed inside it, and DEL or a byte from 80 is dropped.

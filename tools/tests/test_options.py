@@ -113,11 +113,12 @@ def test_counts(monkeypatch, words, kinds, changes):
     monkeypatch.syspath_prepend(str(TOOLS.parent / "bench"))
     found = {"streams": []}
     count = Tool("../bench/count", passed=lambda words, _, place: (place.size, "left"),
-                 ThreadPoolExecutor=lambda it: found.update(jobs=it) or ThreadPoolExecutor(it))
-    monkeypatch.setattr(count.parts["measuring"], "Programs", lambda _: SimpleNamespace(
-        peers=lambda side: [side], proved="proved", commands=lambda _: {"vte_feed": [["in C"]]},
-        stream=lambda name, size: found.update(bytes=size) or found["streams"].append(
-            name) or SimpleNamespace(name=name, size=size)))
+                 ThreadPoolExecutor=lambda it: found.update(jobs=it) or ThreadPoolExecutor(it),
+                 copy_libc=lambda folder: None)
+    monkeypatch.setattr(count.parts["measuring"], "Programs", lambda folder: SimpleNamespace(
+        folder=folder, peers=lambda side: [side], proved="proved",
+        commands=lambda _: {"vte_feed": [["in C"]]}, stream=lambda name, size: found.update(
+            bytes=size) or found["streams"].append(name) or SimpleNamespace(name=name, size=size)))
     _, said = count.run(*words.split())
     wanted = {"streams": STRIP["streams"], "bytes": 200_000, "jobs": os.cpu_count(), **changes}
     wanted["streams"] = wanted["streams"] * len(kinds.split())
@@ -127,7 +128,6 @@ def test_counts(monkeypatch, words, kinds, changes):
 
 
 # ---- the C library: words that pytest gets, and the random streams that they ask for
-
 
 @pytest.mark.parametrize("words, count, seed", [
     ("", 20_000, 1), ("--short", 400, 1), ("--streams 250", 250, 1), ("--seed 7", 20_000, 7)])

@@ -52,26 +52,13 @@ def stands(told, allowed):
         ("calls", "    pub fn advance(&mut self, data: &[u8])", USED),
         ("run_end", "if input.bytes[at] == 0 {", UNCOUNTED),
         ("run_blocks", "self.count_looks(0);", UNCOUNTED),
-        ("run_end", "requires in { to ≤ length input.bytes.now }", ""))),
-    *((place, f"{line[:most]}\n{line[:most]}y\n", f":2: a line of {most + 1} characters")
-      for place, line, most in (
-          ("b/run", "#!/bin/sh" + " x" * 60, 100), ("x.py", "use a" + " x" * 60, 100),
-          ("crates/x/src/lib.rt", "fn f" + " x" * 60, 100),
-          ("crates/x/specs/A.antt", "a" + " x" * 60, 100),
-          ("crates/x/proofs/A.antt", "a" + " x" * 60, 120),
-          ("rust/x/src/lib.rs", "use a" + " x" * 60, 100))),
-    *((place, f"{front}{' x' * 60};", "") for place, front in (
-        ("crates/x/src/lib.rt", "ghost use a"), ("crates/x/src/lib.rt", "    #[tactic(auto, u(a"),
-        ("crates/x/proofs/A.antt", "unfoldable pub use a"), ("c/stdin", ""), ("d.md", ""),
-        ("e.edit", ""), ("rust/x/src/proved/f.rs", ""))),
-    ("crates/x/specs/A.antt", "a " + "x" * 120, "")])
+        ("run_end", "requires in { to ≤ length input.bytes.now }", "")))])
 def test_what_is_refused_in_a_file(place, text, told):
     write(place, text)
     write("HANDLES", "Handles allowed: none.\n")
-    status, said = Tool("check_trust", listed=lambda: [place]).run()
-    files, faults = place.endswith((".rt", ".rs")), bool(told)
-    wanted = [*[place + told] * faults, f"{files:d} files, {faults:d} places that are refused"]
-    assert (status, said.splitlines()) == (faults, wanted)
+    status, said = Tool("check_trust", listed=lambda _: [place]).run()
+    wanted = [*[place + told] * bool(told), f"1 files, {told > '':d} places that are refused"]
+    assert (status, said.splitlines()) == (bool(told), wanted)
 
 
 def test_all_files_and_handles():
@@ -79,8 +66,7 @@ def test_all_files_and_handles():
     write(".gitignore", "out/\n")
     for place in "crates/x/specs/A.antt", "crates/x/out/A.rt", "bench/b.rs", "c/d.rt", "e.md":
         write(place, "unsafe one\n")
-    write("f.py", "ab " * 60)
     write("HANDLES", "Handles allowed: some.\n")
     status, said = Tool("check_trust").run()
     assert status == 1 and sorted(line.partition(":")[0] for line in said.splitlines()) == [
-        "2 files, 4 places that are refused", "HANDLES", "bench/b.rs", "c/d.rt", "f.py"]
+        "2 files, 3 places that are refused", "HANDLES", "bench/b.rs", "c/d.rt"]

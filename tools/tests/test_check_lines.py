@@ -9,8 +9,7 @@ from tests.support import Tool, write
 LINES = {
     "program": ("b/run", "#!/bin/sh", 100), "Python": ("x.py", "use a", 100),
     "Rattle": ("crates/x/src/lib.rt", "fn f", 100),
-    "statement": ("crates/x/specs/A.antt", "a", 100),
-    "proof": ("crates/x/proofs/A.antt", "a", 120),
+    "statement": ("crates/x/specs/A.antt", "a", 100), "proof": ("crates/x/proofs/A.antt", "a", 120),
     "import of Rust": ("rust/x/src/lib.rs", "use a", 100),
     "import": ("crates/x/src/lib.rt", "ghost use a", 0),
     "import of a proof": ("crates/x/proofs/A.antt", "unfoldable pub use a", 0),

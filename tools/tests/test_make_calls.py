@@ -1,12 +1,9 @@
-"""Tests of what tools/make_calls and tools/make_vectors write."""
-import shutil
+"""Tests of what tools/make_calls writes."""
 from pathlib import Path
 
 import pytest
 
 from tests.support import TOOLS, Tool, write
-
-# ---- make_calls
 
 HEADER = "rust/vte_c/include/vte_handler.h"
 # the end of each list with a method more, `ring_bells(&mut self, top: u16, text: &str)`
@@ -74,27 +71,3 @@ def test_the_table_of_c_has_one_order(calls):
     write(HEADER, without.replace("} vte_handler;", f"{bell}}} vte_handler;"))
     told = tool.run("--check")[0]
     assert told.startswith(HEADER) and told.endswith("the functions don't have one order")
-
-
-# ---- make_vectors
-
-PLAIN, MARK = "crates/event_vectors/src/log_tests/plain.rt", "// Written by tools/make_vectors."
-
-
-@pytest.mark.parametrize("old, new, told", [
-    (None, None, "crates/event_vectors has no table of PlainVector"),
-    ('text: b"\\x0a"', 'text: b"\\x0d"',
-     f"these files aren't up to date; run tools/make_vectors:\n  {PLAIN}"),
-    ("plain text of nothing", "nothing", f'{PLAIN}: no vector of text has the name "nothing"'),
-    ("[PlainVector;", "[Plain;", f"{PLAIN}: 0 tables, and 1 times `{MARK}`"),
-    ("// Written by", "// By", f"{PLAIN}: 1 tables, and 0 times `{MARK}`")])
-def test_a_wrong_table_is_refused(folder, old, new, told):
-    for name in "event_vectors/src", "call_vectors":
-        shutil.copytree(TOOLS.parent / "crates" / name, folder / "crates" / name)
-    text = Path(PLAIN).read_text()
-    if old is None:
-        Path(PLAIN).unlink()
-    else:
-        assert old in text
-        write(PLAIN, text.replace(old, new, 1))
-    assert Tool("make_vectors").run("--check") == (told, "")

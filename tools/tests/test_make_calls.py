@@ -6,16 +6,23 @@ import pytest
 from tests.support import TOOLS, Tool, write
 
 HEADER = "rust/vte_c/include/vte_handler.h"
-# the end of each list with a method more, `ring_bells(&mut self, top: u16, text: &str)`
-ENDS = [
-    "RingBells(u16, &'a str),\n}", "take(HandlerCall::RingBells(top, text));\n    }\n}",
-    "RingBells(top, text): ring_bells visit_number(top as u64) visit_text(text);\n    }",
-    "ring_bells(top: u16, text: &str),\n        }", "ring_bells(u16, &str)\n}",
-    "(top: u16, text: &str) => u16 = top, *const u8 = text.as_ptr(), usize = text.len();\n}",
-    "ring_bells)(void *user, uint16_t top, const uint8_t *text, size_t text_length);\n}",
-    "virtual void ring_bells(uint16_t, std::string_view) {}\n}", "&Handler::ring_bells>,\n}",
-    "RingBells(top, text)\n}", "RingBells,\n]",
-    'class RingBells(NamedTuple):\n    """Rings. Says so."""\n    top: int\n    text: str\n\n\n']
+# the ends of each file's lists with a method more, `ring_bells(&mut self, top: u16, text: &str)`
+ENDS = {
+    "crates/vte_handler/src/by_call.rt": [
+        "RingBells(u16, &'a str),\n}", "take(HandlerCall::RingBells(top, text));\n    }\n}"],
+    "crates/test_lines/src/visitor.rt": [
+        "RingBells(top, text): ring_bells visit_number(top as u64) visit_text(text);\n    }"],
+    "rust/vte/tests/vectors/call_lines.rs": ["ring_bells(top: u16, text: &str),\n        }"],
+    "rust/vte/examples/unknown.rs": ["ring_bells(u16, &str)\n}"],
+    "rust/vte_c/src/processor.rs": [
+        "(top: u16, text: &str) => u16 = top, *const u8 = text.as_ptr(), usize = text.len();\n}"],
+    HEADER: ["ring_bells)(void *user, uint16_t top, const uint8_t *text, size_t text_length);\n}"],
+    "rust/vte_c/include/vte.hpp": [
+        "virtual void ring_bells(uint16_t, std::string_view) {}\n}", "&Handler::ring_bells>,\n}"],
+    "python/rust/calls.rs": ["RingBells(top, text)\n}"],
+    "python/src/vte/calls.py": [
+        'class RingBells(NamedTuple):\n    """Rings. Twice."""\n    top: int\n    text: str\n\n\n',
+        "RingBells,\n]"]}
 
 
 @pytest.fixture
@@ -41,11 +48,10 @@ def update(tool, *files):
 def test_a_call_is_added_to_all_lists_and_removed(calls):
     tool, texts = calls
     trait, *files = texts
-    method = "/// Rings.\n    /// Says so.\n    fn ring_bells(&mut self, top: u16, text: &str)"
+    method = "/// Rings.\n    /// Twice.\n    fn ring_bells(&mut self, top: u16, text: &str)"
     write(trait, texts[trait].replace("/// BEL", f"{method}\n\n    /// BEL", 1))
     update(tool, *files)
-    added = "".join(Path(file).read_text() for file in files)
-    assert [end for end in ENDS if end not in added] == []
+    assert [end for file in files for end in ENDS[file] if end not in Path(file).read_text()] == []
     write(trait, texts[trait])
     update(tool, *files)
     assert {file: Path(file).read_text() for file in texts} == texts

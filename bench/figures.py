@@ -16,11 +16,11 @@ class Comparison:
         of_ours = row["nanoseconds"][ours]
         of_others = row["nanoseconds"][other] if other else [[1]] * len(of_ours)
         # in each round that of each placement of our code over each of theirs
-        found = [one / its for round_of_ours, round_of_others in zip(of_ours, of_others)
-                 for one in round_of_ours for its in round_of_others]
+        ratios = [our / their for round_of_ours, round_of_others in zip(of_ours, of_others)
+                  for our in round_of_ours for their in round_of_others]
         # the quartiles of one number are that
-        found = found if len(found) > 1 else 2 * found
-        self.low, self.median, self.high = statistics.quantiles(found, n=4, method="inclusive")
+        ratios = ratios if len(ratios) > 1 else 2 * ratios
+        self.low, self.median, self.high = statistics.quantiles(ratios, n=4, method="inclusive")
 
     def __str__(self):
         """The median and the quartiles, with more digits below 0.01."""
@@ -41,8 +41,8 @@ def comparisons(row):
 
 def line(row):
     """What is printed of a row once it is measured."""
-    found = {"ns/byte": Comparison(row, next(iter(row["nanoseconds"])))} | comparisons(row)
-    return f"{shown(row)}: {', '.join(f'{name} {ratio}' for name, ratio in found.items())}"
+    ratios = {"ns/byte": Comparison(row, next(iter(row["nanoseconds"])))} | comparisons(row)
+    return f"{shown(row)}: {', '.join(f'{name} {ratio}' for name, ratio in ratios.items())}"
 
 
 def shown(row):
@@ -51,14 +51,14 @@ def shown(row):
 
 def tables(rows):
     """The tables of the page, of what was measured."""
-    found = {(row["kind"], row["stream"]): comparisons(row) for row in rows
-             if row["piece"] == 4096 and row["stream"] in COMMON_STREAMS}
+    ratios = {(row["kind"], row["stream"]): comparisons(row) for row in rows
+              if row["piece"] == 4096 and row["stream"] in COMMON_STREAMS}
     stripped = [row for row in rows if row["kind"] == "strip"]
     called = [row for row in rows if row["kind"] == "calls"]
     others = dict.fromkeys(row["kind"] for row in rows)
     if kinds := [kind for kind in others if kind not in ("strip", "calls")]:
-        yield by_stream(found, kinds)
-        yield by_build(found, kinds)
+        yield by_stream(ratios, kinds)
+        yield by_build(ratios, kinds)
         yield "\n".join(f"- Slower in {build}: {slower(rows, build)}." for build in BUILDS)
     if stripped:
         yield by_run(stripped)
@@ -66,20 +66,20 @@ def tables(rows):
         yield by_call(called)
 
 
-def by_stream(found, kinds):
+def by_stream(ratios, kinds):
     """The ratios of each common stream in cargo's release profile."""
     build = next(iter(BUILDS))
     return table(["stream", *kinds], [
-        [f"`{name}`", *(str(found.get((kind, name), {}).get(build, "")) for kind in kinds)]
+        [f"`{name}`", *(str(ratios.get((kind, name), {}).get(build, "")) for kind in kinds)]
         for name in COMMON_STREAMS])
 
 
-def by_build(found, kinds):
+def by_build(ratios, kinds):
     """The ranges of the medians of the common streams."""
     rows = []
     for kind in kinds:
-        of_streams = [found[kind, name] for name in COMMON_STREAMS if (kind, name) in found]
-        medians = [[ratios[build].median for ratios in of_streams] for build in BUILDS]
+        of_kind = [ratios[kind, name] for name in COMMON_STREAMS if (kind, name) in ratios]
+        medians = [[of_stream[build].median for of_stream in of_kind] for build in BUILDS]
         rows.append([f"`{kind}`", *(f"{min(some):.2f} to {max(some):.2f}" if some else ""
                                     for some in medians)])
     return table(["", *BUILDS], rows)
@@ -87,9 +87,9 @@ def by_build(found, kinds):
 
 def slower(rows, build):
     """The rows in which we are slower in a build."""
-    found = [(row, comparisons(row).get(build)) for row in rows]
-    told = [f"{shown(row)} {ratio}" for row, ratio in found if ratio and ratio.median > 1]
-    return ", ".join(told) or "nothing"
+    ratios = [(row, comparisons(row).get(build)) for row in rows]
+    slow = [f"{shown(row)} {ratio}" for row, ratio in ratios if ratio and ratio.median > 1]
+    return ", ".join(slow) or "nothing"
 
 
 def by_run(rows):

@@ -1,8 +1,7 @@
 """The functions of the library by ctypes: parsers of both kinds, and processors."""
 import re
-from ctypes import (
-    CFUNCTYPE, Structure, byref, c_size_t, c_uint8, c_uint16, c_uint32, c_uint64, c_void_p,
-    create_string_buffer, sizeof)
+from ctypes import (CFUNCTYPE, Structure, byref, c_size_t, c_uint8, c_uint16, c_uint32, c_uint64,
+                    c_void_p, create_string_buffer, sizeof)
 from functools import partial
 
 from c_library.library import BESIDE
@@ -81,8 +80,7 @@ class Processor:
                                             byref(read)), read.value
 
     def sync(self):
-        """Returns the status, how many bytes are held, whether an update is pending, and until
-        when."""
+        """Returns the status, how many bytes are held, if an update is pending, and until when."""
         held = (c_uint64 * 3)(77, 77, 77)
         status = self.c.vte_processor_sync(self.place, held)
         return status, held[0], held[1] & 0xff, held[2]

@@ -5,9 +5,8 @@ from ctypes import c_char
 
 import pytest
 
-from c_library.calling import (
-    ALL_KINDS, CSI, DATA, ESC, EXECUTE, FUNCTIONS, HOOK, NO_ROOM, OSC, ROOMS, TEXT, UNHOOK, Parser,
-    Processor, parsers)
+from c_library.calling import (ALL_KINDS, CSI, DATA, ESC, EXECUTE, FUNCTIONS, HOOK, NO_ROOM, OSC,
+                               ROOMS, TEXT, UNHOOK, Parser, Processor, parsers)
 
 OK, BELL, TRUNCATED = 0, 1, 2
 STREAM = b"a\x1b[1mb"
@@ -110,10 +109,9 @@ def test_most_bytes_of_a_call(library):
     assert parser.feed(zeros)[0] == 2 ** 32 - 1
 
 
-CALLS = (b"a\a\b\t\r\n\x1b[1;2H\x1b[31mb\x1b]2;t\a\x1b[18t\x1b[?25lc", [
-    "input", "bell", "backspace", "put_tab", "carriage_return", "linefeed", "go_to",
-    "terminal_attribute", "input", "set_title", "text_area_size_chars", "unset_private_mode",
-    "input"])
+CALLS = (b"a\a\b\t\r\n\x1b[1;2H\x1b[31mb\x1b]2;t\a\x1b[18t\x1b[?25lc",
+         "input bell backspace put_tab carriage_return linefeed go_to terminal_attribute input "
+         "set_title text_area_size_chars unset_private_mode input".split())
 
 
 @pytest.mark.parametrize("count", [0, 1, 3, len(FUNCTIONS), len(FUNCTIONS) + 3])

@@ -82,15 +82,14 @@ def mode(kind):
 
 
 # how an argument is written in the vectors, by its type in Rust; the first three have two values
-SHOWN = {
-    "Attr": attribute, "Option<CursorStyle>": style, "Option<Hyperlink<'_>>": link,
-    "Rgb": rgb, "u8": "{:02x}".format, "&str": quoted, "&[u8]": lambda data: data.hex() or "-",
-    "Option<char>": lambda code: optional(quoted(b"%c" % code, "'") if code else None),
-    "Option<&str>": lambda title: optional(quoted(title)),
-    "Option<usize>": lambda number: optional(number or None),
-    "CursorIcon": lambda keyword: keyword.decode().title().replace("-", ""),
-    "CharsetIndex": "G{}".format,
-    "Mode": mode("NamedMode"), "PrivateMode": mode("NamedPrivateMode")}
+SHOWN = {"Attr": attribute, "Option<CursorStyle>": style, "Option<Hyperlink<'_>>": link, "Rgb": rgb,
+         "u8": "{:02x}".format, "&str": quoted, "&[u8]": lambda data: data.hex() or "-",
+         "Option<char>": lambda code: optional(quoted(b"%c" % code, "'") if code else None),
+         "Option<&str>": lambda title: optional(quoted(title)),
+         "Option<usize>": lambda number: optional(number or None),
+         "CursorIcon": lambda keyword: keyword.decode().title().replace("-", ""),
+         "CharsetIndex": "G{}".format, "Mode": mode("NamedMode"),
+         "PrivateMode": mode("NamedPrivateMode")}
 OF_TWO = [*SHOWN][:3]
 CALLS = calls_of((TOP / TRAIT).read_text())
 
@@ -122,8 +121,7 @@ def advances(pieces):
 
 
 def scripts():
-    """The name of each, its steps with a new processor, and whether these have the calls that set
-    the timeout."""
+    """The name of each, its steps with a new processor, and whether these set the timeout."""
     for vector in all_vectors():
         if vector["kind"] == "calls":
             pieces = [*map(bytes_of, vector["pieces"])]

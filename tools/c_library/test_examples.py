@@ -11,8 +11,7 @@ from c_library.library import CRATE, EXAMPLES, output_of
 # before glibc 2.34 pseudo-terminals were in a library of their own
 OF_PTY = "-lutil"
 STREAM = b"a\xc3\xbc\x1b[1;31m\x1b]2;a;b\x07\xff\n"
-# what each example writes: those of a pty run a program that writes the stream, and a pty writes CR
-# before LF
+# what each example writes: in a pty a program writes the stream, and the pty CR before LF
 PRINTS = r"printf 'a\303\274\033[1;31m\033]2;a;b\007\377\n'"
 EVENTS = "text aü\ncsi 6d\nosc 00\ntext \ufffd\nexecute 0d\nexecute 0a\n".encode()
 TEXT = "aü\ufffd\n".encode()
@@ -63,8 +62,7 @@ def assert_slow(words, pieces):
 
 
 def read_soon(stream, count):
-    """Reads so many bytes, or fewer if they don't come within minutes: beside a gate that takes all
-    cores, a start takes long."""
+    """Reads so many bytes, or fewer if none come for minutes: beside a gate a start takes long."""
     read, more = b"", True
     while more and len(read) < count and select.select([stream], [], [], 300)[0]:
         more = os.read(stream.fileno(), count - len(read))

@@ -26,17 +26,14 @@ BY_HAND = dict([
     (b"\x1b\x1b]52;c\x07]52;c;YQ==\x07", b"\x1b\x1b\\]52;c;YQ==\x07"),
     # others may end a command that is open at the end
     (b"a\x1b]52;c;YQ==", b"a\x1b\\"), (b"\x1b_a\x1b]5", b"\x1b_a\x1b\\")])
-PASSED = [
-    b"", b"\x1b]520;c\x07", b"\x1b]5;2\x07\x1b]52a\x07\x1b];52\x18",
-    b"\x1b]2;" + b"52;" * 500 + b"\x07", b"a\xe4\xbd", b"a\x1b", b"a\x1b\n(", b"a\x1b[1",
-    b"\x1b[1<2", b"a\x1bPq", b"\x1b_52;c", b"\x1b]2;a\x1b"]
+PASSED = [b"", b"\x1b]520;c\x07", b"\x1b]5;2\x07\x1b]52a\x07\x1b];52\x18",
+          b"\x1b]2;" + b"52;" * 500 + b"\x07", b"a\xe4\xbd", b"a\x1b", b"a\x1b\n(", b"a\x1b[1",
+          b"\x1b[1<2", b"a\x1bPq", b"\x1b_52;c", b"\x1b]2;a\x1b"]
 # parts of hostile streams: commands, their ends, and what may be open before them
-PARTS = [
-    b"\x1b]52;c;YQ==", b"\x1b]052;", b"\x1b]5", b"2;c;", b"\x1b\n]52;\x7f", b"\x1b]2;t",
-    b"]52;c", b"\x07", b"\x18", b"\x1a", ST, b"\x1b", b"\x9c", b"\x1b_a", b"\x1bPq", b"\x1bP1?q",
-    b"\x1b[1", b"\x1b[1<2", b"\x1b(", b"\xe4\xbd", b"\xa0", b"m", b"b\r\n"]
-COMMAND = re.compile(
-    rb"([^ -~\x18\x1a]*)\]([^\x07\x18\x1a]*)([\x07\x18\x1a]?)(.*)", re.DOTALL)
+PARTS = [b"\x1b]52;c;YQ==", b"\x1b]052;", b"\x1b]5", b"2;c;", b"\x1b\n]52;\x7f", b"\x1b]2;t",
+         b"]52;c", b"\x07", b"\x18", b"\x1a", ST, b"\x1b", b"\x9c", b"\x1b_a", b"\x1bPq",
+         b"\x1bP1?q", b"\x1b[1", b"\x1b[1<2", b"\x1b(", b"\xe4\xbd", b"\xa0", b"m", b"b\r\n"]
+COMMAND = re.compile(rb"([^ -~\x18\x1a]*)\]([^\x07\x18\x1a]*)([\x07\x18\x1a]?)(.*)", re.DOTALL)
 
 
 def is_clipboard(number):

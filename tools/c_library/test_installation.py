@@ -1,5 +1,4 @@
-"""tools/install, tools/build_c_library and tools/uninstall, and programs over an installed
-library."""
+"""Tests of tools/install, build_c_library and uninstall, and programs over what is installed."""
 import os
 import re
 import shutil
@@ -28,17 +27,15 @@ class Place:
     def __init__(self, library, folder):
         self.library, self.folder = library, folder
         (folder / "temporary").mkdir()
-        self.environment = {
-            **os.environ, "PREFIX": "prefix", "VTE_ARCHIVE": str(library.archive),
-            "VTLOG": "/bin/true", "TMPDIR": str(folder / "temporary"),
-            "PKG_CONFIG_PATH": "prefix/lib/pkgconfig",
-            "LD_LIBRARY_PATH": str(folder / "prefix/lib")}
+        self.environment = {**os.environ, "PREFIX": "prefix", "VTE_ARCHIVE": str(library.archive),
+                            "VTLOG": "/bin/true", "TMPDIR": str(folder / "temporary"),
+                            "PKG_CONFIG_PATH": "prefix/lib/pkgconfig",
+                            "LD_LIBRARY_PATH": str(folder / "prefix/lib")}
         others = () if library.is_whole else HEADERS[1:]
         self.wanted = OF_LIBRARY - {f"include/{name}" for name in others}
 
     def run(self, *words, status=0, says="", **variables):
-        """Runs a program, or one of tools/, which leaves no temporary files, and returns its
-        output."""
+        """The output of a program, or of one of tools/, which leaves no temporary files."""
         if (TOOLS / words[0]).is_file():
             words = (TOOLS / words[0], *words[1:])
         done = subprocess.run(words, cwd=self.folder, env={**self.environment, **variables},
@@ -52,8 +49,7 @@ class Place:
         return {str(file.relative_to(top)) for file in top.rglob("*") if not file.is_dir()}
 
     def uninstall(self, folder, **variables):
-        """Removes what is below a folder, which everybody could use, and leaves what is
-        another's."""
+        """Removes what is below a folder, which all could use, and leaves what is another's."""
         top, files = self.folder / folder, self.installed(folder)
         for file in files:
             mode = 0o755 if "bin/" in file or ".so" in file else 0o644
@@ -170,8 +166,7 @@ def test_package(place):
 
 
 def test_without_tools(place):
-    """Everything is installed below the usual prefix if there is no C compiler, or no cargo that
-    can build."""
+    """All is installed below the usual prefix without a C compiler, or a cargo that can build."""
     tools = place.folder / "cc"
     tools.mkdir()
     for folder in os.environ["PATH"].split(os.pathsep):

@@ -20,10 +20,9 @@ VECTORS = [(vector, bytes_of(vector["pieces"])) for vector in vectors()
            if vector["kind"] in ("events", "text") and vector["limit"] == LIMIT]
 # commands around their limits: the 17th piece isn't reported, but dropped if it has data
 SIXTEEN, MOST = b"a;" * 15 + b"b", b"a" * LIMIT
-COMMANDS = [
-    MOST[1:], MOST, MOST + b"a", MOST[1:] + b";b", MOST[1:] + b";bc", MOST + b";;", MOST + b";;b",
-    b";" + MOST, b"52;c;" + MOST * 3, SIXTEEN, SIXTEEN + b";", SIXTEEN + b";c",
-    SIXTEEN + b";;" + MOST + b"a", b"aa"]
+COMMANDS = [MOST[1:], MOST, MOST + b"a", MOST[1:] + b";b", MOST[1:] + b";bc", MOST + b";;",
+            MOST + b";;b", b";" + MOST, b"52;c;" + MOST * 3, SIXTEEN, SIXTEEN + b";",
+            SIXTEEN + b";c", SIXTEEN + b";;" + MOST + b"a", b"aa"]
 
 
 def compare(library, name, stream, wanted, ways):
@@ -38,8 +37,7 @@ def compare(library, name, stream, wanted, ways):
 
 
 def compare_lines(library, name, stream, lines, ways):
-    """Compares the events. A parser without a limit has the same, unless a command is as long as
-    that allows."""
+    """Compares the events. A parser without a limit has the same if no command reaches it."""
     each = lines.splitlines(True)
     is_long = any(line.startswith(b"osc ") and len(line) >= 2 * LIMIT for line in each)
     compare(library, name, stream, lines, ways if is_long else ways + LONG_WAYS)
@@ -73,8 +71,7 @@ def joined(lines):
 
 
 def test_vectors(library):
-    """Events and text are those that were worked out by hand, for a parser that keeps 1,024
-    bytes."""
+    """Events and text are as worked out by hand, for a parser that keeps 1,024 bytes."""
     def test_vector(case):
         vector, stream = case
         is_text = vector["kind"] == "text"

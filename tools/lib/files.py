@@ -1,11 +1,19 @@
-"""What the programs of tools/ and bench/ share: the top of this repository, their parser of
-arguments, and how files that are made from others are written or checked."""
+"""What the programs of tools/ and bench/ share: the top of this repository, its files, their parser
+of arguments, and how files that are made from others are written or checked."""
 import argparse
 import re
+import subprocess
 import sys
 from pathlib import Path
 
 TOP = Path(__file__).resolve().parents[2]
+
+
+def listed(top):
+    """The files below `top` that git tracks or doesn't ignore: their paths from there."""
+    command = ["git", "ls-files", "-co", "--exclude-standard"]
+    paths = subprocess.run(command, cwd=top, capture_output=True, text=True, check=True).stdout
+    return [path for path in paths.splitlines() if (top / path).is_file()]
 
 
 def parser_of(about, **how):

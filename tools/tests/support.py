@@ -50,8 +50,7 @@ def wait_until(is_so, else_told=""):
 
 
 def run_here(tool, *words, **programs):
-    """The status and the lines of a tool of the shell, which stands in this folder and finds these
-    programs before others."""
+    """The status and lines of a shell tool that stands here, and finds these programs first."""
     write(f"tools/{tool}", (TOOLS / tool).read_text(), 0o755)
     for name, text in programs.items():
         write(f"bin/{name}", f"#!/bin/sh\n{text}\n", 0o755)

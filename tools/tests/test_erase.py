@@ -38,11 +38,11 @@ def differences(source, written, place="c/mod.rs"):
      "fn f() { g(reader, a, up_to(input, b)); }", ""),
     ("fn f() { let (mut reader, input) = chunk.into_reader(); self.looks.add(reader); g(); }",
      "fn f() { let reader = Reader {}; g(); }", ""),
-    ("fn f() { g(text(a, b.c)); take_run(a); }",
-     "fn f() { g(unsafe { text(a, b.c) }); unsafe { take_run(a) }; }", ""),
-    ("fn f() { text(a); }", "fn f() { unsafe { text(b) }; }", "+fn f, -fn f"),
+    ("fn f() { g(text_between(a, b.c)); take_run(a); }",
+     "fn f() { g(unsafe { text_between(a, b.c) }); unsafe { take_run(a) }; }", ""),
+    ("fn f() { text_between(a); }", "fn f() { unsafe { text_between(b) }; }", "+fn f, -fn f"),
     *(("fn f() { g(a); }", f"fn f() {{ unsafe {{ {made} }} }}", "+fn f, -fn f")
-      for made in ("g(a);", "text(a); g(a);", "h(text(a))")),
+      for made in ("g(a);", "text_between(a); g(a);", "h(text_between(a))")),
     ("fn f() { match a { A => 1, _ => c } }", "fn f() { match a { A => { 1 } _ => c, } }", ""),
     ("fn f() { input.up_to(a); }", "fn f() { up_to(input, b); }", "+fn f, -fn f"),
     # contracts and ghosts

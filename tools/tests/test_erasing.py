@@ -147,8 +147,7 @@ TEXTS = [
     # bodies that stay as they are
     *(({}, text) for text in (
         "fn f() -> Option<u8> { let x = *g(); h()?; Some(x) }", "fn f() { !x >= 1 && x <= 5 }",
-        "fn f() { (a % 32) as u32 + match g(b) { Ok(c) => c, Err(_) => return 1, } }")),
-]
+        "fn f() { (a % 32) as u32 + match g(b) { Ok(c) => c, Err(_) => return 1, } }"))]
 
 
 def test_traps():
@@ -177,8 +176,7 @@ def test_texts(given, marked):
     ("fn f() { (\n", 1), ("\nfn f()\n", 2), ("\n/// ```\nfn f() {}\n", 2),
     # marks, and what is below them, in the line of the source
     ("\n// cargo inlines: a\n", 2), ("\n// Cargo: a\n", 2), ("\n/// proof: a\nfn f() {}\n", 2),
-    ("\n// cargo lacks:\nfn f() {}\n", 2), ("// cargo instead: a\n// cargo: b\nc\n#[test]\n", 4),
-])
+    ("\n// cargo lacks:\nfn f() {}\n", 2), ("// cargo instead: a\n// cargo: b\nc\n#[test]\n", 4)])
 def test_what_is_refused(text, line):
     with pytest.raises(Refused) as caught:
         erase(text, "a", "a/x", plan())

@@ -14,8 +14,7 @@ PARTS = {
               ("lacking", "bash no-such-command", "try lacking"),
               ("far", "rust=1.0 no-such-program", "try far")],
     "LATER": [("second", "bash crates rust-1.2 +no-such-tool",
-               "try second 'missing: a thing: not tried'"), ("proofs", "rt", "rt ci")],
-    "LAST": []}
+               "try second 'missing: a thing: not tried'"), ("proofs", "rt", "rt ci")], "LAST": []}
 PROGRAMS = {
     "bin/try": '#!/bin/sh\necho $1 >>asked\necho said by $1\necho $2\n'
                '[ $1 != "$FAILS" ] && [ "$CARGO_HOME" = next ]\n',
@@ -23,8 +22,7 @@ PROGRAMS = {
     # it has its crates only from there
     "bin/cargo": '#!/bin/sh\n[ "$CARGO_HOME" = next ]\n',
     "tools/next_release": '#!/bin/sh\n[ "$FAILS" != crates ] && echo export CARGO_HOME=next\n',
-    "bin/rustc": "#!/bin/sh\necho rustc 1.63.0\n",
-}
+    "bin/rustc": "#!/bin/sh\necho rustc 1.63.0\n"}
 FAR, LACKING = "far: it needs rustc 1.0, no-such-program", "lacking: it needs no-such-command"
 LEFT, WAITS = ["a thing: not tried", FAR, LACKING], "{}: it needs all parts before it to pass"
 ALL, BOTH = "first second proofs", "no-such-command no-such-tool"

@@ -180,8 +180,9 @@ class Judge:
         """The difference at a stream that has none of some rules, of a kind if one is given, or
         None."""
         is_free = freed(pieces, rules, self.house) == pieces
-        found = self.difference(pieces) if is_free else None
-        return found if found and (kind is None or kind in kinds_of(found)) else None
+        difference = self.difference(pieces) if is_free else None
+        is_of_kind = difference and (kind is None or kind in kinds_of(difference))
+        return difference if is_of_kind else None
 
     def left(self, difference, rules, kind=None):
         """What is left of a difference without some rules."""
@@ -350,18 +351,18 @@ class Judge:
             return difference
         def changed(streams):
             *before, pieces = streams
-            found = before and self.difference(pieces, before)
-            alone = found and self.difference(pieces)
-            is_alone = alone and is_alike(alone, found)
-            return found._replace(before=before) if found and not is_alone else None
+            after = before and self.difference(pieces, before)
+            alone = after and self.difference(pieces)
+            is_alone = alone and is_alike(alone, after)
+            return after._replace(before=before) if after and not is_alone else None
 
         def wrong(streams):
             return self.in_time(tries, changed, streams)
 
         tries, streams = iter(range(MAX_CASES // 10)), [*difference.before, difference.pieces]
-        found = wrong(streams) and wrong(streams) and shrunk(streams, wrong)
-        if self.is_over and not found:
+        smallest = wrong(streams) and wrong(streams) and shrunk(streams, wrong)
+        if self.is_over and not smallest:
             raise OutOfTime
-        streams = found and [*found.before, found.pieces]
-        is_sure = found and (self.is_over or all(changed(streams) for _ in range(4)))
-        return found if is_sure else None
+        streams = smallest and [*smallest.before, smallest.pieces]
+        is_sure = smallest and (self.is_over or all(changed(streams) for _ in range(4)))
+        return smallest if is_sure else None

@@ -24,13 +24,11 @@ FUNCTIONS = {
             "m": "SGR", "n": "DSR", "r": "DECSTBM", "s": "SCOSC", "t": "XTWINOPS", "u": "SCORC",
             "?W": "DECST8C", "?h": "DECSET", "?l": "DECRST", "$p": "DECRQM", "?$p": "DECRQM",
             " q": "DECSCUSR", " k": "SCP", ">m": "XTMODKEYS", "?m": "XTQMODKEYS",
-            **{f"{marker}u": "kitty-keyboard" for marker in "<=>?"}},
-}
+            **{f"{marker}u": "kitty-keyboard" for marker in "<=>?"}}}
 
 
 def head_of(vector, rules):
-    """The rules of a vector, its levels and, for events, its house rules. `rules` has those of its
-    file."""
+    """The rules, levels and, for events, house rules of a vector. `rules` are those of its file."""
     used = rules_of(vector)
     levels = sorted((rules[name]["level"] for name in used if name in rules),
                     key=LEVELS.index) or [MUST]

@@ -234,9 +234,8 @@ def test_what_depends_on_other_streams(some, lost, names):
 
 
 # answers to a stream one after another, the last of them again and again
-@pytest.mark.parametrize("answers", [
-    [["unhook"], []], [["unhook"], ["print 0062"], ["unhook"]],
-    [[candidate.HANG], ["unhook"], ["unhook"], []]])
+@pytest.mark.parametrize("answers", [[["unhook"], []], [["unhook"], ["print 0062"], ["unhook"]],
+                                     [[candidate.HANG], ["unhook"], ["unhook"], []]])
 def test_two_answers_are_not_deterministic(answers):
     turns = iter(answers)
     judge = judge_of(lambda pieces, _: ["print 0061"] if pieces == [b"a"]

@@ -85,8 +85,7 @@ RUNNERS = {
     "go": ("go build -o runner run.go my_parser.go", "./runner",
            [('import "fmt"', 'import ("fmt"; "os")'),
             ("range pieces {", 'range pieces { if it, is := os.LookupEnv("SKIP"); !is { panic(is) }'
-             " else if len(piece) == len(it) { continue }")]),
-}
+             " else if len(piece) == len(it) { continue }")])}
 
 
 @pytest.fixture(params=RUNNERS)

@@ -1,66 +1,10 @@
-"""Tests that the checks of builds and releases refuse what they say."""
+"""Tests of what tools/release checks, and of the contents that it tells."""
 import json
-import os
-import re
-import subprocess
 from pathlib import Path
 
 import pytest
-from lib.building import builder
 
-from tests.missing import miss
-from tests.support import Tool, run_here, write
-
-# ---- check_public_items
-
-ITEMS = """pub fn f(a: u8) -> u8 { a }
-pub struct S<A> { pub b: A, pub c: u8 }
-impl<A> S<A> { pub fn g(&self, d: u8) {} }
-impl<A: Clone> Clone for S<A> { fn clone(&self) -> Self { todo!() } }
-pub const N: u8 = 1;
-pub type Y = u8;
-pub trait T { fn h(&self); fn i(&self) {} }
-pub enum E { I(u8) }
-"""
-# an edit of these, and the item in which it differs
-EDITS = [("f(a: u8)", "f(b: u8)", None), ("f(a: u8)", "f(a: u16)", "f"), ("-> u8 { a", "{ ", "f"),
-         ("S<A> { pub b: A", "S<A> { b: A", "S::b"), ("pub c: u8", "pub c: u16", "S::c"),
-         ("d: u8", "d: u16", "S::g"), ("&self, d", "self, d", "S::g"), ("u8 = 1", "u8 = 2", "N"),
-         (re.search("impl<A: Clone.*", ITEMS)[0], "", "S: Clone"), ("Y = u8", "Y = u16", "Y"),
-         ("h(&self);", "h(&self) {}", "T::h"), ("I(u8)", "I(u16)", "E::I"),
-         ("pub enum E { I(u8) }", "", "E"), ("pub struct S<A>", "#[repr(C)] pub struct S<A>", "S")]
-
-
-def test_which_public_items_differ(folder):
-    version = subprocess.run(["rustdoc", "--version"], capture_output=True, text=True).stdout
-    if " 1.95." not in version:
-        miss("rustdoc 1.95, whose pages tools/check_public_items reads")
-    texts = [ITEMS, *(ITEMS.replace(old, new) for old, new, _ in EDITS)]
-    write("lib.rs", "\n".join(f"pub mod m{at} {{ {text} }}" for at, text in enumerate(texts)))
-    subprocess.run(["rustdoc", "lib.rs", "--crate-name", "vte", "-o", "doc"], check=True)
-    found = Tool("check_public_items").parts["items_of_pages"](folder / "doc" / "vte")
-    sides = [{path.partition("::")[2]: text for path, text in found.items()
-              if path.startswith(f"m{at}::")} for at in range(len(texts))]
-    for (old, new, item), side in zip(EDITS, sides[1:]):
-        texts = {path: text for path, text in sides[0].items() if text != side.get(path)}
-        assert [*texts][:1] == [item] * bool(item), (old, new, texts)
-
-
-# ---- check_builds, release
-
-# a function that calls a panic, and whether it is known
-@pytest.mark.parametrize("function, is_known", [
-    ("<vte::Parser>::drive", True), ("vte::scan::find_escape", True), ("vte::any::drive_on", False),
-    ("vte::Store<8>::dispatch", True), ("vte::Store::dispatch_all", False),
-    ("<vte::ParamsIter as Iterator>::next", True), ("vte::Params::next", False),
-    ("vte::Engine<P>::stop", True), ("vte::Engine<P>::stops", False), ("other::f", True)])
-def test_functions_that_may_panic(function, is_known):
-    write("shown", f"0000 <{function}::h0123456789abcdef>:\n 1:\tcall 2 <core::panicking::panic>\n"
-          "0001 <vte::quiet>:\n 2:\tcall 3 <core::slice::len>\n")
-    status, lines = run_here("check_builds", "panics", cargo="", objdump="cat shown")
-    told = [it for it in lines if "::" in it]
-    assert (status, told) == ((0, []) if is_known else (1, [function] * 3))
-
+from tests.support import run_here, write
 
 MANIFESTS = ("rust/vtlog/Cargo.toml", "rust/vte_c/Cargo.toml", "python/pyproject.toml",
              "python/Cargo.toml")
@@ -125,22 +69,3 @@ def test_contents_of_a_release(monkeypatch):
     held = [it["spdxElementId"][-1] + it["relatedSpdxElement"][7:] for it in told["relationships"]]
     assert held == ["0-naqshuve-vte", "1-naqshuve-vte", "1-rust-standard-library", "2-naqshuve-vte",
                     "2-rust-standard-library", "2-both", "2-in-both"]
-
-
-# ---- building
-
-@pytest.mark.parametrize("newest, is_built", [
-    ("benchmark/out/benchmark", False), ("vte/src/lib.rt", True), ("vte/specs/a/B.antt", True),
-    ("vte/proofs/C.antt", True), ("../crates.txt", True)])
-def test_a_proved_program_is_built_unless_it_is_newer(folder, monkeypatch, newest, is_built):
-    built = []
-    monkeypatch.setattr(builder, "TOOLS", folder / "tools")
-    monkeypatch.setattr(builder, "run", lambda words, *_, **__: built.append(words))
-    for name in ("benchmark/out/benchmark", "vte/src/lib.rt", "vte/specs/a/B.antt",
-                 "vte/proofs/C.antt", "../crates.txt"):
-        os.utime(write(f"crates/{name}", ""), (0, 2 if name == newest else 1))
-    for part in (folder / "crates").rglob("*"):
-        if part.is_dir():
-            os.utime(part, (0, 1))
-    assert builder.proved_program("benchmark") == folder / "crates/benchmark/out/benchmark"
-    assert built == [["rt", "run"]] * is_built

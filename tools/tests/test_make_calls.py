@@ -1,24 +1,28 @@
-"""Tests of what tools/make_calls and tools/make_vectors write."""
-import shutil
+"""Tests of what tools/make_calls writes."""
 from pathlib import Path
 
 import pytest
 
 from tests.support import TOOLS, Tool, write
 
-# ---- make_calls
-
 HEADER = "rust/vte_c/include/vte_handler.h"
-# the end of each list with a method more, `ring_bells(&mut self, top: u16, text: &str)`
-ENDS = [
-    "RingBells(u16, &'a str),\n}", "take(HandlerCall::RingBells(top, text));\n    }\n}",
-    "RingBells(top, text): ring_bells visit_number(top as u64) visit_text(text);\n    }",
-    "ring_bells(top: u16, text: &str),\n        }", "ring_bells(u16, &str)\n}",
-    "(top: u16, text: &str) => u16 = top, *const u8 = text.as_ptr(), usize = text.len();\n}",
-    "ring_bells)(void *user, uint16_t top, const uint8_t *text, size_t text_length);\n}",
-    "virtual void ring_bells(uint16_t, std::string_view) {}\n}", "&Handler::ring_bells>,\n}",
-    "RingBells(top, text)\n}", "RingBells,\n]",
-    'class RingBells(NamedTuple):\n    """Rings. Says so."""\n    top: int\n    text: str\n\n\n']
+# the ends of each file's lists with a method more, `ring_bells(&mut self, top: u16, text: &str)`
+ENDS = {
+    "crates/vte_handler/src/by_call.rt": [
+        "RingBells(u16, &'a str),\n}", "take(HandlerCall::RingBells(top, text));\n    }\n}"],
+    "crates/test_lines/src/visitor.rt": [
+        "RingBells(top, text): ring_bells visit_number(top as u64) visit_text(text);\n    }"],
+    "rust/vte/tests/vectors/call_lines.rs": ["ring_bells(top: u16, text: &str),\n        }"],
+    "rust/vte/examples/unknown.rs": ["ring_bells(u16, &str)\n}"],
+    "rust/vte_c/src/processor.rs": [
+        "(top: u16, text: &str) => u16 = top, *const u8 = text.as_ptr(), usize = text.len();\n}"],
+    HEADER: ["ring_bells)(void *user, uint16_t top, const uint8_t *text, size_t text_length);\n}"],
+    "rust/vte_c/include/vte.hpp": [
+        "virtual void ring_bells(uint16_t, std::string_view) {}\n}", "&Handler::ring_bells>,\n}"],
+    "python/rust/calls.rs": ["RingBells(top, text)\n}"],
+    "python/src/vte/calls.py": [
+        'class RingBells(NamedTuple):\n    """Rings. Twice."""\n    top: int\n    text: str\n\n\n',
+        "RingBells,\n]"]}
 
 
 @pytest.fixture
@@ -44,11 +48,10 @@ def update(tool, *files):
 def test_a_call_is_added_to_all_lists_and_removed(calls):
     tool, texts = calls
     trait, *files = texts
-    method = "/// Rings.\n    /// Says so.\n    fn ring_bells(&mut self, top: u16, text: &str)"
+    method = "/// Rings.\n    /// Twice.\n    fn ring_bells(&mut self, top: u16, text: &str)"
     write(trait, texts[trait].replace("/// BEL", f"{method}\n\n    /// BEL", 1))
     update(tool, *files)
-    added = "".join(Path(file).read_text() for file in files)
-    assert [end for end in ENDS if end not in added] == []
+    assert [end for file in files for end in ENDS[file] if end not in Path(file).read_text()] == []
     write(trait, texts[trait])
     update(tool, *files)
     assert {file: Path(file).read_text() for file in texts} == texts
@@ -74,27 +77,3 @@ def test_the_table_of_c_has_one_order(calls):
     write(HEADER, without.replace("} vte_handler;", f"{bell}}} vte_handler;"))
     told = tool.run("--check")[0]
     assert told.startswith(HEADER) and told.endswith("the functions don't have one order")
-
-
-# ---- make_vectors
-
-PLAIN, MARK = "crates/event_vectors/src/log_tests/plain.rt", "// Written by tools/make_vectors."
-
-
-@pytest.mark.parametrize("old, new, told", [
-    (None, None, "crates/event_vectors has no table of PlainVector"),
-    ('text: b"\\x0a"', 'text: b"\\x0d"',
-     f"these files aren't up to date; run tools/make_vectors:\n  {PLAIN}"),
-    ("plain text of nothing", "nothing", f'{PLAIN}: no vector of text has the name "nothing"'),
-    ("[PlainVector;", "[Plain;", f"{PLAIN}: 0 tables, and 1 times `{MARK}`"),
-    ("// Written by", "// By", f"{PLAIN}: 1 tables, and 0 times `{MARK}`")])
-def test_a_wrong_table_is_refused(folder, old, new, told):
-    for name in "event_vectors/src", "call_vectors":
-        shutil.copytree(TOOLS.parent / "crates" / name, folder / "crates" / name)
-    text = Path(PLAIN).read_text()
-    if old is None:
-        Path(PLAIN).unlink()
-    else:
-        assert old in text
-        write(PLAIN, text.replace(old, new, 1))
-    assert Tool("make_vectors").run("--check") == (told, "")

@@ -1,10 +1,8 @@
-"""Tests that each option of a tool, alone, does what its help says. Those of tools/judge, what
-installs, and others are tried where their tools are tested."""
-import os
+"""Tests of tools/streams, and of the words of tools that are written in the shell: check_builds,
+install_packages, next_release, release, run_pytest and test_c_library."""
 import re
 import subprocess
 from argparse import ArgumentParser
-from concurrent.futures import ThreadPoolExecutor
 from importlib import import_module
 from pathlib import Path
 from types import SimpleNamespace
@@ -13,7 +11,7 @@ import pytest
 from c_library import conftest
 from lib.generating.streams import generate
 
-from tests.support import TOOLS, Tool, run_here, write
+from tests.support import TOOLS, run_here, write
 
 
 def test_streams():
@@ -21,8 +19,6 @@ def test_streams():
         written = subprocess.check_output([TOOLS / "streams", name, str(size)])
         assert written == generate(name, size) and len(written) == size
 
-
-# ---- tools of the shell
 
 # what these find in the place of programs: $THERE are the packages that are installed
 PROGRAMS = {
@@ -73,62 +69,21 @@ def test_words(folder, monkeypatch, tool, words, variables, status, said):
     assert found == status and re.match(said, told)
 
 
-# ---- bench
-
-STRIP = {"placements": 1, "cores": [], "kind": "strip", "bytes": 500_000, "rounds": 11,
-         "streams": ["ascii", "prose", "cjk", "cyrillic", "emoji", "ls_color", "coloured",
-                     "latin1", "random"]}
-
-
-@pytest.mark.parametrize("words, changes", [
-    ("strip", {}), ("strip --streams cjk emoji", {"streams": ["cjk", "emoji"]}),
-    ("strip --bytes 99", {"bytes": 99}), ("strip --rounds 3", {"rounds": 3}),
-    ("strip --placements 2", {"placements": 2}), ("strip --core 1", {"cores": [{1}]}),
-    ("calls", {"kind": "calls", "streams": ["ascii", "ls_color", "coloured"] * 3})])
-def test_speed(monkeypatch, words, changes):
-    monkeypatch.syspath_prepend(str(TOOLS.parent / "bench"))
-    run, found = Tool("../bench/run", conditions=lambda *_: []), {"cores": [], "streams": []}
-    measuring, figures = run.parts["measuring"], run.parts["figures"]
-    monkeypatch.setattr(measuring, "Programs", lambda _, placements: found.update(
-        placements=placements) or SimpleNamespace(
-            build=lambda _: None, commands=lambda _: {"ours": [["ours"]]},
-            stream=lambda _, size: size == measuring.CHECKED or found.update(bytes=size)))
-    monkeypatch.setattr(measuring, "compare_checksums", lambda *_: None)
-    monkeypatch.setattr(measuring, "in_passes", lambda *_: lambda: 1)
-    monkeypatch.setattr(figures, "line", lambda row: found["streams"].append(
-        row["stream"]) or found.update(kind=row["kind"], rounds=len(row["nanoseconds"]["ours"])))
-    monkeypatch.setattr(figures, "tables", lambda _: [])
-    monkeypatch.setattr(os, "sched_setaffinity", lambda _, cores: found["cores"].append(cores))
-    run.run(*words.split())
-    assert found == {**STRIP, **changes}
+# a function that calls a panic, and whether it is known
+@pytest.mark.parametrize("function, is_known", [
+    ("<vte::Parser>::drive", True), ("vte::scan::find_escape", True), ("vte::any::drive_on", False),
+    ("vte::Store<8>::dispatch", True), ("vte::Store::dispatch_all", False),
+    ("<vte::ParamsIter as Iterator>::next", True), ("vte::Params::next", False),
+    ("vte::Engine<P>::stop", True), ("vte::Engine<P>::stops", False), ("other::f", True)])
+def test_functions_that_may_panic(function, is_known):
+    write("shown", f"0000 <{function}::h0123456789abcdef>:\n 1:\tcall 2 <core::panicking::panic>\n"
+          "0001 <vte::quiet>:\n 2:\tcall 3 <core::slice::len>\n")
+    status, lines = run_here("check_builds", "panics", cargo="", objdump="cat shown")
+    told = [it for it in lines if "::" in it]
+    assert (status, told) == ((0, []) if is_known else (1, [function] * 3))
 
 
-@pytest.mark.parametrize("words, kinds, changes", [
-    ("strip", "strip filter", {}), ("screens", "screen terminal", {}),
-    ("strip --streams cjk emoji", "strip filter", {"streams": ["cjk", "emoji"]}),
-    ("strip --bytes 99", "strip filter", {"bytes": 99}),
-    ("screens --jobs 3", "screen terminal", {"jobs": 3}),
-    ("calls", "vte_feed", {"streams": ["ascii", "ls_color", "coloured"] * 3})])
-def test_counts(monkeypatch, words, kinds, changes):
-    monkeypatch.syspath_prepend(str(TOOLS.parent / "bench"))
-    found = {"streams": []}
-    count = Tool("../bench/count", passed=lambda words, _, place: (place.size, "left"),
-                 ThreadPoolExecutor=lambda it: found.update(jobs=it) or ThreadPoolExecutor(it))
-    monkeypatch.setattr(count.parts["measuring"], "Programs", lambda _: SimpleNamespace(
-        peers=lambda side: [side], proved="proved", commands=lambda _: {"vte_feed": [["in C"]]},
-        stream=lambda name, size: found.update(bytes=size) or found["streams"].append(
-            name) or SimpleNamespace(name=name, size=size)))
-    _, said = count.run(*words.split())
-    wanted = {"streams": STRIP["streams"], "bytes": 200_000, "jobs": os.cpu_count(), **changes}
-    wanted["streams"] = wanted["streams"] * len(kinds.split())
-    assert sorted(found["streams"]) == sorted(wanted["streams"])
-    assert {**found, "streams": re.findall(r"^\| `(\w+)` .* 1\.00 \|$", said, re.M)} == wanted
-    assert re.findall(r"^\| (?:stream \| call \| )?(\w+) \|", said, re.M) == kinds.split()
-
-
-# ---- the C library: words that pytest gets, and the random streams that they ask for
-
-
+# words for pytest, and the random streams that they ask for
 @pytest.mark.parametrize("words, count, seed", [
     ("", 20_000, 1), ("--short", 400, 1), ("--streams 250", 250, 1), ("--seed 7", 20_000, 7)])
 def test_streams_of_c(monkeypatch, words, count, seed):

@@ -1,0 +1,128 @@
+"""Tests of bench/count and bench/run, and of lib/building, which builds what they run."""
+import os
+import re
+from concurrent.futures import ThreadPoolExecutor
+from types import SimpleNamespace
+
+import pytest
+from lib.building import builder
+
+from tests.support import Tool, write
+
+# ---- the table of bench/count
+
+LIMITS = """# Instructions
+release: {0}
+best: {0}
+rattle: kit
+kind stream call release best rattle
+parser ascii 4096 {1} 4.000 -
+vte_feed ascii 64 - 1.000 -
+"""
+OLD = ["missing: old: the release and best builds were not counted"]
+
+
+@pytest.fixture
+def count(monkeypatch):
+    """What bench/count says to a table, or writes, where each count is 4 or 1."""
+    def counted(*words, kit="kit", allowed="1", rustc="new", cell="4.000"):
+        place = write("instructions.txt", LIMITS.format(rustc, cell))
+        monkeypatch.setenv("NAQSHUVE_ALLOW_MISSING", allowed)
+        tool = Tool("../bench/count", counted=lambda _, __, asked: {
+            (row, column): {"parser": 4.0, "vte_feed": 1.0}[row[0]] for row, column in asked})
+        monkeypatch.setattr(tool.parts["limits"], "TABLE", place)
+        monkeypatch.setattr(tool.parts["limits"], "conditions",
+                            lambda: {"release": "new", "best": "new", "rattle": kit})
+        status, said = tool.run("limits", *words)
+        return status, said.splitlines(), place.read_text()
+    return counted
+
+
+# a table's cell for a count of 4, its compiler, what is told, and how many counts there are
+@pytest.mark.parametrize("given, status, told, counts", [
+    ({"cell": "-"}, 0, [], 2), *(({"cell": it}, 0, [], 3) for it in ("4.000", "3.961", "4.039")),
+    *(({"cell": cell}, status, [f"parser `ascii` in calls of 4,096 B, release: 4.000, {told}"], 3)
+      for cell, status, told in (
+          ("3.960", 1, "above 4.000"), ("3.900", 1, "above 3.939"), ("4.100", 0, "below 4.100"),
+          ("?", 1, "and the table has none"))),
+    ({"cell": "3.000", "rustc": "old"}, 0, OLD, 0), ({"rustc": "old", "allowed": ""}, 1, OLD, 0)])
+def test_counts_above_their_limits(count, given, status, told, counts):
+    last = f"{counts} counts, {status * (counts > 0)} above their limits"
+    assert count("--check", **given)[:2] == (status, [*told, last])
+
+
+def test_limits_are_written(count):
+    status, said, text = count(rustc="old", cell="?", kit="")
+    assert (status, said[1:]) == (0, ["3 counts are written"])
+    found, wanted = ([line.split() for line in it.splitlines()[1:]]
+                     for it in (text, LIMITS.format("new", "4.000")))
+    assert found == wanted
+
+
+# ---- the options of both: what they change, alone
+
+STRIP = {"placements": 1, "cores": [], "kind": "strip", "bytes": 500_000, "rounds": 11,
+         "streams": "ascii prose cjk cyrillic emoji ls_color coloured latin1 random".split()}
+
+
+@pytest.mark.parametrize("words, changes", [
+    ("strip", {}), ("strip --streams cjk emoji", {"streams": ["cjk", "emoji"]}),
+    ("strip --bytes 99", {"bytes": 99}), ("strip --rounds 3", {"rounds": 3}),
+    ("strip --placements 2", {"placements": 2}), ("strip --core 1", {"cores": [{1}]}),
+    ("calls", {"kind": "calls", "streams": ["ascii", "ls_color", "coloured"] * 3})])
+def test_speed(monkeypatch, words, changes):
+    run, found = Tool("../bench/run", conditions=lambda *_: []), {"cores": [], "streams": []}
+    measuring, figures = run.parts["measuring"], run.parts["figures"]
+    monkeypatch.setattr(measuring, "Programs", lambda _, placements: found.update(
+        placements=placements) or SimpleNamespace(
+            build=lambda _: None, commands=lambda _: {"ours": [["ours"]]},
+            stream=lambda _, size: size == measuring.CHECKED or found.update(bytes=size)))
+    monkeypatch.setattr(measuring, "compare_checksums", lambda *_: None)
+    monkeypatch.setattr(measuring, "in_passes", lambda *_: lambda: 1)
+    monkeypatch.setattr(figures, "line", lambda row: found["streams"].append(
+        row["stream"]) or found.update(kind=row["kind"], rounds=len(row["nanoseconds"]["ours"])))
+    monkeypatch.setattr(figures, "tables", lambda _: [])
+    monkeypatch.setattr(os, "sched_setaffinity", lambda _, cores: found["cores"].append(cores))
+    run.run(*words.split())
+    assert found == {**STRIP, **changes}
+
+
+@pytest.mark.parametrize("words, kinds, changes", [
+    ("strip", "strip filter", {}), ("strip --bytes 99", "strip filter", {"bytes": 99}),
+    ("screens", "screen terminal", {}), ("screens --jobs 3", "screen terminal", {"jobs": 3}),
+    ("strip --streams cjk emoji", "strip filter", {"streams": ["cjk", "emoji"]}),
+    ("calls", "vte_feed", {"streams": ["ascii", "ls_color", "coloured"] * 3})])
+def test_counts(monkeypatch, words, kinds, changes):
+    found = {"streams": []}
+    count = Tool("../bench/count", passed=lambda words, _, place: (place.size, "left"),
+                 ThreadPoolExecutor=lambda it: found.update(jobs=it) or ThreadPoolExecutor(it),
+                 copy_libc=lambda folder: None)
+    monkeypatch.setattr(count.parts["measuring"], "Programs", lambda folder: SimpleNamespace(
+        folder=folder, peers=lambda side: [side], proved="proved",
+        commands=lambda _: {"vte_feed": [["in C"]]}, stream=lambda name, size: found.update(
+            bytes=size) or found["streams"].append(name) or SimpleNamespace(name=name, size=size)))
+    _, said = count.run(*words.split())
+    wanted = {"streams": STRIP["streams"], "bytes": 200_000, "jobs": os.cpu_count(), **changes}
+    wanted["streams"] = wanted["streams"] * len(kinds.split())
+    assert sorted(found["streams"]) == sorted(wanted["streams"])
+    assert {**found, "streams": re.findall(r"^\| `(\w+)` .* 1\.00 \|$", said, re.M)} == wanted
+    assert re.findall(r"^\| (?:stream \| call \| )?(\w+) \|", said, re.M) == kinds.split()
+
+
+# ---- lib/building
+
+@pytest.mark.parametrize("newest, is_built", [
+    ("benchmark/out/benchmark", False), ("vte/src/lib.rt", True), ("vte/specs/a/B.antt", True),
+    ("vte/proofs/C.antt", True), ("../crates.txt", True)])
+def test_a_proved_program_is_built_unless_it_is_newer(folder, monkeypatch, newest, is_built):
+    built = []
+    monkeypatch.setattr(builder, "TOOLS", folder / "tools")
+    monkeypatch.setattr(builder, "run", lambda words, *_, **__: built.append(words))
+    for name in ("benchmark/out/benchmark", "vte/src/lib.rt", "vte/specs/a/B.antt",
+                 "vte/proofs/C.antt", "../crates.txt"):
+        os.utime(write(f"crates/{name}", ""), (0, 2 if name == newest else 1))
+    for part in (folder / "crates").rglob("*"):
+        if part.is_dir():
+            os.utime(part, (0, 1))
+    assert builder.proved_program("benchmark") == folder / "crates/benchmark/out/benchmark"
+    assert built == [["rt", "run"]] * is_built

@@ -1,0 +1,29 @@
+"""Tests that tools/check_lines refuses what it says."""
+import subprocess
+
+import pytest
+
+from tests.support import Tool, write
+
+# a file, how a line begins there that goes on with short words, and its longest form, or 0 for any
+LINES = {
+    "program": ("b/run", "#!/bin/sh", 100), "Python": ("x.py", "use a", 100),
+    "Rattle": ("crates/x/src/lib.rt", "fn f", 100),
+    "statement": ("crates/x/specs/A.antt", "a", 100), "proof": ("crates/x/proofs/A.antt", "a", 120),
+    "import of Rust": ("rust/x/src/lib.rs", "use a", 100),
+    "import": ("crates/x/src/lib.rt", "ghost use a", 0),
+    "import of a proof": ("crates/x/proofs/A.antt", "unfoldable pub use a", 0),
+    "tactic": ("crates/x/src/lib.rt", "    #[tactic(auto, u(a", 0),
+    "long word": ("crates/x/specs/A.antt", "a " + "x" * 120, 0), "edit": ("e.edit", "", 0),
+    "input": ("c/stdin", "", 0), "document": ("d.md", "", 0),
+    "erased text": ("rust/x/src/proved/f.rs", "", 0)}
+
+
+@pytest.mark.parametrize("place, begin, most", LINES.values(), ids=LINES)
+def test_how_long_a_line_may_be(place, begin, most):
+    subprocess.run(["git", "init", "-q"], check=True)
+    line = (begin + " x" * 60)[:most or None]
+    write(place, f"{line}\n{line}y\n")
+    status, printed = Tool("check_lines").run()
+    told = [f"{place}:2: a line of {most + 1} characters"] * bool(most)
+    assert (status, printed.splitlines()[:-1]) == (bool(most), told)

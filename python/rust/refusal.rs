@@ -46,8 +46,9 @@ impl Refusal {
         });
         match answered {
             Err(error) if error.is_instance_of::<PyMemoryError>(py) => {
-                drop(self);
+                // first, since what this has no memory for stays on the tape
                 let made = made.or_else(|| tape.some(py));
+                drop(self);
                 Err(refused(py, read, made, tape.has_lost()))
             }
             answered => {

@@ -9,7 +9,7 @@ CORE, CARGO = "crates/vte_core/src/", "rust/vte/src/proved/vte_core/"
 # a file, its `unsafe`, and a text with just that
 READER, ONE, TEXT = f"{CORE}reader.rt", "1 text_between", "fn text_between() { unsafe { g() } }"
 MADE, USED, UNCOUNTED = (f":1: {it}" for it in (
-    "other modules can make a reader", "the bytes of a call are used", "bytes are read uncounted"))
+    "other modules can make this", "the bytes of a call are used", "bytes are read uncounted"))
 
 
 def stands(told, allowed="0"):
@@ -50,6 +50,7 @@ CASES = {
     "others set the trail of a reader": (READER, f"pub trail: Snapshot<Trail>, {TEXT}", MADE),
     "others make a parser": (f"{CORE}parser.rt", "pub(crate) fn new(bytes: B) -> Self", ""),
     **{what: (f"{CORE}reader/{name}.rt", line, told) for what, name, line, told in (
+        ("others set the looks of a parser", "looks", "pub trail: Snapshot<Trail>,", MADE),
         ("a call passes its bytes on", "calls",
          "self.drive::<P, InRuns, true>(performer, Chunk::new(bytes)) // bytes", ""),
         ("a call takes a run", "long_calls", "Ok(take_run(bytes, range))", ""),

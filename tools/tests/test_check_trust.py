@@ -47,10 +47,10 @@ CASES = {
                          ("denies something else", "#![deny(unsafe_code_of_others)]"))},
     "its own module makes a reader": (READER, f"fn new(bytes: &'a [u8]) -> Self {TEXT}", ""),
     "others make a reader": (READER, f"pub(crate) fn new(bytes: &'a [u8]) {TEXT}", MADE),
-    "others set the trail of a reader": (READER, f"pub trail: Snapshot<Trail>, {TEXT}", MADE),
+    "others set the tally of a reader": (READER, f"pub tally: Snapshot<Tally>, {TEXT}", MADE),
     "others make a parser": (f"{CORE}parser.rt", "pub(crate) fn new(bytes: B) -> Self", ""),
     **{what: (f"{CORE}reader/{name}.rt", line, told) for what, name, line, told in (
-        ("others set the looks of a parser", "looks", "pub trail: Snapshot<Trail>,", MADE),
+        ("others set the looks of a parser", "looks", "pub tally: Snapshot<Tally>,", MADE),
         ("a call passes its bytes on", "calls",
          "self.drive::<P, InRuns, true>(performer, Chunk::new(bytes)) // bytes", ""),
         ("a call takes a run", "long_calls", "Ok(take_run(bytes, range))", ""),

@@ -16,7 +16,7 @@ meaning = record { limit = usual_limit; step = rung_after; timeout = pending_mea
 abbrev pub start : State Bool Bool
 start = record { parsed = []; stops = []; held = []; timeout = false; handler = false }
 
--- The session has taken these calls.
+-- The session has made these calls of its processor, from the beginning on.
 pub record HasMade (session : Session) (steps : List Step) : Type 0 where
   pub state : State Bool Bool
   pub takes : TakesSteps meaning start steps state

@@ -46,7 +46,7 @@ pub use Rattle.vte.specs.LongProcessor.{EngineReads, EngineStops, HasParsedAndHo
 pub use Rattle.vte.specs.Memory.{HasMemory, HasTextMemory, ParserHasMemory, KeepsMemory}
 pub use Rattle.vte.specs.Numbers.{decimal_number, first_number, first_numbers}
 pub use Rattle.vte.specs.Split.{first_after, split_by}
-pub use Rattle.vte.specs.machine.Engine.{EngineIsAt, EngineIsAtKeeping, EndsParsingTurn, EndsTurn, HasBeenRefused, HasParsedPrefix, HasParsedWithoutBegin, ArePartsAt, ArePartsAtKeeping, ArePartsAtWithMemory, HasTakenParsingTurn, HasTurned}
+pub use Rattle.vte.specs.machine.Engine.{EngineIsAt, EngineIsAtKeepingMemory, EndsParsingTurn, EndsTurn, HasBeenRefused, HasParsedPrefix, HasParsedWithoutBegin, ArePartsAt, ArePartsAtKeepingMemory, ArePartsAtWithMemory, HasTakenParsingTurn, HasTurned}
 pub use Rattle.vte.specs.Views.{EngineHasMemory, EngineHasParsedAndHolds, ParserView, EngineView, bounded_engine_view, long_parser_view, engine_view, limited_parser_view, long_engine_view}
 pub use Rattle.vte.specs.Rendition.{attribute_calls, attributes_from}
 pub use Rattle.vte_types.specs.Words.{after_word}

@@ -1,6 +1,6 @@
 -- A performer's value after the events of bytes. The handler and the state that it was lent come back as they are
 -- after the bytes, and an early stop reads the prefix up to the begin of an update.
-use Rattle.vte.proofs.Common.{◌≡◌, ℕ, List, [], ◌∷◌, ◌++◌, refl, ap, ◌∙◌, Event, added, events, events_grow, after, calls_from, last_printed_after, last_printed, last_printed_from, ◌+◌, Bool, ◌||◌, nat_lt, arith, nat_tests, set_times, PerformerValue, length, sym, or-false, with_event, ◌<◌, inl, inr, false, All, take, cases_lt, false≢true, All-head, All-tail, reported_before, resumed_stream, StopsExactly, starts-settled, resumed_stream-settled, reported-settled, ProcessorState, begin_count, begins_in_event, calls_of, performer_value, Meaning, FitsText, engine_view, ArePartsAt, ArePartsAtKeeping, KeepsMemory, State, parse, prefix_to_begin, ParserView}
+use Rattle.vte.proofs.Common.{◌≡◌, ℕ, List, [], ◌∷◌, ◌++◌, refl, ap, ◌∙◌, Event, added, events, events_grow, after, calls_from, last_printed_after, last_printed, last_printed_from, ◌+◌, Bool, ◌||◌, nat_lt, arith, nat_tests, set_times, PerformerValue, length, sym, or-false, with_event, ◌<◌, inl, inr, false, All, take, cases_lt, false≢true, All-head, All-tail, reported_before, resumed_stream, StopsExactly, starts-settled, resumed_stream-settled, reported-settled, ProcessorState, begin_count, begins_in_event, calls_of, performer_value, Meaning, FitsText, engine_view, ArePartsAt, ArePartsAtKeepingMemory, KeepsMemory, State, parse, prefix_to_begin, ParserView}
 use Rattle.vte_core.specs.Event.{after as performed}
 use Rattle.vte.specs.declared.ansi.calls.performer.Performer.{Performer}
 use Rattle.vte.proofs.updates.Prefixes.{IsPrefix, open_character-prefix, prefix-is, begin_count-told, breaks_at-prefix}
@@ -68,7 +68,7 @@ module _ {H T B G V W : Type 0} (handler_of : H → V) (timeout_of : T → W) (t
       → view.has_read next (s.parsed ++ f)
       → (old.handler_name ≡ new.handler.ghost_name → handler ≡ new.handler.now)
       → ((size : ℕ) → KeepsMemory (view.has_memory parser size) (view.has_memory next size))
-      → ArePartsAtKeeping (engine_view m.limit view text_size_of timeout_of) parser lent next state
+      → ArePartsAtKeepingMemory (engine_view m.limit view text_size_of timeout_of) parser lent next state
       (handler_of handler)
       (parse m s f)
   performer-given_back {lent} at at_last at_timeout at_handler at_text_size read back_handler keeps =

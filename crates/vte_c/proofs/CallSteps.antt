@@ -1,14 +1,14 @@
 -- A call goes on (`ReadsOn`) by calls of the parser, whose events are written as long as there is room, and by the runs
 -- that these return. One step after another is a longer one (`goes-then`).
-use Rattle.vte_c.proofs.Common.{AreCharacters, Bool, ComesTo, DataRun, Event, ReadsOn, GoesOnFromPositions, HasReadOn, HasItems, HasRead, HaveOtherRecords, InInput, IsRunOfKind, usual_limit, IsRunAt, List, OpensSilently, Parser, Print, Put, Room, Run, Single, Starts, StopsAtNone, ReportsUnits, TextRun, [], added, after, ap, append-nil, arith, breaks_at, cases_Bool, cases_lt, chars, data_of, drop, drop-drop, false, false≢true, filter-append, flat_map, flat_map-append, has, if◌then◌else◌, inl, inr, is_full, is_stop, item_events, kind_of, len_utf8_bounds, length, length-append, length-drop, length-encode, map, nat_tests, refl, replacement, reported, resumed, run_events, run_kind, run_record, resumed_stream, subst, sym, take, reported_before, true, with_event, with_items, with_run, with_taken, with_wanted, zero-add, ℕ, ◌++◌, ◌+◌, ◌-◌, ◌<◌, ◌∙◌, ◌∷◌, ◌≡◌, ◌≤◌}
+use Rattle.vte_c.proofs.Common.{AreCharacters, Bool, ComesTo, DataRun, Event, ReadsOn, GoesOnFromPositions, HasReadOn, HasEntries, HasRead, HaveOtherRecords, InInput, IsRunOfKind, usual_limit, IsRunAt, List, OpensSilently, Parser, Print, Put, Room, Run, Single, Starts, StopsAtNone, ReportsUnits, TextRun, [], added, after, ap, append-nil, arith, breaks_at, cases_Bool, cases_lt, chars, data_of, drop, drop-drop, false, false≢true, filter-append, flat_map, flat_map-append, has, if◌then◌else◌, inl, inr, is_full, is_stop, entry_events, kind_of, len_utf8_bounds, length, length-append, length-drop, length-encode, map, nat_tests, refl, replacement, reported, resumed, run_events, run_kind, run_record, resumed_stream, subst, sym, take, reported_before, true, with_event, with_entries, with_run, with_taken, with_wanted, zero-add, ℕ, ◌++◌, ◌+◌, ◌-◌, ◌<◌, ◌∙◌, ◌∷◌, ◌≡◌, ◌≤◌}
 use Rattle.vte_core.proofs.streams.After.{added-nothing}
 use Rattle.vte_core.specs.AdvanceToRun.{IsLongestRun, ReturnsRun, run_bytes, run_events as returned_events, taken_bytes}
 use Rattle.vte_core.specs.declared.reader.run.Run.{Run as Returned}
 use Rattle.vte_core.specs.declared.reader.run.Taken.{Taken}
 use Rattle.vte_core.specs.declared.reader.run.Taken.TheVariants.{Text, Data, Nothing}
-use Rattle.vte_core.proofs.EarlyStops.{kept_at}
-use Rattle.vte_c.proofs.Continuations.{items_others, others_append, others_before, others_earlier, others_front, others_reported, runs_other, continues-added, continues-call, continues-nothing, continues-then}
-use Rattle.vte_c.proofs.Rooms.{event_passed, event_written, items-nothing, items-run, items-then, items-unit_more, items_of, paused_after, resumed_free, resumed_same, unmet, unpaused}
+use Rattle.vte_core.proofs.EarlyStops.{passed-at}
+use Rattle.vte_c.proofs.Continuations.{entries_others, others_append, others_before, others_earlier, others_front, others_reported, runs_other, continues-added, continues-call, continues-nothing, continues-then}
+use Rattle.vte_c.proofs.Rooms.{event_passed, event_written, entries-nothing, entries-run, entries-then, entries-unit_more, entries_of, paused_after, resumed_free, resumed_same, unmet, unpaused}
 
 -- ---- a run of the input
 
@@ -42,25 +42,25 @@ goes-run {old} {new} {since} {bytes} run {from} {size} free is stands adds =
     elim (cases_Bool (has old.kinds (run_kind run))) [
       | inl wanted ↦ record {
         told = run_events run part;
-        items = InInput run from size ∷ [];
+        entries = InInput run from size ∷ [];
         continues = goes_on;
         shows = rw (append-nil (run_events run part)) (sym (run_reported old.kinds true run part wanted));
-        holds = items-run bytes run from size free stands (rw wanted at is);
+        holds = entries-run bytes run from size free stands (rw wanted at is);
         before = before;
       }
       | inr other ↦ record {
         told = run_events run part;
-        items = [];
+        entries = [];
         continues = goes_on;
         shows = sym (run_reported old.kinds false run part other);
-        holds = rw (rw other at is) (items-nothing old bytes);
+        holds = rw (rw other at is) (entries-nothing old bytes);
         before = before;
       }
     ]
 
 -- ---- a call of the parser
 
-events-singles : (input : List ℕ) (events : List Event) → flat_map (item_events input) (map Single events) ≡ events
+events-singles : (input : List ℕ) (events : List Event) → flat_map (entry_events input) (map Single events) ≡ events
 events-singles input [] = refl
 events-singles input (event ∷ events) = ap (λ (es : List Event). event ∷ es) (events-singles input events)
 
@@ -77,7 +77,7 @@ goes_on_at_first old true starts others =
     let same : resumed next ≡ next = resumed_same next going in
     elim (cases_Bool (has old.kinds 0)) [
       | inl wanted ↦
-          let is : next ≡ with_items old (Single (Print replacement) ∷ []) =
+          let is : next ≡ with_entries old (Single (Print replacement) ∷ []) =
           sym same
           ∙ event_written old (Print replacement) starts.paused
           (record {
@@ -104,28 +104,28 @@ module _ (old new : Room) (since bytes : List ℕ) (from n : ℕ) (laws : Laws) 
 
   -- All that was told is written, since the room wasn't full at any start that the call came to.
   told_written : (i : ℕ) → i ≤ n
-      → HasItems old (resumed (after with_event old (told_at i))) bytes (items_of old (told_at i))
+      → HasEntries old (resumed (after with_event old (told_at i))) bytes (entries_of old (told_at i))
   told_written i come =
-      kept_at (λ events. HasItems old (resumed (after with_event old events)) bytes (items_of old events))
+      passed-at (λ events. HasEntries old (resumed (after with_event old events)) bytes (entries_of old events))
       (λ events. is_full (after with_event old events) ≡ false)
-      since (drop from bytes) laws.units (rw (resumed_same old (unpaused old free)) (items-nothing old bytes)) free
-      (items-unit_more bytes old)
+      since (drop from bytes) laws.units (rw (resumed_same old (unpaused old free)) (entries-nothing old bytes)) free
+      (entries-unit_more bytes old)
       i (omega (arith, s.within)) (λ j earlier. s.earlier j (omega arith))
 
   goes-call : ReadsOn old (resumed new) since (resumed_stream since (drop from bytes) n) bytes from n
   goes-call = record {
     told = told_at n;
-    items = items_of old (told_at n);
+    entries = entries_of old (told_at n);
     continues = continues-call laws.goes_on since (drop from bytes) n;
     shows = events-singles bytes (reported old.kinds (told_at n));
     holds =
-        subst (λ (r : Room). HasItems old (resumed r) bytes (items_of old (told_at n))) (sym s.performed)
+        subst (λ (r : Room). HasEntries old (resumed r) bytes (entries_of old (told_at n))) (sym s.performed)
         (told_written n (omega arith));
     before = λ none.
         others_before (is_stop old.kinds old.stops) none.0 since (drop from bytes) n s.within laws.silent
         (λ i earlier start.
         others_reported old.kinds old.stops (told_at i) (rw (events-singles bytes (reported old.kinds (told_at i))) at
-        (items_others old.stops bytes old.used (items_of old (told_at i))
+        (entries_others old.stops bytes old.used (entries_of old (told_at i))
         (unmet (told_written i (omega arith))
         (resumed_free (after with_event old (told_at i)) (s.earlier i earlier start))))));
   }
@@ -135,10 +135,10 @@ module _ (old new : Room) (since bytes : List ℕ) (from n : ℕ) (laws : Laws) 
 goes-nothing : {room : Room} {since bytes : List ℕ} {from : ℕ} → ReadsOn room room since since bytes from 0
 goes-nothing {room} {since} {bytes} {from} = record {
   told = [];
-  items = [];
+  entries = [];
   continues = continues-nothing since (drop from bytes);
   shows = refl;
-  holds = items-nothing room bytes;
+  holds = entries-nothing room bytes;
   before = λ none i earlier. absurd (omega arith);
 }
 
@@ -154,12 +154,12 @@ goes-then {old} {mid} {since} {bytes} {from} {n} {m} a free within b =
     let stops : mid.stops ≡ old.stops = ap (λ (r : Room). r.stops) a.holds.room in
     record {
       told = a.told ++ b.told;
-      items = a.items ++ b.items;
+      entries = a.entries ++ b.entries;
       continues = continues-then a.continues (rw rest at b.continues) (omega (arith, within));
       shows =
-          rw (flat_map-append (item_events bytes) a.items b.items, filter-append, a.shows)
+          rw (flat_map-append (entry_events bytes) a.entries b.entries, filter-append, a.shows)
           (rw kinds at (ap (λ (es : List Event). reported old.kinds a.told ++ es) b.shows));
-      holds = items-then a.holds free b.holds;
+      holds = entries-then a.holds free b.holds;
       before = λ none i earlier. elim (cases_lt i n) [
         | inl front ↦ a.before none i front
         | inr after_it ↦
@@ -169,7 +169,7 @@ goes-then {old} {mid} {since} {bytes} {from} {n} {m} a free within b =
             let stop : ℕ → Bool = is_stop old.kinds old.stops in
             let told_others =
             others_reported old.kinds old.stops a.told
-            (rw a.shows at (items_others old.stops bytes old.used a.items (unmet a.holds free))) in
+            (rw a.shows at (entries_others old.stops bytes old.used a.entries (unmet a.holds free))) in
             let more = rw (kinds, stops, rest) at (b.before (rw (kinds, stops) none) k (omega arith)) in
             rw (← place)
             (others_front stop (added usual_limit since (take (n + k) unread)) front.others

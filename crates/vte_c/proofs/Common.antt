@@ -29,8 +29,8 @@ pub use Rattle.vte_core.specs.declared.parser.Parser.{Parser}
 pub use Rattle.vte_core.specs.declared.parser.saved.Saved.{Saved}
 pub use Rattle.vte_c.specs.Events.{AreCharacters, Holds, Room, Starts, has_room_for, is_full, paused_if, resumed, room_of, with_event, with_run, with_taken, with_wanted}
 unfoldable pub use Rattle.vte_c.specs.Events.{with_one, with_record}
-pub use Rattle.vte_c.specs.Feeding.{AreFirst, Continues, HasFed, ReadsOn, HasReadOn, HasItems, HaveOtherRecords, StopsAtNone, has_kind, kinds_of, with_items}
-pub use Rattle.vte_c.specs.Record.{DataRun, InInput, Item, Run, Single, TextRun, count_byte, data_of, events_in, flag_byte, group_bytes, groups_in, has_most, intermediates_in, item_data, item_events, kind_of, may_have_lost, numbers_in, piece_bytes, pieces_in, record_at, records_from, reported, run_events, run_kind, run_record, two_bytes, most_added, with_intermediates, with_loss}
+pub use Rattle.vte_c.specs.Feeding.{AreFirst, Continues, HasFed, ReadsOn, HasReadOn, HasEntries, HaveOtherRecords, StopsAtNone, has_kind, kinds_of, with_entries}
+pub use Rattle.vte_c.specs.Record.{DataRun, InInput, Entry, Run, Single, TextRun, count_byte, data_of, events_in, flag_byte, group_bytes, groups_in, has_most, intermediates_in, entry_data, entry_events, kind_of, may_have_lost, numbers_in, piece_bytes, pieces_in, record_at, records_from, reported, run_events, run_kind, run_record, two_bytes, most_added, with_intermediates, with_loss}
 unfoldable pub use Rattle.vte_c.specs.Record.{event_in, events_of, has, without_loss}
 pub use Rattle.vte_c.specs.Text.{TextRoom, text_room_of, with_text_of}
 unfoldable pub use Rattle.vte_c.specs.Text.{with_text}

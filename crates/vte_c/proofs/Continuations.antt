@@ -1,6 +1,6 @@
 -- A parser that read a part of a call goes on as one that has read another stream (`Continues`), and so it does after
 -- the next part: what the parts add is joined.
-use Rattle.vte_c.proofs.Common.{AreFirst, Continues, Event, GoesOnFromPositions, List, Print, [], add_assoc, added, ap, append-nil, append_assoc, arith, breaks, usual_limit, breaks_at, cases_Bool, drop, drop-drop, inl, inr, length, length-drop, open_character, refl, replacement, resumed_stream, suc, sym, take, take-add, take-append-drop, reported_before, true, zero, zero-add, ℕ, ◌++◌, ◌+◌, ◌∙◌, ◌∷◌, ◌≡◌, ◌≤◌, AreOthers, Bool, DataRun, HaveOtherKinds, HaveOtherRecords, InInput, IsStart, Item, OpensSilently, Put, Run, Single, TextRun, VteEvent, add-one, chars, false, flat_map, get_or, has, has_kind, if◌then◌else◌, is_stop, item_data, item_events, kind_of, map, or_parts, records_from, reported, run_events, run_kind, take_more, ◌-◌, ◌<◌}
+use Rattle.vte_c.proofs.Common.{AreFirst, Continues, Event, GoesOnFromPositions, List, Print, [], add_assoc, added, ap, append-nil, append_assoc, arith, breaks, usual_limit, breaks_at, cases_Bool, drop, drop-drop, inl, inr, length, length-drop, open_character, refl, replacement, resumed_stream, suc, sym, take, take-add, take-append-drop, reported_before, true, zero, zero-add, ℕ, ◌++◌, ◌+◌, ◌∙◌, ◌∷◌, ◌≡◌, ◌≤◌, AreOthers, Bool, DataRun, HaveOtherKinds, HaveOtherRecords, InInput, IsStart, Entry, OpensSilently, Put, Run, Single, TextRun, VteEvent, add-one, chars, false, flat_map, get_or, has, has_kind, if◌then◌else◌, is_stop, entry_data, entry_events, kind_of, map, or_parts, records_from, reported, run_events, run_kind, take_more, ◌-◌, ◌<◌}
 use Rattle.vte_core.proofs.EarlyStops.{added-append}
 use Rattle.vte_core.proofs.streams.After.{added-nothing}
 
@@ -107,7 +107,7 @@ pub kinds-append : (stops : ℕ) (front back : List ℕ) → HaveOtherKinds stop
 kinds-append stops [] back f b = b
 kinds-append stops (kind ∷ front) back f b = (f.0, kinds-append stops front back f.1 b)
 
--- ---- events that do not stop (`AreOthers`): of lists, runs and items, and of fewer bytes
+-- ---- events that do not stop (`AreOthers`): of lists, runs and entries, and of fewer bytes
 
 pub others_front : (stop : ℕ → Bool) (front back : List Event) → AreOthers stop (front ++ back) → AreOthers stop front
 others_front stop [] back h = tt
@@ -129,16 +129,16 @@ runs_other stop TextRun bytes other = each_other stop Print (λ c. other) (chars
 runs_other stop DataRun bytes other = each_other stop Put (λ b. other) bytes
 
 -- The events of records that don't stop don't stop either.
-pub items_others : (stops : ℕ) (input : List ℕ) (place : ℕ) (items : List Item)
-    → HaveOtherRecords stops (records_from place items)
-    → AreOthers (has stops) (flat_map (item_events input) items)
-items_others stops input place [] h = tt
-items_others stops input place (Single event ∷ items) h =
-    (h.0, items_others stops input (place + length (item_data (Single event))) items h.1)
-items_others stops input place (InInput run start size ∷ items) h =
+pub entries_others : (stops : ℕ) (input : List ℕ) (place : ℕ) (entries : List Entry)
+    → HaveOtherRecords stops (records_from place entries)
+    → AreOthers (has stops) (flat_map (entry_events input) entries)
+entries_others stops input place [] h = tt
+entries_others stops input place (Single event ∷ entries) h =
+    (h.0, entries_others stops input (place + length (entry_data (Single event))) entries h.1)
+entries_others stops input place (InInput run start size ∷ entries) h =
     let bytes : List ℕ = take size (drop start input) in
-    others_append (has stops) (run_events run bytes) (flat_map (item_events input) items)
-    (runs_other (has stops) run bytes h.0) (items_others stops input (place + 0) items h.1)
+    others_append (has stops) (run_events run bytes) (flat_map (entry_events input) entries)
+    (runs_other (has stops) run bytes h.0) (entries_others stops input (place + 0) entries h.1)
 
 -- An event that isn't reported doesn't stop.
 pub others_reported : (kinds stops : ℕ) (events : List Event) → AreOthers (has stops) (reported kinds events)

@@ -1,6 +1,6 @@
--- A caller finds in its buffers the records and data of the items that a call wrote, and reads their events back from
--- them. More bytes after the input change nothing.
-use Rattle.vte_c.proofs.Common.{AreGroups, AreReadable, Bool, CsiDispatch, DataRun, EscDispatch, Event, Hook, InInput, IsBounded, Item, List, OscDispatch, Print, Put, Run, usual_limit, Single, TextRun, VteEvent, [], add-zero, ap, append_assoc, arith, cases_Bool, concat, count_byte, count_of, data_of, drop, drop-append_seam, drop-drop, eqb-true, event_in, events_of, false, flag_byte, flat_map, get_or, group_bytes, groups_in, inl, inr, intermediates_in, item_data, item_events, kinds_of, length, length-append, map, map-set_same, min, numbers_in, piece_bytes, pieces_in, record_at, records_from, refl, run_events, run_kind, run_record, set, sum_by-cons, sym, take, take-append-drop, take-append_seam, take-map, true, two_bytes, with_intermediates, with_loss, without_loss, ℕ, ◌%◌, ◌*◌, ◌++◌, ◌+◌, ◌/◌, ◌==◌, ◌∙◌, ◌∷◌, ◌≡◌, ◌≤◌, Execute, HasGiven, HasReadSaved, Saved, Unhook, added, append-nil, events, has, kind_of, nat_tests, no_room, fed_count, reported, ◌<◌, AreEncoded, Events, HasFed, HasReadOn, HasItems, HasRead, HasReported, HaveOtherRecords, IsRunAt, Parser, Room, Starts, drop-append-le, events_in, filter-append, length-drop, length-map, length-take, room_of, take-append-le}
+-- A caller finds in its buffers the records and data of the entries that a call wrote, and reads their events back from
+-- them (`entries_read`, `fed`). More bytes after the input change nothing (`entry_events_later`).
+use Rattle.vte_c.proofs.Common.{AreGroups, AreReadable, Bool, CsiDispatch, DataRun, EscDispatch, Event, Hook, InInput, IsBounded, Entry, List, OscDispatch, Print, Put, Run, usual_limit, Single, TextRun, VteEvent, [], add-zero, ap, append_assoc, arith, cases_Bool, concat, count_byte, count_of, data_of, drop, drop-append_seam, drop-drop, eqb-true, event_in, events_of, false, flag_byte, flat_map, get_or, group_bytes, groups_in, inl, inr, intermediates_in, entry_data, entry_events, kinds_of, length, length-append, map, map-set_same, min, numbers_in, piece_bytes, pieces_in, record_at, records_from, refl, run_events, run_kind, run_record, set, sum_by-cons, sym, take, take-append-drop, take-append_seam, take-map, true, two_bytes, with_intermediates, with_loss, without_loss, ℕ, ◌%◌, ◌*◌, ◌++◌, ◌+◌, ◌/◌, ◌==◌, ◌∙◌, ◌∷◌, ◌≡◌, ◌≤◌, Execute, HasGiven, HasReadSaved, Saved, Unhook, added, append-nil, events, has, kind_of, nat_tests, no_room, fed_count, reported, ◌<◌, AreEncoded, Events, HasFed, HasReadOn, HasEntries, HasRead, HasReported, HaveOtherRecords, IsRunAt, Parser, Room, Starts, drop-append-le, events_in, filter-append, length-drop, length-map, length-take, room_of, take-append-le}
 use Rattle.std.specs.Char.{encode_utf8}
 use Rattle.vte_core.proofs.bytes.Runs.{chars-encode}
 use Rattle.vte_c.proofs.Rooms.{few_groups, length_numbers, length-records}
@@ -89,7 +89,7 @@ read_single input area back place (EscDispatch ints ignore byte) h e =
     rw (read_intermediates _ ints h.0, read_flag ignore) refl
 read_single input area back place _ h e = refl
 
--- ---- items one after another
+-- ---- entries one after another
 
 -- The data of each is where those before it end.
 
@@ -99,18 +99,18 @@ unfolding events_of
 read_run input area TextRun start size = refl
 read_run input area DataRun start size = refl
 
-read_items : (input area back : List ℕ) (place : ℕ) (items : List Item) → AreReadable input items
-    → drop place area ≡ flat_map item_data items ++ back
-    → flat_map (events_of input area) (records_from place items) ≡ flat_map (item_events input) items
-read_items input area back place [] are e = refl
-read_items input area back place (InInput run start size ∷ items) are e =
-    rw (add-zero place, read_run input area run start size, read_items input area back place items are.1 e) refl
-read_items input area back place (Single event ∷ items) are e =
-    let parts = append_assoc (data_of event) (flat_map item_data items) back in
-    let rest : List ℕ = flat_map item_data items ++ back in
+read_entries : (input area back : List ℕ) (place : ℕ) (entries : List Entry) → AreReadable input entries
+    → drop place area ≡ flat_map entry_data entries ++ back
+    → flat_map (events_of input area) (records_from place entries) ≡ flat_map (entry_events input) entries
+read_entries input area back place [] are e = refl
+read_entries input area back place (InInput run start size ∷ entries) are e =
+    rw (add-zero place, read_run input area run start size, read_entries input area back place entries are.1 e) refl
+read_entries input area back place (Single event ∷ entries) are e =
+    let parts = append_assoc (data_of event) (flat_map entry_data entries) back in
+    let rest : List ℕ = flat_map entry_data entries ++ back in
     let left : drop (place + length (data_of event)) area ≡ rest =
     rw (← drop-drop (length (data_of event)) place area, e, parts) (drop-append_seam (data_of event) rest) in
-    let others = read_items input area back (place + length (data_of event)) items are.1 left in
+    let others = read_entries input area back (place + length (data_of event)) entries are.1 left in
     rw (read_single input area rest place event are.0 (rw parts at e), others) refl
 
 -- Whether a command lost data isn't read.
@@ -159,12 +159,12 @@ kinds_without_loss : (records : List VteEvent) → kinds_of (map without_loss re
 kinds_without_loss [] = refl
 kinds_without_loss (event ∷ records) = rw (kind_without_loss event, kinds_without_loss records) refl
 
--- In an area whose first bytes are the data of all items, their records report their events.
-items_read : (input area : List ℕ) (used : ℕ) (items : List Item) → AreReadable input items
-    → take used area ≡ flat_map item_data items
-    → flat_map (events_of input area) (records_from 0 items) ≡ flat_map (item_events input) items
-items_read input area used items are e =
-    read_items input area (drop used area) 0 items are (rw (← e) (sym (take-append-drop used area)))
+-- In an area whose first bytes are the data of all entries, their records report their events.
+entries_read : (input area : List ℕ) (used : ℕ) (entries : List Entry) → AreReadable input entries
+    → take used area ≡ flat_map entry_data entries
+    → flat_map (events_of input area) (records_from 0 entries) ≡ flat_map (entry_events input) entries
+entries_read input area used entries are e =
+    read_entries input area (drop used area) 0 entries are (rw (← e) (sym (take-append-drop used area)))
 
 -- ---- from calls to streams, for events and for text (`HasGiven`)
 
@@ -223,7 +223,7 @@ module _ {A : Type 0} {of : List Event → List A} where
   given_all none parser given stream h =
       rw (added-nothing usual_limit h.since, none, append-nil given, append-nil stream) at (h.goes_on [])
 
--- ---- items of an input, if more bytes follow it
+-- ---- entries of an input, if more bytes follow it
 
 same_run : (input more : List ℕ) (start size : ℕ) → start + size ≤ length input
     → take size (drop start (input ++ more)) ≡ take size (drop start input)
@@ -242,31 +242,32 @@ run_later input more run start size stands =
       is = rw same stands.is;
     }
 
-readable_later : (input more : List ℕ) (items : List Item) → AreReadable input items → AreReadable (input ++ more) items
+readable_later : (input more : List ℕ) (entries : List Entry) → AreReadable input entries
+    → AreReadable (input ++ more) entries
 readable_later input more [] are = tt
-readable_later input more (Single event ∷ items) are = (are.0, readable_later input more items are.1)
-readable_later input more (InInput run start size ∷ items) are =
-    (run_later input more run start size are.0, readable_later input more items are.1)
+readable_later input more (Single event ∷ entries) are = (are.0, readable_later input more entries are.1)
+readable_later input more (InInput run start size ∷ entries) are =
+    (run_later input more run start size are.0, readable_later input more entries are.1)
 
-item_events_later : (input more : List ℕ) (items : List Item) → AreReadable input items
-    → flat_map (item_events (input ++ more)) items ≡ flat_map (item_events input) items
-item_events_later input more [] are = refl
-item_events_later input more (Single event ∷ items) are = rw (item_events_later input more items are.1) refl
-item_events_later input more (InInput run start size ∷ items) are =
-    rw (same_run input more start size are.0.within, item_events_later input more items are.1) refl
+entry_events_later : (input more : List ℕ) (entries : List Entry) → AreReadable input entries
+    → flat_map (entry_events (input ++ more)) entries ≡ flat_map (entry_events input) entries
+entry_events_later input more [] are = refl
+entry_events_later input more (Single event ∷ entries) are = rw (entry_events_later input more entries are.1) refl
+entry_events_later input more (InInput run start size ∷ entries) are =
+    rw (same_run input more start size are.0.within, entry_events_later input more entries are.1) refl
 
 -- ---- buffers that were empty
 
--- Then they hold the records and data of just the items of the call, so a reader finds their events.
+-- Then they hold the records and data of just the entries of the call, so a reader finds their events.
 
-module _ (old new : Events) (input : List ℕ) (items : List Item) (starts : Starts (room_of old))
-    (h : HasItems (room_of old) (room_of new) input items) (more : List ℕ) where
-  abbrev encoded : AreEncoded (flat_map (item_events (input ++ more)) items) new.count new.used new.events.now
+module _ (old new : Events) (input : List ℕ) (entries : List Entry) (starts : Starts (room_of old))
+    (h : HasEntries (room_of old) (room_of new) input entries) (more : List ℕ) where
+  abbrev encoded : AreEncoded (flat_map (entry_events (input ++ more)) entries) new.count new.used new.events.now
       (input ++ more) new.area.now
   encoded = record {
-    items = items;
+    entries = entries;
     told = refl;
-    readable = readable_later input more items h.readable;
+    readable = readable_later input more entries h.readable;
     number = omega (arith, ap (λ (r : Room). r.count) h.room, starts.count);
     recorded = rw (starts.events, starts.used) at (ap (λ (r : Room). r.events) h.room);
     size = omega (arith, ap (λ (r : Room). r.used) h.room, starts.used);
@@ -274,10 +275,12 @@ module _ (old new : Events) (input : List ℕ) (items : List Item) (starts : Sta
   }
 
   -- A reader finds the events.
-  found : events_in new.count new.events.now (input ++ more) new.area.now ≡ flat_map (item_events (input ++ more)) items
+  found : events_in new.count new.events.now (input ++ more) new.area.now
+      ≡ flat_map (entry_events (input ++ more)) entries
   found = sym (all_without_loss (input ++ more) new.area.now (take new.count new.events.now))
       ∙ rw encoded.recorded
-      (items_read (input ++ more) new.area.now new.used items (readable_later input more items h.readable) encoded.held)
+      (entries_read (input ++ more) new.area.now new.used entries (readable_later input more entries h.readable)
+      encoded.held)
 
 -- ---- what a call ensures, and the counts that its caller gets
 
@@ -289,8 +292,8 @@ pub fed : {old new : Events} {parser : Parser 1024} {saved : Saved} {told : List
     → (HaveOtherRecords (room_of old).stops (room_of new).events → 0 < length bytes → 0 < n)
     → HasFed old new saved told stream bytes rest n
 fed {old} {new} {told} {stream} {bytes} {rest} {n} starts h gone saves further =
-    let there = encoded old new bytes gone.goes.items starts gone.goes.holds in
-    let finds = found old new bytes gone.goes.items starts gone.goes.holds in
+    let there = encoded old new bytes gone.goes.entries starts gone.goes.holds in
+    let finds = found old new bytes gone.goes.entries starts gone.goes.holds in
     record {
       events_name = ap (λ (r : Room). r.events_name) gone.goes.holds.room;
       area_name = ap (λ (r : Room). r.area_name) gone.goes.holds.room;
@@ -300,8 +303,8 @@ fed {old} {new} {told} {stream} {bytes} {rest} {n} starts h gone saves further =
           gone.goes.holds.first;
       encodes = λ more. rw (finds more) (there more);
       reports = λ more.
-          rw (finds more, item_events_later bytes more gone.goes.items gone.goes.holds.readable)
-          (given_more (flat_map (item_events bytes) gone.goes.items) bytes rest n h (saves gone.next gone.reads)
+          rw (finds more, entry_events_later bytes more gone.goes.entries gone.goes.holds.readable)
+          (given_more (flat_map (entry_events bytes) gone.goes.entries) bytes rest n h (saves gone.next gone.reads)
           (λ later. rw (gone.goes.continues.goes_on later, filter-append, gone.goes.shows) refl));
     }
 
@@ -322,7 +325,7 @@ counts_are room count used e records area least_count least_used =
     let at_most = length-take room.count room.events.now in
     let small = length-take room.used room.area.now in
     let each = length-map (take room.count room.events.now) without_loss in
-    let all = length-records 0 e.items in
+    let all = length-records 0 e.entries in
     record {
       same_count = omega (arith, e.number, all, ap length e.recorded, each, ap length records);
       same_used = omega (arith, e.size, ap length e.held, ap length area);

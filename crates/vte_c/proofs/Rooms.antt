@@ -1,6 +1,7 @@
 -- What events leave in a room. One that isn't full has room for what one byte adds, so each event is written as one
--- item, or isn't one of the kinds asked for.
-use Rattle.vte_c.proofs.Common.{All, All-head, All-tail, AreGroups, CsiDispatch, Event, Execute, Hook, IsBounded, IsShort, List, OscDispatch, Print, [], arith, concat, usual_limit, count_of, data_of, flat_map, group_bytes, len_utf8_bounds, length, length-append, length-encode, piece_bytes, refl, sum_by-cons, two_bytes, ℕ, ◌*◌, ◌+◌, ◌<◌, ◌∷◌, ◌≡◌, ◌≤◌, AreReadable, Bool, DataRun, EscDispatch, Events, HasItems, HaveOtherRecords, Holds, InInput, AreFromOneByte, IsRunAt, Item, Put, Room, Run, Single, StopsAtKind, TextRun, Unhook, VteEvent, add-zero, after, ap, append-nil, append_assoc, cases_Bool, false, filter-append, flag_byte, flat_map-append, has, has_kind, has_room_for, if◌then◌else◌, inl, inr, may_have_lost, is_full, item_data, kind_of, kinds_of, length-map, map, map-append, most_added, nat_lt, nat_tests, or_parts, record_at, records_from, reported, resumed, room_of, run_kind, run_record, subst, sym, take, true, with_event, with_items, with_one, with_record, without_loss, ◌%◌, ◌++◌, ◌∙◌}
+-- entry (`event_written`), or isn't one of the kinds asked for (`event_passed`); so is all that one byte reports
+-- (`entries-unit_more`), and a run of the input (`entries-run`).
+use Rattle.vte_c.proofs.Common.{All, All-head, All-tail, AreGroups, CsiDispatch, Event, Execute, Hook, IsBounded, IsShort, List, OscDispatch, Print, [], arith, concat, usual_limit, count_of, data_of, flat_map, group_bytes, len_utf8_bounds, length, length-append, length-encode, piece_bytes, refl, sum_by-cons, two_bytes, ℕ, ◌*◌, ◌+◌, ◌<◌, ◌∷◌, ◌≡◌, ◌≤◌, AreReadable, Bool, DataRun, EscDispatch, Events, HasEntries, HaveOtherRecords, Holds, InInput, AreFromOneByte, IsRunAt, Entry, Put, Room, Run, Single, StopsAtKind, TextRun, Unhook, VteEvent, add-zero, after, ap, append-nil, append_assoc, cases_Bool, false, filter-append, flag_byte, flat_map-append, has, has_kind, has_room_for, if◌then◌else◌, inl, inr, may_have_lost, is_full, entry_data, kind_of, kinds_of, length-map, map, map-append, most_added, nat_lt, nat_tests, or_parts, record_at, records_from, reported, resumed, room_of, run_kind, run_record, subst, sym, take, true, with_event, with_entries, with_one, with_record, without_loss, ◌%◌, ◌++◌, ◌∙◌}
 use Rattle.std.proofs.Math.Bool.{or-false, or_assoc}
 use Rattle.std.proofs.lemmas.List.Folds.{list_any-append}
 use Rattle.vte_core.proofs.places.PlaceLeads.{short_bounded}
@@ -61,78 +62,79 @@ short_data (Print c) h = omega (arith, length-encode c, (len_utf8_bounds c).1)
 short_data (Execute byte) h = omega arith
 short_data _ h = absurd h
 
--- ---- items one after the other, if the room is not full in between
+-- ---- entries one after the other, if the room is not full in between
 
-records-append : (place : ℕ) (front back : List Item)
+records-append : (place : ℕ) (front back : List Entry)
     → records_from place (front ++ back)
-    ≡ records_from place front ++ records_from (place + length (flat_map item_data front)) back
+    ≡ records_from place front ++ records_from (place + length (flat_map entry_data front)) back
 records-append place [] back = rw add-zero refl
-records-append place (item ∷ front) back =
-    let size : place + length (item_data item) + length (flat_map item_data front)
-    ≡ place + length (item_data item ++ flat_map item_data front) =
-    omega (arith, length-append (item_data item) (flat_map item_data front)) in
-    rw (← size, records-append (place + length (item_data item)) front back) refl
+records-append place (entry ∷ front) back =
+    let size : place + length (entry_data entry) + length (flat_map entry_data front)
+    ≡ place + length (entry_data entry ++ flat_map entry_data front) =
+    omega (arith, length-append (entry_data entry) (flat_map entry_data front)) in
+    rw (← size, records-append (place + length (entry_data entry)) front back) refl
 
-pub length-records : (place : ℕ) (items : List Item) → length (records_from place items) ≡ length items
+pub length-records : (place : ℕ) (entries : List Entry) → length (records_from place entries) ≡ length entries
 length-records place [] = refl
-length-records place (item ∷ items) = omega (arith, length-records (place + length (item_data item)) items)
+length-records place (entry ∷ entries) = omega (arith, length-records (place + length (entry_data entry)) entries)
 
-with_items-append : (room : Room) (front back : List Item)
-    → with_items (with_items room front) back ≡ with_items room (front ++ back)
-with_items-append room front back =
-    let size : room.used + length (flat_map item_data front) + length (flat_map item_data back)
-    ≡ room.used + length (flat_map item_data front ++ flat_map item_data back) =
-    omega (arith, length-append (flat_map item_data front) (flat_map item_data back)) in
+with_entries-append : (room : Room) (front back : List Entry)
+    → with_entries (with_entries room front) back ≡ with_entries room (front ++ back)
+with_entries-append room front back =
+    let size : room.used + length (flat_map entry_data front) + length (flat_map entry_data back)
+    ≡ room.used + length (flat_map entry_data front ++ flat_map entry_data back) =
+    omega (arith, length-append (flat_map entry_data front) (flat_map entry_data back)) in
     let count : room.count + length front + length back ≡ room.count + length (front ++ back) =
     omega (arith, length-append front back) in
     rw (← count, records-append, flat_map-append, ← size, list_any-append)
     (rw (append_assoc room.events, append_assoc room.area, or_assoc) refl)
 
 -- As long as a room isn't full, no record stops.
-pub unmet : {old new : Room} {input : List ℕ} {items : List Item} → HasItems old new input items → is_full new ≡ false
-    → HaveOtherRecords old.stops (records_from old.used items)
-unmet {old} {new} {input} {items} h free =
+pub unmet : {old new : Room} {input : List ℕ} {entries : List Entry} → HasEntries old new input entries
+    → is_full new ≡ false
+    → HaveOtherRecords old.stops (records_from old.used entries)
+unmet {old} {new} {input} {entries} h free =
     let met : new.met ≡ false = grind (arith, nat_tests) in
-    kinds_of_none old.stops (records_from old.used items)
-    (or_parts old.met (has_kind old.stops (records_from old.used items))
+    kinds_of_none old.stops (records_from old.used entries)
+    (or_parts old.met (has_kind old.stops (records_from old.used entries))
     (sym (ap (λ (r : Room). r.met) h.room) ∙ met)).1
 
-readable-append : (input : List ℕ) (front back : List Item) → AreReadable input front → AreReadable input back
+readable-append : (input : List ℕ) (front back : List Entry) → AreReadable input front → AreReadable input back
     → AreReadable input (front ++ back)
 readable-append input [] back f b = b
 readable-append input (Single event ∷ front) back f b = (f.0, readable-append input front back f.1 b)
 readable-append input (InInput run start size ∷ front) back f b = (f.0, readable-append input front back f.1 b)
 
 -- At most two records may all be the last ones: one that stops, and one after it.
-stops_soon : (stops place : ℕ) (items : List Item) → length items ≤ 2
-    → StopsAtKind stops (kinds_of (records_from place items))
-stops_soon stops place items at_most =
-    let count = length-map (records_from place items) (λ (event : VteEvent). event.kind) in
+stops_soon : (stops place : ℕ) (entries : List Entry) → length entries ≤ 2
+    → StopsAtKind stops (kinds_of (records_from place entries))
+stops_soon stops place entries at_most =
+    let count = length-map (records_from place entries) (λ (event : VteEvent). event.kind) in
     record {
       before = [];
-      last = kinds_of (records_from place items);
+      last = kinds_of (records_from place entries);
       parts = refl;
       others = tt;
-      at_most = omega (arith, count, length-records place items);
+      at_most = omega (arith, count, length-records place entries);
     }
 
-pub items-nothing : (room : Room) (input : List ℕ) → HasItems room room input []
-items-nothing room input =
+pub entries-nothing : (room : Room) (input : List ℕ) → HasEntries room room input []
+entries-nothing room input =
     record {
       readable = tt;
       room = simp (append-nil, add-zero, or-false) refl;
       first = stops_soon room.stops room.used [] (omega arith);
     }
 
-pub items-then : {old mid new : Room} {input : List ℕ} {front back : List Item} → HasItems old mid input front
+pub entries-then : {old mid new : Room} {input : List ℕ} {front back : List Entry} → HasEntries old mid input front
     → is_full mid ≡ false
-    → HasItems mid new input back → HasItems old new input (front ++ back)
-items-then {old} {mid} {new} {input} {front} {back} a free b =
+    → HasEntries mid new input back → HasEntries old new input (front ++ back)
+entries-then {old} {mid} {new} {input} {front} {back} a free b =
     let before = records_from old.used front in
     let s = subst (λ (r : Room). StopsAtKind r.stops (kinds_of (records_from r.used back))) a.room b.first in
     record {
       readable = readable-append input front back a.readable b.readable;
-      room = b.room ∙ ap (λ (r : Room). with_items r back) a.room ∙ with_items-append old front back;
+      room = b.room ∙ ap (λ (r : Room). with_entries r back) a.room ∙ with_entries-append old front back;
       first = record {
         before = kinds_of before ++ s.before;
         last = s.last;
@@ -176,12 +178,12 @@ single_plain place Unhook = refl
 single_plain place (CsiDispatch groups ints ignore final) = refl
 single_plain place (EscDispatch ints ignore final) = refl
 
-pub items-run : {old new : Room} (input : List ℕ) (run : Run) (start size : ℕ) → is_full old ≡ false
+pub entries-run : {old new : Room} (input : List ℕ) (run : Run) (start size : ℕ) → is_full old ≡ false
     → IsRunAt input run start size
     → new ≡ with_one old (run_record (run_kind run) start size)
-    → HasItems old new input (InInput run start size ∷ [])
+    → HasEntries old new input (InInput run start size ∷ [])
 unfolding with_one
-items-run {old} {new} input run start size free stands is =
+entries-run {old} {new} input run start size free stands is =
     let some : nat_lt old.count old.most ≡ true = grind (arith, nat_tests) in
     record {
       readable = (stands, tt);
@@ -241,7 +243,7 @@ roomy room free = record { events = grind (arith, nat_tests); data_fits = grind 
 
 pub event_written : (room : Room) (event : Event) → room.paused ≡ false
     → HasRoomFor room 1 (length (data_of event))
-    → has room.kinds (kind_of event) ≡ true → resumed (with_event room event) ≡ with_items room (Single event ∷ [])
+    → has room.kinds (kind_of event) ≡ true → resumed (with_event room event) ≡ with_entries room (Single event ∷ [])
 unfolding with_one with_record
 event_written room event going room_for wanted =
     let has_both : has_room_for room (length (data_of event)) ≡ true = grind (arith, nat_tests) in
@@ -253,14 +255,14 @@ pub event_passed : (room : Room) (event : Event) → room.paused ≡ false → h
     → resumed (with_event room event) ≡ room
 event_passed room event going other = rw other (resumed_same room going)
 
--- Each event that is reported has an item.
-abbrev pub items_of : Room → List Event → List Item
-items_of room events = map Single (reported room.kinds events)
+-- Each event that is reported has an entry.
+abbrev pub entries_of : Room → List Event → List Entry
+entries_of room events = map Single (reported room.kinds events)
 
-items-event : (input : List ℕ) (room : Room) (event : Event) → IsBounded usual_limit event → room.paused ≡ false
+entries-event : (input : List ℕ) (room : Room) (event : Event) → IsBounded usual_limit event → room.paused ≡ false
     → HasRoomFor room 1 (length (data_of event))
-    → HasItems room (resumed (with_event room event)) input (items_of room (event ∷ []))
-items-event input room event bounded going room_for = elim (cases_Bool (has room.kinds (kind_of event))) [
+    → HasEntries room (resumed (with_event room event)) input (entries_of room (event ∷ []))
+entries-event input room event bounded going room_for = elim (cases_Bool (has room.kinds (kind_of event))) [
   | inl wanted ↦
       rw (event_written room event going room_for wanted, wanted)
       (record {
@@ -268,13 +270,13 @@ items-event input room event bounded going room_for = elim (cases_Bool (has room
         room = refl;
         first = stops_soon room.stops room.used (Single event ∷ []) (omega arith);
       })
-  | inr other ↦ rw (event_passed room event going other, other) (items-nothing room input)
+  | inr other ↦ rw (event_passed room event going other, other) (entries-nothing room input)
 ]
 
--- One event has at most one item, with no more data.
+-- One event has at most one entry, with no more data.
 record AreFew (room : Room) (event : Event) : Type 0 where
-  pub count : length (items_of room (event ∷ [])) ≤ 1
-  pub size : length (flat_map item_data (items_of room (event ∷ []))) ≤ length (data_of event)
+  pub count : length (entries_of room (event ∷ [])) ≤ 1
+  pub size : length (flat_map entry_data (entries_of room (event ∷ []))) ≤ length (data_of event)
 
 are_few : (room : Room) (event : Event) → AreFew room event
 are_few room event = elim (cases_Bool (has room.kinds (kind_of event))) [
@@ -283,15 +285,16 @@ are_few room event = elim (cases_Bool (has room.kinds (kind_of event))) [
   | inr other ↦ record { count = rw other (omega arith); size = rw other (omega arith) }
 ]
 
-items-unit : (input : List ℕ) (room : Room) (unit : List Event) → AreFromOneByte usual_limit unit → is_full room ≡ false
-    → HasItems room (resumed (after with_event room unit)) input (items_of room unit)
-items-unit input room [] brief free = rw (resumed_same room (unpaused room free)) (items-nothing room input)
-items-unit input room (event ∷ []) brief free =
+entries-unit : (input : List ℕ) (room : Room) (unit : List Event) → AreFromOneByte usual_limit unit
+    → is_full room ≡ false
+    → HasEntries room (resumed (after with_event room unit)) input (entries_of room unit)
+entries-unit input room [] brief free = rw (resumed_same room (unpaused room free)) (entries-nothing room input)
+entries-unit input room (event ∷ []) brief free =
     let room_for = roomy room free in
     let size = data_most event brief in
-    items-event input room event brief (unpaused room free)
+    entries-event input room event brief (unpaused room free)
     (record { events = omega (arith, room_for.events); data_fits = omega (arith, room_for.data_fits) })
-items-unit input room (event ∷ last ∷ []) brief free =
+entries-unit input room (event ∷ last ∷ []) brief free =
     let room_for = roomy room free in
     let size = data_most event brief.0 in
     let short = short_data last brief.1 in
@@ -299,7 +302,7 @@ items-unit input room (event ∷ last ∷ []) brief free =
     let more = are_few room last in
     let next : Room = resumed (with_event room event) in
     let first =
-    items-event input room event brief.0 (unpaused room free)
+    entries-event input room event brief.0 (unpaused room free)
     (record { events = omega (arith, room_for.events); data_fits = omega (arith, room_for.data_fits) }) in
     let kinds : next.kinds ≡ room.kinds = ap (λ (r : Room). r.kinds) first.room in
     let count = ap (λ (r : Room). r.count) first.room in
@@ -311,32 +314,37 @@ items-unit input room (event ∷ last ∷ []) brief free =
       data_fits = omega (arith, room_for.data_fits, at_most.size, size, short, used, whole);
     } in
     let second =
-    subst (λ (k : ℕ). HasItems next (resumed (with_event next last)) input (map Single (reported k (last ∷ [])))) kinds
-    (items-event input next last (short_bounded usual_limit last brief.1) refl room_for_last) in
-    let both : items_of room (event ∷ last ∷ []) ≡ items_of room (event ∷ []) ++ items_of room (last ∷ []) =
+    subst (λ (k : ℕ). HasEntries next (resumed (with_event next last)) input (map Single (reported k (last ∷ []))))
+    kinds
+    (entries-event input next last (short_bounded usual_limit last brief.1) refl room_for_last) in
+    let both : entries_of room (event ∷ last ∷ []) ≡ entries_of room (event ∷ []) ++ entries_of room (last ∷ []) =
     ap (map Single) (filter-append (λ e. has room.kinds (kind_of e)) (event ∷ []) (last ∷ []))
     ∙ map-append Single _ _ in
     rw (with_event_resumed (with_event room event) last, both) (record {
       readable = readable-append input _ _ first.readable second.readable;
       room =
-          second.room ∙ ap (λ (r : Room). with_items r (items_of room (last ∷ []))) first.room
-          ∙ with_items-append room _ _;
-      first = stops_soon room.stops room.used (items_of room (event ∷ []) ++ items_of room (last ∷ []))
-          (omega
-          (arith, at_most.count, more.count, length-append (items_of room (event ∷ [])) (items_of room (last ∷ []))));
+          second.room ∙ ap (λ (r : Room). with_entries r (entries_of room (last ∷ []))) first.room
+          ∙ with_entries-append room _ _;
+      first = stops_soon room.stops room.used (entries_of room (event ∷ []) ++ entries_of room (last ∷ []))
+          (omega (
+            arith,
+            at_most.count,
+            more.count,
+            length-append (entries_of room (event ∷ [])) (entries_of room (last ∷ [])),
+          ));
     })
-items-unit input room (event ∷ last ∷ more ∷ events) brief free = absurd brief
+entries-unit input room (event ∷ last ∷ more ∷ events) brief free = absurd brief
 
-pub items-unit_more : {old : Room} (input : List ℕ) (room : Room) (before unit : List Event)
-    → HasItems old (resumed (after with_event room before)) input (items_of old before)
+pub entries-unit_more : {old : Room} (input : List ℕ) (room : Room) (before unit : List Event)
+    → HasEntries old (resumed (after with_event room before)) input (entries_of old before)
     → is_full (after with_event room before) ≡ false → AreFromOneByte usual_limit unit
-    → HasItems old (resumed (after with_event room (before ++ unit))) input (items_of old (before ++ unit))
-items-unit_more {old} input room before unit h free brief =
+    → HasEntries old (resumed (after with_event room (before ++ unit))) input (entries_of old (before ++ unit))
+entries-unit_more {old} input room before unit h free brief =
     let mid : Room = after with_event room before in
     let same : resumed mid ≡ mid = resumed_same mid (unpaused mid free) in
-    let first : HasItems old mid input (items_of old before) = rw same at h in
+    let first : HasEntries old mid input (entries_of old before) = rw same at h in
     let kinds : mid.kinds ≡ old.kinds = ap (λ (r : Room). r.kinds) first.room in
     rw (after_events-append with_event room before unit, filter-append, map-append)
-    (items-then first free
-    (subst (λ (k : ℕ). HasItems mid (resumed (after with_event mid unit)) input (map Single (reported k unit))) kinds
-    (items-unit input mid unit brief free)))
+    (entries-then first free
+    (subst (λ (k : ℕ). HasEntries mid (resumed (after with_event mid unit)) input (map Single (reported k unit))) kinds
+    (entries-unit input mid unit brief free)))

@@ -7,7 +7,7 @@ use Rattle.vte_core.specs.Stream.{added, usual_limit}
 use Rattle.vte_core.specs.declared.parser.Parser.{Parser}
 use Rattle.vte_core.specs.declared.parser.saved.Saved.{Saved}
 use Rattle.vte_c.specs.Events.{Room, room_of}
-use Rattle.vte_c.specs.Record.{Item, data_kind, events_in, has, item_data, item_events, kinds_in, records_from, reported, text_kind}
+use Rattle.vte_c.specs.Record.{Entry, data_kind, events_in, has, entry_data, entry_events, kinds_in, records_from, reported, text_kind}
 use Rattle.vte_c.specs.Reported.{AreEncoded, AreOthers, AreReadable, HasReported, HaveOtherKinds, StopsAtKind, is_stop}
 use Rattle.vte_c.specs.declared.event.VteEvent.{VteEvent}
 use Rattle.vte_c.specs.declared.events.Events.{Events}
@@ -49,31 +49,31 @@ StopsAtNone room =
     (is_stop room.kinds room.stops text_kind ≡ false)
     × (is_stop room.kinds room.stops data_kind ≡ false)
 
--- The room with the records of these items, and their data.
-abbrev pub with_items : Room → List Item → Room
-with_items room items = record room {
-  events = room.events ++ records_from room.used items;
-  count = room.count + length items;
-  area = room.area ++ flat_map item_data items;
-  used = room.used + length (flat_map item_data items);
-  met = room.met || has_kind room.stops (records_from room.used items);
+-- The room with the records of these entries, and their data.
+abbrev pub with_entries : Room → List Entry → Room
+with_entries room entries = record room {
+  events = room.events ++ records_from room.used entries;
+  count = room.count + length entries;
+  area = room.area ++ flat_map entry_data entries;
+  used = room.used + length (flat_map entry_data entries);
+  met = room.met || has_kind room.stops (records_from room.used entries);
 }
 
--- These items were written: the room holds their records and their data, and of the records at most
--- two follow those that don't stop.
-pub record HasItems (old new : Room) (input : List ℕ) (items : List Item) : Type 0 where
-  pub readable : AreReadable input items
-  pub room : new ≡ with_items old items
-  pub first : StopsAtKind old.stops (kinds_of (records_from old.used items))
+-- These entries were written: the room holds their records and their data, and at most two of the
+-- records follow those that don't stop.
+pub record HasEntries (old new : Room) (input : List ℕ) (entries : List Entry) : Type 0 where
+  pub readable : AreReadable input entries
+  pub room : new ≡ with_entries old entries
+  pub first : StopsAtKind old.stops (kinds_of (records_from old.used entries))
 
--- After bytes up to a place n more were read: their events of the kinds are those of items, which
+-- After bytes up to a place n more were read: their events of the kinds are those of entries, which
 -- were written, and the parser goes on as if it had read `next`.
 pub record ReadsOn (old new : Room) (since next bytes : List ℕ) (from n : ℕ) : Type 0 where
   pub told : List Event
-  pub items : List Item
+  pub entries : List Entry
   pub continues : Continues since next (drop from bytes) n told
-  pub shows : flat_map (item_events bytes) items ≡ reported old.kinds told
-  pub holds : HasItems old new bytes items
+  pub shows : flat_map (entry_events bytes) entries ≡ reported old.kinds told
+  pub holds : HasEntries old new bytes entries
   pub before : StopsAtNone old → (i : ℕ) → i < n →
       AreOthersIn old (added usual_limit since (take i (drop from bytes)))
 

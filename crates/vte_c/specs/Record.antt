@@ -193,29 +193,29 @@ abbrev pub run_record : ℕ → ℕ → ℕ → VteEvent
 run_record kind start size = record (blank_record kind size) { start = start }
 
 -- What a record is for: an event, with its data in the area, or a run in the input.
-pub data Item : Type 0 where
-  Single : Event → Item
-  InInput : Run → ℕ → ℕ → Item
+pub data Entry : Type 0 where
+  Single : Event → Entry
+  InInput : Run → ℕ → ℕ → Entry
 
-abbrev pub item_data : Item → List ℕ
-item_data (Single event) = data_of event
-item_data (InInput run start size) = []
+abbrev pub entry_data : Entry → List ℕ
+entry_data (Single event) = data_of event
+entry_data (InInput run start size) = []
 
--- The record of an item whose data starts at a place.
-abbrev pub record_at : ℕ → Item → VteEvent
+-- The record of an entry whose data starts at a place.
+abbrev pub record_at : ℕ → Entry → VteEvent
 record_at place (Single event) = record (record_of event) { start = place }
 record_at place (InInput run start size) = run_record (run_kind run) start size
 
--- The records of items, each of whose data starts where that of the one before it ends.
-abbrev pub records_from : ℕ → List Item → List VteEvent
+-- The records of entries, each of whose data starts where that of the one before it ends.
+abbrev pub records_from : ℕ → List Entry → List VteEvent
 records_from place [] = []
-records_from place (item ∷ items) =
-    record_at place item ∷ records_from (place + length (item_data item)) items
+records_from place (entry ∷ entries) =
+    record_at place entry ∷ records_from (place + length (entry_data entry)) entries
 
--- The events of an item.
-abbrev pub item_events : List ℕ → Item → List Event
-item_events input (Single event) = event ∷ []
-item_events input (InInput run start size) = run_events run (take size (drop start input))
+-- The events of an entry.
+abbrev pub entry_events : List ℕ → Entry → List Event
+entry_events input (Single event) = event ∷ []
+entry_events input (InInput run start size) = run_events run (take size (drop start input))
 
 -- ---- how a record and an area are read
 

@@ -9,7 +9,7 @@ use Rattle.vte_core.specs.Saved.{HasReadSaved}
 use Rattle.vte_core.specs.Stream.{added, events, usual_limit}
 use Rattle.vte_core.specs.Text.{HasNoControls}
 use Rattle.vte_core.specs.declared.parser.saved.Saved.{Saved}
-use Rattle.vte_c.specs.Record.{Run, TextRun, DataRun, Item, Single, InInput, has, item_data, item_events, kind_of, records_from, reported, without_loss}
+use Rattle.vte_c.specs.Record.{Run, TextRun, DataRun, Entry, Single, InInput, has, entry_data, entry_events, kind_of, records_from, reported, without_loss}
 use Rattle.vte_c.specs.declared.event.VteEvent.{VteEvent}
 
 -- The parser has read the stream except for the unread bytes at its end. What was given of its
@@ -73,22 +73,22 @@ pub record IsRunAt (input : List ℕ) (run : Run) (start size : ℕ) : Type 0 wh
   pub some : 0 < size
   pub is : IsRunOfKind run (take size (drop start input))
 
--- The items can be read: an event is within the limits, and what is in the input is a run.
-abbrev pub AreReadable : List ℕ → List Item → Type 0
+-- The entries can be read: an event is within the limits, and what is in the input is a run.
+abbrev pub AreReadable : List ℕ → List Entry → Type 0
 AreReadable input [] = ⊤
-AreReadable input (Single event ∷ items) = IsBounded usual_limit event × AreReadable input items
-AreReadable input (InInput run start size ∷ items) =
-    IsRunAt input run start size × AreReadable input items
+AreReadable input (Single event ∷ entries) = IsBounded usual_limit event × AreReadable input entries
+AreReadable input (InInput run start size ∷ entries) =
+    IsRunAt input run start size × AreReadable input entries
 
--- These events are encoded, and nothing else: by `count` records, one for each item, and `used`
+-- These events are encoded, and nothing else: by `count` records, one for each entry, and `used`
 -- bytes of data, which begin in the area where the record says. A run in the input has no data.
 -- That the record of a command says whether data were lost is only tested.
 pub record AreEncoded (events : List Event) (count used : ℕ) (records : List VteEvent)
     (input area : List ℕ) : Type 0 where
-  pub items : List Item
-  pub told : flat_map (item_events input) items ≡ events
-  pub readable : AreReadable input items
-  pub number : count ≡ length items
-  pub recorded : map without_loss (take count records) ≡ records_from 0 items
-  pub size : used ≡ length (flat_map item_data items)
-  pub held : take used area ≡ flat_map item_data items
+  pub entries : List Entry
+  pub told : flat_map (entry_events input) entries ≡ events
+  pub readable : AreReadable input entries
+  pub number : count ≡ length entries
+  pub recorded : map without_loss (take count records) ≡ records_from 0 entries
+  pub size : used ≡ length (flat_map entry_data entries)
+  pub held : take used area ≡ flat_map entry_data entries

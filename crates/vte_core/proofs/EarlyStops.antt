@@ -21,25 +21,25 @@ module _ {limit : Option ℕ} (P Q : List Event → Type 0) (stream bytes : List
     (at_first : P []) (asked_first : Q [])
     (kept : (before unit : List Event) → P before → Q before → AreFromOneByte limit unit → P (before ++ unit)) where
   -- by induction on m
-  kept_below : (m i : ℕ) → i < m → i ≤ length bytes
+  passed-below : (m i : ℕ) → i < m → i ≤ length bytes
       → ((j : ℕ) → j < i → IsStart stream bytes j → Q (reported_before limit stream bytes j))
       → P (reported_before limit stream bytes i)
-  kept_below zero i below within asked = absurd (omega arith)
-  kept_below (suc m) i below within asked =
+  passed-below zero i below within asked = absurd (omega arith)
+  passed-below (suc m) i below within asked =
       let u : ReportsUnit limit stream bytes i = units stream bytes i within in
       subst P (sym u.parts) (elim u.begun [
         | inl none ↦ kept u.before u.unit (subst P (sym none) at_first) (subst Q (sym none) asked_first) u.brief
         | inr t ↦
             let earlier : t.start < i = t.earlier in
-            let before = kept_below m t.start (omega arith) (omega arith) (λ j first. asked j (omega arith)) in
+            let before = passed-below m t.start (omega arith) (omega arith) (λ j first. asked j (omega arith)) in
             kept u.before u.unit (subst P (sym t.events_are) before)
             (subst Q (sym t.events_are) (asked t.start earlier t.starts)) u.brief
       ])
 
-  pub kept_at : (i : ℕ) → i ≤ length bytes → ((j : ℕ) → j < i → IsStart stream bytes j
+  pub passed-at : (i : ℕ) → i ≤ length bytes → ((j : ℕ) → j < i → IsStart stream bytes j
       → Q (reported_before limit stream bytes j))
       → P (reported_before limit stream bytes i)
-  kept_at i within asked = kept_below (i + 1) i (omega arith) within asked
+  passed-at i within asked = passed-below (i + 1) i (omega arith) within asked
 
 -- ---- a byte that belongs to an open character
 

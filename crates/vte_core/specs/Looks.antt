@@ -7,23 +7,23 @@
 use Rattle.std.specs.Prelude.{ℕ, ◌+◌}
 use Rattle.vte_core.specs.declared.reader.looks.Looks.{Looks}
 use Rattle.vte_core.specs.declared.reader.Reader.{Reader}
-use Rattle.vte_core.specs.declared.reader.looks.Trail.{Trail}
-use Rattle.vte_core.specs.declared.reader.looks.Trail.TheOpen.{Trail-F}
-use Rattle.vte_core.specs.declared.reader.looks.Trail.TheFolds.{fold-Trail}
+use Rattle.vte_core.specs.declared.reader.looks.Tally.{Tally}
+use Rattle.vte_core.specs.declared.reader.looks.Tally.TheOpen.{Tally-F}
+use Rattle.vte_core.specs.declared.reader.looks.Tally.TheFolds.{fold-Tally}
 
 -- The count of the last step, added to the counts before it.
-abbrev pub count_step : Trail-F ℕ → ℕ
-count_step Trail-F.Start = 0
-count_step (Trail-F.Then before count) = before.value + count
-count_step (Trail-F.Both before call) = before.value + call.value
+abbrev pub count_step : Tally-F ℕ → ℕ
+count_step Tally-F.Start = 0
+count_step (Tally-F.Then before count) = before.value + count
+count_step (Tally-F.Both before call) = before.value + call.value
 
-abbrev pub look_count : Trail → ℕ
-look_count = fold-Trail ℕ count_step
+abbrev pub look_count : Tally → ℕ
+look_count = fold-Tally ℕ count_step
 
 -- The count of a call up to here.
 abbrev pub looked : Reader → ℕ
-looked reader = look_count reader.trail.value
+looked reader = look_count reader.tally.value
 
 -- The count of a parser since it was created.
 abbrev pub counted : Looks → ℕ
-counted all = look_count all.trail.value
+counted all = look_count all.tally.value

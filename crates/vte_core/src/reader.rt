@@ -24,7 +24,7 @@ pub(crate) use counted_perform::CountedPerform;
 pub(crate) use granularity::Granularity;
 pub use granularity::{ByCharacter, InRuns};
 pub(crate) use looks::Looks;
-use looks::Trail;
+use looks::Tally;
 pub use run::{Run, Taken};
 pub(crate) use run::{RunKind, RunRange};
 // cargo: #[cfg(any(feature = "std", feature = "ansi"))]
@@ -54,7 +54,7 @@ impl<'a> Chunk<'a> {
     {
         let Chunk { bytes } = self;
         let reader = Reader {
-            trail: Snapshot::of(&Trail::Start),
+            tally: Snapshot::of(&Tally::Start),
         };
         (reader, Input { bytes })
     }
@@ -66,7 +66,7 @@ impl<'a> Chunk<'a> {
 // cargo: #[derive(Clone, Copy)]
 pub(crate) struct Reader {
     // cargo lacks: only contracts read it
-    trail: Snapshot<Trail>,
+    tally: Snapshot<Tally>,
 }
 
 /// The bytes of a call, which only its [`Reader`] reads.
@@ -180,9 +180,9 @@ impl Reader {
         ensures { looked self.new ≡ looked self.old + count }
     {
         // cargo instead: let _ = count;
-        let before = mem::replace(&mut self.trail, Snapshot::of(&Trail::Start));
+        let before = mem::replace(&mut self.tally, Snapshot::of(&Tally::Start));
         // cargo lacks: only contracts read it
-        self.trail = Snapshot::of(&Trail::Then(before, count));
+        self.tally = Snapshot::of(&Tally::Then(before, count));
     }
 
     /// Returns the byte at an index.

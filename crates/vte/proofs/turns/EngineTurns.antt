@@ -1,6 +1,6 @@
 -- From turns to a call: what the private functions ensure of parser, hold and handler is put together into `HasTurned`
 -- and `HasBeenRefused`, and the loop over turns into `TakesTurns` and `TakesTurnsUntilRefused`.
-use Rattle.vte.proofs.Common.{◌≡◌, ℕ, ◌+◌, ◌-◌, ◌<◌, ◌≤◌, Bool, true, List, [], ◌++◌, length, take, drop, refl, ap, sym, ◌∙◌, arith, length-drop, append_assoc, Result, Ok, Err, append_cancel_right, drop_all, drop-drop, take_all, take-append-drop, Refused, ProcessorState, Engine, Meaning, held_of, rules, false, MatchResult, EndsTurn, inside_turn, HasAdvanced, EngineIsAt, HasTaken, EngineView, KeepsMemory, EngineHasMemory, EngineReads, EngineStops, EngineIsAtKeeping, EndsParsingTurn, HasBeenRefused, HasParsedPrefix, HasParsedWithoutBegin, ArePartsAt, ArePartsAtKeeping, ArePartsAtWithMemory, HasTurned, State, TakesTurnsUntilRefused, TakesTurns, all_bytes, turn, hold_turn, parse, stop, between_turns, done, LacksMemoryForSome, Reserves}
+use Rattle.vte.proofs.Common.{◌≡◌, ℕ, ◌+◌, ◌-◌, ◌<◌, ◌≤◌, Bool, true, List, [], ◌++◌, length, take, drop, refl, ap, sym, ◌∙◌, arith, length-drop, append_assoc, Result, Ok, Err, append_cancel_right, drop_all, drop-drop, take_all, take-append-drop, Refused, ProcessorState, Engine, Meaning, held_of, rules, false, MatchResult, EndsTurn, inside_turn, HasAdvanced, EngineIsAt, HasTaken, EngineView, KeepsMemory, EngineHasMemory, EngineReads, EngineStops, EngineIsAtKeepingMemory, EndsParsingTurn, HasBeenRefused, HasParsedPrefix, HasParsedWithoutBegin, ArePartsAt, ArePartsAtKeepingMemory, ArePartsAtWithMemory, HasTurned, State, TakesTurnsUntilRefused, TakesTurns, all_bytes, turn, hold_turn, parse, stop, between_turns, done, LacksMemoryForSome, Reserves}
 use Rattle.vte.proofs.turns.TurnKinds.{refused-by_parsing, is_held, stop_if_due, turn-holds, turn-parses}
 use Rattle.vte.proofs.turns.EachOnce.{grown_bytes}
 use Rattle.vte.proofs.turns.Slices.{parsing-refused}
@@ -30,16 +30,16 @@ module _ {P B T A V W : Type 0} {view : EngineView P B T W} {engine : Engine P B
 -- turns that go on, with the memory that was there before
 module _ {P B T A V W : Type 0} {view : EngineView P B T W} {value : V} {s : State V W} where
   pub next-at : {engine : Engine P B T A} → EngineIsAt view engine value s
-      → EngineIsAtKeeping view engine engine value s
+      → EngineIsAtKeepingMemory view engine engine value s
   next-at at = record { engine_at = at; keeps_memory = λ stream count had. had }
 
   pub after-next : {old mid new : Engine P B T A} → KeepsMemory (EngineHasMemory view old) (EngineHasMemory view mid)
-      → EngineIsAtKeeping view mid new value s → EngineIsAtKeeping view old new value s
+      → EngineIsAtKeepingMemory view mid new value s → EngineIsAtKeepingMemory view old new value s
   after-next keeps next = search (rules, arith)
 
   -- they stand where they stood, and the handler is the same
   pub kept-next : {old mid new : Engine P B T A} {more : ℕ} {result : Bool} → Reserves view mid new more result
-      → EngineIsAtKeeping view old mid value s → EngineIsAtKeeping view old new value s
+      → EngineIsAtKeepingMemory view old mid value s → EngineIsAtKeepingMemory view old new value s
   kept-next r at = record {
     engine_at = record
         { stands = r.same s.parsed s.held s.timeout at.engine_at.stands; handler_is = at.engine_at.handler_is };
@@ -50,15 +50,15 @@ module _ {P B T A V W : Type 0} {view : EngineView P B T W} {value : V} {s : Sta
 module _ {P B T A V W : Type 0} {view : EngineView P B T W} {m : Meaning V W} {s : State V W} {bytes slice : List ℕ}
     {read count n : ℕ} {b : Bool}
     {first old taken : Engine P B T A} {parser : P} {state : ProcessorState T B} {before value : V} where
-  pub slice_parsed : HasParsedWithoutBegin m s bytes read (EngineIsAtKeeping view first old before)
+  pub slice_parsed : HasParsedWithoutBegin m s bytes read (EngineIsAtKeepingMemory view first old before)
       → Reserves view old taken count true
       → length slice ≡ count → s.held ≡ []
       → ((t : State V W) (k : ℕ) → ArePartsAtWithMemory view taken.parser taken.state before t (length slice + k)
-      → HasParsedPrefix m t slice n b (ArePartsAtKeeping view taken.parser taken.state parser state value))
+      → HasParsedPrefix m t slice n b (ArePartsAtKeepingMemory view taken.parser taken.state parser state value))
       → HasParsedPrefix m (parse m s (take read bytes)) slice n b
-      (EngineIsAtKeeping view first (record taken { parser = parser; state = state }) value)
+      (EngineIsAtKeepingMemory view first (record taken { parser = parser; state = state }) value)
   slice_parsed o reserved size none parses =
-      let here : EngineIsAtKeeping view first taken before
+      let here : EngineIsAtKeepingMemory view first taken before
       (parse m s (take read bytes)) = kept-next reserved o.is_at in
       let all : length slice + 0 ≡ length s.held + count = omega (arith, size, ap length none) in
       let p =
@@ -82,13 +82,13 @@ module _ {P B T A V W : Type 0} {view : EngineView P B T W} {m : Meaning V W} {s
 pub stops_update : {P B T A V W : Type 0} {view : EngineView P B T W} {m : Meaning V W}
     {old mid new : Engine P B T A}
     {before value : V} → KeepsMemory (EngineHasMemory view old) (EngineHasMemory view mid)
-    → ((s : State V W) → EngineIsAt view old before s → EngineIsAtKeeping view mid new value (stop m s))
+    → ((s : State V W) → EngineIsAt view old before s → EngineIsAtKeepingMemory view mid new value (stop m s))
     → EngineStops view m old new before value
 stops_update {m} keeps ends = search (rules, arith)
 
 pub stops-next : {P B T A V W : Type 0} {view : EngineView P B T W} {m : Meaning V W} {old new : Engine P B T A}
     {before value : V} {s : State V W} → EngineStops view m old new before value
-    → EngineIsAt view old before s → EngineIsAtKeeping view old new value (stop m s)
+    → EngineIsAt view old before s → EngineIsAtKeepingMemory view old new value (stop m s)
 stops-next stopped at = search (rules, arith)
 
 -- a turn that parses bytes, after a stop if need be
@@ -97,8 +97,8 @@ pub ends_turn : {P B T A V W : Type 0} {view : EngineView P B T W} {m : Meaning 
     → m.timeout.allows s.timeout pending → is_held pending s bytes ≡ false
     → KeepsMemory (EngineHasMemory view old) (EngineHasMemory view mid) → (result : Result ℕ Refused)
     → MatchResult result (λ read. read ≤ length bytes) (λ refused. refused.read < length bytes)
-    → EndsParsingTurn m (stop_if_due m pending s) bytes result (EngineIsAtKeeping view mid new value)
-    → EndsTurn m s bytes result (EngineIsAtKeeping view old new value)
+    → EndsParsingTurn m (stop_if_due m pending s) bytes result (EngineIsAtKeepingMemory view mid new value)
+    → EndsTurn m s bytes result (EngineIsAtKeepingMemory view old new value)
 ends_turn {m} {s} {bytes} pending allowed parses keeps (Ok read) less e = record {
   turned =
       record {
@@ -156,9 +156,9 @@ module _ {V W : Type 0} (m : Meaning V W) (s : State V W) (bytes : List ℕ) whe
   pub reaches-more : {P B T A : Type 0} {view : EngineView P B T W} {first mid new : Engine P B T A}
       {before value : V}
       {count read n : ℕ}
-      → (r : HasReached count read (EngineIsAtKeeping view first mid before)) → read < length bytes
-      → HasTurned m r.here (take (length bytes - read) (drop read bytes)) n (EngineIsAtKeeping view mid new value)
-      → HasReached (count + 1) (read + n) (EngineIsAtKeeping view first new value)
+      → (r : HasReached count read (EngineIsAtKeepingMemory view first mid before)) → read < length bytes
+      → HasTurned m r.here (take (length bytes - read) (drop read bytes)) n (EngineIsAtKeepingMemory view mid new value)
+      → HasReached (count + 1) (read + n) (EngineIsAtKeepingMemory view first new value)
   reaches-more {count} {read} {n} r some turned =
       let slice = take (length bytes - read) (drop read bytes) in
       let is : slice ≡ drop read bytes = rest-is bytes read (omega arith) in
@@ -195,9 +195,10 @@ module _ {V W : Type 0} (m : Meaning V W) (s : State V W) (bytes : List ℕ) whe
   pub reached-refused : {P B T A : Type 0} {view : EngineView P B T W} {first mid new : Engine P B T A}
       {before value : V}
       {count read n : ℕ}
-      → (r : HasReached count read (EngineIsAtKeeping view first mid before)) → read ≤ length bytes
-      → HasBeenRefused m r.here (take (length bytes - read) (drop read bytes)) n (EngineIsAtKeeping view mid new value)
-      → HasTaken m s bytes (read + n) (EngineIsAtKeeping view first new value)
+      → (r : HasReached count read (EngineIsAtKeepingMemory view first mid before)) → read ≤ length bytes
+      → HasBeenRefused m r.here (take (length bytes - read) (drop read bytes)) n
+      (EngineIsAtKeepingMemory view mid new value)
+      → HasTaken m s bytes (read + n) (EngineIsAtKeepingMemory view first new value)
   reached-refused {read} {n} r inside h =
       let slice = take (length bytes - read) (drop read bytes) in
       let is : slice ≡ drop read bytes = rest-is bytes read inside in
@@ -224,7 +225,7 @@ module _ {V W : Type 0} {m : Meaning V W} {s : State V W} {bytes : List ℕ} {re
   taken-to follows h = search (rules, arith)
 
   taken-at : {P B T A : Type 0} {view : EngineView P B T W} {old new : Engine P B T A} {value : V}
-      → HasTaken m s bytes read (EngineIsAtKeeping view old new value)
+      → HasTaken m s bytes read (EngineIsAtKeepingMemory view old new value)
       → HasTaken m s bytes read (EngineIsAt view new value)
   taken-at = taken-to (λ t next. next.engine_at)
 
@@ -233,7 +234,7 @@ module _ {P B T A V W : Type 0} {view : EngineView P B T W} {m : Meaning V W} {o
     {before value : V} (bytes : List ℕ) where
   pub engine_reads-all : {count read : ℕ}
       → ((s : State V W) → EngineIsAt view old before s
-      → HasReached m s bytes count read (EngineIsAtKeeping view old new value))
+      → HasReached m s bytes count read (EngineIsAtKeepingMemory view old new value))
       → ((s : State V W) → EngineIsAt view old before s → read ≡ length bytes)
       → EngineReads view m old new before value bytes (Ok tt)
   engine_reads-all reaches is = record {
@@ -245,7 +246,7 @@ module _ {P B T A V W : Type 0} {view : EngineView P B T W} {m : Meaning V W} {o
 
   pub engine_reads-until : {refused : Refused}
       → ((s : State V W) → EngineIsAt view old before s
-      → HasTaken m s bytes refused.read (EngineIsAtKeeping view old new value))
+      → HasTaken m s bytes refused.read (EngineIsAtKeepingMemory view old new value))
       → refused.read < length bytes → LacksMemoryForSome view new (length bytes - refused.read)
       → EngineReads view m old new before value bytes (Err refused)
   engine_reads-until taken less lacks =

@@ -1,6 +1,6 @@
 -- A hold turn, of states and of the engine: bytes join the hold, the timeout is set as often as they begin updates, and
 -- what the hold releases is parsed, with a stop if nothing stays held.
-use Rattle.vte.proofs.Common.{◌≡◌, ℕ, ◌+◌, ◌-◌, ◌<◌, inl, List, [], ◌∷◌, ◌++◌, length, take, refl, ap, sym, ◌∙◌, arith, length-append, take_all, Meaning, State, parse, length-take, Engine, IsAdded, held_of, released_of, still_held, set_times, EngineIsAt, EngineView, EngineIsAtKeeping, ArePartsAt, ArePartsAtKeeping, ArePartsAtWithMemory, after_last_end, extend, from_begin_update, hold_turn, release, inr, stop, with_held, rules}
+use Rattle.vte.proofs.Common.{◌≡◌, ℕ, ◌+◌, ◌-◌, ◌<◌, inl, List, [], ◌∷◌, ◌++◌, length, take, refl, ap, sym, ◌∙◌, arith, length-append, take_all, Meaning, State, parse, length-take, Engine, IsAdded, held_of, released_of, still_held, set_times, EngineIsAt, EngineView, EngineIsAtKeepingMemory, ArePartsAt, ArePartsAtKeepingMemory, ArePartsAtWithMemory, after_last_end, extend, from_begin_update, hold_turn, release, inr, stop, with_held, rules}
 use Rattle.std.proofs.lemmas.List.{nil_from_length}
 use Rattle.vte.proofs.updates.Sequences.{cases_Option, stays_held, suffix-length}
 use Rattle.vte.specs.declared.ansi.updates.hold.SyncState.{SyncState}
@@ -62,11 +62,11 @@ module _ {P B T A V W : Type 0} {view : EngineView P B T W} (m : Meaning V W) {s
       → ((t : State V W) (n : ℕ) → ArePartsAt view set.parser set.state value t
       → (0 < length (released_of hold)
       → HasMemoryFor t.parsed (length (released_of hold) + n))
-      → ArePartsAtKeeping view set.parser set.state last.parser last.state next (parse m t (released_of hold)))
+      → ArePartsAtKeepingMemory view set.parser set.state last.parser last.state next (parse m t (released_of hold)))
       → ((t : State V W) (n : ℕ) → ArePartsAtWithMemory view set.parser set.state value t
       (length (released_of hold) + n)
       → view.parser.has_memory last.parser (view.text_size_of last.state.text) (t.parsed ++ released_of hold) n)
-      → last.hold ≡ hold → EngineIsAtKeeping view old last next (hold_turn m s more)
+      → last.hold ≡ hold → EngineIsAtKeepingMemory view old last next (hold_turn m s more)
   turned_cut {last} {next} some parses leaves kept =
       let t = extend m s more in
       let all = s.held ++ more in
@@ -110,8 +110,8 @@ module _ {P B T A V W : Type 0} {view : EngineView P B T W} (m : Meaning V W) {s
       → held_of hold ≡ []
       → (0 < length t.held → HasMemoryFor t.parsed
       (length t.held + n))
-      → EngineIsAtKeeping view set last next (stop m t))
-      → EngineIsAtKeeping view old last next (hold_turn m s more)
+      → EngineIsAtKeepingMemory view set last next (stop m t))
+      → EngineIsAtKeepingMemory view old last next (hold_turn m s more)
   turned_stop {last} {next} some is stops =
       let all = s.held ++ more in
       let none : held_of hold ≡ [] = nil_from_length (held_of hold) is in
@@ -119,7 +119,7 @@ module _ {P B T A V W : Type 0} {view : EngineView P B T W} (m : Meaning V W) {s
       let whole : released_of hold ≡ all =
       added.released_is ∙ rw nothing (take_all (length all - 0) all (omega arith)) in
       let sum : length all + 0 ≡ length s.held + length more = omega (arith, length-append s.held more) in
-      let there : EngineIsAtKeeping view set last next (stop m (extend m s more)) =
+      let there : EngineIsAtKeepingMemory view set last next (stop m (extend m s more)) =
       stops (extend m s more) 0 extended whole none (λ some. rw sum memory) in
       rw (holds-none m s more (omega (arith, some, length-append s.held more)) nothing)
       (record { engine_at = there.engine_at; keeps_memory = there.keeps_memory })

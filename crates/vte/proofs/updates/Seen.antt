@@ -1,5 +1,6 @@
--- What the search from the end of a hold has seen, position by position: how many updates begin, and where what is
--- unread starts. Only a position with ESC can change it, and the older bytes matter only by their last seven.
+-- What the search from the end of a hold has seen (`HasSeen`), position by position: how many updates begin, and where
+-- what is unread starts. Only a position with ESC can change it (`seen-skipped`, `last_escape`), and the older bytes
+-- matter only by their last seven. At the front the whole hold is seen (`seen-all`).
 use Rattle.vte.proofs.Common.{◌≡◌, ℕ, zero, suc, ◌+◌, ◌-◌, ◌<◌, ◌≤◌, inl, inr, true, false, eqb, Some, None, List, [], ◌∷◌, length, drop, take, get_or, refl, ap, subst, ◌∙◌, add-zero, length-drop, arith, cases_Bool, nat_tests, drop_all, drop_more, get_or-drop, get_or-take, length-take-le, take_all, ◌++◌, IsHeldTail, drop-drop, length-append, Adds, after_word, begin_update, end_update, begins_ending_in_last, begins_with, after_last_end, from_begin_update, rules}
 use Rattle.std.specs.Prelude.{◌&&◌, nat_lt}
 use Rattle.memchr.specs.Find.{NoneAfter, Nowhere, Passes, is_byte}

@@ -29,7 +29,7 @@ pub record ArePartsAtWithMemory {P B T V W : Type 0} (view : EngineView P B T W)
   pub memory : view.parser.has_memory parser (view.text_size_of lent.text) state.parsed count
 
 -- `ArePartsAt`, with the memory that was there before.
-pub record ArePartsAtKeeping {P B T V W : Type 0} (view : EngineView P B T W) (parser : P)
+pub record ArePartsAtKeepingMemory {P B T V W : Type 0} (view : EngineView P B T W) (parser : P)
     (lent : ProcessorState T B) (next : P) (back : ProcessorState T B)
     (value : V) (state : State V W) : Type 0 where
   pub parts_at : ArePartsAt view next back value state
@@ -43,7 +43,7 @@ abbrev pub EngineIsAt : {P B T A V W : Type 0} → EngineView P B T W → Engine
 EngineIsAt view engine = IsAt (EngineHasParsedAndHolds view engine)
 
 -- The engine is at a state, with the memory that was there before.
-pub record EngineIsAtKeeping {P B T A V W : Type 0} (view : EngineView P B T W)
+pub record EngineIsAtKeepingMemory {P B T A V W : Type 0} (view : EngineView P B T W)
     (engine next : Engine P B T A)
     (value : V) (state : State V W) : Type 0 where
   pub engine_at : EngineIsAt view next value state
@@ -54,7 +54,7 @@ abbrev pub EngineLeadsOn : {P B T A V W : Type 0} → EngineView P B T W → Eng
     → Engine P B T A → V → V → (State V W → (State V W → Type 0) → Type 0) → Type 0
 EngineLeadsOn view engine next old new ends =
     (state : State _ _) → EngineIsAt view engine old state
-    → ends state (EngineIsAtKeeping view engine next new)
+    → ends state (EngineIsAtKeepingMemory view engine next new)
 
 -- ---- how a turn ends
 

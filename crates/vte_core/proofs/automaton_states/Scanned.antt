@@ -1,5 +1,6 @@
 -- What the automaton's state says of the text that it has read: characters that are printed, and then the bytes of one
--- that has begun. Each step of the automaton keeps that.
+-- that has begun. Each step of the automaton keeps that. The ten states have three phases (`Phase`): between two
+-- characters, failed, or inside a character, whose next byte has one range.
 use Rattle.vte_core.proofs.Common.{List, [], ap, arith, get_or, length, refl, suc, ℕ, ◌++◌, ◌<◌, ◌∙◌, ◌∷◌, ◌≡◌, ◌≢◌, ◌≤◌, Range, from_to, inl, inr, subst, sym, true, and_parts, cases_Bool, cases_eq, cases_lt, false≢true, nat_tests, is_in, rows_after_byte, utf8_rows, second_range, IsPrintedAscii, IsUtf8Run, is_layout, add-one, append_assoc, cond, drop, length-drop, take, zero, ◌&&◌, ◌+◌, ◌-◌, take-add, append-nil, get_or-drop, take_more, slice_index, Bool, false, length-append, length-take, encodes, encode, All-cons, All-head, All-nil, All-tail, All, StaysInRun, rules}
 use Rattle.vte_core.proofs.bytes.Utf8.{continuation, fits, tests-row, tests-two}
 use Rattle.vte_core.specs.machine.Automaton.{AutomatonState, Between, NeedsOne, NeedsTwo, NeedsThree, AfterE0, AfterED, AfterF0, AfterF4, AfterC2, Failed, next_if_in, next_between, next_state, state_after}
@@ -68,8 +69,9 @@ abbrev EndsCharacter : ℕ → List Range → Type 0
 EndsCharacter b ranges = (u : List ℕ) → fits ranges u ≡ true → IsUtf8Run true (b ∷ u)
 
 -- the row of Unicode's table that the byte has
-ends-row : (b : ℕ) {ranges : List Range} → 0xc3 ≤ b → rows_after_byte b utf8_rows ≡ ranges ∷ [] → EndsCharacter b ranges
-ends-row b {ranges} low same u fit =
+ends_character-row : (b : ℕ) {ranges : List Range} → 0xc3 ≤ b → rows_after_byte b utf8_rows ≡ ranges ∷ []
+    → EndsCharacter b ranges
+ends_character-row b {ranges} low same u fit =
     utf8_run-character (omega (arith, low)) (λ e. absurd (omega (arith, e, low)))
     ((tests-row b ranges same u).is_whole ∙ fit)
 
@@ -82,13 +84,13 @@ pub data Begins (b : ℕ) : Type 0 where
 
 begins-opened : (b : ℕ) (t : AutomatonState) → next_between b ≡ t → t ≢ Between → 0xc3 ≤ b
     → rows_after_byte b utf8_rows ≡ wanted_ranges t ∷ [] → Begins b
-begins-opened b t is not low same = opens t is not (ends-row b low same)
+begins-opened b t is not low same = opens t is not (ends_character-row b low same)
 
 -- after C2 the table also has controls
-ends-after_c2 : EndsCharacter 0xc2 (from_to 0xa0 0xbf ∷ [])
+ends_character-after_c2 : EndsCharacter 0xc2 (from_to 0xa0 0xbf ∷ [])
 unfolding second_range
-ends-after_c2 [] fit = absurd (false≢true fit)
-ends-after_c2 (c ∷ u) fit =
+ends_character-after_c2 [] fit = absurd (false≢true fit)
+ends_character-after_c2 (c ∷ u) fit =
     let parts = and_parts (is_in (from_to 0xa0 0xbf) c) (fits [] u) fit in
     utf8_run-character (omega arith) (λ _. (in_range-bounds (from_to 0xa0 0xbf) c parts.0).0)
     ((tests-two 0xc2 (omega arith) (omega arith) (c ∷ u)).is_whole ∙ rw parts.1 (grind (arith, nat_tests)))
@@ -109,7 +111,7 @@ begins b =
       | inr from_80 ↦ elim (cases_lt b 0xc2) [
         | inl lone ↦ fails (grind (arith, nat_tests))
         | inr from_c2 ↦ elim (cases_eq b 0xc2) [
-          | inl c2 ↦ subst Begins (sym c2) (opens AfterC2 refl (λ e. cc) ends-after_c2)
+          | inl c2 ↦ subst Begins (sym c2) (opens AfterC2 refl (λ e. cc) ends_character-after_c2)
           | inr past_c2 ↦ elim (cases_lt b 0xe0) [
             | inl short ↦
                 begins-opened b NeedsOne (grind (arith, nat_tests)) (λ e. cc) (omega (arith, from_c2, past_c2))

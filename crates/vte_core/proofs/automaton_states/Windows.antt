@@ -5,12 +5,12 @@ use Rattle.vte_core.specs.machine.Scans.{Each, IsWindow}
 use Rattle.vte_core.proofs.bytes.Runs.{block-byte, each-both}
 use Rattle.vte_core.specs.declared.reader.Window.{Window}
 use Rattle.vte_core.proofs.automaton_states.Scanned.{so_far-all, state_after-next, state_after-append, next_state-failed, phase-between, phase-failed, phase-waiting, phase}
-use Rattle.vte_core.specs.machine.Automaton.{state_after, Follows, FollowsAt, IsPlain, open_count, AutomatonState, Between, NeedsOne, NeedsTwo, NeedsThree, AfterE0, AfterED, AfterF0, AfterF4, AfterC2, Failed, next_between, next_if_in, next_state, Trails}
+use Rattle.vte_core.specs.machine.Automaton.{state_after, Follows, FollowsAt, StaysBetween, open_count, AutomatonState, Between, NeedsOne, NeedsTwo, NeedsThree, AfterE0, AfterED, AfterF0, AfterF4, AfterC2, Failed, next_between, next_if_in, next_state, Trails}
 
 -- The tests of a byte after three others.
 pub record Fits (third second first byte : ℕ) : Type 0 where
-  pub inside : is_in (from_to 0x80 0xbf) byte ≡ false → (first < 0xc0) × (second < 0xe0) × (third < 0xf0)
-  pub outside : is_in (from_to 0x80 0xbf) byte ≡ true → first < 0xc0 → second < 0xe0 → 0xf0 ≤ third
+  pub none_open : is_in (from_to 0x80 0xbf) byte ≡ false → (first < 0xc0) × (second < 0xe0) × (third < 0xf0)
+  pub one_open : is_in (from_to 0x80 0xbf) byte ≡ true → first < 0xc0 → second < 0xe0 → 0xf0 ≤ third
   pub plain : byte < 0x20 → is_layout byte ≡ true
   pub lead : 0xc0 ≤ byte → (0xc2 ≤ byte) × (byte < 0xf5)
   pub after_e0 : first ≡ 0xe0 → 0xa0 ≤ byte
@@ -40,14 +40,14 @@ module _ (t s f b : ℕ) (fit : Fits t s f b) where
       let cont : is_in (from_to 0x80 0xbf) b ≡ true = elim (cases_Bool (is_in (from_to 0x80 0xbf) b)) [
         | inl is ↦ is
         | inr not ↦
-            let none = fit.inside not in absurd (omega (arith, old.0 none.0 none.1, none.2))
+            let none = fit.none_open not in absurd (omega (arith, old.0 none.0 none.1, none.2))
       ] in
       more (from_to 0x80 0xbf) Between cont (grind (arith, nat_tests, cont), old.1, old.2)
   leads NeedsTwo old =
       let cont : is_in (from_to 0x80 0xbf) b ≡ true = elim (cases_Bool (is_in (from_to 0x80 0xbf) b)) [
         | inl is ↦ is
         | inr not ↦
-            let none = fit.inside not in absurd (omega (arith, old.0 (omega (arith, none.0)), none.1))
+            let none = fit.none_open not in absurd (omega (arith, old.0 (omega (arith, none.0)), none.1))
       ] in
       more (from_to 0x80 0xbf) NeedsOne cont
       ((λ _ low. old.0 low), grind (arith, nat_tests, cont), old.1)
@@ -145,12 +145,12 @@ closed-trails : (bytes : List ℕ) (from at : ℕ) → IsClosed bytes from at �
 closed-trails bytes from at closed = search (rules, arith)
 
 closed-next : (bytes : List ℕ) (from at : ℕ) → from ≤ at → at < length bytes
-    → IsClosed bytes from at → IsPlain (slice_index bytes at) → IsClosed bytes from (at + 1)
+    → IsClosed bytes from at → StaysBetween (slice_index bytes at) → IsClosed bytes from (at + 1)
 unfolding next_state
 closed-next bytes from at low within old plain = search (rules, arith, state-next)
 
 closed-further : (bytes : List ℕ) (from at to : ℕ) → from ≤ at → to ≤ length bytes
-    → Each IsPlain bytes at to → IsClosed bytes from at → (n : ℕ) → at + n ≤ to → IsClosed bytes from (at + n)
+    → Each StaysBetween bytes at to → IsClosed bytes from at → (n : ℕ) → at + n ≤ to → IsClosed bytes from (at + n)
 closed-further bytes from at to low within plain old zero at_most =
     subst (IsClosed bytes from) (let e : at ≡ at + 0 = omega arith in e) old
 closed-further bytes from at to low within plain old (suc n) at_most =
@@ -209,7 +209,7 @@ trails-between s third second first trails f g t = search (rules, arith)
 pub trails-ascii : (bytes : List ℕ) (from at to : ℕ) → from ≤ at → at ≤ to → to ≤ length bytes
     → TrailsAt bytes from at
     → (at < to → open_count (slice_index bytes (at - 3)) (slice_index bytes (at - 2)) (slice_index bytes (at - 1)) ≡ 0)
-    → Each IsPlain bytes at to → TrailsAt bytes from to
+    → Each StaysBetween bytes at to → TrailsAt bytes from to
 trails-ascii bytes from at to low more within old closed plain = elim (cases_lt at to) [
   | inr none ↦ subst (TrailsAt bytes from) (let e : at ≡ to = omega (arith, more, none) in e) old
   | inl some ↦

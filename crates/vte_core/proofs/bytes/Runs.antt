@@ -1,7 +1,8 @@
 -- Runs of text among the bytes of a call (`IsRun`), the search for their end, and where they end. By induction over the
 -- bytes, and by the rows of UTF-8.
 --
--- `each-X`: what each byte of X meets; `run-X`: X is a run; `scans-X`: a search goes on by X; `ends-X`: X begins none.
+-- `each-X`: what each byte of X meets; `run-X`: X is a run; `scans-X`: a search goes on by X; `no_run-X`: no run begins
+-- where X does.
 use Rattle.vte_core.proofs.Common.{◌≡◌, ℕ, ◌+◌, ◌-◌, ◌<◌, ◌≤◌, inl, inr, List, [], ◌∷◌, length, take, drop, get_or, refl, ap, subst, ◌∙◌, arith, cases_lt, drop_more, take_rest, slice_index, Bool, true, false, ◌++◌, map, sym, nat_tests, get_or-drop, All-append, All-nil, All-cons, All, IsAscii, chars, Print, IsPrintedAscii, ArePrintedAscii, IsUtf8Run, IsRun, from_to, append-nil, encode, IsScalar, after, Event, is_in, is_control_character, is_layout, StaysInRun, run_event, looked, Scans, zero, suc, utf8_rows, false≢true, cases_Bool, and_parts, drop_all, Range, ends_run, is_well_formed, second_range, scalar_of, HasNoRunAt, rules}
 use Rattle.std.proofs.lemmas.List.{length-drop, length-take, get_or-take}
 use Rattle.std.proofs.lemmas.Simd.{get_or-chunk}
@@ -285,9 +286,9 @@ module _ (layout : Bool) (bytes : List ℕ) (from a : ℕ) (within : from < leng
   control-ends c control other = search (rules, arith)
 
   -- a byte that is neither printed nor kept, and begins no longer sequence
-  pub ends-single : is_in (from_to 0x20 0x7f) a ≡ false → is_in (from_to 0xc2 0xf4) a ≡ false
+  pub no_run-single : is_in (from_to 0x20 0x7f) a ≡ false → is_in (from_to 0xc2 0xf4) a ≡ false
       → (layout ≡ true → is_layout a ≡ false) → HasNoRunAt layout bytes from
-  ends-single other lone plain n far whole =
+  no_run-single other lone plain n far whole =
       let p = begins n whole in
       elim (cases_lt a 0x80) [
         | inl low ↦
@@ -306,10 +307,10 @@ module _ (layout : Bool) (bytes : List ℕ) (from a : ℕ) (within : from < leng
       ]
 
   -- a sequence of two that is a control's
-  pub ends-two : 0xc2 ≤ a → a < 0xe0
+  pub no_run-two : 0xc2 ≤ a → a < 0xe0
       → (from + 1 < length bytes → is_in continuation (slice_index bytes (from + 1)) ≡ true
       → (a ≡ 0xc2 → 0xa0 ≤ slice_index bytes (from + 1)) → ⊥) → HasNoRunAt layout bytes from
-  ends-two low high none n far whole =
+  no_run-two low high none n far whole =
       let p = begins n whole in
       let one =
       fits-one (second_range a) bytes (from + 1) p.m (sym (tests-two a low high (later p.m)).is_whole ∙ p.well) in
@@ -330,10 +331,10 @@ module _ (layout : Bool) (bytes : List ℕ) (from a : ℕ) (within : from < leng
       (control-ends b (grind (arith, nat_tests, control.1, bounds.0)) (λ _. grind (arith, nat_tests, bounds.0)))
 
   -- a run ends at a byte E0..EF without a sequence of three
-  pub ends-three : 0xe0 ≤ a → a < 0xf0
+  pub no_run-three : 0xe0 ≤ a → a < 0xf0
       → (from + 2 < length bytes → is_in (second_range a) (slice_index bytes (from + 1)) ≡ true
       → is_in continuation (slice_index bytes (from + 2)) ≡ true → ⊥) → HasNoRunAt layout bytes from
-  ends-three low high none n far whole =
+  no_run-three low high none n far whole =
       let p = begins n whole in
       let those =
       fits-in (second_range a ∷ continuation ∷ []) bytes (from + 1) p.m
@@ -342,11 +343,11 @@ module _ (layout : Bool) (bytes : List ℕ) (from a : ℕ) (within : from < leng
       absurd (none (rw e at those.2.0) those.1 (rw e at those.2.1))
 
   -- a run ends at a byte F0..F4 without a sequence of four
-  pub ends-four : 0xf0 ≤ a → is_in (from_to 0xc2 0xf4) a ≡ true
+  pub no_run-four : 0xf0 ≤ a → is_in (from_to 0xc2 0xf4) a ≡ true
       → (from + 3 < length bytes → is_in (second_range a) (slice_index bytes (from + 1)) ≡ true
       → is_in continuation (slice_index bytes (from + 2)) ≡ true
       → is_in continuation (slice_index bytes (from + 3)) ≡ true → ⊥) → HasNoRunAt layout bytes from
-  ends-four low lead none n far whole =
+  no_run-four low lead none n far whole =
       let p = begins n whole in
       let high : a < 0xf5 = omega (arith, (in_range-bounds (from_to 0xc2 0xf4) a lead).1) in
       let those =
@@ -357,28 +358,28 @@ module _ (layout : Bool) (bytes : List ℕ) (from a : ℕ) (within : from < leng
       absurd (none (rw (e, f) at those.2.2.0) those.1 (rw e at those.2.1) (rw (e, f) at those.2.2.1))
 
   -- no byte follows a first one
-  pub ends-long : is_in (from_to 0xc2 0xf4) a ≡ true → (from + 1 < length bytes → ⊥) → HasNoRunAt layout bytes from
-  ends-long lead none =
+  pub no_run-long : is_in (from_to 0xc2 0xf4) a ≡ true → (from + 1 < length bytes → ⊥) → HasNoRunAt layout bytes from
+  no_run-long lead none =
       let bounds = in_range-bounds (from_to 0xc2 0xf4) a lead in
       elim (cases_lt a 0xe0) [
-        | inl two ↦ ends-two bounds.0 two (λ more continues plain. none more)
+        | inl two ↦ no_run-two bounds.0 two (λ more continues plain. none more)
         | inr rest ↦ elim (cases_lt a 0xf0) [
-          | inl three ↦ ends-three (omega (arith, rest)) three (λ more second third. none (omega (arith, more)))
+          | inl three ↦ no_run-three (omega (arith, rest)) three (λ more second third. none (omega (arith, more)))
           | inr four ↦
-              ends-four (omega (arith, four)) lead (λ more second third fourth. none (omega (arith, more)))
+              no_run-four (omega (arith, four)) lead (λ more second third fourth. none (omega (arith, more)))
         ]
       ]
 
 -- with the bytes
-pub ends-all : (layout : Bool) (bytes : List ℕ) (place : ℕ) → length bytes ≤ place → HasNoRunAt layout bytes place
+pub no_run-all : (layout : Bool) (bytes : List ℕ) (place : ℕ) → length bytes ≤ place → HasNoRunAt layout bytes place
 unfolding is_well_formed utf8_rows
-ends-all layout bytes place all l far whole = search (rules, arith)
+no_run-all layout bytes place all l far whole = search (rules, arith)
 
 -- ASCII that is printed begins a run
-pub ends-unprinted : (bytes : List ℕ) (from : ℕ) → from < length bytes → HasNoRunAt false bytes from
+pub no_run-unprinted : (bytes : List ℕ) (from : ℕ) → from < length bytes → HasNoRunAt false bytes from
     → is_in (from_to 0x20 0x7f) (slice_index bytes from) ≡ false
 unfolding is_well_formed utf8_rows
-ends-unprinted bytes from within ended = elim (cases_Bool (is_in (from_to 0x20 0x7f) (slice_index bytes from))) [
+no_run-unprinted bytes from within ended = elim (cases_Bool (is_in (from_to 0x20 0x7f) (slice_index bytes from))) [
   | inr other ↦ other
   | inl printed ↦
       let b : ℕ = slice_index bytes from in

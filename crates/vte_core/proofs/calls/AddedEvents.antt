@@ -2,11 +2,11 @@
 -- performer receives is a function of the bytes, and a stretch that reports no run is known by its events.
 use Rattle.vte_core.proofs.Common.{◌≡◌, ℕ, ◌+◌, ◌<◌, inl, inr, false, Option, List, [], ◌∷◌, ◌++◌, length, take, refl, ap, sym, ◌∙◌, append_assoc, append-nil, arith, cases_Bool, slice_index, false≢true, All, All-append, All-cons, All-nil, Event, Print, replacement, after, added, reported_before, resumed_stream, breaks_at, State, Machine, IsPlaceOfState, IsAtPosition, IsInsidePosition, BytesLead, ChunkCall, chunk_call, Place, IsAfter, AddsOutsideRuns, IsOutsideRuns, drop, subst, All-drop, HasReadWithLimit, IsSettled, open_character, ReportsOutsideRuns, PrintsNoAscii, rules}
 use Rattle.vte_core.specs.machine.Progress.{AddsCharacter, HasProgress}
-use Rattle.vte_core.specs.machine.ToRun.{IsReadOutsideRuns}
+use Rattle.vte_core.specs.machine.ToRun.{IsOutsideRunsInState}
 use Rattle.vte_core.proofs.calls.Progress.{stretch-added, starts-at}
 use Rattle.vte_core.proofs.fields.PlaceOfState.{IsPlace}
 use Rattle.vte_core.proofs.places.PlaceSteps.{steps}
-use Rattle.vte_core.proofs.places.Steps.{AreOutsideRuns, IsOutsideRunsAt}
+use Rattle.vte_core.proofs.places.Steps.{AreOutsideRuns, IsOutsideRunsAtPlace}
 use Rattle.vte_core.proofs.Shapes.{reported-settled, reported-broken}
 use Rattle.vte_core.proofs.bytes.Runs.{one_byte}
 use Rattle.vte_core.proofs.streams.After.{added-reads, added-nothing}
@@ -14,7 +14,7 @@ use Rattle.vte_core.proofs.streams.StreamSteps.{prints_no_ascii, prints_no_ascii
 
 -- ---- a performer that keeps all events
 
--- It stands where any performer does (`kept-at`), and its value is what was reported (`reported-at`).
+-- It stands where any performer does (`recorded-at`), and its value is what was reported (`reported-at`).
 
 abbrev pub keep : List Event → Event → List Event
 keep events event = events ++ event ∷ []
@@ -26,35 +26,36 @@ after-keep : (given more : List Event) → after keep given more ≡ given ++ mo
 after-keep given [] = sym (append-nil given)
 after-keep given (event ∷ more) = after-keep (given ++ event ∷ []) more ∙ append_assoc given (event ∷ []) more
 
-came-kept : {V : Type 0} {call : ChunkCall V} {old value : V} {stream : List ℕ} {i : ℕ} {given : List Event}
+progress-recorded : {V : Type 0} {call : ChunkCall V} {old value : V} {stream : List ℕ} {i : ℕ} {given : List Event}
     {read : List ℕ} {place : Place} → HasProgress call old value stream i given read place
     → HasProgress (keeping call.limit call.bytes) [] given stream i given read place
-came-kept {given} c =
+progress-recorded {given} c =
     record { performed = sym (after-keep [] given); is_after = c.is_after; earlier = λ does. absurd (false≢true does) }
 
-kept-is : {limit : Option ℕ} {stream bytes : List ℕ} {i : ℕ} {value given : List Event} {read : List ℕ} {place : Place}
-    → HasProgress (keeping limit bytes) [] value stream i given read place → value ≡ given
-kept-is {given} c = c.performed ∙ after-keep [] given
+recorded-is : {limit : Option ℕ} {stream bytes : List ℕ} {i : ℕ} {value given : List Event} {read : List ℕ}
+    {place : Place} → HasProgress (keeping limit bytes) [] value stream i given read place → value ≡ given
+recorded-is {given} c = c.performed ∙ after-keep [] given
 
 module _ {V B : Type 0} {call : ChunkCall V} {old value : V} {stream : List ℕ} {i : ℕ} {parser : Machine B} where
-  pub kept-at : IsAtPosition call old value stream i parser
+  pub recorded-at : IsAtPosition call old value stream i parser
       → IsAtPosition (keeping call.limit call.bytes) [] (reported_before call.limit stream call.bytes i) stream i parser
-  kept-at s = record { place = s.place; stands = s.stands; settled = s.settled; progress = came-kept s.progress }
+  recorded-at s =
+      record { place = s.place; stands = s.stands; settled = s.settled; progress = progress-recorded s.progress }
 
-  pub kept-inside : IsInsidePosition call old value stream i parser
+  pub recorded-inside : IsInsidePosition call old value stream i parser
       → IsInsidePosition (keeping call.limit call.bytes) []
       (added call.limit stream (take i call.bytes)) stream i parser
-  kept-inside s = record { place = s.place; stands = s.stands; progress = came-kept s.progress }
+  recorded-inside s = record { place = s.place; stands = s.stands; progress = progress-recorded s.progress }
 
 pub reported-at : {B : Type 0} {value : List Event} {limit : Option ℕ} {stream bytes : List ℕ} {i : ℕ}
     {parser : Machine B} → IsAtPosition (keeping limit bytes) [] value stream i parser
     → value ≡ reported_before limit stream bytes i
-reported-at s = kept-is s.progress
+reported-at s = recorded-is s.progress
 
 pub added-inside : {B : Type 0} {value : List Event} {limit : Option ℕ} {stream bytes : List ℕ} {i : ℕ}
     {parser : Machine B} → IsInsidePosition (keeping limit bytes) [] value stream i parser
     → value ≡ added limit stream (take i bytes)
-added-inside s = kept-is s.progress
+added-inside s = recorded-is s.progress
 
 -- ---- what a state reads outside of text and data, it reads so at its place
 
@@ -65,7 +66,7 @@ outside_runs-all (event ∷ next ∷ events) are = All-cons IsOutsideRuns event 
     (outside_runs-all (next ∷ events) are.1)
 
 pub outside_runs-place : {B : Type 0} (limit : Option ℕ) (state : State) (parser : Machine B) (place : Place) (b : ℕ)
-    → IsReadOutsideRuns state b → IsPlaceOfState limit state parser place → IsOutsideRunsAt place b
+    → IsOutsideRunsInState state b → IsPlaceOfState limit state parser place → IsOutsideRunsAtPlace place b
 outside_runs-place limit state parser place b outside s = search (rules, arith)
 
 -- ---- what is reported between two positions
@@ -120,7 +121,7 @@ module _ {limit : Option ℕ} {stream bytes : List ℕ} {i : ℕ} where
 
   pub adds-outside_runs : {b : ℕ} {place : Place} → i < length bytes
       → b ≡ slice_index bytes i → IsAfter limit (resumed_stream stream bytes i) place
-      → IsPlace place → IsOutsideRunsAt place b → AddsOutsideRuns limit stream bytes i (i + 1)
+      → IsPlace place → IsOutsideRunsAtPlace place b → AddsOutsideRuns limit stream bytes i (i + 1)
   adds-outside_runs {b} {place} within is a is_place outside =
       let s = steps is_place in
       adds-reads within is a s.reads s.is_place (outside_runs-all s.reported (s.outside_runs outside))

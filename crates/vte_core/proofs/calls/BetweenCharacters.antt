@@ -6,13 +6,13 @@ use Rattle.vte_core.specs.declared.utf8.Carried.TheVariants.{Unfinished as Still
 use Rattle.vte_core.proofs.bytes.Scalars.{begins_none, first_truncated}
 use Rattle.vte_core.proofs.bytes.Utf8.{ascii-alone}
 use Rattle.vte_core.proofs.fields.PlaceOfState.{stands-by}
-use Rattle.vte_core.proofs.calls.Progress.{settled-by, place-settled_text}
+use Rattle.vte_core.proofs.calls.Progress.{settled-same_state, place-settled_text}
 use Rattle.vte_core.proofs.calls.Stretches.{advances-byte, advances-reporting, advances-then, not_escape, takes_bytes-begun, reads-byte_at}
 use Rattle.vte_core.specs.machine.Prelude.{MayReadByte, Completes}
 use Rattle.vte_core.proofs.places.PlaceLeads.{text-lone, text-unfinished, text-whole}
 use Rattle.vte_core.proofs.streams.StreamSteps.{outside_runs-control}
-use Rattle.vte_core.proofs.calls.AddedEvents.{adds-reads, added-inside, adds-character, keep, kept-at, keeping}
-use Rattle.vte_core.proofs.places.PartsToStream.{reads-byte}
+use Rattle.vte_core.proofs.calls.AddedEvents.{adds-reads, added-inside, adds-character, keep, recorded-at, keeping}
+use Rattle.vte_core.proofs.places.PartsToStream.{bytes_lead-byte}
 use Rattle.vte_core.proofs.calls.Characters.{in_text}
 
 character_event-printed : (b : ℕ) → is_in (from_to 0x20 0x7f) b ≡ true → character_event b ≡ Print b
@@ -108,7 +108,7 @@ byte-single limit b n other no_lead = elim (cases_lt b 0x80) [
   | inl low ↦ record {
     reported = character_event b ∷ [];
     reads =
-        reads-byte (not_escape b n)
+        bytes_lead-byte (not_escape b n)
         (text-whole (ascii-alone b low).is_whole);
     events_are = outside_runs-control b (grind (arith, nat_tests));
   }
@@ -117,7 +117,7 @@ byte-single limit b n other no_lead = elim (cases_lt b 0x80) [
       record {
         reported = malformed_event (b ∷ []) ∷ [];
         reads =
-            reads-byte (not_escape b n)
+            bytes_lead-byte (not_escape b n)
             (text-lone lone.is_whole lone.is_open);
         events_are = outside_runs-malformed b;
       }
@@ -144,7 +144,7 @@ pub advances-single : {outside V B : Type 0} {call : ChunkCall V} {old mid new :
 advances-single before r n other no_lead control malformed =
     advances-then before (advances-reporting
     (advances-byte r.within r.looked_at r.may_go_on (takes_bytes-single r.begun n no_lead control malformed)
-    (settled-by r.begun tt))
+    (settled-same_state r.begun tt))
     (λ stream place s. adds-single _ r.begun n other no_lead r.within r.looked_at s))
 
 -- ---- what a character reports that a lead byte begins
@@ -162,7 +162,7 @@ advances-first {call} {i} {first} {parser} r lead fits completes = record {
       completes.stands_at value stream (in_text parser (One first)) refl
       (reads-byte_at r.within r.looked_at r.may_go_on
       (takes_bytes-opened r.begun (λ e. omega (arith, e, lead)) (refl, first_truncated first lead fits) refl) s);
-  settled = λ within. settled-by (completes.text within) tt;
+  settled = λ within. settled-same_state (completes.text within) tt;
   outside_runs = λ given value stream s.
       let inside =
       reads-byte_at r.within r.looked_at r.may_go_on
@@ -171,7 +171,7 @@ advances-first {call} {i} {first} {parser} r lead fits completes = record {
       (λ does. absurd (false≢true does))
       (takes_bytes-opened {step = keep} r.begun (λ e. omega (arith, e, lead))
       (refl, first_truncated first lead fits) refl)
-      (kept-at s) in
+      (recorded-at s) in
       let reported = completes.adds value stream (in_text parser (One first)) refl inside in
       adds-character reported (added-inside {parser = in_text parser (One first)} silent) (elim reported.events_are [
         | inl others ↦ others

@@ -7,11 +7,11 @@ use Rattle.vte_core.proofs.places.PlaceLeads.{text-unfinished, text-whole}
 use Rattle.vte_core.proofs.streams.After.{carried_is_no_escape, after-open_character}
 use Rattle.vte_core.proofs.Shapes.{breaks-broken, breaks-unfinished, breaks-whole}
 use Rattle.vte_core.proofs.calls.Progress.{progress-settled, progress-broken, progress-carried, inside-all, inside-moved}
-use Rattle.vte_core.proofs.places.PartsToStream.{reads-byte}
+use Rattle.vte_core.proofs.places.PartsToStream.{bytes_lead-byte}
 use Rattle.vte_core.proofs.bytes.Scalars.{second-open, third-open}
 use Rattle.vte_core.specs.machine.Progress.{Completes}
 use Rattle.vte_core.proofs.streams.StreamSteps.{length-longer}
-use Rattle.vte_core.proofs.calls.AddedEvents.{added-inside, kept-inside, reported-at, keeping}
+use Rattle.vte_core.proofs.calls.AddedEvents.{added-inside, recorded-inside, reported-at, keeping}
 use Rattle.std.proofs.lemmas.List.{drop-drop}
 
 -- ---- a byte
@@ -66,7 +66,7 @@ module _ {V B : Type 0} {call : ChunkCall V} {old mid : V} {stream : List ℕ} w
         progress =
             progress-carried {these = []} t.begun within is (truncated-some (bytes_of u) opened)
             (breaks-unfinished (bytes_of u) b more)
-            (reads-byte
+            (bytes_lead-byte
             (carried_is_no_escape (bytes_of u) b opened (inr more))
             text-unfinished) refl (may_continue-truncated (bytes_of u ++ b ∷ []) more)
             (subst (ProgressInside call old mid stream i) t.same s.progress);
@@ -85,7 +85,7 @@ module _ {V B : Type 0} {call : ChunkCall V} {old mid : V} {stream : List ℕ} w
       {these = character_event (scalar_of (bytes_of u ++ b ∷ [])) ∷ []} t.begun within is
       (truncated-some (bytes_of u) opened)
       (breaks-whole (bytes_of u) b carries.0)
-      (reads-byte
+      (bytes_lead-byte
       (carried_is_no_escape (bytes_of u) b opened (inl carries.0)) (text-whole carries.0))
       (performed ∙ ap (λ n. call.step mid (character_event n)) carries.1) refl
       (subst (ProgressInside call old mid stream i) t.same s.progress) in
@@ -180,7 +180,7 @@ module _ {V B : Type 0} {call : ChunkCall V} {value : V} {i : ℕ} {begun : Unfi
     adds = λ old stream parser e s. record {
       events = [];
       parts =
-          sym (reported-at (inside-all (inside-moved end (goes.kept stream parser e (kept-inside s))) all))
+          sym (reported-at (inside-all (inside-moved end (goes.kept stream parser e (recorded-inside s))) all))
           ∙ sym (append-nil (added call.limit stream (take i call.bytes)));
       events_are = inl (All-nil IsOutsideRuns);
     };
@@ -205,7 +205,7 @@ module _ {V B : Type 0} {call : ChunkCall V} {value : V} {i : ℕ} {begun : Unfi
           parts =
               sym (reported-at
               (carried-whole {next = next} refl more whole state refl
-              (goes.kept stream parser e (kept-inside s)) within is later));
+              (goes.kept stream parser e (recorded-inside s)) within is later));
           events_are = inr (record {
             n = goes.n + 1;
             far = omega (arith, goes.far, within);
@@ -232,7 +232,7 @@ module _ {V B : Type 0} {call : ChunkCall V} {value : V} {i : ℕ} {begun : Unfi
           parts =
               sym (reported-at
               (carried-broken {next = next} refl more (carries more) state refl
-              (goes.kept stream parser e (kept-inside s)) within is));
+              (goes.kept stream parser e (recorded-inside s)) within is));
           events_are = inl (All-cons IsOutsideRuns (Print replacement) [] refl (All-nil IsOutsideRuns));
         };
   }
@@ -248,7 +248,7 @@ module _ {V B : Type 0} {call : ChunkCall V} {value : V} {i : ℕ} {begun : Unfi
     adds = λ old stream begun_parser e s.
         let opened = inside-open e s in
         let reported = c.adds old stream (in_text parser u) refl (goes.inside old stream begun_parser e s) in
-        let silent = added-inside (goes.kept stream begun_parser e (kept-inside s)) in
+        let silent = added-inside (goes.kept stream begun_parser e (recorded-inside s)) in
         record {
           events = reported.events;
           parts = reported.parts ∙ ap (λ (es : List Event). es ++ reported.events) (sym silent);

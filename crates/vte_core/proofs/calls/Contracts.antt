@@ -14,7 +14,7 @@ use Rattle.vte_core.specs.LongParser.{HasReadLong}
 use Rattle.vte_core.specs.Looks.{counted}
 use Rattle.vte_core.specs.Parser.{reading}
 use Rattle.vte_core.proofs.calls.Open.{inside-reads, lacks_all, meets_data, refuses-inside, stores_pieces}
-use Rattle.vte_core.proofs.calls.Progress.{ends-performs, ends-reads, ends-reads_all, ends-stops, reads-all}
+use Rattle.vte_core.proofs.calls.Progress.{call_ends-performs, call_ends-reads, call_ends-reads_all, call_ends-stops, all_read-unless_asked}
 
 -- ---- looks
 
@@ -32,8 +32,8 @@ module _ {V B : Type 0} {call : ChunkCall V} {old new : V} {before parser : Mach
       → Costs 5 call.bytes (Ok read) read before parser start end
       → ReadsBytes call.step old new call.bytes (reading call.limit before start) (reading call.limit parser end)
   reads-bytes all reads costs = record {
-    performs = λ stream h. ends-performs all (reads.stands_at stream h);
-    reads = λ stream h. ends-reads_all all (reads.stands_at stream h);
+    performs = λ stream h. call_ends-performs all (reads.stands_at stream h);
+    reads = λ stream h. call_ends-reads_all all (reads.stands_at stream h);
     count = costs.count;
     at_least = omega (arith, all, costs.at_least);
   }
@@ -44,8 +44,8 @@ module _ {V B : Type 0} {call : ChunkCall V} {old new : V} {before parser : Mach
       (reading call.limit parser end)
   reads-until does reads costs = record {
     within = reads.within;
-    stops = λ stream h. ends-stops does reads.within reads.stops (reads.stands_at stream h);
-    reads = λ stream h. ends-reads (reads.stands_at stream h);
+    stops = λ stream h. call_ends-stops does reads.within reads.stops (reads.stands_at stream h);
+    reads = λ stream h. call_ends-reads (reads.stands_at stream h);
     count = costs.count_if_ok;
     at_least = costs.at_least;
   }
@@ -105,7 +105,7 @@ module _ {A V : Type 0} {step : V → Event → V} {is_terminated : V → Bool} 
       → Costs 5 bytes (Ok read) read parser.machine next.machine (counted parser.looks) (counted next.looks)
       → ReadsLong 5 step (λ _. false) old new bytes parser next (Ok tt) (λ (_ : Unit {0}). ReadsBytes step)
   advance-read reads costs = record {
-    reads = reads-bytes (reads-all _ _ reads.within reads.asked) reads costs;
+    reads = reads-bytes (all_read-unless_asked _ _ reads.within reads.asked) reads costs;
     refuses = tt;
     memory = costs.memory;
     stores = stores_pieces next.machine;

@@ -1,16 +1,17 @@
--- The bytes of a head: a function that reads several of them goes on by each. `ReadsHeadUpTo` says which, without the
--- performer, which learns of a head only at its end; both shapes share it.
-use Rattle.vte_core.specs.machine.ToRun.{IsReadOutsideRuns}
+-- The bytes of a head, and the byte that ends it. A function that reads several of them goes on by each; `ReadsHead`
+-- says which, without the performer, which learns of a head only at its end. So both shapes, a control sequence's and
+-- a device control string's, share it (`advances-head`, `advances-past_head`).
+use Rattle.vte_core.specs.machine.ToRun.{IsOutsideRunsInState}
 use Rattle.vte_core.proofs.Common.{◌≡◌, ℕ, zero, suc, ◌+◌, ◌-◌, ◌<◌, ◌≤◌, ◌⊎◌, Option, List, [], ◌∷◌, ◌++◌, true, false, length, take, drop, refl, sym, subst, append_assoc, arith, append-nil, drop-drop, drop_more, take-add, slice_index, MatchOption, class_of, is_final, is_head_byte, is_parameter_text, AreInClass, Collected, HeadProgress, Entry, Parameters, Machine, State, ControlSequence, DeviceControl, Event, ChunkCall, Leads, CountsNumbers, SameIntermediates, IsAtPlace, IsPlaceOfState, HasReadHead, Place, InControlSequence, InDeviceControl, IsSettledPlace, Advances, ProgressAt, IsAtPosition, IsSettled, MayGoOn, TakesBytes, TakesByte, ends_body, progress_after, ReadsHead, Some, None, false≢true, rules}
 use Rattle.vte_core.proofs.bytes.Classes.{head_ends_nothing, AreInClass-append, final_ends_nothing, parameter_is_head}
-use Rattle.vte_core.proofs.calls.Progress.{progress-settled, progress-byte, settled-by}
+use Rattle.vte_core.proofs.calls.Progress.{progress-settled, progress-byte, settled-same_state}
 use Rattle.vte_core.proofs.calls.Stretches.{takes_bytes-in, advances-byte, advances-to_same, advances-given, advances-then}
 use Rattle.vte_core.proofs.fields.Heads.{holds-parameter}
 use Rattle.vte_core.proofs.fields.PlaceOfState.{IsPlace, stands-in}
 use Rattle.vte_core.proofs.places.PlaceLeads.{control-head, device-head}
-use Rattle.vte_core.proofs.calls.AddedEvents.{adds-same, kept-at, reported-at}
+use Rattle.vte_core.proofs.calls.AddedEvents.{adds-same, recorded-at, reported-at}
 use Rattle.vte_core.proofs.bytes.Runs.{one_byte}
-use Rattle.vte_core.proofs.places.PartsToStream.{no_escape, reads-byte}
+use Rattle.vte_core.proofs.places.PartsToStream.{no_escape, bytes_lead-byte}
 
 -- ---- `ReadsHead` of no bytes, of two stretches, of a byte
 
@@ -124,7 +125,7 @@ head-settled_place : (shape : Shape) (head : List ℕ) → IsSettledPlace (in_he
 head-settled_place ControlHead head = tt
 head-settled_place DeviceHead head = tt
 
-head-outside_runs : (shape : Shape) (progress : HeadProgress) (b : ℕ) → IsReadOutsideRuns (state_of shape progress) b
+head-outside_runs : (shape : Shape) (progress : HeadProgress) (b : ℕ) → IsOutsideRunsInState (state_of shape progress) b
 head-outside_runs ControlHead progress b = tt
 head-outside_runs DeviceHead progress b = tt
 
@@ -147,7 +148,7 @@ module _ {V : Type 0} {call : ChunkCall V} where
       let both : AreInClass is_head_byte (b ∷ take n (drop (i + 1) call.bytes)) = rw cut at more in
       let place = head-is_place shape (head ++ b ∷ []) in
       let reads =
-      reads-byte
+      bytes_lead-byte
       (no_escape b (head_ends_nothing (class_of b) both.0)) (head-leads shape head both.0) in
       let one =
       progress-settled place (head-settled_place shape (head ++ b ∷ []))
@@ -185,10 +186,10 @@ module _ {V : Type 0} {call : ChunkCall V} where
       → next.state ≡ state_of shape progress → Advances outside call value value i j parser next
   advances-head {progress} {next} shape begun reads may_go_on state = record {
     goes_on = λ old stream s. stands-head shape begun reads may_go_on state s;
-    settled = λ _. settled-by state (head-settled shape progress);
+    settled = λ _. settled-same_state state (head-settled shape progress);
     outside_runs = λ _ old stream s.
         adds-same (reported-at
-        (stands-head {next = next} shape begun reads (λ does. absurd (false≢true does)) state (kept-at s)));
+        (stands-head {next = next} shape begun reads (λ does. absurd (false≢true does)) state (recorded-at s)));
   }
 
   -- a part of a head and a byte after it, of which the caller says what it does there

@@ -6,8 +6,8 @@ use Rattle.vte_core.proofs.fields.PlaceOfState.{IsPlace, stands-place, in_comman
 use Rattle.vte_core.proofs.places.PlaceLeads.{escape-end, intermediate-end, control-head, device-head, data-put, command-item, ignored-more}
 use Rattle.vte_core.proofs.Shapes.{text_outcome-broken}
 use Rattle.vte_core.proofs.streams.After.{added-after, added-reads, after-events, after-left, after-nothing, events-empty, open_at_end-any, after-reads}
-use Rattle.vte_core.proofs.places.PartsToStream.{reads-byte, waits-byte}
-use Rattle.vte_core.proofs.calls.Progress.{place-settled_text, reads-item, progress-command}
+use Rattle.vte_core.proofs.places.PartsToStream.{bytes_lead-byte, waits-byte}
+use Rattle.vte_core.proofs.calls.Progress.{place-settled_text, bytes_lead-item, progress-command}
 use Rattle.vte_core.proofs.calls.ToRun.{reads-anew}
 use Rattle.vte_core.specs.Open.{kind_to_close, open_at_end}
 use Rattle.vte_core.specs.Stream.{IsFinished, IsUnfinished}
@@ -39,7 +39,7 @@ probe-gives : {limit : Option ℕ} {stream : List ℕ} {place next : Place} {b :
     → IsProbe b → IsAfter limit stream place → Leads limit place b reported next → IsPlace next
     → added limit stream (b ∷ []) ≡ reported
 probe-gives {limit} {stream} {place} {next} {b} {reported} d a leads =
-    added-reads a (reads-byte d.other leads)
+    added-reads a (bytes_lead-byte d.other leads)
 
 -- it breaks a character
 probe-in_character : {limit : Option ℕ} {stream u : List ℕ} {b : ℕ}
@@ -133,7 +133,7 @@ meets_data {parser} {stream} {bytes} {from} refused h =
     let last : Place = InSystemCommand (k.items ++ byte ∷ []) in
     let joined : IsAfter None (stream ++ byte ∷ []) last =
     after-reads
-    (subst (IsAfter None stream) k.same h.is_after) (reads-item refused.is_data.0) tt in
+    (subst (IsAfter None stream) k.same h.is_after) (bytes_lead-item refused.is_data.0) tt in
     record {
       pieces = o.pieces;
       last = o.last;

@@ -8,11 +8,11 @@
 -- byte is left, or the next byte breaks the open one; `progress-command`: back from there
 -- `progress-starts`: there something starts
 -- `progress-comes`, `progress-all_read`: the public clauses of a call that stops, and of one that reads all
--- `starts-X`, `ends-X`, `settles`: where a call starts, where it stops or ends, and where no character is open
+-- `starts-X`, `call_ends-X`, `settles`: where a call starts, where it stops or ends, and where no character is open
 use Rattle.vte_core.proofs.Common.{◌≡◌, ℕ, ◌<◌, ◌≤◌, inl, inr, true, false, not, eqb, Option, List, [], ◌∷◌, ◌++◌, ap, sym, arith, cases_lt, nat_tests, Machine, Text, Nothing, IsAtPlace, IsPlaceOfState, Place, InText, InSystemCommand, escape, BytesLead, zero, suc, ◌+◌, ◌-◌, length, take, drop, refl, subst, ◌∙◌, append_assoc, slice_index, cases_Bool, append-nil, drop_more, take-add, breaks, breaks_at, IsStart, reported_before, resumed_stream, Event, Print, replacement, after, added, open_character, ProgressAt, ProgressInside, MayGoOn, ChunkCall, IsAfter, IsSettledPlace, open_at, ComesTo, State, StopsExactly, IsSettled, ReadsUpTo, IsAtPosition, IsInsidePosition, HasReadWithLimit, bytes_of, Unfinished, rules}
 use Rattle.vte_core.proofs.fields.PlaceOfState.{stands-in, IsPlace, open_at-settled, stands-place}
 use Rattle.vte_core.proofs.places.PlaceLeads.{command-item}
-use Rattle.vte_core.proofs.places.PartsToStream.{reads-byte}
+use Rattle.vte_core.proofs.places.PartsToStream.{bytes_lead-byte}
 use Rattle.vte_core.proofs.streams.After.{after-left, after-nothing, after-open_character, after-reads, added-reads, added-nothing, after_events-append}
 use Rattle.vte_core.proofs.Shapes.{breaks_at-all, breaks_at-settled, breaks_at-byte, no_start, starts-settled, starts-broken, resumed_stream-settled, resumed_stream-broken, reported-all, reported-settled, reported-broken, resumed_stream-all}
 use Rattle.vte_core.proofs.bytes.Runs.{one_byte}
@@ -30,16 +30,16 @@ pub place-settled_text : {B : Type 0} {limit : Option ℕ} {parser : Machine B} 
 place-settled_text {limit} {parser} {place} e s = text-by_place limit parser place (stands-in e s)
 
 -- no character is open there
-by_settled : {B : Type 0} (limit : Option ℕ) (state : State) (parser : Machine B) (place : Place) → IsSettled state
-    → IsPlaceOfState limit state parser place → IsSettledPlace place
-by_settled limit state parser place settled s = search (rules, arith)
+settled-by_place : {B : Type 0} (limit : Option ℕ) (state : State) (parser : Machine B) (place : Place)
+    → IsSettled state → IsPlaceOfState limit state parser place → IsSettledPlace place
+settled-by_place limit state parser place settled s = search (rules, arith)
 
 settled-place : {B : Type 0} {limit : Option ℕ} (parser : Machine B) → IsSettled parser.state → (place : Place)
     → IsAtPlace limit parser place → IsSettledPlace place
-settled-place {limit} parser settled place s = by_settled limit parser.state parser place settled s.by
+settled-place {limit} parser settled place s = settled-by_place limit parser.state parser place settled s.by
 
-pub settled-by : {state other : State} → state ≡ other → IsSettled other → IsSettled state
-settled-by e settled = subst IsSettled (sym e) settled
+pub settled-same_state : {state other : State} → state ≡ other → IsSettled other → IsSettled state
+settled-same_state e settled = subst IsSettled (sym e) settled
 
 pub settled-nothing : (u : Unfinished) → bytes_of u ≡ [] → IsSettled (Text u)
 settled-nothing Nothing e = tt
@@ -59,18 +59,18 @@ pub may_stop-none : {n : ℕ} → n ≡ 0 → not (eqb n 0) ≡ true → ⊥
 may_stop-none none is = let e : not (eqb 0 0) ≡ true = rw none at is in cc
 
 -- a call that may stop nothing reads all
-pub reads-all : (n size : ℕ) → n ≤ size → (n < size → false ≡ true) → n ≡ size
-reads-all n size within asked = search (rules, arith)
+pub all_read-unless_asked : (n size : ℕ) → n ≤ size → (n < size → false ≡ true) → n ≡ size
+all_read-unless_asked n size within asked = search (rules, arith)
 
 -- ---- a byte that joins an operating system command
 
 item_is_no_escape : (b : ℕ) → 0x20 ≤ b → eqb b escape ≡ false
 item_is_no_escape b low = grind (arith, nat_tests)
 
-pub reads-item : {limit : Option ℕ} {items : List ℕ} {b : ℕ} → 0x20 ≤ b
+pub bytes_lead-item : {limit : Option ℕ} {items : List ℕ} {b : ℕ} → 0x20 ≤ b
     → BytesLead limit (InSystemCommand items) (b ∷ []) [] (InSystemCommand (items ++ b ∷ []))
-reads-item {b} low =
-    reads-byte (item_is_no_escape b low)
+bytes_lead-item {b} low =
+    bytes_lead-byte (item_is_no_escape b low)
     (command-item low)
 
 -- ---- the bytes of a call from one position to the next
@@ -230,7 +230,7 @@ module _ {V : Type 0} {call : ChunkCall V} {old : V} {stream : List ℕ} where
       let here : i < length call.bytes = omega (arith, within) in
       let b : ℕ = slice_index call.bytes i in
       let is_item : 0x20 ≤ b = low i (omega arith) (omega arith) in
-      let one = progress-settled tt tt (progress-byte here refl may_go_on (reads-item is_item) refl tt c) in
+      let one = progress-settled tt tt (progress-byte here refl may_go_on (bytes_lead-item is_item) refl tt c) in
       let rest =
       progress-items {i = i + 1} n (items ++ b ∷ []) (omega (arith, within))
       (λ k from to. low k (omega (arith, from)) (omega (arith, to))) may_go_on one in
@@ -351,44 +351,44 @@ module _ {V B : Type 0} {call : ChunkCall V} where
       → HasReadWithLimit call.limit parser stream → IsAtPosition call old old stream 0 parser
   starts-at settled h = settles settled (starts-inside h)
 
-  pub ends-comes : {old value : V} {stream : List ℕ} {n : ℕ} {parser : Machine B} → call.may_stop ≡ true
+  pub call_ends-comes : {old value : V} {stream : List ℕ} {n : ℕ} {parser : Machine B} → call.may_stop ≡ true
       → n ≤ length call.bytes → IsAtPosition call old value stream n parser
       → ComesTo call.step call.is_terminated old call.limit stream call.bytes value n
-  ends-comes {parser} does within s =
+  call_ends-comes {parser} does within s =
       progress-comes does within
       (λ left. progress-starts (stands-place s.stands) (s.settled left) left s.progress) s.progress
 
-  pub ends-stops : {old value : V} {stream : List ℕ} {n : ℕ} {parser : Machine B} → call.may_stop ≡ true
+  pub call_ends-stops : {old value : V} {stream : List ℕ} {n : ℕ} {parser : Machine B} → call.may_stop ≡ true
       → n ≤ length call.bytes → (n < length call.bytes → call.is_terminated value ≡ true)
       → IsAtPosition call old value stream n parser
       → StopsExactly call.step call.is_terminated old call.limit stream call.bytes value n
-  ends-stops does within stops s =
-      record { comes = ends-comes does within s; stops = stops; all = λ all. progress-all_read all s.progress }
+  call_ends-stops does within stops s =
+      record { comes = call_ends-comes does within s; stops = stops; all = λ all. progress-all_read all s.progress }
 
-  pub ends-reads : {old value : V} {stream : List ℕ} {n : ℕ} {parser : Machine B}
+  pub call_ends-reads : {old value : V} {stream : List ℕ} {n : ℕ} {parser : Machine B}
       → IsAtPosition call old value stream n parser
       → HasReadWithLimit call.limit parser (resumed_stream stream call.bytes n)
-  ends-reads s = record { place = s.place; stands = s.stands; is_after = s.progress.is_after }
+  call_ends-reads s = record { place = s.place; stands = s.stands; is_after = s.progress.is_after }
 
   -- of a call that reads all bytes
-  pub ends-performs : {old value : V} {stream : List ℕ} {n : ℕ} {parser : Machine B} → n ≡ length call.bytes
+  pub call_ends-performs : {old value : V} {stream : List ℕ} {n : ℕ} {parser : Machine B} → n ≡ length call.bytes
       → IsAtPosition call old value stream n parser → value ≡ after call.step old (added call.limit stream call.bytes)
-  ends-performs all s = progress-all_read all s.progress
+  call_ends-performs all s = progress-all_read all s.progress
 
-  pub ends-reads_all : {old value : V} {stream : List ℕ} {n : ℕ} {parser : Machine B} → n ≡ length call.bytes
+  pub call_ends-reads_all : {old value : V} {stream : List ℕ} {n : ℕ} {parser : Machine B} → n ≡ length call.bytes
       → IsAtPosition call old value stream n parser → HasReadWithLimit call.limit parser (stream ++ call.bytes)
-  ends-reads_all {stream} {n} {parser} all s =
-      subst (HasReadWithLimit call.limit parser) (resumed_stream-all stream call.bytes n all) (ends-reads s)
+  call_ends-reads_all {stream} {n} {parser} all s =
+      subst (HasReadWithLimit call.limit parser) (resumed_stream-all stream call.bytes n all) (call_ends-reads s)
 
   -- ---- where the loop of a call ends: at a stop, or with all bytes read
 
-  pub ends-at_stop : {old value : V} {n : ℕ} {before parser : Machine B} → call.may_stop ≡ true
+  pub call_ends-at_stop : {old value : V} {n : ℕ} {before parser : Machine B} → call.may_stop ≡ true
       → call.is_terminated value ≡ true → n ≤ length call.bytes
       → ((stream : List ℕ) → HasReadWithLimit call.limit before stream → IsAtPosition call old value stream n parser)
       → ReadsUpTo call old value n before parser
-  ends-at_stop does stopped within stands = search (rules, arith)
+  call_ends-at_stop does stopped within stands = search (rules, arith)
 
-  pub ends-with_all : {old value : V} {n : ℕ} {before parser : Machine B} → n ≡ length call.bytes
+  pub call_ends-with_all : {old value : V} {n : ℕ} {before parser : Machine B} → n ≡ length call.bytes
       → ((stream : List ℕ) → HasReadWithLimit call.limit before stream → IsAtPosition call old value stream n parser)
       → ReadsUpTo call old value n before parser
-  ends-with_all all stands = search (rules, arith)
+  call_ends-with_all all stands = search (rules, arith)

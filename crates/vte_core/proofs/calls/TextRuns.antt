@@ -5,7 +5,7 @@ use Rattle.std.proofs.lemmas.List.{take-take}
 use Rattle.std.proofs.lemmas.Str.{encodes-chars, scalars-chars}
 use Rattle.vte_core.proofs.bytes.Runs.{each-one, chars-one, layout-is_control_character, run_event-no_control, run_event-printed, run-ascii}
 use Rattle.vte_core.proofs.dividing.Utf8Agrees.{cut-text, text_outcome-encodes}
-use Rattle.vte_core.proofs.calls.Progress.{progress-further, stretch-added, place-settled_text, settled-by, settles}
+use Rattle.vte_core.proofs.calls.Progress.{progress-further, stretch-added, place-settled_text, settled-same_state, settles}
 use Rattle.vte_core.proofs.streams.After.{added-reads, after_events-append}
 use Rattle.vte_core.proofs.Shapes.{reported-settled, reported-broken, with_bodies-report}
 use Rattle.vte_core.proofs.EarlyStops.{added-append}
@@ -13,12 +13,12 @@ use Rattle.vte_core.proofs.streams.StreamSteps.{reported_by_stream}
 
 -- ---- what a text gives, and a run
 
--- The events of its characters, since no byte of a run is ESC (`reads-text`).
+-- The events of its characters, since no byte of a run is ESC (`bytes_lead-text`).
 
-reads-characters : {limit : Option ℕ} {text : List ℕ} → IsUtf8 text → All (λ b. b ≢ escape) text
+bytes_lead-characters : {limit : Option ℕ} {text : List ℕ} → IsUtf8 text → All (λ b. b ≢ escape) text
     → BytesLead limit (InText []) text (map character_event (chars text)) (InText [])
 unfolding outcome_from
-reads-characters {limit} {text} is none = record {
+bytes_lead-characters {limit} {text} is none = record {
   reads = λ more.
       let cut = cut_at_escape more in
       ap (λ c. with_bodies limit (text_outcome c.text) c.bodies) (cut-text text more none)
@@ -31,7 +31,7 @@ reads-characters {limit} {text} is none = record {
 pub reported_as_characters : (limit : Option ℕ) (text : List ℕ) → IsUtf8 text → All (λ b. b ≢ escape) text
     → events limit text ≡ map character_event (chars text)
 reported_as_characters limit text is none =
-    reported_by_stream refl (reads-characters is none)
+    reported_by_stream refl (bytes_lead-characters is none)
 
 plain-event : (layout : Bool) (c : ℕ) → StaysInRun layout c → character_event c ≡ run_event layout c
 unfolding character_event
@@ -63,11 +63,11 @@ no_escape-run : (layout : Bool) (run : List ℕ) → IsUtf8Run layout run → Al
 no_escape-run layout run are =
     subst (All (λ b. b ≢ escape)) (encodes-chars run are.utf8) (no_escape-encodes layout (chars run) are.plain)
 
-pub reads-text : {limit : Option ℕ} {layout : Bool} {run : List ℕ} → IsUtf8Run layout run
+pub bytes_lead-text : {limit : Option ℕ} {layout : Bool} {run : List ℕ} → IsUtf8Run layout run
     → BytesLead limit (InText []) run (map (run_event layout) (chars run)) (InText [])
-reads-text {limit} {layout} {run} are =
+bytes_lead-text {limit} {layout} {run} are =
     subst (λ es. BytesLead limit (InText []) run es (InText [])) (plain-events layout (chars run) are.plain)
-    (reads-characters are.utf8 (no_escape-run layout run are))
+    (bytes_lead-characters are.utf8 (no_escape-run layout run are))
 
 -- ---- a run of one byte of ASCII
 
@@ -141,8 +141,8 @@ pub advances-text : {V B : Type 0} {call : ChunkCall V} {layout : Bool} {old new
     → PrintsRun layout call.step old new call.bytes i j → Advances ⊥ call old new i j parser parser
 advances-text {V} {call} {layout} {old} {new} {i} {j} {parser}
     never may_go_on e in_order high prints = record {
-      goes_on = λ value stream s. settles (settled-by e tt) (inside-next value stream s);
-      settled = λ _. settled-by e tt;
+      goes_on = λ value stream s. settles (settled-same_state e tt) (inside-next value stream s);
+      settled = λ _. settled-same_state e tt;
       outside_runs = λ no. absurd no;
     }
   where
@@ -164,7 +164,7 @@ advances-text {V} {call} {layout} {old} {new} {i} {j} {parser}
         ≡ map (run_event layout) (chars run) =
         sym (added-append call.limit from prefix rest) ∙ ap (added call.limit from) (sym parts)
         ∙ added-reads c.is_after
-        (reads-text prints.run) refl in
+        (bytes_lead-text prints.run) refl in
         not_stopped-reported layout call (never does) value stream k
         (ap (λ es. call.is_terminated (after call.step value es)) (stretch-added call.limit stream call.bytes i k past)
         ∙ ap call.is_terminated
@@ -185,5 +185,5 @@ advances-text {V} {call} {layout} {old} {new} {i} {j} {parser}
           stands = subst (IsAtPlace call.limit parser) here s.stands;
           progress =
               progress-further in_order high (λ does _. may_go_on does) (inside value stream c)
-              (reads-text prints.run) prints.printed refl c;
+              (bytes_lead-text prints.run) prints.printed refl c;
         }

@@ -10,12 +10,12 @@ use Rattle.vte_core.specs.declared.reader.run.RunKind.TheVariants.{Text as TextK
 use Rattle.vte_core.specs.declared.reader.run.RunRange.{RunRange}
 use Rattle.vte_core.specs.declared.reader.run.Taken.{Taken}
 use Rattle.vte_core.proofs.bytes.Classes.{data_ends_nothing}
-use Rattle.vte_core.proofs.calls.Progress.{ends-comes, ends-reads, place-settled_text}
-use Rattle.vte_core.proofs.calls.TextRuns.{reads-text}
+use Rattle.vte_core.proofs.calls.Progress.{call_ends-comes, call_ends-reads, place-settled_text}
+use Rattle.vte_core.proofs.calls.TextRuns.{bytes_lead-text}
 use Rattle.vte_core.proofs.fields.PlaceOfState.{IsPlace, stands-in}
 use Rattle.vte_core.proofs.places.PlaceLeads.{data-put}
 use Rattle.vte_core.proofs.streams.After.{added-nothing, added-reads, after-nothing, after-reads}
-use Rattle.vte_core.proofs.places.PartsToStream.{no_escape, reads-append, reads-byte, reads-nothing}
+use Rattle.vte_core.proofs.places.PartsToStream.{no_escape, bytes_lead-append, bytes_lead-byte, bytes_lead-nothing}
 
 -- ---- no run
 
@@ -54,7 +54,7 @@ pub has-text : {B : Type 0} {limit : Option ℕ} {bytes : List ℕ} {from end : 
     → HasRun limit bytes (record { start = from; end = end; kind = TextKind }) parser
 has-text {limit} {bytes} {from} {end} {parser} between low high are ended =
     has-run refl (λ place s. place-settled_text between s)
-    (reads-text are)
+    (bytes_lead-text are)
     (record { in_order = omega (arith, low); within = high }) are (low, ended)
 
 -- ---- a run of data leads from the data of a hooked string back there
@@ -65,19 +65,19 @@ data-by_place : {B : Type 0} (limit : Option ℕ) (parser : Machine B) (place : 
 data-by_place limit parser InDeviceData s = refl
 data-by_place limit parser _ s = absurd s
 
-reads-data : {limit : Option ℕ} (bytes : List ℕ) (n i : ℕ) → i + n ≤ length bytes → ArePut bytes i (i + n)
+bytes_lead-data : {limit : Option ℕ} (bytes : List ℕ) (n i : ℕ) → i + n ≤ length bytes → ArePut bytes i (i + n)
     → BytesLead limit InDeviceData (take n (drop i bytes)) (map Put (take n (drop i bytes))) InDeviceData
-reads-data bytes zero i within are = reads-nothing
-reads-data {limit} bytes (suc n) i within are =
+bytes_lead-data bytes zero i within are = bytes_lead-nothing
+bytes_lead-data {limit} bytes (suc n) i within are =
     let b : ℕ = slice_index bytes i in
     let here : i < length bytes = omega (arith, within) in
     let put = are i (omega arith) (omega arith) in
     let rest : List ℕ = take n (drop (i + 1) bytes) in
     rw (drop_more bytes i 0 here)
-    (reads-append
-    (reads-byte (no_escape b (data_ends_nothing (class_of b) put))
+    (bytes_lead-append
+    (bytes_lead-byte (no_escape b (data_ends_nothing (class_of b) put))
     (data-put put))
-    (reads-data bytes n (i + 1) (omega (arith, within))
+    (bytes_lead-data bytes n (i + 1) (omega (arith, within))
     (λ k low high. are k (omega (arith, low)) (omega (arith, high)))))
 
 pub has-data : {B : Type 0} {limit : Option ℕ} {bytes : List ℕ} {from end : ℕ} {parser : Machine B}
@@ -86,7 +86,7 @@ pub has-data : {B : Type 0} {limit : Option ℕ} {bytes : List ℕ} {from end : 
     → HasRun limit bytes (record { start = from; end = end; kind = DataKind }) parser
 has-data {limit} {bytes} {from} {end} {parser} begun low high are ended =
     has-run tt (λ place s. data-by_place limit parser place (stands-in begun s))
-    (reads-data bytes (end - from) from (omega (arith, low, high))
+    (bytes_lead-data bytes (end - from) from (omega (arith, low, high))
     (λ k above below. are k above (omega (arith, low, below))))
     (record { in_order = omega (arith, low); within = high }) tt (low, ended)
 
@@ -165,8 +165,9 @@ module _ {V B : Type 0} {call : ChunkCall V} {old new : V} (run : Run) {place : 
         comes =
             λ stream h.
             rw starts
-            (ends-comes does (omega (arith, c.has.is_range.in_order, c.has.is_range.within)) (c.stands_at stream h));
-        adds = λ stream h. rw (starts, these.are, these.events) (c.has.adds _ (ends-reads (c.stands_at stream h)));
+            (call_ends-comes does (omega (arith, c.has.is_range.in_order, c.has.is_range.within))
+            (c.stands_at stream h));
+        adds = λ stream h. rw (starts, these.are, these.events) (c.has.adds _ (call_ends-reads (c.stands_at stream h)));
         may_go_on = λ some. c.may_go_on (omega (arith, some, starts, ends));
         stops = λ none left. c.stops (omega (arith, none, starts, ends)) (omega (arith, left, starts));
       }
@@ -174,4 +175,4 @@ module _ {V B : Type 0} {call : ChunkCall V} {old new : V} (run : Run) {place : 
   pub reads-run : (stream : List ℕ) → HasReadWithLimit call.limit before stream
       → HasReadWithLimit call.limit parser (resumed_stream stream call.bytes run.start ++ run_bytes run)
   reads-run stream h =
-      rw (starts, (takes-run run.taken c.has taken).are) (c.has.reads _ (ends-reads (c.stands_at stream h)))
+      rw (starts, (takes-run run.taken c.has taken).are) (c.has.reads _ (call_ends-reads (c.stands_at stream h)))

@@ -1,7 +1,8 @@
 -- What a store holds: how many bytes, and which pieces. The invariant `HoldsItems` says what more items give, and each
 -- byte either joins the last piece, ends it, or is dropped.
 --
--- `pieces_from-X`: the pieces if X follows; `ends-X`: where pieces end; `keeps-X`: what is kept after X (`HoldsItems`).
+-- `pieces_from-X`: the pieces if X follows; `piece_ends-X`: where pieces end; `keeps-X`: what is kept after X
+-- (`HoldsItems`).
 use Rattle.vte_core.proofs.Common.{◌≡◌, ◌≢◌, ℕ, ◌+◌, ◌-◌, ◌≤◌, ◌<◌, zero, suc, true, false, List, [], ◌∷◌, ◌++◌, length, take, drop, Option, Some, None, refl, sym, ap, ◌∙◌, arith, append_assoc, length-append, length-drop, length-take, inl, inr, All, concat, filter, slice_range, drop-append-le, take-append-le, All-head, All-tail, take-nil, cases_Bool, ltb-true, ne_eqb, semicolon, Stored, HoldsItems, PiecesEnd, cut_data, cut_pieces, ends_after, fitting, pieces_from, Bool, loses_data, has_room, is_data_item, nat_tests, kept_after, kept_items, most_pieces, pieces_of, append-nil, take_all, rules}
 use Rattle.std.specs.Prelude.{◌||◌, nat_lt}
 use Rattle.std.proofs.lemmas.List.Elements.{filter-append}
@@ -65,45 +66,55 @@ pieces_from-run limit bytes ends (b ∷ run) more none =
 -- ---- where pieces end
 
 -- a data byte belongs to the piece after the last end
-ends-more : (left start : ℕ) (ends : List ℕ) (count more : ℕ) → length ends < left → PiecesEnd left start ends count
-    → PiecesEnd left start ends (count + more)
-ends-more zero start ends count more at_most are = absurd (omega arith)
-ends-more (suc left) start [] count more at_most are = omega arith
-ends-more (suc left) start (end ∷ ends) count more at_most are =
-    (are.0, ends-more left end ends count more (omega arith) are.1)
+piece_ends-more : (left start : ℕ) (ends : List ℕ) (count more : ℕ) → length ends < left
+    → PiecesEnd left start ends count → PiecesEnd left start ends (count + more)
+piece_ends-more zero start ends count more at_most are = absurd (omega arith)
+piece_ends-more (suc left) start [] count more at_most are = omega arith
+piece_ends-more (suc left) start (end ∷ ends) count more at_most are =
+    (are.0, piece_ends-more left end ends count more (omega arith) are.1)
 
-ends-push : (left start : ℕ) (ends : List ℕ) (count : ℕ) → length ends < left → PiecesEnd left start ends count
+piece_ends-push : (left start : ℕ) (ends : List ℕ) (count : ℕ) → length ends < left → PiecesEnd left start ends count
     → PiecesEnd left start (ends ++ count ∷ []) count
-ends-push zero start ends count at_most are = absurd (omega arith)
-ends-push (suc zero) start [] count at_most are = (are, refl)
-ends-push (suc (suc left)) start [] count at_most are = (are, omega arith)
-ends-push (suc left) start (end ∷ ends) count at_most are = (are.0, ends-push left end ends count (omega arith) are.1)
+piece_ends-push zero start ends count at_most are = absurd (omega arith)
+piece_ends-push (suc zero) start [] count at_most are = (are, refl)
+piece_ends-push (suc (suc left)) start [] count at_most are = (are, omega arith)
+piece_ends-push (suc left) start (end ∷ ends) count at_most are =
+    (are.0, piece_ends-push left end ends count (omega arith) are.1)
 
-ends-within : (left start : ℕ) (ends : List ℕ) (count : ℕ) → PiecesEnd left start ends count → start ≤ count
-ends-within zero start [] count are = omega arith
-ends-within zero start (end ∷ ends) count are = absurd are
-ends-within (suc left) start [] count are = are
-ends-within (suc left) start (end ∷ ends) count are = omega (arith, are.0, ends-within left end ends count are.1)
+piece_ends-within : (left start : ℕ) (ends : List ℕ) (count : ℕ) → PiecesEnd left start ends count → start ≤ count
+piece_ends-within zero start [] count are = omega arith
+piece_ends-within zero start (end ∷ ends) count are = absurd are
+piece_ends-within (suc left) start [] count are = are
+piece_ends-within (suc left) start (end ∷ ends) count are =
+    omega (arith, are.0, piece_ends-within left end ends count are.1)
 
 -- all bytes are in the pieces
-ends-stored : (left start : ℕ) (bytes ends : List ℕ) → PiecesEnd left start ends (length bytes)
+piece_ends-stored : (left start : ℕ) (bytes ends : List ℕ) → PiecesEnd left start ends (length bytes)
     → start + length (concat (take left (cut_data start bytes ends))) ≡ length bytes
-ends-stored zero start bytes [] are = omega (arith, are)
-ends-stored zero start bytes (end ∷ ends) are = absurd are
-ends-stored (suc left) start bytes [] are = search (rules, arith, take-nil, append-nil, length-drop)
-ends-stored (suc left) start bytes (end ∷ ends) are =
-    search (rules, arith, (ends-stored left end bytes ends are.1), ends-within, length-append, length-take, length-drop)
+piece_ends-stored zero start bytes [] are = omega (arith, are)
+piece_ends-stored zero start bytes (end ∷ ends) are = absurd are
+piece_ends-stored (suc left) start bytes [] are = search (rules, arith, take-nil, append-nil, length-drop)
+piece_ends-stored (suc left) start bytes (end ∷ ends) are =
+    search (
+      rules,
+      arith,
+      (piece_ends-stored left end bytes ends are.1),
+      piece_ends-within,
+      length-append,
+      length-take,
+      length-drop,
+    )
 
 slice_within : (start end : ℕ) (bytes more : List ℕ) → start ≤ end → end ≤ length bytes
     → slice_range (bytes ++ more) start end ≡ slice_range bytes start end
 slice_within start end bytes more order within = search (rules, arith, drop-append-le, take-append-le, length-drop)
 
 -- after the last of them further bytes and ends make no difference
-ends-complete : (start : ℕ) (bytes ends more later : List ℕ) → PiecesEnd (length ends) start ends (length bytes) →
+piece_ends-complete : (start : ℕ) (bytes ends more later : List ℕ) → PiecesEnd (length ends) start ends (length bytes) →
     take (length ends) (cut_data start (bytes ++ more) (ends ++ later)) ≡ take (length ends) (cut_data start bytes ends)
-ends-complete start bytes [] more later are = refl
-ends-complete start bytes (end ∷ ends) more later are =
-    search (rules, arith, (ends-complete end bytes ends more later are.1), slice_within, ends-within)
+piece_ends-complete start bytes [] more later are = refl
+piece_ends-complete start bytes (end ∷ ends) more later are =
+    search (rules, arith, (piece_ends-complete end bytes ends more later are.1), slice_within, piece_ends-within)
 
 -- ---- how many data bytes came, and whether some were dropped
 
@@ -150,7 +161,7 @@ pub done-complete : {limit : Option ℕ} {held : Stored} {items : List ℕ} → 
     → HoldsItems limit held items → IsDone limit held
 done-complete {limit} {held} complete keeps more =
     let kept = kept_after limit (length held.bytes) more in
-    rw complete at (ends-complete 0 held.bytes held.ends (filter is_data_item kept)
+    rw complete at (piece_ends-complete 0 held.bytes held.ends (filter is_data_item kept)
     (ends_after (length held.bytes) kept) (rw complete keeps.end))
 
 none-counts : {limit : Option ℕ} {held : Stored} {items : List ℕ} (more : List ℕ) → IsDone limit held
@@ -181,7 +192,7 @@ pub keeps-run : (limit : Option ℕ) (old new : Stored) (items run : List ℕ) �
     → HoldsItems limit old items
     → HoldsItems limit new (items ++ run)
 keeps-run limit old new items run at_most none bytes ends lost keeps =
-    search (rules, arith, ends-more, length-append, length-fitting, append_assoc, pieces_from-run, count-run)
+    search (rules, arith, piece_ends-more, length-append, length-fitting, append_assoc, pieces_from-run, count-run)
 
 -- a `;` more
 pub keeps-end : (limit : Option ℕ) (old new : Stored) (items : List ℕ) → length old.ends < most_pieces
@@ -190,7 +201,7 @@ pub keeps-end : (limit : Option ℕ) (old new : Stored) (items : List ℕ) → l
     → HoldsItems limit old items
     → HoldsItems limit new (items ++ semicolon ∷ [])
 keeps-end limit old new items at_most room bytes ends lost keeps =
-    search (rules, arith, append_assoc, ends-push, count-end)
+    search (rules, arith, append_assoc, piece_ends-push, count-end)
 
 -- the pieces, by what a store holds
 pub pieces_held : {limit : Option ℕ} {held : Stored} {items : List ℕ} → HoldsItems limit held items
@@ -202,7 +213,7 @@ pieces_held {limit} {held} keeps =
 pub pieces_stored : {limit : Option ℕ} {held : Stored} {items : List ℕ} → HoldsItems limit held items
     → length held.bytes ≡ length (concat (pieces_of limit items))
 pieces_stored {held} keeps =
-    rw (pieces_held keeps) (omega (arith, ends-stored most_pieces 0 held.bytes held.ends keeps.end))
+    rw (pieces_held keeps) (omega (arith, piece_ends-stored most_pieces 0 held.bytes held.ends keeps.end))
 
 -- a store knows whether data bytes were dropped
 pub loses_held : {limit : Option ℕ} {held : Stored} {items : List ℕ} → HoldsItems limit held items
@@ -225,7 +236,7 @@ record ContinuesPiece (start : ℕ) (bytes ends : List ℕ) (byte : ℕ) : Type 
 piece-goes_on : (left start : ℕ) (bytes ends : List ℕ) (byte : ℕ) → PiecesEnd left start ends (length bytes)
     → ContinuesPiece start bytes ends byte
 piece-goes_on left start bytes [] byte are =
-    let within = ends-within left start [] (length bytes) are in
+    let within = piece_ends-within left start [] (length bytes) are in
     record {
       pieces = [];
       last = drop start bytes;
@@ -236,7 +247,7 @@ piece-goes_on left start bytes [] byte are =
 piece-goes_on zero start bytes (end ∷ ends) byte are = absurd are
 piece-goes_on (suc left) start bytes (end ∷ ends) byte are =
     let on = piece-goes_on left end bytes ends byte are.1 in
-    let slice = slice_within start end bytes (byte ∷ []) are.0 (ends-within left end ends (length bytes) are.1) in
+    let slice = slice_within start end bytes (byte ∷ []) are.0 (piece_ends-within left end ends (length bytes) are.1) in
     record {
       pieces = slice_range bytes start end ∷ on.pieces;
       last = on.last;

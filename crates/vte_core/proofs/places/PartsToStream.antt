@@ -1,5 +1,5 @@
--- What a byte does in its part, a text or a body, it does in the stream (`reads-byte`), since only ESC cuts; ESC closes
--- the part (`reads-escape`). So places lead on in the stream, byte by byte (`reads-append`).
+-- What a byte does in its part, a text or a body, it does in the stream (`bytes_lead-byte`), since only ESC cuts; ESC
+-- closes the part (`bytes_lead-escape`). So places lead on in the stream, byte by byte (`bytes_lead-append`).
 use Rattle.vte_core.proofs.Common.{◌≡◌, ℕ, false, eqb, Option, List, [], ◌∷◌, ◌++◌, refl, ap, append_assoc, arith, nat_tests, Cancel, class_of, ends_body, Event, Leads, BytesLead, report, Place, InText, AtEscape, closing_events_at, rest_outcome, outcome_from, events_from, cut_at_escape, with_bodies, outcome, events, escape, ◌+◌, rules}
 use Rattle.vte_core.proofs.Shapes.{report-append, with_bodies-report}
 use Rattle.vte_core.proofs.fields.PlaceOfState.{IsPlace, rest_outcome-nothing}
@@ -22,10 +22,10 @@ unfolding outcome_from
 outcome_from-byte limit place b more e = simp e
 
 -- what a byte does in a text or a body, it does in the stream
-pub reads-byte : {limit : Option ℕ} {place next : Place} {b : ℕ} {reported : List Event} → eqb b escape ≡ false
+pub bytes_lead-byte : {limit : Option ℕ} {place next : Place} {b : ℕ} {reported : List Event} → eqb b escape ≡ false
     → Leads limit place b reported next → BytesLead limit place (b ∷ []) reported next
 unfolding outcome_from
-reads-byte {limit} {place} {next} {b} {reported} e l = search (rules, arith, outcome_from-byte, with_bodies-report)
+bytes_lead-byte {limit} {place} {next} {b} {reported} e l = search (rules, arith, outcome_from-byte, with_bodies-report)
 
 -- the same where the byte is still to be read
 pub waits-byte : (limit : Option ℕ) (place next : Place) (b : ℕ) (reported : List Event) (more : List ℕ)
@@ -41,18 +41,18 @@ pub outcome_from-escape : (limit : Option ℕ) (place : Place) (more : List ℕ)
 unfolding outcome_from
 outcome_from-escape limit place more is = search (rules, arith, rest_outcome-nothing)
 
-pub reads-escape : {limit : Option ℕ} {place : Place} → IsPlace place
+pub bytes_lead-escape : {limit : Option ℕ} {place : Place} → IsPlace place
     → BytesLead limit place (escape ∷ []) (closing_events_at limit place) AtEscape
-reads-escape {limit} {place} is = record { reads = λ more. outcome_from-escape limit place more is }
+bytes_lead-escape {limit} {place} is = record { reads = λ more. outcome_from-escape limit place more is }
 
-pub reads-nothing : {limit : Option ℕ} {place : Place} → BytesLead limit place [] [] place
-reads-nothing = record { reads = λ more. refl }
+pub bytes_lead-nothing : {limit : Option ℕ} {place : Place} → BytesLead limit place [] [] place
+bytes_lead-nothing = record { reads = λ more. refl }
 
-pub reads-append : {limit : Option ℕ} {place next last : Place} {bytes these : List ℕ}
+pub bytes_lead-append : {limit : Option ℕ} {place next last : Place} {bytes these : List ℕ}
     {reported more_reported : List Event} → BytesLead limit place bytes reported next
     → BytesLead limit next these more_reported last
     → BytesLead limit place (bytes ++ these) (reported ++ more_reported) last
-reads-append {limit} {place} {last} {bytes} {these} {reported} {more_reported} r s =
+bytes_lead-append {limit} {place} {last} {bytes} {these} {reported} {more_reported} r s =
     search (rules, arith, append_assoc, report-append)
 
 pub no_escape : (b : ℕ) → ends_body (class_of b) ≡ false → eqb b escape ≡ false

@@ -3,8 +3,8 @@
 use Rattle.vte_core.proofs.Common.{◌≡◌, ℕ, inl, inr, false, eqb, Option, List, refl, arith, cases_Bool, nat_tests, Class, Control, Cancel, Intermediate, Final, Delete, High, class_of, ends_body, SequenceKind, EscapeSequence, sequence_kind, AreFromOneByte, Event, head_of, is_well_shaped, sequence_event, Leads, Place, InText, AtEscape, InEscape, InControlSequence, InDeviceControl, InDeviceData, InSystemCommand, InIgnoredString, closing_events_at, escape, bell, pieces_of, kept_items, None, ◌≤◌, ◌+◌, open_data_count, left_at, breaks, open_at, sym, false≢true, ◌∙◌, [], ◌∷◌, ◌++◌, Execute, rules}
 use Rattle.vte_core.specs.Class.{Escape}
 use Rattle.vte_core.proofs.places.PlaceLeads.{bounded-head, executed_low, two_at_most, escape-key, escape-intermediate, escape-end, intermediate-more, intermediate-end, byte-dropped, byte-executed, control-head, control-dispatched, control-silent, device-dropped, device-head, device-well_shaped, device-ill_shaped, data-put, data-dropped, data-terminator, command-item, command-control, command-bell, ignored-more}
-use Rattle.vte_core.proofs.places.PartsToStream.{reads-byte, reads-escape, no_escape, cancel_is_no_escape}
-use Rattle.vte_core.proofs.places.Steps.{AreOutsideRuns, FitsLeft, IsSilentOrSettles, IsOutsideRunsAt, IsText, Steps}
+use Rattle.vte_core.proofs.places.PartsToStream.{bytes_lead-byte, bytes_lead-escape, no_escape, cancel_is_no_escape}
+use Rattle.vte_core.proofs.places.Steps.{AreOutsideRuns, FitsLeft, IsSilentOrSettles, IsOutsideRunsAtPlace, IsText, Steps}
 use Rattle.vte_core.proofs.places.TextSteps.{byte-cancels, closing_brief, closing_alone_brief, step-text}
 use Rattle.vte_core.proofs.bytes.Classes.{ends_not_cancel, Spans, spans, below_finals}
 use Rattle.vte_core.proofs.fields.PlaceOfState.{IsPlace}
@@ -21,8 +21,8 @@ HoldsNothing _ = Unit {0}
 
 -- From outside of text to a place that holds no bytes of a character or a command. Between places that are known this
 -- computes, and `(tt, tt)` proves it.
-abbrev Sequenced : Place → Place → Type 0
-Sequenced place next = IsOutsideText place × HoldsNothing next
+abbrev LeavesNothingOpen : Place → Place → Type 0
+LeavesNothingOpen place next = IsOutsideText place × HoldsNothing next
 
 no_text : (place : Place) → IsOutsideText place → IsText place → ⊥
 no_text (InText u) is text = is
@@ -38,17 +38,17 @@ no_escape-class : (b : ℕ) {k : Class} → class_of b ≡ k → ends_body k ≡
 no_escape-class b is no_end = no_escape b (rw is no_end)
 
 module _ {limit : Option ℕ} {place next : Place} {b : ℕ} where
-  step-sequenced_by : {reported : List Event} → eqb b escape ≡ false → Sequenced place next
+  step-leaving_nothing_by : {reported : List Event} → eqb b escape ≡ false → LeavesNothingOpen place next
       → Leads limit place b reported next
       → ((size : Option ℕ) → FitsLeft size (left_at limit place) → AreFromOneByte size reported)
-      → (IsOutsideRunsAt place b → AreOutsideRuns reported) → Steps limit place b
-  step-sequenced_by {reported} other known leads brief outside_runs =
+      → (IsOutsideRunsAtPlace place b → AreOutsideRuns reported) → Steps limit place b
+  step-leaving_nothing_by {reported} other known leads brief outside_runs =
       let none = nothing_open limit next known.1 in
       record {
         reported = reported;
         next = next;
         is_place = none.2;
-        reads = reads-byte other leads;
+        reads = bytes_lead-byte other leads;
         brief = brief;
         grows = λ _. omega (arith, none.1);
         leaves = inl none.0;
@@ -57,21 +57,21 @@ module _ {limit : Option ℕ} {place next : Place} {b : ℕ} where
       }
 
   -- by the byte's class
-  step-sequenced : {reported : List Event} {k : Class} → class_of b ≡ k → ends_body k ≡ false → Sequenced place next
-      → Leads limit place b reported next
+  step-leaving_nothing : {reported : List Event} {k : Class} → class_of b ≡ k → ends_body k ≡ false
+      → LeavesNothingOpen place next → Leads limit place b reported next
       → ((size : Option ℕ) → FitsLeft size (left_at limit place) → AreFromOneByte size reported)
-      → (IsOutsideRunsAt place b → AreOutsideRuns reported) → Steps limit place b
-  step-sequenced is no_end = step-sequenced_by (no_escape-class _ is no_end)
+      → (IsOutsideRunsAtPlace place b → AreOutsideRuns reported) → Steps limit place b
+  step-leaving_nothing is no_end = step-leaving_nothing_by (no_escape-class _ is no_end)
 
   -- a byte that reports nothing
-  step-silent : {k : Class} → class_of b ≡ k → ends_body k ≡ false → Sequenced place next → Leads limit place b [] next
-      → Steps limit place b
-  step-silent is no_end known leads = step-sequenced is no_end known leads (λ _ _. tt) (λ _. tt)
+  step-silent : {k : Class} → class_of b ≡ k → ends_body k ≡ false → LeavesNothingOpen place next
+      → Leads limit place b [] next → Steps limit place b
+  step-silent is no_end known leads = step-leaving_nothing is no_end known leads (λ _ _. tt) (λ _. tt)
 
-  step-executed : class_of b ≡ Control → Sequenced place next → Leads limit place b (Execute b ∷ []) next
+  step-executed : class_of b ≡ Control → LeavesNothingOpen place next → Leads limit place b (Execute b ∷ []) next
       → Steps limit place b
   step-executed is known leads =
-      step-sequenced is refl known leads (λ _ _. executed_low b (spans b is)) (λ _. tt)
+      step-leaving_nothing is refl known leads (λ _ _. executed_low b (spans b is)) (λ _. tt)
 
 -- ---- after ESC
 
@@ -79,7 +79,7 @@ step-at_escape_final : {limit : Option ℕ} {b : ℕ} {k : SequenceKind} → cla
     → Steps limit AtEscape b
 step-at_escape_final {b} {k = EscapeSequence} is k =
     let s = spans b is in
-    step-sequenced is refl (tt, tt) (escape-end is refl k) (λ _ _. (omega arith, s.1, omega arith))
+    step-leaving_nothing is refl (tt, tt) (escape-end is refl k) (λ _ _. (omega arith, s.1, omega arith))
     (λ _. tt)
 step-at_escape_final {k = key} is k = step-silent is refl (tt, tt) (escape-key key is k refl)
 
@@ -94,7 +94,7 @@ step-at_escape {k = Cancel} is no_end = cc
 step-at_escape {k = Escape} is no_end = cc
 step-at_escape {b} {k} is no_end =
     let s = spans b is in
-    step-sequenced is no_end (tt, tt) (escape-end is refl (below_finals b (omega arith)))
+    step-leaving_nothing is no_end (tt, tt) (escape-end is refl (below_finals b (omega arith)))
     (λ _ _. (omega arith, omega arith, omega arith)) (λ _. tt)
 
 -- ---- after ESC and intermediates
@@ -113,7 +113,7 @@ step-in_escape {k = Cancel} is no_end = cc
 step-in_escape {k = Escape} is no_end = cc
 step-in_escape {ints} {b} {k} is no_end =
     let s = spans b is in
-    step-sequenced is no_end (tt, tt) (intermediate-end is refl)
+    step-leaving_nothing is no_end (tt, tt) (intermediate-end is refl)
     (λ _ _. (two_at_most ints, omega arith, omega arith)) (λ _. tt)
 
 -- ---- in the head of a control sequence
@@ -125,7 +125,7 @@ step-in_control_sequence {k = Control} is no_end =
     step-executed is (tt, tt) (byte-executed refl is)
 step-in_control_sequence {head} {b} {k = Final} is no_end = elim (cases_Bool (is_well_shaped (head_of head))) [
   | inl well ↦
-      step-sequenced is no_end (tt, tt) (control-dispatched is well)
+      step-leaving_nothing is no_end (tt, tt) (control-dispatched is well)
       (λ size _. (bounded-head size (head_of head) b (spans b is)).0) (λ _. tt)
   | inr ill ↦ step-silent is no_end (tt, tt) (control-silent is ill)
 ]
@@ -146,7 +146,7 @@ step-in_device_control {k = Control} is no_end =
     step-silent is no_end (tt, tt) (device-dropped is refl)
 step-in_device_control {head} {b} {k = Final} is no_end = elim (cases_Bool (is_well_shaped (head_of head))) [
   | inl well ↦
-      step-sequenced is no_end (tt, tt) (device-well_shaped is well)
+      step-leaving_nothing is no_end (tt, tt) (device-well_shaped is well)
       (λ size _. (bounded-head size (head_of head) b (spans b is)).1) (λ _. tt)
   | inr ill ↦ step-silent is no_end (tt, tt) (device-ill_shaped is ill)
 ]
@@ -164,17 +164,17 @@ delete_is_no_terminator b s = grind (arith, nat_tests)
 step-in_device_data : {limit : Option ℕ} {b : ℕ} {k : Class} → class_of b ≡ k → ends_body k ≡ false
     → Steps limit InDeviceData b
 step-in_device_data {b} {k = Delete} is no_end =
-    step-sequenced is no_end (tt, tt)
+    step-leaving_nothing is no_end (tt, tt)
     (data-dropped (rw is (delete_is_no_terminator b (spans b is))) (rw is refl)) (λ _ _. tt) (λ _. tt)
 step-in_device_data {b} {k = High} is no_end = elim (cases_Bool (eqb b 0x9c)) [
   | inl ends ↦
-      step-sequenced is no_end (tt, tt) (data-terminator is ends) (λ _ _. tt) (λ _. tt)
+      step-leaving_nothing is no_end (tt, tt) (data-terminator is ends) (λ _ _. tt) (λ _. tt)
   | inr other ↦ step-silent is no_end (tt, tt) (data-dropped (rw is other) (rw is refl))
 ]
 step-in_device_data {k = Cancel} is no_end = cc
 step-in_device_data {k = Escape} is no_end = cc
 step-in_device_data is no_end =
-    step-sequenced is no_end (tt, tt) (data-put (rw is refl)) (λ _ _. rw is refl)
+    step-leaving_nothing is no_end (tt, tt) (data-put (rw is refl)) (λ _ _. rw is refl)
     (λ outside. absurd (false≢true (sym outside ∙ rw is refl)))
 
 -- ---- in an operating system command
@@ -188,7 +188,7 @@ step-joins_command {limit} {items} {later} {b} other leads grows = record {
   reported = [];
   next = InSystemCommand later;
   is_place = tt;
-  reads = reads-byte other leads;
+  reads = bytes_lead-byte other leads;
   brief = λ _ _. tt;
   grows = grows;
   leaves = inl refl;
@@ -200,7 +200,7 @@ step-in_system_command : {limit : Option ℕ} {items : List ℕ} {b : ℕ} {k : 
     → Steps limit (InSystemCommand items) b
 step-in_system_command {limit} {items} {b} {k = Control} is no_end = elim (cases_Bool (eqb b bell)) [
   | inl ends ↦
-      step-sequenced is no_end (tt, tt) (command-bell is ends)
+      step-leaving_nothing is no_end (tt, tt) (command-bell is ends)
       (λ _ fits. (few_pieces limit items, fits, some_pieces limit items)) (λ _. tt)
   | inr other ↦
       step-joins_command (no_escape-class b is no_end) (command-control is other) (λ _. omega arith)
@@ -232,11 +232,11 @@ silent_or_settles-escape : (limit : Option ℕ) (place : Place) → IsPlace plac
     → breaks (open_at place) (escape ∷ []) ≡ false → IsSilentOrSettles AtEscape (closing_events_at limit place)
 silent_or_settles-escape limit place is text unbroken = search (rules, arith)
 
-outside_runs-closing : (limit : Option ℕ) (place : Place) (b : ℕ) → IsOutsideRunsAt place b
+outside_runs-closing : (limit : Option ℕ) (place : Place) (b : ℕ) → IsOutsideRunsAtPlace place b
     → AreOutsideRuns (closing_events_at limit place)
 outside_runs-closing limit place b outside = search (rules, arith)
 
-outside_runs-cancel : (limit : Option ℕ) (place : Place) (b : ℕ) → IsOutsideRunsAt place b
+outside_runs-cancel : (limit : Option ℕ) (place : Place) (b : ℕ) → IsOutsideRunsAtPlace place b
     → AreOutsideRuns (closing_events_at limit place ++ Execute b ∷ [])
 outside_runs-cancel limit place b outside = search (rules, arith)
 
@@ -248,7 +248,7 @@ step-by_class limit place b Escape placed is =
       reported = closing_events_at limit place;
       next = AtEscape;
       is_place = tt;
-      reads = reads-escape placed;
+      reads = bytes_lead-escape placed;
       brief = λ size fits. closing_alone_brief limit size place fits;
       grows = λ _. omega arith;
       leaves = inl refl;
@@ -257,7 +257,7 @@ step-by_class limit place b Escape placed is =
     })
 step-by_class limit (InText u) b Cancel placed is = step-text limit u b (cancel_is_no_escape b is) placed
 step-by_class limit place b Cancel placed is =
-    step-sequenced_by (cancel_is_no_escape b is) (tt, tt) (byte-cancels placed is)
+    step-leaving_nothing_by (cancel_is_no_escape b is) (tt, tt) (byte-cancels placed is)
     (λ size fits. closing_brief limit size place b fits (spans b is)) (outside_runs-cancel limit place b)
 step-by_class limit place b k placed is = step-ordinary limit place b k placed is refl
 

@@ -25,10 +25,10 @@ FitsLeft size (CommandToClose pieces dropped) = FitsStore size pieces
 FitsLeft size _ = Unit {0}
 
 -- outside of a text, and of data that are put
-abbrev pub IsOutsideRunsAt : Place → ℕ → Type 0
-IsOutsideRunsAt (InText begun) byte = ⊥
-IsOutsideRunsAt InDeviceData byte = is_device_data (class_of byte) ≡ false
-IsOutsideRunsAt _ byte = Unit {0}
+abbrev pub IsOutsideRunsAtPlace : Place → ℕ → Type 0
+IsOutsideRunsAtPlace (InText begun) byte = ⊥
+IsOutsideRunsAtPlace InDeviceData byte = is_device_data (class_of byte) ≡ false
+IsOutsideRunsAtPlace _ byte = Unit {0}
 
 abbrev pub AreOutsideRuns : List Event → Type 0
 AreOutsideRuns [] = Unit {0}
@@ -50,4 +50,4 @@ pub record Steps (limit : Option ℕ) (place : Place) (byte : ℕ) : Type 0 wher
   pub leaves : LeavesOpen next reported
   pub little : IsText place → breaks (open_at place) (byte ∷ []) ≡ false → IsSilentOrSettles next reported
   -- for `advance_to_run`
-  pub outside_runs : IsOutsideRunsAt place byte → AreOutsideRuns reported
+  pub outside_runs : IsOutsideRunsAtPlace place byte → AreOutsideRuns reported

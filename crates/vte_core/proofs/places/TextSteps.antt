@@ -9,7 +9,7 @@ use Rattle.vte_core.specs.machine.Place.{control_sequence_from, device_control_f
 use Rattle.vte_core.proofs.bytes.Classes.{spans}
 use Rattle.vte_core.proofs.bytes.Utf8.{Tests, ascii-alone, ascii-breaks}
 use Rattle.vte_core.proofs.fields.Pieces.{few_pieces, some_pieces}
-use Rattle.vte_core.proofs.places.PartsToStream.{reads-byte, waits-byte}
+use Rattle.vte_core.proofs.places.PartsToStream.{bytes_lead-byte, waits-byte}
 use Rattle.vte_core.proofs.places.Steps.{FitsLeft, IsSilentOrSettles, Steps}
 
 -- ---- a byte in a text
@@ -30,7 +30,7 @@ step-silent_or_settles {limit} {begun} {later} {byte} {reported} little other le
   reported = reported;
   next = InText later;
   is_place = is;
-  reads = reads-byte other leads;
+  reads = bytes_lead-byte other leads;
   brief = λ size _. one_short-from_one_byte size reported (silent_or_settles-is_short (InText later) reported little);
   grows = λ _. omega (arith, text_left limit later);
   leaves = elim little [ inl nothing ↦ inr (inl nothing) | inr closed ↦ inl closed.0 ];

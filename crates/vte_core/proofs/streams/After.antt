@@ -7,7 +7,7 @@ use Rattle.std.proofs.Common.{eqb-true}
 use Rattle.vte_core.proofs.bytes.Utf8.{Tests, ascii-breaks}
 use Rattle.vte_core.proofs.Shapes.{text_outcome-broken, report-append}
 use Rattle.vte_core.proofs.fields.PlaceOfState.{may_continue-truncated, events_from-nothing, IsPlace, outcome_from-nothing, open_bytes-at}
-use Rattle.vte_core.proofs.places.PartsToStream.{events-after_nothing, reads-byte, waits-byte, outcome_from-escape}
+use Rattle.vte_core.proofs.places.PartsToStream.{events-after_nothing, bytes_lead-byte, waits-byte, outcome_from-escape}
 use Rattle.vte_core.specs.Open.{kind_to_close, open_at_end}
 
 -- ---- from a byte to bytes, and from a place to what a parser has read
@@ -28,7 +28,7 @@ takes_bytes-one e t = record {
   next = t.next;
   performed = t.performed;
   stands = t.stands;
-  reads = reads-byte e t.leads;
+  reads = bytes_lead-byte e t.leads;
 }
 
 -- ---- a byte that is offered to an open character

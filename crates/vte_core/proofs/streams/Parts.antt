@@ -7,7 +7,7 @@ use Rattle.vte_core.specs.Parts.{AreCuts, EndsWithEscape, GiveEvents, next_escap
 use Rattle.vte_core.proofs.Common.{◌≡◌, ℕ, ◌+◌, ◌-◌, ◌<◌, zero, suc, min, inl, inr, true, Option, List, [], ◌∷◌, ◌++◌, arith, length, length-drop, Bool, false, take, drop, refl, ap, sym, ◌∙◌, append-nil, cases_lt, drop_all, drop-drop, drop_more, eqb-true, flat_map, get_or-drop, slice_index, slice_range, take_all, take_more, take_rest, take-append-drop, outcome, events, escape, append_assoc, and_parts, false≢true, not-true, drop-append_seam, breaks, Print, replacement, report, added, open_character, Place, InText, IsAfter, open_at, outcome_from, rules}
 use Rattle.vte_core.specs.Outcome.{closing_events}
 use Rattle.vte_core.proofs.streams.After.{added-reads, after-left, events-reported, events-empty, waits-broken, after-open_character}
-use Rattle.vte_core.proofs.places.PartsToStream.{reads-escape, outcome-after_nothing}
+use Rattle.vte_core.proofs.places.PartsToStream.{bytes_lead-escape, outcome-after_nothing}
 use Rattle.vte_core.proofs.streams.StreamSteps.{LeadsTo, events_grow, leads_to, resynchronises}
 use Rattle.vte_core.proofs.fields.PlaceOfState.{IsPlace}
 use Rattle.vte_core.proofs.Shapes.{breaks-no_byte, report-append}
@@ -134,7 +134,8 @@ ends_with_escape limit part =
     let a : LeadsTo limit part = leads_to in
     events_grow limit part (escape ∷ [])
     ∙ ap (λ es. events limit part ++ es)
-    (added-reads a.is_after (reads-escape a.is_place) tt ∙ ap closing_events (sym (after-left a.is_after a.is_place)))
+    (added-reads a.is_after (bytes_lead-escape a.is_place) tt
+    ∙ ap closing_events (sym (after-left a.is_after a.is_place)))
     ∙ ap (λ es. es ++ closing_events (outcome limit part).left) (events-reported limit part)
 
 -- ---- a stream goes on after a broken character as one that begins with the byte that broke it

@@ -2,7 +2,7 @@
 -- stays as it is whatever follows, and it begins anew where all places lead to the same.
 use Rattle.vte_core.specs.Laws.{Resyncs, ResyncsAfter, Grows, OpensSilently}
 use Rattle.vte_core.proofs.Common.{◌≡◌, ℕ, ◌+◌, ◌≤◌, inl, inr, Option, None, List, [], ◌∷◌, ◌++◌, arith, open_data_count, drop, length, refl, ap, sym, ◌∙◌, append_assoc, All, All-append, All-nil, Cancel, class_of, IsBounded, AreFromOneByte, Event, Place, InText, AtEscape, open_at, events_from, IsAfter, added, events, open_character, escape, BytesLead, InSystemCommand, left_at, Some, CountsData, ToClose, CommandToClose, ◌≢◌, ◌<◌, true, length-append, cases_lt, nat_tests, character_event, is_control_character, is_well_formed, scalar_of, IsOutsideRuns, PrintsNoAscii, rules}
-use Rattle.vte_core.proofs.places.PartsToStream.{events-after_nothing, outcome_from-escape, reads-byte, reads-escape, reads-nothing, reads-append, cancel_is_no_escape}
+use Rattle.vte_core.proofs.places.PartsToStream.{events-after_nothing, outcome_from-escape, bytes_lead-byte, bytes_lead-escape, bytes_lead-nothing, bytes_lead-append, cancel_is_no_escape}
 use Rattle.vte_core.proofs.places.Steps.{FitsLeft, Steps}
 use Rattle.vte_core.proofs.places.TextSteps.{byte-cancels}
 use Rattle.vte_core.proofs.streams.After.{added-after, added-reads, after-events, after-nothing, after-open_character, after-reads, events-empty, after-left}
@@ -43,7 +43,7 @@ arrives limit size place [] is fits =
       reported = [];
       next = place;
       is_place = is;
-      reads = reads-nothing;
+      reads = bytes_lead-nothing;
       bounded = All-nil (IsBounded size);
       grows = λ _. omega arith;
     }
@@ -55,7 +55,7 @@ arrives limit size place (b ∷ bytes) is fits =
       reported = first.reported ++ rest.reported;
       next = rest.next;
       is_place = rest.is_place;
-      reads = reads-append first.reads rest.reads;
+      reads = bytes_lead-append first.reads rest.reads;
       bounded =
           All-append (IsBounded size) first.reported rest.reported
           (brief_bounded size first.reported (first.brief size (fits place (λ _. omega arith)))) rest.bounded;
@@ -108,7 +108,7 @@ resyncs_after : (limit : Option ℕ) (end : ℕ) → class_of end ≡ Cancel →
 resyncs_after limit end e stream more =
     let a = leads_to in
     let last =
-    reads-byte (cancel_is_no_escape end e)
+    bytes_lead-byte (cancel_is_no_escape end e)
     (byte-cancels a.is_place e) in
     grows_after stream more a refl last
     ∙ ap (λ es. events limit (stream ++ end ∷ []) ++ es) (sym (events-after_nothing limit more))
@@ -125,7 +125,7 @@ resynchronises limit = record {
   substitute = resyncs_after limit 0x1a refl;
   escape = λ stream more.
       let a = leads_to in
-      grows_after stream more a tt (reads-escape a.is_place)
+      grows_after stream more a tt (bytes_lead-escape a.is_place)
       ∙ ap (λ es. events limit (stream ++ escape ∷ []) ++ es) (sym (escape_at_first limit more));
 }
 

@@ -89,5 +89,5 @@ FollowsAt layout window k =
     (slice_index window.one_back k) (slice_index window.current k)
 
 -- A byte of ASCII in a run that may have HT, LF and CR.
-abbrev pub IsPlain : ℕ → Type 0
-IsPlain b = (next_between b ≡ Between) × (b < 0x80)
+abbrev pub StaysBetween : ℕ → Type 0
+StaysBetween b = (next_between b ≡ Between) × (b < 0x80)

@@ -22,4 +22,4 @@ pub use Rattle.vte_core.specs.machine.ParserFields.{CountsNumbers, HoldsIntermed
 pub use Rattle.vte_core.specs.machine.Place.{AtEscape, InControlSequence, InDeviceControl, IsSettledPlace, Place, closing_events_at}
 pub use Rattle.vte_core.specs.machine.Store.{ArePieceEnds, HasCapacity, Stored, HoldsItems, ReservesCapacity, SameItems, cut_pieces, fitting}
 pub use Rattle.vte_core.specs.machine.Takes.{Dispatches, TakesBytes, TakesByte, Reports, ReportsAll}
-pub use Rattle.vte_core.specs.machine.ToRun.{AreOfKind, ComesToRun, IsOutsideTextAndData, IsReadOutsideRuns, IsTaken, read_through_range, read_before_range}
+pub use Rattle.vte_core.specs.machine.ToRun.{AreOfKind, ComesToRun, IsOutsideTextAndData, IsOutsideRunsInState, IsTaken, read_through_range, read_before_range}

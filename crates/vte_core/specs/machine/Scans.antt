@@ -13,9 +13,7 @@ use Rattle.vte_core.specs.Looks.{looked}
 abbrev pub Each : (ℕ → Type 0) → List ℕ → ℕ → ℕ → Type 0
 Each holds bytes from to = (k : ℕ) → from ≤ k → k < to → holds (slice_index bytes k)
 
--- ---- what strings hold
-
--- The data of a device control string, and the bytes of an ignored string.
+-- ---- the data of a device control string, and the bytes of an ignored string
 
 -- From `from` up to `to` each byte is put.
 abbrev pub ArePut : List ℕ → ℕ → ℕ → Type 0
@@ -29,9 +27,7 @@ IsIgnored b = ends_body (class_of b) ≡ false
 abbrev pub AreIgnored : List ℕ → ℕ → ℕ → Type 0
 AreIgnored = Each IsIgnored
 
--- ---- text that is printed
-
--- Bytes of ASCII, and characters.
+-- ---- text that is printed: bytes of ASCII, and characters
 
 -- 20..7F. DEL is printed.
 abbrev pub IsPrintedAscii : ℕ → Type 0
@@ -72,26 +68,26 @@ pub record IsRange (bytes : List ℕ) (from to : ℕ) : Type 0 where
 -- A search from one position ends at another, takes at least one look for each byte between, and
 -- has found out what these are.
 pub record Scans (Are : List ℕ → ℕ → ℕ → Type 0) (bytes : List ℕ) (from to : ℕ)
-    (before after : Reader) : Type 0 where
+    (earlier later : Reader) : Type 0 where
   pub low : from ≤ to
   pub high : to ≤ length bytes
   pub are : Are bytes from to
-  pub at_least : looked before + to ≤ looked after + from
+  pub at_least : looked earlier + to ≤ looked later + from
 
 -- A search from one position ends at another: at the first byte that `Is` doesn't hold of, or with
 -- the bytes. It looks once at each byte up to there, and at the byte there.
 pub record FindsEnd (Is : ℕ → Type 0) (bytes : List ℕ) (from to : ℕ)
-    (before after : Reader) : Type 0 where
+    (earlier later : Reader) : Type 0 where
   pub low : from ≤ to
   pub high : to ≤ length bytes
   pub are : Each Is bytes from to
   pub ended : to < length bytes → Is (slice_index bytes to) → ⊥
-  pub count : looked after + from ≡ looked before + min (to + 1) (length bytes)
+  pub count : looked later + from ≡ looked earlier + min (to + 1) (length bytes)
 
 -- The count of looks grew by at most `most`.
-pub record LooksAtMost (most : ℕ) (before after : Reader) : Type 0 where
-  pub at_most : looked after ≤ looked before + most
-  pub grows : looked before ≤ looked after
+pub record LooksAtMost (most : ℕ) (earlier later : Reader) : Type 0 where
+  pub at_most : looked later ≤ looked earlier + most
+  pub grows : looked earlier ≤ looked later
 
 -- The window has the bytes from a position on.
 pub record IsWindow (bytes : List ℕ) (from : ℕ) (window : Window) : Type 0 where

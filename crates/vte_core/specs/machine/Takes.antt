@@ -35,8 +35,8 @@ pub record TakesByte {V B : Type 0} (step : V → Event → V) (old new : V) (li
 -- The performer received a sequence, as one event. The parser stands in a text then, and gave back
 -- no memory.
 pub record Dispatches {V B : Type 0} (step : V → Event → V) (old new : V) (event : Event)
-    (parser next : Machine B) (before after : Reader) : Type 0 where
-  pub reports : Reports step old new event before after
+    (parser next : Machine B) (earlier later : Reader) : Type 0 where
+  pub reports : Reports step old new event earlier later
   pub text : next.state ≡ Text Nothing
   pub memory : parser.command.capacity ≤ next.command.capacity
 

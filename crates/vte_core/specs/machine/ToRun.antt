@@ -25,10 +25,10 @@ IsOutsideTextAndData DeviceData = ⊥
 IsOutsideTextAndData _ = ⊤
 
 -- A byte is read in a sequence or a string, and isn't put.
-abbrev pub IsReadOutsideRuns : State → ℕ → Type 0
-IsReadOutsideRuns (Text _) b = ⊥
-IsReadOutsideRuns DeviceData b = is_device_data (class_of b) ≡ false
-IsReadOutsideRuns _ b = ⊤
+abbrev pub IsOutsideRunsInState : State → ℕ → Type 0
+IsOutsideRunsInState (Text _) b = ⊥
+IsOutsideRunsInState DeviceData b = is_device_data (class_of b) ≡ false
+IsOutsideRunsInState _ b = ⊤
 
 -- The bytes of the range.
 abbrev pub bytes_at : List ℕ → RunRange → List ℕ

@@ -161,7 +161,7 @@ impl<B: Buffer> Machine<B> {
             return next + 2;
         }
         if G::IN_RUNS {
-            let end = reader.find_other_run_end(performer, input, next + 3);
+            let end = reader.find_run_end_after_non_ascii(performer, input, next + 3);
             // cargo: // SAFETY: the character at `from` is whole, and the search passes whole
             // cargo: // characters.
             reader.report_text(performer, input, from, end);
@@ -171,8 +171,9 @@ impl<B: Buffer> Machine<B> {
         next + 3
     }
 
-    /// Does what `continue_character` does, where the bytes of a call may end inside a character.
-    // as a part of `drive`, it would take registers from the loops of text
+    /// Continues a character whose bytes the call may not have whole.
+    // apart from `continue_character`, which as a part of `drive` would take registers from the
+    // loops of text
     // cargo instead: #[inline(never)]
     #[inline(always)]
     fn continue_near_end<P: CountedPerform<G>, G: Granularity, const MAY_STOP: bool>(

@@ -1,6 +1,6 @@
 //! ESC, CAN and SUB, which end whatever is open, in every state.
 ghost use Rattle.std.specs.Prelude.{◌≡◌, true, [], ◌∷◌, ⊤};
-ghost use Rattle.vte_core.specs.machine.Prelude.{Advances, Escape, HandlesByte, IsSettledPlace, IsReadOutsideRuns, MayReadByte, MovesWithin, TakesBytes, Place, IsAtPlace, LooksAtMost, after, chunk_call, class_of, closing_events_at, ends_body};
+ghost use Rattle.vte_core.specs.machine.Prelude.{Advances, Escape, HandlesByte, IsSettledPlace, IsOutsideRunsInState, MayReadByte, MovesWithin, TakesBytes, Place, IsAtPlace, LooksAtMost, after, chunk_call, class_of, closing_events_at, ends_body};
 
 use crate::buffer::Buffer;
 use crate::class::ESCAPE;
@@ -47,7 +47,7 @@ impl<B: Buffer> Machine<B> {
             (chunk_call MAY_STOP P.step P.is_terminated B.limit input.bytes.now)
             (P.value_of performer.old) self.old.state self.old from byte }
         requires ends { ends_body (class_of byte) ≡ true }
-        requires outside { IsReadOutsideRuns self.old.state byte }
+        requires outside { IsOutsideRunsInState self.old.state byte }
         ensures advances { Advances ⊤
             (chunk_call MAY_STOP P.step P.is_terminated B.limit input.entry.bytes.now)
             (P.value_of performer.old) (P.value_of performer.new) from result self.old self.new }

@@ -8,16 +8,16 @@ use std::snapshot::Snapshot;
 
 /// The looks so far, and how many there were each time.
 #[derive(Drop)]
-pub(super) enum Trail {
+pub(super) enum Tally {
     Start,
-    Then(Snapshot<Trail>, usize),
-    Both(Snapshot<Trail>, Snapshot<Trail>),
+    Then(Snapshot<Tally>, usize),
+    Both(Snapshot<Tally>, Snapshot<Tally>),
 }
 
 /// The looks of all calls of a parser. It has no bytes at run time.
 #[derive(Drop)]
 pub(crate) struct Looks {
-    trail: Snapshot<Trail>,
+    tally: Snapshot<Tally>,
 }
 
 impl Looks {
@@ -26,7 +26,7 @@ impl Looks {
         ensures { counted result ≡ 0 }
     {
         Looks {
-            trail: Snapshot::of(&Trail::Start),
+            tally: Snapshot::of(&Tally::Start),
         }
     }
 
@@ -34,8 +34,8 @@ impl Looks {
     pub(crate) fn add(&mut self, reader: Reader)
         ensures { counted self.new ≡ counted self.old + looked reader }
     {
-        let Reader { trail } = reader;
-        let before = mem::replace(&mut self.trail, Snapshot::of(&Trail::Start));
-        self.trail = Snapshot::of(&Trail::Both(before, trail));
+        let Reader { tally } = reader;
+        let before = mem::replace(&mut self.tally, Snapshot::of(&Tally::Start));
+        self.tally = Snapshot::of(&Tally::Both(before, tally));
     }
 }

@@ -4,7 +4,7 @@
 //! compilers make vector instructions of a block's tests, if they have no `&&` and `||`. But the
 //! block in which a run ends is wasted, so only long runs come here.
 ghost use Rattle.std.specs.Prelude.{◌≡◌, ◌+◌, ◌-◌, ◌*◌, ◌<◌, ◌≤◌, ℕ, true, length, slice_index};
-ghost use Rattle.vte_core.specs.machine.Automaton.{Follows, FollowsAt, IsPlain, open_count};
+ghost use Rattle.vte_core.specs.machine.Automaton.{Follows, FollowsAt, StaysBetween, open_count};
 ghost use Rattle.vte_core.specs.machine.Prelude.{Each, IsRun, Scans, looked};
 
 use crate::class::is_layout;
@@ -65,7 +65,7 @@ impl Reader {
             → open_count (slice_index input.entry.bytes.now (from - 3))
             (slice_index input.entry.bytes.now (from - 2))
             (slice_index input.entry.bytes.now (from - 1)) ≡ 0 }
-        ensures plain { Each IsPlain input.entry.bytes.now from result }
+        ensures plain { Each StaysBetween input.entry.bytes.now from result }
         ensures count { looked self.new + from ≤ looked self.old + result + 35 }
         ensures at_least { looked self.old + result ≤ looked self.new + from }
     {
@@ -119,7 +119,7 @@ fn is_ascii(block: &[u8; 16]) -> bool {
 /// Returns whether 32 bytes are printed ASCII, HT, LF or CR.
 #[inline(always)]
 fn is_plain(block: &[u8; 32]) -> bool
-    ensures { result ≡ true → Each IsPlain block.now 0 32 }
+    ensures { result ≡ true → Each StaysBetween block.now 0 32 }
 {
     let mut all = true;
     for byte in block {

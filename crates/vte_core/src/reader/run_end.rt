@@ -17,7 +17,7 @@ const SHORT_RUN: usize = 96;
 
 /// Runs without ASCII go on in blocks sooner, because their characters cost more one by one.
 // proof: a look for each byte leaves enough after the eighth.
-const SHORT_OTHER_RUN: usize = 24;
+const SHORT_NON_ASCII_RUN: usize = 24;
 
 impl Reader {
     /// Returns whether printed ASCII begins a run at a position: four bytes of it, of which the
@@ -86,14 +86,14 @@ impl Reader {
             Some(second) if is_continuation(second) => match self.get_byte(input, from + 2) {
                 Some(third) if first < 0xe0 => {
                     if is_lead(third) && is_printed_pair(first, second) {
-                        self.find_other_run_end(performer, input, from + 2)
+                        self.find_run_end_after_non_ascii(performer, input, from + 2)
                     } else {
                         from
                     }
                 }
                 Some(third)
                     if first < 0xf0 && is_continuation(third) && may_begin_three(first, second) => {
-                    self.find_other_run_end(performer, input, from + 3)
+                    self.find_run_end_after_non_ascii(performer, input, from + 3)
                 }
                 _ => from,
             },
@@ -105,7 +105,7 @@ impl Reader {
     /// a performer.
     // Its loop is that of `find_run_end_up_to`, but blocks begin later once the run has had ASCII.
     #[inline(never)]
-    pub(crate) fn find_other_run_end<P: CountedPerform<G>, G: Granularity>(
+    pub(crate) fn find_run_end_after_non_ascii<P: CountedPerform<G>, G: Granularity>(
         &mut self,
         performer: &P,
         input: Input<'_>,
@@ -116,7 +116,7 @@ impl Reader {
         ensures count { looked self.new + 4 * from ≤ looked self.old + 4 * result + 4 }
     {
         let layout = performer.keeps_layout();
-        let mut to = input.len().min(from + SHORT_OTHER_RUN);
+        let mut to = input.len().min(from + SHORT_NON_ASCII_RUN);
         let mut end = from;
         while end < to {
             let byte = self.byte_at(input, end);
@@ -124,7 +124,7 @@ impl Reader {
                 end = self.find_ascii_end(input, end + 1);
                 to = input.len().min(from + SHORT_RUN);
             } else {
-                match self.find_other_character_end(input, end, byte, layout) {
+                match self.find_non_ascii_end(input, end, byte, layout) {
                     Some(next) => end = next,
                     None => return end,
                 }
@@ -177,7 +177,7 @@ impl Reader {
             if is_printed_ascii(byte) {
                 end = self.find_ascii_end(input, end + 1);
             } else {
-                match self.find_other_character_end(input, end, byte, layout) {
+                match self.find_non_ascii_end(input, end, byte, layout) {
                     Some(next) => end = next,
                     None => return end,
                 }
@@ -203,7 +203,7 @@ impl Reader {
     /// Finds where the character ends that stands at a position and is no printed ASCII, if a run
     /// may hold it. Its first byte was looked at.
     #[inline(always)]
-    fn find_other_character_end(
+    fn find_non_ascii_end(
         &mut self,
         input: Input<'_>,
         from: usize,

@@ -5,7 +5,7 @@ ghost use Rattle.vte.specs.Views.{EngineHasParsedAndHolds, engine_view};
 ghost use Rattle.vte.specs.ProcessorCalls.{held_of};
 ghost use Rattle.vte.specs.machine.Hold.{released_of};
 ghost use Rattle.vte.specs.Processor.{State, hold_turn, meaning_of, most_held, parse, set_times, stop};
-ghost use Rattle.vte.specs.machine.Engine.{EngineIsAtKeeping, EndsParsingTurn, EndsTurn, ArePartsAt, ArePartsAtKeeping, ArePartsAtWithMemory, EngineLeadsOn};
+ghost use Rattle.vte.specs.machine.Engine.{EngineIsAtKeepingMemory, EndsParsingTurn, EndsTurn, ArePartsAt, ArePartsAtKeepingMemory, ArePartsAtWithMemory, EngineLeadsOn};
 ghost use Rattle.vte.specs.LongProcessor.{EngineReads, EngineStops, LacksMemoryForSome, Reserves};
 ghost use Rattle.vte_handler.specs.Timeout.{timeout_meaning};
 
@@ -111,15 +111,17 @@ impl<P: EventParser + Drop, B: TextBuffer + Drop, T: Timeout + Drop, A: Allocato
     /// Parses the released bytes, after which nothing is held, and tells the handler that the
     /// update has ended.
     fn end_update<H: Handler, G: ParseAs<H, T, P>>(&mut self, handler: &mut H)
-        ensures stops { (s : State H.Value T.Value) (n : ℕ)
+        // There is memory for the held bytes and `spare` more.
+        ensures stops { (s : State H.Value T.Value) (spare : ℕ)
             → ArePartsAt (engine_view P.limit P.view B.text_size T.value_of) self.old.parser
             self.old.state (H.value_of handler.old) s →
             released_of self.old.hold ≡ s.held → held_of self.old.hold ≡ []
             → (0 < length s.held
             → P.view.has_memory self.old.parser (B.text_size self.old.state.text) s.parsed
-            (length s.held + n)) →
-            EngineIsAtKeeping (engine_view P.limit P.view B.text_size T.value_of) self.old self.new
-            (H.value_of handler.new) (stop (meaning_of P.limit H.step T.set T.clear T.allows) s) }
+            (length s.held + spare)) →
+            EngineIsAtKeepingMemory (engine_view P.limit P.view B.text_size T.value_of) self.old
+            self.new (H.value_of handler.new)
+            (stop (meaning_of P.limit H.step T.set T.clear T.allows) s) }
         ensures hold { self.new.hold ≡ self.old.hold }
     {
         self.parse_released::<H, G>(handler);
@@ -129,23 +131,23 @@ impl<P: EventParser + Drop, B: TextBuffer + Drop, T: Timeout + Drop, A: Allocato
 
     /// Parses the released bytes.
     fn parse_released<H: Handler, G: ParseAs<H, T, P>>(&mut self, handler: &mut H)
-        ensures parsed { (s : State H.Value T.Value) (n : ℕ)
+        ensures parsed { (s : State H.Value T.Value) (spare : ℕ)
             → ArePartsAt (engine_view P.limit P.view B.text_size T.value_of) self.old.parser
             self.old.state (H.value_of handler.old) s →
             (0 < length (released_of self.old.hold)
             → P.view.has_memory self.old.parser (B.text_size self.old.state.text) s.parsed
-            (length (released_of self.old.hold) + n)) →
-            ArePartsAtKeeping
+            (length (released_of self.old.hold) + spare)) →
+            ArePartsAtKeepingMemory
             (engine_view P.limit P.view B.text_size T.value_of) self.old.parser self.old.state
             self.new.parser self.new.state (H.value_of handler.new)
             (parse (meaning_of P.limit H.step T.set T.clear T.allows) s
             (released_of self.old.hold)) }
-        ensures memory { (s : State H.Value T.Value) (n : ℕ) →
+        ensures memory { (s : State H.Value T.Value) (spare : ℕ) →
             ArePartsAtWithMemory
             (engine_view P.limit P.view B.text_size T.value_of) self.old.parser self.old.state
-            (H.value_of handler.old) s (length (released_of self.old.hold) + n) →
+            (H.value_of handler.old) s (length (released_of self.old.hold) + spare) →
             P.view.has_memory self.new.parser (B.text_size self.new.state.text)
-            (s.parsed ++ released_of self.old.hold) n }
+            (s.parsed ++ released_of self.old.hold) spare }
         ensures hold { self.new.hold ≡ self.old.hold }
     {
         let released = self.hold.released();

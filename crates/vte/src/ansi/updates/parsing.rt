@@ -4,7 +4,7 @@ ghost use Rattle.std.specs.Prelude.{◌≡◌, ◌≤◌, ◌+◌, ◌++◌, ℕ
 ghost use Rattle.vte.specs.machine.Performing.{AdvancesAll, AdvancesUntilStop, performer_value};
 ghost use Rattle.vte.specs.Processor.{State, meaning_of, parse};
 ghost use Rattle.vte.specs.machine.Performer.{with_event};
-ghost use Rattle.vte.specs.machine.Engine.{HasParsedPrefix, ArePartsAtKeeping, ArePartsAtWithMemory};
+ghost use Rattle.vte.specs.machine.Engine.{HasParsedPrefix, ArePartsAtKeepingMemory, ArePartsAtWithMemory};
 ghost use Rattle.vte.specs.Views.{ParserView, engine_view, limited_parser_view};
 ghost use Rattle.vte.specs.Memory.{KeepsMemory};
 ghost use Rattle.vte_handler.specs.Timeout.{timeout_meaning};
@@ -136,18 +136,18 @@ pub(crate) fn parse_all<
     P: EventParser,
     G: ParseAs<H, T, P>,
 >(parser: &mut P, state: &mut ProcessorState<T, B>, handler: &mut H, bytes: &[u8])
-    ensures parsed { (s : State H.Value T.Value) (n : ℕ)
+    ensures parsed { (s : State H.Value T.Value) (spare : ℕ)
         → ArePartsAtWithMemory (engine_view P.limit P.view B.text_size T.value_of) parser.old
-        state.old (H.value_of handler.old) s (length bytes.now + n) →
-        ArePartsAtKeeping
+        state.old (H.value_of handler.old) s (length bytes.now + spare) →
+        ArePartsAtKeepingMemory
         (engine_view P.limit P.view B.text_size T.value_of) parser.old state.old parser.new
         state.new
         (H.value_of handler.new)
         (parse (meaning_of P.limit H.step T.set T.clear T.allows) s bytes.now) }
-    ensures memory { (s : State H.Value T.Value) (n : ℕ)
+    ensures memory { (s : State H.Value T.Value) (spare : ℕ)
         → ArePartsAtWithMemory (engine_view P.limit P.view B.text_size T.value_of) parser.old
-        state.old (H.value_of handler.old) s (length bytes.now + n) →
-        P.view.has_memory parser.new (B.text_size state.new.text) (s.parsed ++ bytes.now) n }
+        state.old (H.value_of handler.old) s (length bytes.now + spare) →
+        P.view.has_memory parser.new (B.text_size state.new.text) (s.parsed ++ bytes.now) spare }
 {
     let mut performer = Performer {
         state,
@@ -168,11 +168,11 @@ pub(crate) fn parse_until_begin<
     G: ParseAs<H, T, P>,
 >(parser: &mut P, state: &mut ProcessorState<T, B>, handler: &mut H, bytes: &[u8]) -> (usize, bool)
     ensures within { result.0 ≤ length bytes.now }
-    ensures stops { (s : State H.Value T.Value) (n : ℕ)
+    ensures stops { (s : State H.Value T.Value) (spare : ℕ)
         → ArePartsAtWithMemory (engine_view P.limit P.view B.text_size T.value_of) parser.old
-        state.old (H.value_of handler.old) s (length bytes.now + n) →
+        state.old (H.value_of handler.old) s (length bytes.now + spare) →
         HasParsedPrefix (meaning_of P.limit H.step T.set T.clear T.allows) s bytes.now result.0
-        result.1 (ArePartsAtKeeping
+        result.1 (ArePartsAtKeepingMemory
         (engine_view P.limit P.view B.text_size T.value_of) parser.old state.old parser.new
         state.new
         (H.value_of handler.new)) }

@@ -1,14 +1,14 @@
 -- With a limit nothing is refused. A call that never stops reads all bytes; one that stops says where.
 use Rattle.vte_core.proofs.Common.{sym, ◌∙◌}
 use Rattle.vte_core.proofs.calls.Contracts.{costs-added, reads-bytes, reads-until}
-use Rattle.vte_core.proofs.calls.Progress.{reads-all}
+use Rattle.vte_core.proofs.calls.Progress.{all_read-unless_asked}
 use Rattle.vte_core.proofs.parser.Parser.drive.Goals as goal
 
 pub returns-in-Ok-clause-all : goal.returns-in-Ok-clause-all
 returns-in-Ok-clause-all g c = λ never.
     let d = rw c.in-Ok.is at c.drive-result.ensures.reads in
     rw (← c.into_reader-reader.ensures.bytes)
-    (reads-bytes (reads-all _ _ d.within (λ left. sym never ∙ d.asked left)) d
+    (reads-bytes (all_read-unless_asked _ _ d.within (λ left. sym never ∙ d.asked left)) d
     (costs-added c.into_reader-reader.ensures.looks c.add.ensures (rw c.in-Ok.is at c.drive-result.ensures.costs)))
 
 pub returns-in-Ok-clause-stops : goal.returns-in-Ok-clause-stops

@@ -1,6 +1,6 @@
 -- A short search first. If the run goes on where that ends, the long one continues it.
 use Rattle.vte_core.proofs.Common.{arith, eqb-true, rules}
-use Rattle.vte_core.proofs.bytes.Runs.{ends-all, scans-run}
+use Rattle.vte_core.proofs.bytes.Runs.{no_run-all, scans-run}
 use Rattle.vte_core.proofs.reader.Reader.find_run_end.Goals as goal
 
 pub returns-else-end-len-clause-scans : goal.returns-else-end-len-clause-scans
@@ -8,4 +8,4 @@ returns-else-end-len-clause-scans c = scans-run c.find_run_end_up_to-end.ensures
     c.find_run_end_by_blocks.ensures.scans
 
 pub returns-then-end-len-clause-ended : goal.returns-then-end-len-clause-ended
-returns-then-end-len-clause-ended c = search (rules, arith, ends-all, eqb-true)
+returns-then-end-len-clause-ended c = search (rules, arith, no_run-all, eqb-true)

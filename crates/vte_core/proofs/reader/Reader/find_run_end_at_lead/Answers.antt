@@ -10,8 +10,8 @@ returns-then-is_printed_pair-clause-run g c = λ _.
     let bytes = c.args.input.bytes.now in
     let second = c.in-Some.ensures in
     let pair = c.if-is_printed_pair.ensures in
-    let rest = c.find_other_run_end.ensures in
-    run-append g.P.CountedPerform.layout bytes c.args.from (c.args.from + 2) c.find_other_run_end.result
+    let rest = c.find_run_end_after_non_ascii.ensures in
+    run-append g.P.CountedPerform.layout bytes c.args.from (c.args.from + 2) c.find_run_end_after_non_ascii.result
     (omega arith) rest.scans.low
     (run-two bytes c.args.from
     (omega (arith, second.0)) c.requires.looked_at second.1 c.requires.lead c.if-first-lt224.true
@@ -23,8 +23,9 @@ returns-in-Some-2-clause-run g c = λ _.
     let bytes = c.args.input.bytes.now in
     let second = c.in-Some.ensures in
     let third = c.in-Some-get_byte.ensures in
-    let rest = c.find_other_run_end-in-Some-2.ensures in
-    run-append g.P.CountedPerform.layout bytes c.args.from (c.args.from + 3) c.find_other_run_end-in-Some-2.result
+    let rest = c.find_run_end_after_non_ascii-in-Some-2.ensures in
+    run-append g.P.CountedPerform.layout bytes c.args.from (c.args.from + 3)
+    c.find_run_end_after_non_ascii-in-Some-2.result
     (omega arith) rest.scans.low
     (run-three bytes c.args.from
     (omega (arith, third.0)) c.requires.looked_at second.1 third.1

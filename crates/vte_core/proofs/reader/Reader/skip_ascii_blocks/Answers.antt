@@ -1,7 +1,7 @@
 -- A block more.
 use Rattle.vte_core.proofs.Common.{arith}
 use Rattle.vte_core.proofs.bytes.Runs.{each-both, each-block}
-use Rattle.vte_core.specs.machine.Automaton.{IsPlain}
+use Rattle.vte_core.specs.machine.Automaton.{StaysBetween}
 use Rattle.vte_core.proofs.reader.Reader.skip_ascii_blocks.Goals as goal
 
 pub loop-block-preserved : goal.loop-block-preserved
@@ -13,8 +13,8 @@ loop-block-preserved c =
       low = omega (arith, v.low);
       high = block.0;
       plain =
-          each-both IsPlain bytes c.args.from c.loop-block.at _ v.plain
-          (each-block IsPlain bytes c.in-Some.block c.loop-block.at 32 32 block.1 (omega arith)
+          each-both StaysBetween bytes c.args.from c.loop-block.at _ v.plain
+          (each-block StaysBetween bytes c.in-Some.block c.loop-block.at 32 32 block.1 (omega arith)
           (c.is_plain.ensures c.if-not-is_plain.false));
       count = omega (arith, v.count, block.2);
     }

@@ -1,6 +1,6 @@
 -- All blocks so far are plain.
 use Rattle.vte_core.proofs.Common.{length, ◌+◌, ◌-◌, ◌≡◌, ◌≤◌, looked}
-use Rattle.vte_core.specs.machine.Automaton.{IsPlain}
+use Rattle.vte_core.specs.machine.Automaton.{StaysBetween}
 use Rattle.vte_core.specs.machine.Scans.{Each}
 use Rattle.vte_core.proofs.reader.Reader.skip_ascii_blocks.Given as goal
 
@@ -8,7 +8,7 @@ abbrev pub invariant-loop-block : goal.invariant-loop-block
 invariant-loop-block l = record {
   low : l.from ≤ l.at;
   high : l.at ≤ length l.input.bytes.now;
-  plain : Each IsPlain l.input.bytes.now l.from l.at;
+  plain : Each StaysBetween l.input.bytes.now l.from l.at;
   count : looked l.self + l.from ≡ looked l.initial.self + l.at;
 }
 

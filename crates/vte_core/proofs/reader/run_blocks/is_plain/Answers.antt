@@ -1,6 +1,6 @@
 -- One byte more that passes.
 use Rattle.vte_core.proofs.Common.{ℕ, arith, nat_tests, and_parts, refl, slice_index, ◌||◌}
-use Rattle.vte_core.specs.machine.Automaton.{IsPlain}
+use Rattle.vte_core.specs.machine.Automaton.{StaysBetween}
 use Rattle.vte_core.proofs.bytes.Runs.{each-next}
 use Rattle.vte_core.proofs.reader.run_blocks.is_plain.Goals as goal
 
@@ -12,7 +12,7 @@ loop-byte-preserved c = λ all.
     and_parts c.loop-byte.all (c.is_printed_ascii.result || c.is_layout.result) all in
     let printed = c.is_printed_ascii.ensures in
     let layout = c.is_layout.ensures in
-    each-next IsPlain block 0 c.loop-byte.byte-index byte (c.loop-byte.invariant parts.0) refl (
+    each-next StaysBetween block 0 c.loop-byte.byte-index byte (c.loop-byte.invariant parts.0) refl (
       grind (arith, nat_tests, parts.1, printed, layout),
       grind (arith, nat_tests, parts.1, printed, layout),
     )

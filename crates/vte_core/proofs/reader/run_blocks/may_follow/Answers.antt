@@ -12,20 +12,20 @@ same true false e = sym e
 same false true e = e
 same false false e = refl
 
-record Passes (inside continues unused other excluded : Bool) : Type 0 where
-  is_inside : inside ≡ continues
+record Passes (opened continues unused other excluded : Bool) : Type 0 where
+  is_opened : opened ≡ continues
   is_unused : unused ≡ false
   is_other : other ≡ false
   is_excluded : excluded ≡ false
 
-passes : (inside continues unused other excluded : Bool)
-    → (beq inside continues && not ((unused || other) || excluded)) ≡ true
-    → Passes inside continues unused other excluded
-passes inside continues unused other excluded all =
+passes : (opened continues unused other excluded : Bool)
+    → (beq opened continues && not ((unused || other) || excluded)) ≡ true
+    → Passes opened continues unused other excluded
+passes opened continues unused other excluded all =
     let parts = and_parts _ _ all in
     let last = or_parts _ _ (not-true _ parts.1) in
     let first = or_parts _ _ last.0 in
-    record { is_inside = same _ _ parts.0; is_unused = first.0; is_other = first.1; is_excluded = last.1 }
+    record { is_opened = same _ _ parts.0; is_unused = first.0; is_other = first.1; is_excluded = last.1 }
 
 pub returns : goal.returns
 returns c = λ all.
@@ -50,15 +50,15 @@ returns c = λ all.
     let continues = c.is_continuation.ensures in
     record {
       leads = leads t s f b (record {
-        inside = λ no_more. grind (arith, nat_tests, is.is_inside, no_more, continues);
-        outside = λ more low below. grind (arith, nat_tests, is.is_inside, more, low, below, continues);
+        none_open = λ no_more. grind (arith, nat_tests, is.is_opened, no_more, continues);
+        one_open = λ more low below. grind (arith, nat_tests, is.is_opened, more, low, below, continues);
         plain = λ below. grind (arith, nat_tests, is.is_other, below, c.is_layout.ensures);
         lead = λ above. grind (arith, nat_tests, is.is_unused, is.is_other, above, c.is_layout.ensures);
-        after_e0 = λ e. grind (arith, nat_tests, is.is_inside, continues, first.0, e);
-        after_ed = λ e. grind (arith, nat_tests, is.is_inside, continues, first.1, e);
-        after_f0 = λ e. grind (arith, nat_tests, is.is_inside, continues, second.1, e);
-        after_f4 = λ e. grind (arith, nat_tests, is.is_inside, continues, third.1, e);
-        after_c2 = λ e. grind (arith, nat_tests, is.is_inside, continues, first.0, e);
+        after_e0 = λ e. grind (arith, nat_tests, is.is_opened, continues, first.0, e);
+        after_ed = λ e. grind (arith, nat_tests, is.is_opened, continues, first.1, e);
+        after_f0 = λ e. grind (arith, nat_tests, is.is_opened, continues, second.1, e);
+        after_f4 = λ e. grind (arith, nat_tests, is.is_opened, continues, third.1, e);
+        after_c2 = λ e. grind (arith, nat_tests, is.is_opened, continues, first.0, e);
       });
       above = λ none. grind (arith, nat_tests, is.is_other, none);
     }

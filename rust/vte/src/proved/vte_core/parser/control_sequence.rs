@@ -88,7 +88,8 @@ impl<B: Buffer> Machine<B> {
         from: usize,
     ) -> usize {
         if !reached.may_have_parameters() || self.collected.joined {
-            return self.read_any_head::<P, G, MAY_STOP>(reader, performer, input, reached, from);
+            return self
+                .read_rest_of_head::<P, G, MAY_STOP>(reader, performer, input, reached, from);
         }
         let head = self
             .collected
@@ -109,12 +110,18 @@ impl<B: Buffer> Machine<B> {
         if head.next.is_none() {
             return head.position;
         }
-        self.read_any_head::<P, G, MAY_STOP>(reader, performer, input, head.progress, head.position)
+        self.read_rest_of_head::<P, G, MAY_STOP>(
+            reader,
+            performer,
+            input,
+            head.progress,
+            head.position,
+        )
     }
 
-    /// Reads the head of a control sequence, which has come so far, and the byte after it.
+    /// Reads the rest of the head of a control sequence, and the byte after it.
     #[inline(never)]
-    pub(crate) fn read_any_head<
+    pub(crate) fn read_rest_of_head<
         P: CountedPerform<G> + ?Sized,
         G: Granularity,
         const MAY_STOP: bool,

@@ -58,7 +58,7 @@ impl<B: Buffer> Machine<B> {
                 self.collected.begin_head();
                 self.state = State::ControlSequence(HeadProgress::Entry);
                 // `continue_control_sequence` may look at a byte twice.
-                return self.read_any_head::<P, G, MAY_STOP>(
+                return self.read_rest_of_head::<P, G, MAY_STOP>(
                     reader,
                     performer,
                     input,

@@ -15,7 +15,7 @@ use crate::proved::vte_core::utf8::{
 const SHORT_RUN: usize = 96;
 
 /// Runs without ASCII go on in blocks sooner, because their characters cost more one by one.
-const SHORT_OTHER_RUN: usize = 24;
+const SHORT_NON_ASCII_RUN: usize = 24;
 
 impl Reader {
     /// Returns whether printed ASCII begins a run at a position: four bytes of it, of which the
@@ -57,7 +57,7 @@ impl Reader {
             Some(second) if is_continuation(second) => match self.get_byte(input, from + 2) {
                 Some(third) if first < 0xe0 => {
                     if is_lead(third) && is_printed_pair(first, second) {
-                        self.find_other_run_end(performer, input, from + 2)
+                        self.find_run_end_after_non_ascii(performer, input, from + 2)
                     } else {
                         from
                     }
@@ -65,7 +65,7 @@ impl Reader {
                 Some(third)
                     if first < 0xf0 && is_continuation(third) && may_begin_three(first, second) =>
                 {
-                    self.find_other_run_end(performer, input, from + 3)
+                    self.find_run_end_after_non_ascii(performer, input, from + 3)
                 }
                 _ => from,
             },
@@ -77,14 +77,14 @@ impl Reader {
     /// a performer.
     // Its loop is that of `find_run_end_up_to`, but blocks begin later once the run has had ASCII.
     #[inline(never)]
-    pub(crate) fn find_other_run_end<P: CountedPerform<G> + ?Sized, G: Granularity>(
+    pub(crate) fn find_run_end_after_non_ascii<P: CountedPerform<G> + ?Sized, G: Granularity>(
         self,
         performer: &P,
         input: &[u8],
         from: usize,
     ) -> usize {
         let layout = performer.keeps_layout();
-        let mut to = input.len().min(from + SHORT_OTHER_RUN);
+        let mut to = input.len().min(from + SHORT_NON_ASCII_RUN);
         let mut end = from;
         while end < to {
             let byte = self.byte_at(input, end);
@@ -92,7 +92,7 @@ impl Reader {
                 end = self.find_ascii_end(input, end + 1);
                 to = input.len().min(from + SHORT_RUN);
             } else {
-                match self.find_other_character_end(input, end, byte, layout) {
+                match self.find_non_ascii_end(input, end, byte, layout) {
                     Some(next) => end = next,
                     None => return end,
                 }
@@ -126,7 +126,7 @@ impl Reader {
             if is_printed_ascii(byte) {
                 end = self.find_ascii_end(input, end + 1);
             } else {
-                match self.find_other_character_end(input, end, byte, layout) {
+                match self.find_non_ascii_end(input, end, byte, layout) {
                     Some(next) => end = next,
                     None => return end,
                 }
@@ -145,7 +145,7 @@ impl Reader {
     /// Finds where the character ends that stands at a position and is no printed ASCII, if a run
     /// may hold it. Its first byte was looked at.
     #[inline(always)]
-    fn find_other_character_end(
+    fn find_non_ascii_end(
         self,
         input: &[u8],
         from: usize,

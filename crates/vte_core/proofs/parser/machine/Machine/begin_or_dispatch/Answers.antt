@@ -4,7 +4,7 @@ use Rattle.vte_core.proofs.Common.{refl, ◌∙◌, arith, sequence_kind, rules}
 use Rattle.vte_core.specs.SequenceKind.{DeviceControl, IgnoredString, SystemCommand}
 use Rattle.vte_core.proofs.bytes.Classes.{class-final, other_key}
 use Rattle.vte_core.proofs.calls.Stretches.{takes-byte}
-use Rattle.vte_core.proofs.calls.Progress.{settled-by}
+use Rattle.vte_core.proofs.calls.Progress.{settled-same_state}
 use Rattle.vte_core.proofs.fields.PlaceOfState.{stands-escape, stands-text_begun}
 use Rattle.vte_core.proofs.places.PlaceLeads.{escape-key, escape-end}
 use Rattle.vte_core.proofs.parser.machine.Machine.begin_or_dispatch.Goals as goal
@@ -46,4 +46,4 @@ returns-else-begins_ignored_string-clause-takes g c = λ s.
     (escape-end (class-final _ c.requires.ends) refl key)
 
 pub returns-else-begins_ignored_string-clause-handles : goal.returns-else-begins_ignored_string-clause-handles
-returns-else-begins_ignored_string-clause-handles g c = search (rules, arith, settled-by)
+returns-else-begins_ignored_string-clause-handles g c = search (rules, arith, settled-same_state)

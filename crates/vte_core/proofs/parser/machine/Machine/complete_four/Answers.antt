@@ -77,11 +77,11 @@ report_text-requires-clause-run g c =
     let r = c.requires in
     let bytes = c.args.input.bytes.now in
     let from = c.args.from in
-    let rest = c.find_other_run_end-end.ensures in
+    let rest = c.find_run_end_after_non_ascii-end.ensures in
     let past : from + 1 + 3 ≡ from + 4 = omega arith in
     let to_third : from + 1 + 1 ≡ from + 2 = omega arith in
     let to_fourth : from + 1 + 2 ≡ from + 3 = omega arith in
-    run-append g.P.CountedPerform.layout bytes from (from + 4) c.find_other_run_end-end.result (omega arith)
+    run-append g.P.CountedPerform.layout bytes from (from + 4) c.find_run_end_after_non_ascii-end.result (omega arith)
     (omega (arith, rest.scans.low))
     (run-four bytes from
     (omega (arith, r.within, c.if-next-len.false)) r.may_read.looked_at r.looked_at
@@ -90,7 +90,7 @@ report_text-requires-clause-run g c =
     (sym c.may_begin_four.ensures ∙ c.if-not-may_begin_four.false)
     (sym c.is_continuation.ensures ∙ c.if-not-is_continuation.false)
     (sym c.is_continuation-2.ensures ∙ c.if-not-is_continuation-2.false))
-    (subst (λ position. IsRun g.P.CountedPerform.layout bytes position c.find_other_run_end-end.result) past
+    (subst (λ position. IsRun g.P.CountedPerform.layout bytes position c.find_run_end_after_non_ascii-end.result) past
     rest.scans.are)
 
 -- In runs, it is reported with the run that it begins.
@@ -100,7 +100,8 @@ returns-then-IN_RUNS-clause-advances g c =
     let in_runs = sym c.IN_RUNS.ensures ∙ c.if-IN_RUNS.true in
     advances-weaker (λ given. absurd (false≢true (sym given.0 ∙ in_runs)))
     (advances-text (r.no_stop in_runs) r.may_read.may_go_on r.may_read.begun
-    (omega (arith, c.find_other_run_end-end.ensures.scans.low)) c.find_other_run_end-end.ensures.scans.high
+    (omega (arith, c.find_run_end_after_non_ascii-end.ensures.scans.low))
+    c.find_run_end_after_non_ascii-end.ensures.scans.high
     c.report_text.ensures.printed)
 
 -- Four bytes spell a character.

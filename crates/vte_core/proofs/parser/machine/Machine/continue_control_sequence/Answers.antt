@@ -31,4 +31,4 @@ pub returns-clause-advances : goal.returns-clause-advances
 returns-clause-advances g c =
     advances-then
     (advances-head ControlHead c.requires.begun c.read_numbers-head.ensures.reads.head c.requires.may_go_on refl)
-    c.read_any_head-2.ensures.advances
+    c.read_rest_of_head-2.ensures.advances

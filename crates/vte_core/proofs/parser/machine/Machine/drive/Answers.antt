@@ -1,7 +1,7 @@
 -- Stretches add up: what leads from a position to the next leads from the start. The call ends at a stop, with all
 -- bytes, or where memory is refused.
 use Rattle.vte_core.proofs.Common.{Err, ap, ◌∙◌, arith, rules, err_from_is_err_and}
-use Rattle.vte_core.proofs.calls.Progress.{may_stop-some, ends-at_stop, ends-with_all}
+use Rattle.vte_core.proofs.calls.Progress.{may_stop-some, call_ends-at_stop, call_ends-with_all}
 use Rattle.vte_core.proofs.parser.machine.Machine.drive.Goals as goal
 
 -- The loop begins where the open character was completed.
@@ -16,11 +16,11 @@ loop-position-preserved g c = search (rules, arith)
 
 -- A stop before a byte.
 pub returns-then-terminated-clause-reads : goal.returns-then-terminated-clause-reads
-returns-then-terminated-clause-reads g c = search (rules, arith, ends-at_stop, may_stop-some)
+returns-then-terminated-clause-reads g c = search (rules, arith, call_ends-at_stop, may_stop-some)
 
 -- All bytes are read.
 pub returns-clause-reads : goal.returns-clause-reads
-returns-clause-reads g c = ends-with_all (omega arith) c.loop-position.invariant.stands_at
+returns-clause-reads g c = call_ends-with_all (omega arith) c.loop-position.invariant.stands_at
 
 -- Memory was refused: what was read before adds up, and the refused byte is at that position.
 pub returns-in_err-position-clause-refuses : goal.returns-in_err-position-clause-refuses

@@ -2,12 +2,12 @@
 use Rattle.vte_core.proofs.Common.{sym, ◌∙◌, false≢true, arith, rules}
 use Rattle.vte_core.proofs.calls.Characters.{opens-text}
 use Rattle.vte_core.proofs.calls.AddedEvents.{reports-nothing, reports-open}
-use Rattle.vte_core.proofs.calls.Progress.{settled-by, settled-nothing, settled-outside, starts-at, starts-inside}
+use Rattle.vte_core.proofs.calls.Progress.{settled-same_state, settled-nothing, settled-outside, starts-at, starts-inside}
 use Rattle.vte_core.proofs.parser.machine.Machine.finish_character.Goals as goal
 
 -- A text without an open character.
 pub returns-then-is_nothing-clause-stands_at : goal.returns-then-is_nothing-clause-stands_at
-returns-then-is_nothing-clause-stands_at g c = search (rules, arith, starts-at, settled-by, settled-nothing)
+returns-then-is_nothing-clause-stands_at g c = search (rules, arith, starts-at, settled-same_state, settled-nothing)
 
 -- An open character: what completes it begins inside it.
 pub returns-else-is_nothing-clause-stands_at : goal.returns-else-is_nothing-clause-stands_at
@@ -22,7 +22,7 @@ returns-in_default-clause-stands_at g c = λ stream h. starts-at (settled-outsid
 pub returns-then-is_nothing-clause-outside_runs : goal.returns-then-is_nothing-clause-outside_runs
 returns-then-is_nothing-clause-outside_runs g c stream h =
     reports-nothing
-    (settled-by c.in-Text.is (settled-nothing c.in-Text.begun (c.is_nothing.ensures.0 c.if-is_nothing.true))) h
+    (settled-same_state c.in-Text.is (settled-nothing c.in-Text.begun (c.is_nothing.ensures.0 c.if-is_nothing.true))) h
 
 pub returns-in_default-clause-outside_runs : goal.returns-in_default-clause-outside_runs
 returns-in_default-clause-outside_runs g c stream h = reports-nothing (settled-outside _ c.in_default.not-Text) h

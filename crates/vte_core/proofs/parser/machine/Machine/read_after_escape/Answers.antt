@@ -3,7 +3,7 @@
 use Rattle.vte_core.proofs.Common.{[], refl, sym, ◌∙◌, arith, rules, class_of}
 use Rattle.vte_core.proofs.bytes.Classes.{class-control, final_ends_nothing, class-intermediate, other_dispatches, head_ends_nothing, below_final, below_finals}
 use Rattle.vte_core.proofs.calls.Stretches.{takes_bytes-in, takes-at_escape, takes-byte, takes_bytes-dropped}
-use Rattle.vte_core.proofs.calls.Progress.{settled-by}
+use Rattle.vte_core.proofs.calls.Progress.{settled-same_state}
 use Rattle.vte_core.proofs.fields.PlaceOfState.{stands-by, stands-text_begun}
 use Rattle.vte_core.proofs.places.PlaceLeads.{byte-executed, escape-intermediate, escape-end}
 use Rattle.vte_core.proofs.parser.machine.Machine.read_after_escape.Goals as goal
@@ -52,7 +52,7 @@ pub returns-else-is_plain_control-clause-takes : goal.returns-else-is_plain_cont
 returns-else-is_plain_control-clause-takes g c = search (rules, arith, takes_bytes-dropped)
 
 pub returns-then-is_plain_control-clause-handles : goal.returns-then-is_plain_control-clause-handles
-returns-then-is_plain_control-clause-handles g c = search (rules, arith, settled-by)
+returns-then-is_plain_control-clause-handles g c = search (rules, arith, settled-same_state)
 
 pub returns-then-is_head_byte-clause-handles : goal.returns-then-is_head_byte-clause-handles
-returns-then-is_head_byte-clause-handles g c = search (rules, arith, settled-by)
+returns-then-is_head_byte-clause-handles g c = search (rules, arith, settled-same_state)

@@ -3,13 +3,13 @@ use Rattle.vte_core.proofs.Common.{refl, sym, ◌∙◌, arith, rules}
 use Rattle.vte_core.proofs.bytes.Classes.{data_ends_nothing}
 use Rattle.vte_core.proofs.calls.Stretches.{advances-in, takes-in_data, takes-byte, advances-data, first-put, advances-to_same, advances-nothing, advances-without_promise, advances-then}
 use Rattle.vte_core.proofs.fields.PlaceOfState.{stands-by}
-use Rattle.vte_core.proofs.calls.Progress.{may_stop-none, settled-by}
+use Rattle.vte_core.proofs.calls.Progress.{may_stop-none, settled-same_state}
 use Rattle.vte_core.proofs.places.PlaceLeads.{data-put}
 use Rattle.vte_core.proofs.parser.machine.Machine.read_device_data.Goals.{else-this-ne0-via-then-this-ne0+else-terminated, else-this-ne0-via-else-this-ne0}
 use Rattle.vte_core.proofs.parser.machine.Machine.read_device_data.Goals as goal
 
 pub loop-position-init : goal.loop-position-init
-loop-position-init g c = search (rules, arith, advances-nothing, settled-by)
+loop-position-init g c = search (rules, arith, advances-nothing, settled-same_state)
 
 -- One data byte, after which a call that may stop was not stopped.
 pub loop-position-preserved : goal.loop-position-preserved
@@ -22,7 +22,7 @@ loop-position-preserved g c =
           (data_ends_nothing _ is)
           (takes-in_data c.loop-position.self
           (takes-byte c.put_byte.ensures.value (stands-by v.begun tt)
-          (data-put is))) (settled-by v.begun tt)));
+          (data-put is))) (settled-same_state v.begun tt)));
       may_go_on = (λ does. elim c.else-this-ne0.branch [
         | else-this-ne0-via-then-this-ne0+else-terminated w ↦ sym w.terminated.ensures ∙ w.if-terminated.false
         | else-this-ne0-via-else-this-ne0 w ↦ absurd (may_stop-none w.if-this-ne0.false does)
@@ -41,7 +41,7 @@ returns-then-terminated-clause-advances g c =
     (advances-in v.begun (omega arith) c.byte_at-byte.ensures.value v.may_go_on (data_ends_nothing _ is)
     (takes-in_data c.loop-position.self
     (takes-byte c.put_byte.ensures.value (stands-by v.begun tt)
-    (data-put is))) (settled-by v.begun tt)))
+    (data-put is))) (settled-same_state v.begun tt)))
 
 -- A call that does not ask: all data up to the byte that is not put.
 pub returns-then-not-this-clause-advances : goal.returns-then-not-this-clause-advances

@@ -1,11 +1,11 @@
 -- ESC once more changes nothing. `[` leads to a head, which is read on; any other byte is one step.
 use Rattle.vte_core.proofs.Common.{refl, arith, rules}
-use Rattle.vte_core.proofs.calls.Progress.{settled-by}
+use Rattle.vte_core.proofs.calls.Progress.{settled-same_state}
 use Rattle.vte_core.proofs.calls.Stretches.{advances-byte, advances-to_same, advances-nothing, advances-given, advances-then, advances-again, advances-bracket}
 use Rattle.vte_core.proofs.parser.machine.Machine.read_escape.Goals as goal
 
 pub loop-position-init : goal.loop-position-init
-loop-position-init g c = search (rules, arith, advances-nothing, settled-by)
+loop-position-init g c = search (rules, arith, advances-nothing, settled-same_state)
 
 -- ESC once more.
 pub loop-position-preserved : goal.loop-position-preserved
@@ -19,7 +19,7 @@ returns-then-byte-eq91-clause-advances g c =
     (advances-then
     (advances-bracket v.begun
     (omega arith) c.byte_at-byte.ensures.value v.may_go_on c.if-byte-eq91.true refl c.begin_head.ensures.head)
-    c.read_any_head.ensures.advances)
+    c.read_rest_of_head.ensures.advances)
 
 -- Any other byte.
 pub returns-then-byte-ne-ESCAPE-clause-advances : goal.returns-then-byte-ne-ESCAPE-clause-advances

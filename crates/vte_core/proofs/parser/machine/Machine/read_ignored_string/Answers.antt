@@ -2,7 +2,7 @@
 use Rattle.vte_core.proofs.Common.{◌≡◌, ℕ, zero, suc, ◌+◌, ◌-◌, ◌≤◌, length, refl, arith, Machine, IgnoredString, Advances, MayGoOn, AreIgnored, ChunkCall, rules}
 use Rattle.vte_core.proofs.bytes.Classes.{ends_not_cancel}
 use Rattle.vte_core.proofs.calls.Stretches.{advances-in, takes-in_ignored, takes-byte, advances-to_same, advances-nothing, advances-given, advances-then}
-use Rattle.vte_core.proofs.calls.Progress.{settled-by}
+use Rattle.vte_core.proofs.calls.Progress.{settled-same_state}
 use Rattle.vte_core.proofs.fields.PlaceOfState.{stands-by}
 use Rattle.vte_core.proofs.places.PlaceLeads.{ignored-more}
 use Rattle.vte_core.proofs.parser.machine.Machine.read_ignored_string.Goals as goal
@@ -12,14 +12,14 @@ advances-by : {outside V B : Type 0} {call : ChunkCall V} {value : V} {parser : 
     → parser.state ≡ IgnoredString → i + n ≤ length call.bytes → AreIgnored call.bytes i (i + n) → MayGoOn call value
     → Advances outside call value value i (i + n) parser parser
 advances-by zero i begun within are may_go_on =
-    advances-to_same (omega arith) (advances-nothing (λ _. settled-by begun tt))
+    advances-to_same (omega arith) (advances-nothing (λ _. settled-same_state begun tt))
 advances-by {call} {parser} (suc n) i begun within are may_go_on =
     let ordinary = are i (omega arith) (omega arith) in
     advances-to_same (omega arith) (advances-then
     (advances-given tt (advances-in begun (omega (arith, within)) refl may_go_on ordinary
     (takes-in_ignored parser
     (takes-byte refl (stands-by begun tt)
-    (ignored-more (ends_not_cancel _ ordinary)))) (settled-by begun tt)))
+    (ignored-more (ends_not_cancel _ ordinary)))) (settled-same_state begun tt)))
     (advances-by n (i + 1) begun (omega (arith, within))
     (λ k low high. are k (omega (arith, low)) (omega (arith, high))) may_go_on))
 

@@ -3,7 +3,7 @@
 use Rattle.vte_core.proofs.Common.{refl, sym, ◌∙◌, arith, rules, class_of}
 use Rattle.vte_core.proofs.bytes.Classes.{class-control, dispatch_ends_nothing, class-intermediate, other_than_intermediate}
 use Rattle.vte_core.proofs.calls.Stretches.{advances-in, takes-in_escape, takes-byte, advances-byte, advances-nothing, advances-given, advances-then}
-use Rattle.vte_core.proofs.calls.Progress.{settled-by}
+use Rattle.vte_core.proofs.calls.Progress.{settled-same_state}
 use Rattle.vte_core.proofs.fields.PlaceOfState.{stands-by, stands-text_begun}
 use Rattle.vte_core.proofs.places.PlaceLeads.{byte-dropped, byte-executed, intermediate-end, intermediate-more}
 use Rattle.vte_core.proofs.parser.machine.Machine.read_intermediates.Goals.{then-is_intermediate, else-is_intermediate+else-dispatches_escape+else-ends_body+else-is_plain_control}
@@ -11,7 +11,7 @@ use Rattle.vte_core.proofs.parser.machine.Machine.read_intermediates.Goals as go
 
 -- Nothing is read yet.
 pub loop-position-init : goal.loop-position-init
-loop-position-init g c = search (rules, arith, advances-nothing, settled-by)
+loop-position-init g c = search (rules, arith, advances-nothing, settled-same_state)
 
 -- Another intermediate is collected, and DEL or a byte from 80 is dropped: the place stays after intermediates.
 pub loop-position-preserved : goal.loop-position-preserved
@@ -28,7 +28,7 @@ loop-position-preserved g c =
             (advances-given tt (advances-in v.begun (omega arith) c.byte_at-byte.ensures.value v.may_go_on (rw is refl)
             (takes-in_escape parser (λ ints holds. takes-byte refl
             (stands-by v.begun (w.collect.ensures.holds ints holds)) (intermediate-more is)))
-            (settled-by v.begun tt)))
+            (settled-same_state v.begun tt)))
         -- A byte that is dropped.
         | else-is_intermediate+else-dispatches_escape+else-ends_body+else-is_plain_control w ↦
             let ordinary = sym w.ends_body.ensures ∙ w.if-ends_body.false in
@@ -41,7 +41,7 @@ loop-position-preserved g c =
             (takes-in_escape parser
             (λ ints holds.
             takes-byte refl (stands-by v.begun holds)
-            (byte-dropped refl refl dropped))) (settled-by v.begun tt)))
+            (byte-dropped refl refl dropped))) (settled-same_state v.begun tt)))
       ]);
       may_go_on = v.may_go_on;
       begun = elim c.if-is_intermediate.branch [
@@ -65,7 +65,7 @@ returns-then-dispatches_escape-clause-advances g c =
     (takes-in_escape c.loop-position.self
     (λ ints holds. takes-byte
     (rw (holds.kept, holds.too_many_intermediates) at d.reports.value) (stands-text_begun d.text)
-    (intermediate-end refl ends))) (settled-by d.text tt)))
+    (intermediate-end refl ends))) (settled-same_state d.text tt)))
 
 -- CAN, SUB or ESC: the sequence is left without being reported.
 pub returns-then-ends_body-clause-advances : goal.returns-then-ends_body-clause-advances
@@ -86,4 +86,4 @@ returns-then-is_plain_control-clause-advances g c =
     (advances-given tt (advances-in v.begun (omega arith) c.byte_at-byte.ensures.value v.may_go_on (rw is refl)
     (takes-in_escape c.loop-position.self
     (λ ints holds. takes-byte c.execute_control.ensures.value (stands-by v.begun holds)
-    (byte-executed refl is))) (settled-by v.begun tt)))
+    (byte-executed refl is))) (settled-same_state v.begun tt)))

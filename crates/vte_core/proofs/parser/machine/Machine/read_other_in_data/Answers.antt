@@ -3,7 +3,7 @@ use Rattle.vte_core.proofs.Common.{refl, sym, ◌∙◌}
 use Rattle.vte_core.proofs.bytes.Classes.{ends_no_data, terminator_is_high}
 use Rattle.vte_core.proofs.calls.Stretches.{advances-in, takes-in_data, takes-byte, advances-given}
 use Rattle.vte_core.proofs.fields.PlaceOfState.{stands-by}
-use Rattle.vte_core.proofs.calls.Progress.{settled-by}
+use Rattle.vte_core.proofs.calls.Progress.{settled-same_state}
 use Rattle.vte_core.proofs.places.PlaceLeads.{data-dropped, data-terminator}
 use Rattle.vte_core.proofs.parser.machine.Machine.read_other_in_data.Goals.{then-byte-eq-STRING_TERMINATOR, else-byte-eq-STRING_TERMINATOR}
 use Rattle.vte_core.proofs.parser.machine.Machine.read_other_in_data.Goals as goal
@@ -30,5 +30,5 @@ returns-clause-advances g c =
           rw (w.self-is, w.performer-is)
           (advances-given c.requires.other (advances-in r.begun r.within r.looked_at r.may_go_on ordinary
           (takes-in_data parser (takes-byte refl (stands-by r.begun tt) dropped))
-          (settled-by r.begun tt)))
+          (settled-same_state r.begun tt)))
     ]

@@ -2,7 +2,7 @@
 -- by one of three branches, of which two join (`read`).
 use Rattle.vte_core.proofs.Common.{◌<◌, length, sym, ◌∙◌, arith, rules, Advances, Text, Nothing}
 use Rattle.vte_core.specs.machine.Prelude.{MayReadByte}
-use Rattle.vte_core.proofs.calls.Progress.{settled-by}
+use Rattle.vte_core.proofs.calls.Progress.{settled-same_state}
 use Rattle.vte_core.proofs.calls.Stretches.{advances-byte, advances-without_promise, advances-then}
 use Rattle.vte_core.proofs.calls.TextRuns.{advances-text, may_go_on-malformed, may_go_on-text}
 use Rattle.vte_core.proofs.calls.BetweenCharacters.{takes_bytes-single}
@@ -103,7 +103,7 @@ read g c here = elim c.if-byte-lt160.branch [
       (advances-byte here.within here.looked_at here.may_go_on
       (takes_bytes-single here.begun w.if-byte-eq-ESCAPE.false (grind (arith, w.if-byte-lt160.true))
       reported.control reported.malformed)
-      (settled-by here.begun tt)))
+      (settled-same_state here.begun tt)))
   | else-byte-lt160+then-is_lead w ↦
       rw (w.self-is, w.performer-is, w.position-is)
       (advances-without_promise w.read_run_at_lead-position.ensures.advances)
@@ -148,7 +148,7 @@ loop-position-preserved-else-is_lead g c =
           (advances-byte here.within here.looked_at here.may_go_on
           (takes_bytes-single here.begun (grind (arith, c.if-byte-lt160.false))
           (sym c.is_lead.ensures ∙ c.if-is_lead.false) reported.control reported.malformed)
-          (settled-by here.begun tt)));
+          (settled-same_state here.begun tt)));
       may_go_on = may_go_on-malformed g.P.CountedPerform.layout (call_at g c.args.input.bytes.now)
           c.requires.no_stop here.may_go_on (omega (arith, c.if-byte-lt160.false))
           (reported.malformed (omega (arith, c.if-byte-lt160.false)));

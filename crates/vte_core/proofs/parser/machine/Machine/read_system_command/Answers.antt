@@ -5,7 +5,7 @@ use Rattle.vte_core.proofs.bytes.Classes.{other_is_control}
 use Rattle.vte_core.proofs.calls.Stretches.{advances-in, takes-in_system_command, takes-byte, advances-items, advances-given, advances-then}
 use Rattle.vte_core.proofs.fields.PlaceOfState.{stands-by}
 use Rattle.vte_core.proofs.fields.Stores.{pieces_held}
-use Rattle.vte_core.proofs.calls.Progress.{settled-by}
+use Rattle.vte_core.proofs.calls.Progress.{settled-same_state}
 use Rattle.vte_core.proofs.places.PlaceLeads.{command-item, command-control, command-bell}
 use Rattle.vte_core.proofs.parser.machine.Machine.read_system_command.Goals.{then-byte-eq59, else-byte-eq59+then-byte-eq-BELL, else-byte-eq59+else-byte-eq-BELL}
 use Rattle.vte_core.proofs.parser.machine.Machine.read_system_command.Goals as goal
@@ -44,7 +44,7 @@ returns-clause-advances g c =
           (stands-by begun
           (subst (λ b. HoldsItems limit w.end_piece.new.self (items ++ b ∷ [])) (sym is)
           (w.end_piece.ensures.holds items keeps)))
-          (command-item (omega (arith, is))))) (settled-by begun tt)))
+          (command-item (omega (arith, is))))) (settled-same_state begun tt)))
       -- BEL: the command is reported.
       | else-byte-eq59+then-byte-eq-BELL w ↦
           rw (w.self-is, w.performer-is)
@@ -61,5 +61,5 @@ returns-clause-advances g c =
           (takes-in_system_command after_data
           (λ items keeps. takes-byte refl (stands-by begun keeps)
           (command-control (other_is_control byte ordinary no_data w.if-byte-eq59.false)
-          (ne_eqb _ _ w.if-byte-eq-BELL.false)))) (settled-by begun tt)))
+          (ne_eqb _ _ w.if-byte-eq-BELL.false)))) (settled-same_state begun tt)))
     ])

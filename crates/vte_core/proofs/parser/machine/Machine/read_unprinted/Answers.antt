@@ -1,10 +1,10 @@
 -- A longer character is read as one. Otherwise each byte is single (`advances-single`), up to ESC, the end, a stop or a
 -- byte that may begin a run.
 use Rattle.vte_core.proofs.Common.{refl, sym, ◌∙◌, arith, rules}
-use Rattle.vte_core.proofs.calls.Progress.{settled-by}
+use Rattle.vte_core.proofs.calls.Progress.{settled-same_state}
 use Rattle.vte_core.proofs.calls.Stretches.{advances-nothing, advances-then, advances-given}
 use Rattle.vte_core.proofs.calls.BetweenCharacters.{advances-single}
-use Rattle.vte_core.proofs.bytes.Runs.{ends-unprinted}
+use Rattle.vte_core.proofs.bytes.Runs.{no_run-unprinted}
 use Rattle.vte_core.proofs.parser.machine.Machine.read_unprinted.Goals as goal
 
 -- A byte that begins a longer one: no run begins here, so the character is none that is printed.
@@ -13,7 +13,7 @@ returns-then-is_lead-clause-advances g c = advances-given (refl, c.requires.othe
 
 -- The first byte is single: it is no printed ASCII, for no run begins here, and begins no longer one.
 pub loop-byte-init : goal.loop-byte-init
-loop-byte-init g c = search (rules, arith, advances-nothing, settled-by, ends-unprinted)
+loop-byte-init g c = search (rules, arith, advances-nothing, settled-same_state, no_run-unprinted)
 
 -- One more single byte was read, and the next is single too.
 pub loop-byte-preserved : goal.loop-byte-preserved

@@ -1,7 +1,7 @@
 -- A round reads the byte before which the call stands: what begins with a lead byte by a branch of its own, and a
 -- character, a control or malformed byte alone by two that join.
 use Rattle.vte_core.proofs.Common.{◌≡◌, ◌+◌, ◌<◌, length, slice_index, sym, ◌∙◌, arith, rules, Advances}
-use Rattle.vte_core.proofs.calls.Progress.{settled-by}
+use Rattle.vte_core.proofs.calls.Progress.{settled-same_state}
 use Rattle.vte_core.proofs.calls.Stretches.{advances-byte, advances-without_promise, advances-then}
 use Rattle.vte_core.proofs.calls.BetweenCharacters.{takes_bytes-printed, takes_bytes-single}
 use Rattle.vte_core.proofs.parser.machine.Machine.read_until_stop.Given.{Over}
@@ -24,13 +24,13 @@ read_alone g c =
           let printed = sym c.is_printed_ascii.ensures ∙ w.if-is_printed_ascii.true in
           rw w.performer-is (advances-without_promise (advances-byte within looked_at v.may_go_on
           (takes_bytes-printed (v.settled within) printed w.from.ensures w.print_char.ensures.value)
-          (settled-by (v.settled within) tt)))
+          (settled-same_state (v.settled within) tt)))
       | else-is_printed_ascii+else-is_lead+else-byte-eq-ESCAPE w ↦
           let reported = w.report_lone_byte.ensures in
           rw w.performer-is (advances-without_promise (advances-byte within looked_at v.may_go_on
           (takes_bytes-single (v.settled within) w.if-byte-eq-ESCAPE.false
           (sym w.is_lead.ensures ∙ w.if-is_lead.false) reported.control reported.malformed)
-          (settled-by (v.settled within) tt)))
+          (settled-same_state (v.settled within) tt)))
     ])
 
 -- A stop, after what begins with a lead byte and after any other byte.

@@ -1,5 +1,5 @@
 -- The turns so far have led to a state in which the processor stands. Each reads a byte or more.
-use Rattle.vte.proofs.Common.{◌<◌, ◌≤◌, length, meaning_of, EngineIsAt, engine_view, EngineIsAtKeeping, State}
+use Rattle.vte.proofs.Common.{◌<◌, ◌≤◌, length, meaning_of, EngineIsAt, engine_view, EngineIsAtKeepingMemory, State}
 use Rattle.vte.proofs.turns.EngineTurns.{HasReached}
 use Rattle.vte.proofs.ansi.updates.engine.Engine.read.Given as goal
 
@@ -13,5 +13,5 @@ invariant-loop-turn g l =
       reaches : (s : State g.H.Handler.Value g.T.Timeout.Value)
           → EngineIsAt view l.initial.self (g.H.Handler.value_of l.initial.handler) s
           → HasReached m s l.bytes l._turn l.read
-          (EngineIsAtKeeping view l.initial.self l.self (g.H.Handler.value_of l.handler));
+          (EngineIsAtKeepingMemory view l.initial.self l.self (g.H.Handler.value_of l.handler));
     }

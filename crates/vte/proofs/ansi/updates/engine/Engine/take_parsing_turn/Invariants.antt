@@ -1,5 +1,5 @@
 -- The slices so far begin no update, and are parsed. Each has at least one byte, so the loop reads all.
-use Rattle.vte.proofs.Common.{◌<◌, ◌≤◌, length, meaning_of, EngineIsAt, engine_view, EngineIsAtKeeping, HasParsedWithoutBegin, State}
+use Rattle.vte.proofs.Common.{◌<◌, ◌≤◌, length, meaning_of, EngineIsAt, engine_view, EngineIsAtKeepingMemory, HasParsedWithoutBegin, State}
 use Rattle.vte.proofs.ansi.updates.engine.Engine.take_parsing_turn.Given as goal
 
 abbrev pub invariant-loop-slice : goal.invariant-loop-slice
@@ -13,5 +13,5 @@ invariant-loop-slice g l =
           → EngineIsAt view l.initial.self (g.H.Handler.value_of l.initial.handler) s
           → (l._slice ≤ l.read)
           × HasParsedWithoutBegin m s l.bytes l.read
-          (EngineIsAtKeeping view l.initial.self l.self (g.H.Handler.value_of l.handler));
+          (EngineIsAtKeepingMemory view l.initial.self l.self (g.H.Handler.value_of l.handler));
     }

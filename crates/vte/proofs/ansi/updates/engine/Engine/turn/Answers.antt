@@ -1,6 +1,6 @@
 -- By the timeout's answer: the bytes are held while an update is pending and they fit the hold. Otherwise it is
 -- stopped if it is pending or bytes are held, and the turn parses.
-use Rattle.vte.proofs.Common.{◌≡◌, ◌<◌, length, refl, sym, ◌∙◌, arith, nat_tests, nat_le, most_held, held_of, inr, true, false, and-false, ◌+◌, meaning_of, engine_view, EngineIsAtKeeping}
+use Rattle.vte.proofs.Common.{◌≡◌, ◌<◌, length, refl, sym, ◌∙◌, arith, nat_tests, nat_le, most_held, held_of, inr, true, false, and-false, ◌+◌, meaning_of, engine_view, EngineIsAtKeepingMemory}
 use Rattle.vte.proofs.turns.TurnKinds.{is_held, is_stopped, stop_if_due}
 use Rattle.vte.proofs.turns.RefusedTurns.{refused-nothing}
 use Rattle.vte.proofs.turns.EngineTurns.{after-next, ends_turn, kept-next, next-at, stops-next, turned_hold}
@@ -22,7 +22,8 @@ returns-clause-turned g c = λ s at.
     ] in
     let m = meaning_of g.P.EventParser.limit g.H.Handler.step g.T.Timeout.set g.T.Timeout.clear g.T.Timeout.allows in
     let view = engine_view g.P.EventParser.limit g.P.EventParser.view g.B.TextBuffer.text_size g.T.Timeout.value_of in
-    let here : EngineIsAtKeeping view c.args.self.now c.if-pending-2.self (g.H.Handler.value_of c.if-pending-2.handler)
+    let here : EngineIsAtKeepingMemory view c.args.self.now c.if-pending-2.self
+    (g.H.Handler.value_of c.if-pending-2.handler)
     (stop_if_due m pending s) = elim c.if-pending-2.branch [
       -- Stopped first.
       | then-pending-2 w ↦

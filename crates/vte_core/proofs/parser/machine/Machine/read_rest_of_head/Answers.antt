@@ -6,8 +6,8 @@ use Rattle.vte_core.proofs.calls.Stretches.{takes-byte}
 use Rattle.vte_core.proofs.calls.HeadStretches.{advances-control_sequence, ControlHead, advances-head, advances-past_head, takes_bytes-head}
 use Rattle.vte_core.proofs.fields.PlaceOfState.{stands-by}
 use Rattle.vte_core.proofs.places.PlaceLeads.{byte-dropped, byte-executed}
-use Rattle.vte_core.proofs.parser.machine.Machine.read_any_head.Goals.{then-ends_body, else-ends_body+then-is_plain_control, else-ends_body+else-is_plain_control}
-use Rattle.vte_core.proofs.parser.machine.Machine.read_any_head.Goals as goal
+use Rattle.vte_core.proofs.parser.machine.Machine.read_rest_of_head.Goals.{then-ends_body, else-ends_body+then-is_plain_control, else-ends_body+else-is_plain_control}
+use Rattle.vte_core.proofs.parser.machine.Machine.read_rest_of_head.Goals as goal
 
 -- A final byte ends the sequence.
 pub returns-then-is_final : goal.returns-then-is_final

@@ -2,11 +2,11 @@
 -- (`run-*`), or it ends. It ends (`ends-*`) if the byte is single, the bytes end too soon, or a byte does not fit: each
 -- test that fails excludes the character that would stand there.
 use Rattle.vte_core.proofs.Common.{refl, sym, ap, ◌∙◌, arith, false≢true, is_in, from_to, rules}
-use Rattle.vte_core.proofs.bytes.Runs.{ends-single, ends-long, ends-two, ends-three, ends-four, run-layout}
+use Rattle.vte_core.proofs.bytes.Runs.{no_run-single, no_run-long, no_run-two, no_run-three, no_run-four, run-layout}
 use Rattle.vte_core.proofs.bytes.Scalars.{in_range-bounds}
 use Rattle.vte_core.proofs.dividing.Utf8Agrees.{run-two, run-three, run-four}
-use Rattle.vte_core.proofs.reader.Reader.find_other_character_end.Goals.{else-may_begin_four-via-then-may_begin_four+in_ok-get_byte-2+then-is_continuation-2+in_ok-get_byte-3+else-is_continuation-3 as fourth-misfits}
-use Rattle.vte_core.proofs.reader.Reader.find_other_character_end.Goals as goal
+use Rattle.vte_core.proofs.reader.Reader.find_non_ascii_end.Goals.{else-may_begin_four-via-then-may_begin_four+in_ok-get_byte-2+then-is_continuation-2+in_ok-get_byte-3+else-is_continuation-3 as fourth-misfits}
+use Rattle.vte_core.proofs.reader.Reader.find_non_ascii_end.Goals as goal
 
 -- HT, LF or CR, if the performer keeps them: a run of one byte.
 pub returns-then-is_layout-clause-run : goal.returns-then-is_layout-clause-run
@@ -45,27 +45,27 @@ returns-then-is_continuation-3-clause-run c =
 
 -- A byte that begins no longer character and is not kept: it is no run.
 pub returns-then-not-is_lead-clause-ended : goal.returns-then-not-is_lead-clause-ended
-returns-then-not-is_lead-clause-ended c none = search (rules, arith, ends-single)
+returns-then-not-is_lead-clause-ended c none = search (rules, arith, no_run-single)
 
 -- The bytes end after the first one, the second or the third: too few for the character.
 pub returns-in_err-second-clause-ended : goal.returns-in_err-second-clause-ended
-returns-in_err-second-clause-ended c none = search (rules, arith, ends-long)
+returns-in_err-second-clause-ended c none = search (rules, arith, no_run-long)
 
 pub returns-in_err-get_byte-clause-ended : goal.returns-in_err-get_byte-clause-ended
-returns-in_err-get_byte-clause-ended c none = search (rules, arith, ends-three)
+returns-in_err-get_byte-clause-ended c none = search (rules, arith, no_run-three)
 
 pub returns-in_err-get_byte-2-clause-ended : goal.returns-in_err-get_byte-2-clause-ended
-returns-in_err-get_byte-2-clause-ended c none = search (rules, arith, ends-four)
+returns-in_err-get_byte-2-clause-ended c none = search (rules, arith, no_run-four)
 
 pub returns-in_err-get_byte-3-clause-ended : goal.returns-in_err-get_byte-3-clause-ended
-returns-in_err-get_byte-3-clause-ended c none = search (rules, arith, ends-four)
+returns-in_err-get_byte-3-clause-ended c none = search (rules, arith, no_run-four)
 
 -- A second byte that does not continue the first one, or gives a control of C1.
 pub returns-else-is_printed_pair-clause-ended : goal.returns-else-is_printed_pair-clause-ended
 returns-else-is_printed_pair-clause-ended c none =
     let lead = in_range-bounds (from_to 0xc2 0xf4) c.args.first (sym c.is_lead.ensures ∙ c.if-not-is_lead.false) in
     let second = c.in_ok-second.ensures.1 in
-    ends-two c.args.layout _ c.args.from c.args.first c.requires.within c.requires.looked_at lead.0
+    no_run-two c.args.layout _ c.args.from c.args.first c.requires.within c.requires.looked_at lead.0
     c.if-first-lt224.true
     (λ more continues plain.
     false≢true
@@ -75,8 +75,8 @@ returns-else-is_printed_pair-clause-ended c none =
 
 -- Of three bytes, the third does not continue or the second does not fit the first.
 pub returns-else-may_begin_three-clause-ended : goal.returns-else-may_begin_three-clause-ended
-returns-else-may_begin_three-clause-ended c none = search (rules, arith, ends-three)
+returns-else-may_begin_three-clause-ended c none = search (rules, arith, no_run-three)
 
 -- Of four bytes, the fourth or third does not continue or the second does not fit the first.
 pub returns-else-may_begin_four-clause-ended : goal.returns-else-may_begin_four-clause-ended
-returns-else-may_begin_four-clause-ended c none = search (rules, arith, ends-four, fourth-misfits)
+returns-else-may_begin_four-clause-ended c none = search (rules, arith, no_run-four, fourth-misfits)

@@ -50,6 +50,7 @@ MISSING, HOMES = "missing: gcc-multilib.*32 bits were not tested", r"export CARG
     ("next_release", "folder a", {}, 0, HOMES), ("next_release", "folder a b", {}, 1, "update$"),
     ("next_release", "folder a b", {"HAS_CRATES": "yes"}, 0, "export PYTHONPATH="),
     ("next_release", "other", {}, 1, "update$"),
+    ("lib/releasing/fresh_machine", "--with a b", {}, 2, "Runs a command on a fresh "),
     *(("release", words, {}, status, "Makes a release ")
       for words, status in (("", 2), ("--help", 0), ("--chek", 2), ("a b", 2))),
     # it asks for the files if the folder isn't there

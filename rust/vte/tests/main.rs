@@ -27,7 +27,7 @@ fn each_file_is_named() {
         let line = format!("\nmod {};\n", name.trim_end_matches(".rs"));
         let is_named = include_str!("main.rs").contains(&line);
         assert!(
-            is_named || ["main.rs", "memory.rs"].contains(&&*name),
+            is_named || ["main.rs", "memory", "memory.rs"].contains(&&*name),
             "{name}"
         );
     }

@@ -89,7 +89,7 @@ fn parsers_pass_device_data_in_slices() {
 #[cfg(feature = "__own")]
 #[test]
 fn calls_that_may_stop_pass_slices_of_one_byte() {
-    use vte::{BoundedParser, Own};
+    use vte::{BoundedParser, InternalCalls};
     let (mut lines, mut parser) = (<EventLines>::default(), BoundedParser::new());
     let read = parser.advance_text_until_terminated(&mut lines, IMAGE);
     assert_eq!(read, IMAGE.len());

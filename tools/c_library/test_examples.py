@@ -49,12 +49,12 @@ def assert_ends_by_errors(program):
     assert status_of(program, stdin=os.open("/", os.O_RDONLY), stdout=subprocess.DEVNULL) == 1
 
 
-def assert_slow(words, pieces):
-    """Writes pieces: what one has comes out before the next one is written."""
+def assert_slow(words, chunks):
+    """Writes chunks: what one has comes out before the next one is written."""
     pipes = dict.fromkeys(("stdin", "stdout", "stderr"), subprocess.PIPE)
     with subprocess.Popen(words, **pipes) as running:
-        for piece, *wanted in pieces:
-            os.write(running.stdin.fileno(), piece)
+        for chunk, *wanted in chunks:
+            os.write(running.stdin.fileno(), chunk)
             for stream, want in zip((running.stdout, running.stderr), wanted):
                 assert read_soon(stream, len(want)) == want
         running.stdin.close()

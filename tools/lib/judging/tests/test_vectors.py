@@ -70,7 +70,7 @@ def test_definition_gives_the_vectors(vector):
     assert "\n".join(lines) == "\n".join(lines_of(vector["events"]))
 
 
-# in each language what builds the runner and what runs it, and how the example ignores pieces that
+# in each language what builds the runner and what runs it, and how the example ignores chunks that
 # are as long as $SKIP, and fails without $SKIP
 RUNNERS = {
     "py": ("", f"{sys.executable} -B run.py",
@@ -109,7 +109,7 @@ def built(folder, suffix, changes=()):
 
 
 def test_a_runner_tries_each_way(language, tmp_path):
-    """A vector as it is, in one piece and byte by byte: it is wrong if pieces of one of these
+    """A vector as it is, in one chunk and byte by byte: it is wrong if chunks of one of these
     lengths are ignored, and this cut is printed. One that fails is named."""
     built(tmp_path, language, RUNNERS[language][2])
     vector = dict(EVENTS[0], id="abcd", pieces=["6162", [{"repeat": "63", "times": 2}]],

@@ -22,12 +22,10 @@ pub struct Shown {
 
 impl Shown {
     pub fn with_room(count: usize) -> Self {
-        let (printed, texts) = (String::with_capacity(count), String::with_capacity(count));
-        Shown {
-            printed,
-            texts,
-            ..Shown::default()
-        }
+        let mut shown = Shown::default();
+        shown.printed.reserve_exact(count);
+        shown.texts.reserve_exact(count);
+        shown
     }
 }
 

@@ -9,7 +9,7 @@ use super::json::{cuttings, vectors, Value, MAX_CUT};
 /// What follows each stream.
 const NEXT: &[u8] = b"z\x1bc";
 
-/// The events of `NEXT` after a vector, which are others if something is open.
+/// The events of `NEXT` after a vector: its `next`, or the usual ones if nothing is open.
 fn events_of_next(vector: &Value) -> String {
     match vector.get("next") {
         Some(_) => vector.lines("next"),
@@ -37,11 +37,7 @@ fn check<P: Clone, const KEEPS: bool>(
         advance(&mut parser, &mut lines, NEXT);
         let lengths: Vec<_> = cutting.iter().map(|piece| piece.len()).take(9).collect();
         assert!(found == events, "{name} in {lengths:?}");
-        assert!(
-            lines.text == next,
-            "{name} in {lengths:?}: its `next` in vectors/events.json isn't {:?}",
-            lines.text
-        );
+        assert_eq!(lines.text, next, "`next` of {name} in {lengths:?}");
     }
 }
 

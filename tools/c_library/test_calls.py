@@ -193,8 +193,8 @@ def test_calls(outputs):
             of_step, after = after[:len(acts)], after[len(acts):]
             found = [call for lines, *_ in of_step for line in lines.splitlines()
                      for call in lines_for(line)]
-            has = *map(int, of_step[-1][1:]), found.count(SET)
-            assert all(want in (None, it) for it, want in zip(has, known)), (name, acts, has)
+            left = *map(int, of_step[-1][1:]), found.count(SET)
+            assert all(want in (None, it) for it, want in zip(left, known)), (name, acts, left)
             made += [call for call in found if is_order or call != SET]
             wanted += [call for call in calls if call not in TIMEOUTS or is_order and call == SET]
         # the calls of an update that expires come with the next step

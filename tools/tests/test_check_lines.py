@@ -31,17 +31,17 @@ def faults(place, text):
 @pytest.mark.parametrize("place, begin, most", LINES.values(), ids=LINES)
 def test_how_long_a_line_may_be(place, begin, most):
     line = (begin + " x" * 60)[:most or None]
-    told = [f"{place}:2: a line of {most + 1} characters"] * bool(most)
-    assert faults(place, f"{line}\n{line}y\n") == told
+    wanted = [f"{place}:2: a line of {most + 1} characters"] * bool(most)
+    assert faults(place, f"{line}\n{line}y\n") == wanted
 
 
-@pytest.mark.parametrize("place, begin, line, end, most, told", [
+@pytest.mark.parametrize("place, begin, line, end, most, wanted", [
     ("x.antt", "", "a\n", "", 400, "a file of 401 lines"),
     *((place, "", "a\n", "", 500, "") for place in (
         "crates/vte_handler/src/by_call.rt", "rust/x/src/proved/f.rs", "vectors/x.json")),
     ("x.py", "class A:\n    def f(self):\n", "        a\n", "a\n", 59, "f: a function of 61 lines"),
     ("x.rs", "    fn g();\n    fn f(a: [u8; 2])\n    {\n", "        a;\n", "    }\n", 57,
      "f: a function of 61 lines")])
-def test_how_long_files_and_functions_may_be(place, begin, line, end, most, told):
+def test_how_long_files_and_functions_may_be(place, begin, line, end, most, wanted):
     assert faults(place, begin + most * line + end) == []
-    assert faults(place, begin + (most + 1) * line + end) == [f"{place}: {told}"] * bool(told)
+    assert faults(place, begin + (most + 1) * line + end) == [f"{place}: {wanted}"] * bool(wanted)

@@ -70,9 +70,9 @@ CASES = {
 def test_what_is_refused_in_a_file(place, text, told):
     write(place, text)
     write("HANDLES", "Handles allowed: none.\n")
-    status, said = Tool("check_trust", listed=lambda _: [place], unused=lambda _: []).run()
+    status, output = Tool("check_trust", listed=lambda _: [place], unused=lambda _: []).run()
     wanted = [*[place + told] * bool(told), f"1 files, {told > '':d} places that are refused"]
-    assert (status, said.splitlines()) == (bool(told), wanted)
+    assert (status, output.splitlines()) == (bool(told), wanted)
 
 
 def test_all_files_and_handles():
@@ -81,8 +81,8 @@ def test_all_files_and_handles():
     for place in "crates/x/specs/A.antt", "crates/x/out/A.rt", "bench/b.rs", "c/d.rt", "e.md":
         write(place, "unsafe one\n")
     write("HANDLES", "Handles allowed: some.\n")
-    status, said = Tool("check_trust", unused=lambda _: []).run()
-    assert status == 1 and sorted(line.partition(":")[0] for line in said.splitlines()) == [
+    status, output = Tool("check_trust", unused=lambda _: []).run()
+    assert status == 1 and sorted(line.partition(":")[0] for line in output.splitlines()) == [
         "2 files, 3 places that are refused", "HANDLES", "bench/b.rs", "c/d.rt"]
 
 
@@ -99,5 +99,5 @@ def test_a_name_that_nothing_has_any_more(place, word, told):
     for file in files:
         text = (TOOLS.parent / file).read_text()
         write(file, text.replace(word, "other") if file == changed else text)
-    said = [*tool.parts["unused"](files if word else files - {changed})]
-    assert [line.endswith(told) for line in said] == [True] * bool(told)
+    output = [*tool.parts["unused"](files if word else files - {changed})]
+    assert [line.endswith(told) for line in output] == [True] * bool(told)

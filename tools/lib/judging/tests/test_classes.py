@@ -194,13 +194,14 @@ def test_what_a_cut_divides(stream, cuts, found):
     assert [*classes.steps_at_cuts(definition.steps_of(stream), cuts).values()] == found
 
 
-@pytest.mark.parametrize("one, other, is_so", [
+@pytest.mark.parametrize("one, other, wanted", [
     (candidate.HANG, "(memory: x)", True), ("(memory: x)", "(output: x)", True),
     ("(output: x)", candidate.HANG, True), ("(crash: 1)", "(crash: 2)", True),
     ("(crash: 1)", candidate.HANG, False), (candidate.HANG, "unhook", False),
     ("unhook", candidate.HANG, False), ("unhook", "unhook", True), ("unhook", "put 00", False)])
-def test_which_answers_are_alike(one, other, is_so):
-    assert bool(is_alike(*(Difference([b"a"], [], ["put 01", it]) for it in (one, other)))) == is_so
+def test_which_answers_are_alike(one, other, wanted):
+    one, other = (Difference([b"a"], [], ["put 01", line]) for line in (one, other))
+    assert bool(is_alike(one, other)) == wanted
 
 
 def test_what_depends_on_a_cut():

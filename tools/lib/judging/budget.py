@@ -5,15 +5,14 @@ from itertools import islice
 
 from lib.judging.candidate import OutOfTime
 
-# the seconds after the end of the time in which what is found is tried once more: by trial, enough
-# for a program that answers at once, and less than a reader of the result waits for gladly
+# the seconds after the end of the time in which what is found is tried once more, by trial
 GRACE = 3
-# a batch that takes so many seconds is followed by a smaller one. The end is looked at before each,
-# and half of a short time, such as a gate's ten seconds, is then still left
+# a batch that takes so many seconds is followed by a smaller one, by trial: what differs is told
+# after its batch
 LONG_BATCH = 2
 # how many differences are shrunk that turn out to be of a class that was found before, and for one
-# rule and kind: by trial. Vectors have more than three cases of most rules, which differ alike; a
-# parser with many faults has its rare ones among the first twenty
+# rule and kind. By trial: with 14 planted faults and 1,217 streams there were at most 3 of the
+# former, and the latter left out no class
 MAX_AGAIN, MAX_TRIES = 20, 3
 
 

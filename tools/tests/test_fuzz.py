@@ -17,21 +17,25 @@ def test_a_difference_is_found(does, is_found):
     assert fuzz.parts["finds"]("target", program) == is_found
 
 
-# words, the targets and the seconds for each, whether all is well, and the status
-@pytest.mark.parametrize("words, targets, seconds, is_clean, finds, covers, status", [
-    ("", "readings beside_vte c_library", 5, True, True, False, 0),
-    ("--seconds 7", "readings beside_vte c_library", 7, True, True, False, 0),
-    ("c_library", "c_library", 5, True, True, False, 0),
-    ("readings beside_vte", "readings beside_vte", 5, True, True, False, 0),
-    ("readings", "readings", 5, True, False, True, 1),
-    ("readings", "readings", 5, False, True, True, 1), ("--coverage", "", 0, False, False, True, 0),
-    ("--coverage", "", 0, True, True, False, 1), ("gone", "", 0, True, True, True, 2)])
-def test_what_is_fuzzed(words, targets, seconds, is_clean, finds, covers, status):
+# words, the targets and the seconds for each, which functions fail, and the status
+@pytest.mark.parametrize("words, targets, seconds, failing, status", [
+    ("", "readings beside_vte c_library", 5, "coverage", 0),
+    ("--seconds 7", "readings beside_vte c_library", 7, "coverage", 0),
+    ("c_library", "c_library", 5, "coverage", 0), ("gone", "", 0, "", 2),
+    ("readings beside_vte", "readings beside_vte", 5, "coverage", 0),
+    ("readings", "readings", 5, "finds", 1), ("readings", "readings", 5, "fuzz", 1),
+    ("--coverage", "", 0, "fuzz finds", 0), ("--coverage", "", 0, "coverage", 1)])
+def test_what_is_fuzzed(words, targets, seconds, failing, status):
+    def fake(name):
+        def function(*given):
+            print(*given)
+            return name not in failing
+        return function
+
     fuzz = Tool("fuzz", missing=lambda: (), build=lambda *given: given, build_different=str,
-                fuzz=lambda target, *given: print(target, *given) or is_clean,
-                finds=lambda *given: print(*given) or finds, coverage=lambda: covers)
+                fuzz=fake("fuzz"), finds=fake("finds"), coverage=lambda: "coverage" not in failing)
     wanted = [line for it in targets.split()
-            for line in (f"{it} {(it, seconds)} {seconds}", f"{it} {it}")]
+              for line in (f"{it} {(it, seconds)} {seconds}", f"{it} {it}")]
     found, output = fuzz.run(*words.split())
     assert (found, sorted(output.splitlines())) == (status, sorted(wanted))
 

@@ -37,9 +37,8 @@ fn line_of(call: &str) -> String {
             _ => 0,
         };
         match (c, depth) {
-            (')', 0) => {}
-            // between arguments, and before the first
-            (',', 1) => {}
+            // the end, and commas between arguments, after which there are blanks
+            (')', 0) | (',', 1) => {}
             ('(', 1) => line.push(' '),
             ('A'..='Z', 0) if line.is_empty() => line.push(c.to_ascii_lowercase()),
             ('A'..='Z', 0) => line.extend(['_', c.to_ascii_lowercase()]),

@@ -85,8 +85,7 @@ fn check_stream(stream: &[u8], wanted: &str) {
         for (name, calls_of) in READERS {
             // the beginning alone: they may be long
             let start = String::from_utf8_lossy(&stream[..40.min(stream.len())]);
-            let (count, length) = (pieces.len(), stream.len());
-            let calls = calls_of(&pieces);
+            let (count, length, calls) = (pieces.len(), stream.len(), calls_of(&pieces));
             assert!(calls == wanted, "{start:?}, {length} in {count}, {name}");
         }
     }

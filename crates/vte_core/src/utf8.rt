@@ -166,7 +166,7 @@ pub(crate) fn character_of_two(first: u8, second: u8) -> char
     ensures { result ≡ scalar_of (first ∷ second ∷ []) }
 {
     // The remainders leave at most 7FF, below the surrogates: compilers see it, and drop the test.
-    // proof: SAFETY: for the same reason.
+    // proof: SAFETY: the number is below the surrogates.
     // cargo instead: char::from_u32(number_of_two(first, second))
     // cargo instead:     .unwrap_or(char::REPLACEMENT_CHARACTER)
     unsafe { char::from_u32_unchecked(number_of_two(first, second)) }

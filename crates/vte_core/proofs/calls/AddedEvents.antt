@@ -166,13 +166,13 @@ reports-open {limit} {stream} {bytes} {j} a opened =
       outside_runs = λ none. absurd (opened none);
       after_first = subst AllAfterFirst (sym all) (elim a.events_are [
         | inl others ↦ All-drop IsOutsideRuns 1 a.events others
-        | inr whole ↦ subst AllAfterFirst (sym whole.same) (All-nil IsOutsideRuns)
+        | inr whole ↦ subst AllAfterFirst (sym whole.event_is) (All-nil IsOutsideRuns)
       ]);
       no_ascii = subst (All PrintsNoAscii) (sym all) (elim a.events_are [
         | inl others ↦ prints_no_ascii-all a.events others
         | inr whole ↦
-            subst (All PrintsNoAscii) (sym whole.same)
-            (prints_no_ascii-character _ (prints_no_ascii _ whole.well whole.long))
+            subst (All PrintsNoAscii) (sym whole.event_is)
+            (prints_no_ascii-character _ (prints_no_ascii _ whole.well_formed whole.several_bytes))
       ]);
     }
 

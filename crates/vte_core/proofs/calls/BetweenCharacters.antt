@@ -180,7 +180,8 @@ advances-first {call} {i} {first} {parser} r lead fits completes = record {
             ap (λ n. take n (drop i call.bytes)) (let e : whole.n + 1 ≡ suc whole.n = omega arith in e)
             ∙ ap (take (suc whole.n)) (drop_more call.bytes i 0 r.within)
             ∙ ap (λ x. x ∷ take whole.n (drop (i + 1) call.bytes)) (sym r.looked_at) in
-            let control = rw cut at (given.1 (whole.n + 1) (omega (arith, whole.far)) (rw cut whole.well)) in
-            subst (All IsOutsideRuns) (sym whole.same) (outside_runs-control _ control)
+            let control =
+            rw cut at (given.1 (whole.n + 1) (omega (arith, whole.in_bytes)) (rw cut whole.well_formed)) in
+            subst (All IsOutsideRuns) (sym whole.event_is) (outside_runs-control _ control)
       ]);
 }

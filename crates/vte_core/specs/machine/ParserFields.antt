@@ -161,7 +161,7 @@ IsPlaceOfState limit _ parser _ = ⊥
 
 pub record IsAtPlace {B : Type 0} (limit : Option ℕ) (parser : Machine B)
     (place : Place) : Type 0 where
-  pub by : IsPlaceOfState limit parser.state parser place
+  pub fields : IsPlaceOfState limit parser.state parser place
 
 -- The parser continues as one that has read the stream: with more bytes, the stream gives its own
 -- events and then what those bytes give after a place at which the parser stands.

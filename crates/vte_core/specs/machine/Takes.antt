@@ -16,11 +16,11 @@ pub record Reports {V : Type 0} (step : V → Event → V) (old new : V) (event 
   pub value : new ≡ step old event
   pub count : looked later ≡ looked earlier + 1
 
--- The performer received the events, which count `many` looks.
+-- The performer received the events, which count `looks` looks.
 pub record ReportsAll {V : Type 0} (step : V → Event → V) (old new : V) (events : List Event)
-    (many : ℕ) (earlier later : Reader) : Type 0 where
+    (looks : ℕ) (earlier later : Reader) : Type 0 where
   pub value : new ≡ after step old events
-  pub count : looked later ≡ looked earlier + many
+  pub count : looked later ≡ looked earlier + looks
 
 -- The performer received the events of the byte, and the parser stands at the place to which it
 -- leads.

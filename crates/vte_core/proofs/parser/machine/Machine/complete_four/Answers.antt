@@ -91,7 +91,7 @@ report_text-requires-clause-run g c =
     (sym c.is_continuation.ensures ∙ c.if-not-is_continuation.false)
     (sym c.is_continuation-2.ensures ∙ c.if-not-is_continuation-2.false))
     (subst (λ position. IsRun g.P.CountedPerform.layout bytes position c.find_run_end_after_non_ascii-end.result) past
-    rest.scans.are)
+    rest.scans.passed)
 
 -- In runs, it is reported with the run that it begins.
 pub returns-then-IN_RUNS-clause-advances : goal.returns-then-IN_RUNS-clause-advances

@@ -16,7 +16,7 @@ returns-then-end-position-clause-comes g c =
     let v = c.loop-position.invariant in
     let found = c.find_run_end-end.ensures in
     let settled = settled-text c.in-Text.is (v.settled (omega arith)) in
-    comes-to_run (has-text settled (omega arith) found.scans.high found.scans.are found.ended) (omega arith)
+    comes-to_run (has-text settled (omega arith) found.scans.high found.scans.passed found.ended) (omega arith)
     (sym c.terminated.ensures ∙ c.if-not-terminated.true) v.stands_at
 
 -- In data: what it has found is put.
@@ -24,7 +24,7 @@ pub returns-then-end-position-2-clause-comes : goal.returns-then-end-position-2-
 returns-then-end-position-2-clause-comes g c =
     let v = c.loop-position.invariant in
     let found = c.find_device_data_end-end.ensures in
-    comes-to_run (has-data c.in-DeviceData.is (omega arith) found.high found.are found.ended) (omega arith)
+    comes-to_run (has-data c.in-DeviceData.is (omega arith) found.high found.passed found.ended) (omega arith)
     (sym c.terminated.ensures ∙ c.if-not-terminated.true) v.stands_at
 
 -- In a text that begins with no run: what is read there is reported by none.

@@ -22,7 +22,7 @@ returns-clause-takes g c = λ place s b.
     ∙ sym
     (after_events-append step (g.P.CountedPerform.value_of c.args.performer.now) (closing_events_at limit place)
     (Execute c.args.byte ∷ [])))
-    (record { by = (refl, refl) })
+    (record { fields = (refl, refl) })
     (byte-cancels (stands-place s) e))
 
 pub returns-clause-handles : goal.returns-clause-handles

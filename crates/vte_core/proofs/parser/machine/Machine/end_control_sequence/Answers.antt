@@ -15,7 +15,7 @@ returns-in-IllShaped-clause-takes g c = λ head s.
       reported = [];
       next = InText [];
       performed = refl;
-      stands = record { by = (refl, refl) };
+      stands = record { fields = (refl, refl) };
       leads = control-silent (class-final _ c.requires.final_byte) ill;
     }
 

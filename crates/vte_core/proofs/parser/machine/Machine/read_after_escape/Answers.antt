@@ -21,7 +21,7 @@ returns-then-is_intermediate-clause-takes g c =
     let is = class-intermediate _ (sym c.is_intermediate.ensures ∙ c.if-is_intermediate.true) in
     takes_bytes-in c.requires.begun (rw is refl)
     (takes-at_escape c.args.self.now (λ holds. takes-byte refl
-    (record { by = c.collect.ensures.holds [] holds }) (escape-intermediate is)))
+    (record { fields = c.collect.ensures.holds [] holds }) (escape-intermediate is)))
 
 -- Digits, `:`, `;` and markers dispatch: keys begin at `@`, which is later.
 pub returns-then-is_head_byte-clause-takes : goal.returns-then-is_head_byte-clause-takes

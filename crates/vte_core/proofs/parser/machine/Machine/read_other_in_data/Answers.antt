@@ -20,7 +20,7 @@ returns-clause-advances g c =
           rw (w.self-is, w.performer-is)
           (advances-given c.requires.other (advances-in r.begun r.within r.looked_at r.may_go_on ordinary
           (takes-in_data parser
-          (takes-byte w.unhook.ensures.value (record { by = (refl, refl) })
+          (takes-byte w.unhook.ensures.value (record { fields = (refl, refl) })
           (data-terminator (terminator_is_high is) (rw is refl)))) tt))
       -- A byte that is dropped.
       | else-byte-eq-STRING_TERMINATOR w ↦

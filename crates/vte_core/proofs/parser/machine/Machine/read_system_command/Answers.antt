@@ -51,7 +51,7 @@ returns-clause-advances g c =
           (advances-given tt (advances-in begun within here.1 r.may_go_on ordinary
           (takes-in_system_command after_data
           (λ items keeps. takes-byte
-          (rw (pieces_held keeps) w.dispatch.ensures.value) (record { by = (refl, refl) })
+          (rw (pieces_held keeps) w.dispatch.ensures.value) (record { fields = (refl, refl) })
           (command-bell (other_is_control byte ordinary no_data w.if-byte-eq59.false)
           (rw w.if-byte-eq-BELL.true refl)))) tt))
       -- Another control is dropped.

@@ -225,7 +225,7 @@ module _ {held more text : List ℕ} {start : ℕ} (e : IsHeldTail held more tex
       let position : k - start + start ≡ k = omega arith in
       let neither = none (k - start) (omega arith) (omega arith) in
       let tail : drop (k - start) text ≡ drop k all =
-      ap (drop (k - start)) e.is ∙ drop-drop (k - start) start all ∙ ap (λ at. drop at all) (omega arith) in
+      ap (drop (k - start)) e.text_is ∙ drop-drop (k - start) start all ∙ ap (λ at. drop at all) (omega arith) in
       record { no_begin = rw tail at neither.no_begin; no_end = rw tail at neither.no_end })
       seen
 

@@ -28,7 +28,7 @@ four_bytes n = n % 256 ∷ (n / 256) % 256 ∷ (n / 65536) % 256 ∷ n / 1677721
 abbrev pub piece_bytes : List ℕ → List ℕ
 piece_bytes piece = four_bytes (min (length piece) 4294967295) ++ piece
 
--- A character or a byte that isn't in the input as it stands: its UTF-8, the byte. Of a command its
+-- A character or a byte that isn't in the input as it is: its UTF-8, the byte. Of a command its
 -- pieces.
 abbrev pub data_of : Event → List ℕ
 data_of (Print c) = encode_utf8 c

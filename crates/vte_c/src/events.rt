@@ -319,7 +319,7 @@ impl Perform for Events<'_> {
 
     ghost is_terminated = { is_full };
 
-    /// Writes a character that isn't in the input as it stands.
+    /// Writes a character that isn't in the input as it is.
     fn print(&mut self, c: char) {
         // rustc knows the bytes of the one for malformed sequences.
         if c == char::REPLACEMENT_CHARACTER {

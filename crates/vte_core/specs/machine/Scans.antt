@@ -60,7 +60,7 @@ pub record PrintsRun {V : Type 0} (layout : Bool) (step : V → Event → V) (ol
 
 -- ---- searches
 
--- The positions stand in order, and within the bytes.
+-- The positions are in order, and within the bytes.
 pub record IsRange (bytes : List ℕ) (from to : ℕ) : Type 0 where
   pub in_order : from ≤ to
   pub within : to ≤ length bytes

@@ -242,7 +242,7 @@ impl<'a> Events<'a> {
 }
 
 impl Perform for Events<'_> {
-    /// Writes a character that isn't in the input as it stands.
+    /// Writes a character that isn't in the input as it is.
     fn print(&mut self, c: char) {
         // rustc knows the bytes of the one for malformed sequences.
         if c == char::REPLACEMENT_CHARACTER {

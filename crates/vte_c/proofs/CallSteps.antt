@@ -2,7 +2,7 @@
 -- that these return. One step after another is a longer one (`goes-then`).
 use Rattle.vte_c.proofs.Common.{AreCharacters, Bool, ComesTo, DataRun, Event, ReadsOn, GoesOnFromPositions, HasReadOn, HasEntries, HasRead, NoRecordStops, InInput, IsRunOfKind, usual_limit, IsRunAt, List, OpensSilently, Parser, Print, Put, Room, Run, Single, Starts, StopsAtNone, ReportsUnits, TextRun, [], added, after, ap, append-nil, arith, breaks_at, cases_Bool, cases_lt, chars, data_of, drop, drop-drop, false, false≢true, filter-append, flat_map, flat_map-append, has, if◌then◌else◌, inl, inr, is_full, is_stop, entry_events, event_kind, len_utf8_bounds, length, length-append, length-drop, length-encode, map, nat_tests, refl, replacement, reported, resumed, events_of_run, run_kind, run_record, resumed_stream, subst, sym, take, reported_before, true, room_with_event, with_entries, with_run, with_taken, with_wanted, zero-add, ℕ, ◌++◌, ◌+◌, ◌-◌, ◌<◌, ◌∙◌, ◌∷◌, ◌≡◌, ◌≤◌}
 use Rattle.vte_core.proofs.streams.After.{added-nothing}
-use Rattle.vte_core.specs.AdvanceToRun.{IsLongestRun, ReturnsRun, run_bytes, events_of_run as returned_events, taken_bytes}
+use Rattle.vte_core.specs.AdvanceToRun.{IsLongestRun, ReturnsRun, run_bytes, run_events, taken_bytes}
 use Rattle.vte_core.specs.declared.reader.run.Run.{Run as Returned}
 use Rattle.vte_core.specs.declared.reader.run.Taken.{Taken}
 use Rattle.vte_core.specs.declared.reader.run.Taken.TheVariants.{Text, Data, Nothing}
@@ -212,7 +212,7 @@ module _ (old mid new : Room) (since bytes : List ℕ) (from : ℕ) (run : Retur
   -- A run of this kind was recorded.
   goes-some : (kind : Run) → 0 < length (run_bytes run)
       → new ≡ with_wanted mid (run_record (run_kind kind) (from + run.start) (length (run_bytes run)))
-      → IsRunOfKind kind (run_bytes run) → returned_events run ≡ events_of_run kind (run_bytes run)
+      → IsRunOfKind kind (run_bytes run) → run_events run ≡ events_of_run kind (run_bytes run)
       → ReadsOn old new since (after_call ++ run_bytes run) bytes from run.end
   goes-some kind some is plain same =
       let here : take (length (run_bytes run)) (drop (from + run.start) bytes) ≡ run_bytes run =

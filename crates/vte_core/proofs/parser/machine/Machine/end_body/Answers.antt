@@ -1,7 +1,7 @@
 -- What is open is reported first. Then ESC leads to after ESC, and CAN or SUB is executed and leads to a text.
 use Rattle.vte_core.proofs.Common.{[], ◌∷◌, refl, sym, ap, ◌∙◌, rules, Execute, closing_events_at, arith}
 use Rattle.vte_core.proofs.bytes.Classes.{ends_by_cancel}
-use Rattle.vte_core.proofs.calls.Stretches.{takes_bytes-escape, takes-byte}
+use Rattle.vte_core.proofs.positions.Stretches.{takes_bytes-escape, takes-byte}
 use Rattle.vte_core.proofs.fields.PlaceOfState.{stands-place}
 use Rattle.vte_core.proofs.streams.After.{after_events-append, takes_bytes-one}
 use Rattle.vte_core.proofs.places.PartsToStream.{cancel_is_no_escape}

@@ -2,8 +2,8 @@
 -- dropped. In each case the state is that of the place to which the byte leads.
 use Rattle.vte_core.proofs.Common.{[], refl, sym, ◌∙◌, arith, rules, class_of}
 use Rattle.vte_core.proofs.bytes.Classes.{class-control, final_ends_nothing, class-intermediate, other_dispatches, head_ends_nothing, below_final, below_finals}
-use Rattle.vte_core.proofs.calls.Stretches.{takes_bytes-in, takes-at_escape, takes-byte, takes_bytes-dropped}
-use Rattle.vte_core.proofs.calls.Progress.{settled-same_state}
+use Rattle.vte_core.proofs.positions.Stretches.{takes_bytes-in, takes-at_escape, takes-byte, takes_bytes-dropped}
+use Rattle.vte_core.proofs.positions.Progress.{settled-same_state}
 use Rattle.vte_core.proofs.fields.PlaceOfState.{stands-by, stands-text_begun}
 use Rattle.vte_core.proofs.places.PlaceLeads.{byte-executed, escape-intermediate, escape-end}
 use Rattle.vte_core.proofs.parser.machine.Machine.read_after_escape.Goals as goal

@@ -6,12 +6,12 @@ use Rattle.vte_core.proofs.fields.PlaceOfState.{may_continue-truncated, stands-b
 use Rattle.vte_core.proofs.places.PlaceLeads.{text-unfinished, text-whole}
 use Rattle.vte_core.proofs.streams.After.{carried_is_no_escape, after-open_character}
 use Rattle.vte_core.proofs.Shapes.{breaks-broken, breaks-unfinished, breaks-whole}
-use Rattle.vte_core.proofs.calls.Progress.{progress-settled, progress-broken, progress-carried, inside-all, inside-moved}
+use Rattle.vte_core.proofs.positions.Progress.{progress-settled, progress-broken, progress-carried, inside-all, inside-moved}
 use Rattle.vte_core.proofs.places.PartsToStream.{bytes_lead-byte}
 use Rattle.vte_core.proofs.bytes.Scalars.{second-open, third-open}
 use Rattle.vte_core.specs.machine.Progress.{Completes}
 use Rattle.vte_core.proofs.streams.StreamSteps.{length-longer}
-use Rattle.vte_core.proofs.calls.AddedEvents.{added-inside, recorded-inside, reported-at, keeping}
+use Rattle.vte_core.proofs.positions.AddedEvents.{added-inside, recorded-inside, reported-at, keeping}
 use Rattle.std.proofs.lemmas.List.{drop-drop}
 
 -- ---- a byte

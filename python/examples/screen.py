@@ -73,7 +73,7 @@ class Screen:
         self._move(self._row + 1, self._column)
 
     def _erase(self, part, rows):
-        """Blanks what is behind the cursor, before it, or everything, of some rows."""
+        """Blanks what is after the cursor, before it, or everything, of some rows."""
         cursor = self._row, min(self._column, COLUMNS - 1)
         for place in itertools.product(rows, range(COLUMNS)):
             if part == 2 or part == 0 and place >= cursor or part == 1 and place <= cursor:

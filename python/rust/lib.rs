@@ -4,6 +4,7 @@
 
 mod calls;
 mod events;
+mod head;
 mod maker;
 #[cfg(feature = "python-memory")]
 #[allow(unsafe_code)]

@@ -1,10 +1,11 @@
 //! Objects, made of what is recorded. Those that come often are made once.
 
 use crate::calls::{Kind, NAMES};
+use crate::head::Head;
 use crate::objects::{bytes, integer, part, short_text, text, tuple, whole, Class, Made, Short};
 use crate::tape::{
-    Head, Value, DATA, FIRST, FLAG, LETTER, MEMBER, NOTHING, NUMBERS_PER_VALUE, NUMBER_BITS,
-    OBJECT, RUN, SEQUENCE, TAG_BITS, TEXT, TUPLE,
+    Value, DATA, FIRST, FLAG, LETTER, MEMBER, NOTHING, NUMBERS_PER_VALUE, NUMBER_BITS, OBJECT, RUN,
+    SEQUENCE, TAG_BITS, TEXT, TUPLE,
 };
 use pyo3::prelude::*;
 use pyo3::sync::{GILOnceCell, GILProtected};

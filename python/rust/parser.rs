@@ -9,7 +9,7 @@ use pyo3::exceptions::{PyTypeError, PyValueError};
 use pyo3::prelude::*;
 use pyo3::types::{PyBytes, PyString};
 use std::mem::{align_of, size_of};
-use vte::{skip_to_command, LongParser, Open, Own as _, Refused, Saved};
+use vte::{skip_to_command, InternalCalls as _, LongParser, Open, Refused, Saved};
 
 /// How many data bytes of a command a parser with a limit keeps.
 const LIMIT: usize = 1024;
@@ -57,7 +57,7 @@ enum Machine {
     Limited(Limited),
 }
 
-/// Reads a stream in pieces of any length and reports its events.
+/// Reads a stream in chunks of any length and reports its events.
 ///
 /// The first 16 pieces of an operating system command are kept, whatever their length. With
 /// `limit=1024` a parser keeps that many bytes of each command, and can be copied and pickled.

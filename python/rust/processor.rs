@@ -19,7 +19,7 @@ pub fn monotonic(py: Python<'_>) -> PyResult<&'static PyObject> {
     })
 }
 
-/// Reads a stream in pieces of any length and returns what it asks of a terminal, as calls of
+/// Reads a stream in chunks of any length and returns what it asks of a terminal, as calls of
 /// `vte.calls`.
 ///
 /// The bytes of a synchronized update are held back until it ends. If its end doesn't come until

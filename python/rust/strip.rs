@@ -293,7 +293,7 @@ pub fn strip(data: &Bound<'_, PyAny>, errors: &str) -> PyResult<PyObject> {
     }
 }
 
-/// Reads a stream in pieces of any length and returns its text. It can be copied and pickled, for
+/// Reads a stream in chunks of any length and returns its text. It can be copied and pickled, for
 /// the same version of the package.
 ///
 /// What stands for malformed bytes is said by `errors`, as for `strip`.

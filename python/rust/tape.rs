@@ -3,6 +3,7 @@
 //! still there.
 
 use crate::calls::Kind;
+use crate::head::Head;
 use crate::maker::{Known, Maker};
 use crate::objects::{list, no_memory, raised, Made};
 use pyo3::prelude::*;
@@ -13,14 +14,14 @@ use vte::{Params, Refused};
 #[derive(Clone, Copy, Default, PartialEq)]
 pub struct Value(pub i64);
 
-// what the number of a value is
+// Kinds of values.
 pub const NOTHING: i64 = 0;
 pub const FLAG: i64 = 1;
 pub const NUMBER: i64 = 2;
 pub const LETTER: i64 = 3;
 /// How many fields follow.
 pub const TUPLE: i64 = 4;
-/// A class, and what a sequence has but for its numbers, which follow.
+/// A sequence without its numbers, which follow.
 pub const SEQUENCE: i64 = 5;
 /// Some of these: `NUMBERS_PER_VALUE`, of `NUMBER_BITS` each, of which the last says whether `:` is
 /// before it.
@@ -68,57 +69,6 @@ impl Value {
     }
 }
 
-/// What a sequence has but for its numbers: how many there are, whether some are left out, its
-/// intermediates, and its final byte.
-pub struct Head {
-    pub count: usize,
-    pub ignore: bool,
-    pub intermediates: [u8; 2],
-    pub intermediate_count: usize,
-    pub end: char,
-}
-
-impl Head {
-    #[inline]
-    fn new(count: usize, intermediates: &[u8], ignore: bool, end: char) -> Self {
-        let (intermediate_count, intermediates) = match intermediates {
-            [] => (0, [0; 2]),
-            [first] => (1, [*first, 0]),
-            [first, second, ..] => (2, [*first, *second]),
-        };
-        Head {
-            count,
-            ignore,
-            intermediates,
-            intermediate_count,
-            end,
-        }
-    }
-
-    #[inline]
-    fn packed(&self) -> i64 {
-        let [first, second] = self.intermediates;
-        let bytes = i64::from(first) | i64::from(second) << 8;
-        let counts = self.count as i64 | (self.intermediate_count as i64) << 6;
-        counts | i64::from(self.ignore) << 8 | bytes << 9 | i64::from(u32::from(self.end)) << 25
-    }
-
-    /// How many values the numbers take.
-    pub fn value_count(&self) -> usize {
-        (self.count + NUMBERS_PER_VALUE - 1) / NUMBERS_PER_VALUE
-    }
-
-    pub fn unpacked(field: i64) -> Self {
-        Head {
-            count: (field & 63) as usize,
-            ignore: field >> 8 & 1 == 1,
-            intermediates: [(field >> 9) as u8, (field >> 17) as u8],
-            intermediate_count: (field >> 6 & 3) as usize,
-            end: char::from((field >> 25) as u8),
-        }
-    }
-}
-
 /// What can be in a field of an event or a call.
 pub trait Field {
     fn record(self, tape: &mut Tape);
@@ -141,7 +91,7 @@ pub(crate) use fields;
 fields! {
     bool: flag => Value::new(FLAG, flag.into());
     char: letter => Value::new(LETTER, u32::from(letter).into());
-    // what is a number of the stream, or a place in what was sent
+    // A number of the stream, or a place in what was sent.
     usize: number => Value::new(NUMBER, number as i64);
     &str: text => Content(text.as_bytes()), Value::new(TEXT, text.len() as i64);
     &[u8]: data => Content(data), Value::new(DATA, data.len() as i64);
@@ -176,7 +126,7 @@ fn extend<T: Copy>(vector: &mut Vec<T>, more: &[T], is_refused: &mut bool) {
 
 #[cold]
 fn grow<T: Copy>(vector: &mut Vec<T>, more: &[T], is_refused: &mut bool) {
-    // what was refused once isn't asked for again
+    // What was refused once isn't asked for again.
     if *is_refused || vector.try_reserve(more.len()).is_err() {
         *is_refused = true;
     } else {
@@ -212,9 +162,9 @@ impl<T: Field> Field for Option<T> {
 pub struct Tape {
     values: Vec<Value>,
     content: Vec<u8>,
-    // whether the last value is a run that may go on
+    /// Whether the last value is a run that may go on.
     is_open: bool,
-    // whether memory was refused, so that something is missing
+    /// Whether memory was refused, so that something is missing.
     is_refused: bool,
     made: Vec<PyObject>,
 }
@@ -367,7 +317,7 @@ impl Tape {
     pub fn list(&mut self, py: Python<'_>) -> Made {
         let count = self.made.len();
         let list = list(py, &mut self.made, count)?;
-        // the memory of few is at hand
+        // The memory of few objects is kept.
         if self.made.capacity() > 1 << 12 {
             self.made = Vec::new();
         }

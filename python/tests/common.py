@@ -33,12 +33,12 @@ def parsers():
     return [vte.Parser(), vte.Parser(limit=1024)]
 
 
-def feed(reader, pieces, *kinds):
-    return [made for piece in pieces for made in reader.feed(piece, *kinds)]
+def feed(reader, chunks, *kinds):
+    return [made for chunk in chunks for made in reader.feed(chunk, *kinds)]
 
 
 def cut(stream, size):
-    """The stream in pieces of a size."""
+    """The stream in chunks of a size."""
     return [stream[at:at + size] for at in range(0, len(stream), size)]
 
 

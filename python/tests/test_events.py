@@ -67,7 +67,7 @@ def test_commands_that_lost_data_say_so(kept, more, truncated, end, bell, after)
 
 @pytest.mark.parametrize("size", [7, 4096, 1 << 20])
 @pytest.mark.parametrize("kinds", [None, {Osc}, {Text}, {Osc, Text}, {Csi}, {Data}, {Hook, Data}])
-def test_long_strings_in_pieces(make, size, kinds):
+def test_long_strings_in_chunks(make, size, kinds):
     long = bytes(range(0x20, 0x7F)) * 900
     commands = [(b"52", b"c", b"Q" * 1000), tuple(b"%d" % it for it in range(16))]
     if make().limit is None:

@@ -125,17 +125,17 @@ def stop_sync(memory, stream):
 
 def open_file(memory, stream, *kinds):
     # a file that loses nothing if memory is refused, as others do
-    pieces, made, end = iter(cut(stream, 70_000)), [], object()
-    events = vte.open(SimpleNamespace(read=lambda _: next(pieces, b"")), 70_000, *kinds)
+    chunks, made, end = iter(cut(stream, 70_000)), [], object()
+    events = vte.open(SimpleNamespace(read=lambda _: next(chunks, b"")), 70_000, *kinds)
     while (event := memory.call(next, events, end)) is not end:
         made += [] if isinstance(event, MemoryError) else [event]
     return joined(made)
 
 
-def strip_pieces(memory, stream, errors):
+def strip_chunks(memory, stream, errors):
     stripper, stream = vte.Stripper(errors), (stream + b"\xe2\xff\xf0\x9f") * 6
-    pieces = map(bytearray, cut(stream, len(stream) // 3 + 1))
-    texts = [again(memory, stripper.strip, piece) for piece in pieces]
+    chunks = map(bytearray, cut(stream, len(stream) // 3 + 1))
+    texts = [again(memory, stripper.strip, chunk) for chunk in chunks]
     return b"".join(texts) + stripper.strip(b"", final=True)
 
 
@@ -168,7 +168,7 @@ READS = {
     "held bytes": (lambda memory, stream: feed(
         memory, b"\x1b[?2026h" + stream + b"\x1b[?2026l" + stream[:900], vte.Processor),),
     "a stop": (stop_sync,), "a file": (open_file,), "commands of a file": (open_file, Osc),
-    "a stripper": (strip_pieces, "replace"), "kept bytes": (strip_pieces, "surrogateescape"),
+    "a stripper": (strip_chunks, "replace"), "kept bytes": (strip_chunks, "surrogateescape"),
     "what is lost": (say_what_is_lost,)}
 OTHERS = {
     "strip": (strip, bytes), "strip of a bytearray": (strip, bytearray),

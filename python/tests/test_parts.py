@@ -33,14 +33,14 @@ def test_parts_give_the_events_and_the_text_of_the_stream(name, size):
     stream = STREAMS[name]
     parts = list(vte.parts(stream, size))
     assert parts == wanted_parts(stream, size) == list(vte.parts(io.BytesIO(stream), size))
-    pieces = [stream[start:end] for start, end in pickle.loads(pickle.dumps(parts))]
+    chunks = [stream[start:end] for start, end in pickle.loads(pickle.dumps(parts))]
     for kinds in None, {vte.Text, vte.Data, vte.Osc, vte.Unhook}:
         for limit in None, 1024:
-            events = [vte.Parser(limit).feed(piece, kinds) for piece in pieces]
+            events = [vte.Parser(limit).feed(chunk, kinds) for chunk in chunks]
             # a text may end where a part does: the sequence that follows may have no event
             found = joined(sum(pickle.loads(pickle.dumps(events)), []))
             assert found == joined(vte.Parser(limit).feed(stream, kinds))
-    text = b"".join(map(vte.strip, pieces))
+    text = b"".join(map(vte.strip, chunks))
     assert text == vte.strip(stream)
     # CAN says that the stream ends, as `strip` takes it
     assert not VTLOG or text == by_vtlog(stream + b"\x18", "text")

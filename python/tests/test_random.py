@@ -1,4 +1,4 @@
-"""Random streams in random pieces: all ways to read them agree, also with `vtlog`, by $VTLOG."""
+"""Random streams in random chunks: all ways to read them agree, also with `vtlog`, by $VTLOG."""
 import re
 
 import pytest
@@ -17,20 +17,20 @@ PARTS = [
     b"\x1b[?2026h", b"\x1b[?2026l", b"\x1b]52;c;", b"x" * 600, b"\x7f", b"\x0b", b"\xc2\x9f",
     "\u2028\U0010ffff".encode()]
 ENDS = [Execute, Hook, Put, Unhook, Osc, Csi, Esc]
-pieces = strategies.lists(
+chunks = strategies.lists(
     strategies.sampled_from(PARTS) | strategies.binary(max_size=4), max_size=60).map(b"".join)
-streams = strategies.lists(pieces, max_size=5)
+streams = strategies.lists(chunks, max_size=5)
 some_kinds = (strategies.none() | strategies.just({Osc})
               | strategies.sets(strategies.sampled_from([*ENDS, Text, Data])))
 often = settings(deadline=None, max_examples=150)
 
 
 @often
-@given(strategies.lists(strategies.tuples(pieces, some_kinds), max_size=5))
+@given(strategies.lists(strategies.tuples(chunks, some_kinds), max_size=5))
 def test_kinds(stream):
     for parser, other in zip(parsers(), parsers()):
-        for piece, kinds in stream:
-            found, everything = parser.feed(piece, kinds), other.feed(piece)
+        for chunk, kinds in stream:
+            found, everything = parser.feed(chunk, kinds), other.feed(chunk)
             if kinds and Data in kinds:
                 # the data of each string are one event
                 everything = joined(Data(bytes(event)) if isinstance(event, Put) else event
@@ -40,19 +40,19 @@ def test_kinds(stream):
 
 @often
 @given(streams, strategies.sets(strategies.sampled_from(ENDS), min_size=1), some_kinds)
-def test_pieces_and_stops(stream, stops, kinds):
+def test_chunks_and_stops(stream, stops, kinds):
     for parser, stopped, some, other in zip(parsers(), parsers(), parsers(), parsers()):
         wanted, events = other.feed(b"".join(stream)), []
         assert joined(feed(parser, stream)) == wanted
-        for piece in stream:
-            while piece:
-                more, read = stopped.feed_until(piece, stops)
+        for chunk in stream:
+            while chunk:
+                more, read = stopped.feed_until(chunk, stops)
                 assert not any(type(event) in stops for event in more[:-2])
                 # whatever is wanted, it stops there
-                found, same = some.feed_until(piece, stops, kinds and kinds - {Data})
+                found, same = some.feed_until(chunk, stops, kinds and kinds - {Data})
                 assert (found, same) == ([event for event in more if kinds is None
                                           or type(event) in kinds - {Data}], read)
-                events, piece = events + more, piece[read:]
+                events, chunk = events + more, chunk[read:]
         assert joined(events) == wanted
     if not any(isinstance(event, Osc) and event.truncated for event in wanted):
         assert wanted == vte.Parser().feed(b"".join(stream))
@@ -61,14 +61,14 @@ def test_pieces_and_stops(stream, stops, kinds):
 @often
 @given(streams)
 def test_texts_and_calls(stream):
-    whole, texts = b"".join(stream), [piece.decode(errors="replace") for piece in stream]
+    whole, texts = b"".join(stream), [chunk.decode(errors="replace") for chunk in stream]
     plain, parser, stripper = vte.strip(whole), vte.Parser(), vte.Stripper()
-    pieces = [*map(stripper.strip, stream)]
-    assert pieces == [text_of(parser.feed(piece)) for piece in stream]
+    chunks = [*map(stripper.strip, stream)]
+    assert chunks == [text_of(parser.feed(chunk)) for chunk in stream]
     # an ESC is what ends an unfinished character without text of its own
-    pieces.append(stripper.strip(b"", final=True))
-    assert pieces[-1] == text_of(parser.feed(b"\x1b"))
-    assert b"".join(pieces) == plain
+    chunks.append(stripper.strip(b"", final=True))
+    assert chunks[-1] == text_of(parser.feed(b"\x1b"))
+    assert b"".join(chunks) == plain
     assert stripper.strip(whole, final=True) == plain
     keeping = vte.Stripper("surrogateescape")
     kept = b"".join([*map(keeping.strip, stream), keeping.strip(b"", final=True)])

@@ -158,7 +158,7 @@ def test_standard_input():
     assert said == b"print 0061\nexecute 0a\n"
 
 
-def test_a_piece_is_read_when_it_is_wanted():
+def test_a_chunk_is_read_when_it_is_wanted():
     file = io.BytesIO(b"a" * 70_000 + b"b")
     events = vte.open(file)
     assert (file.tell(), len(next(events).text), file.tell()) == (0, 65536, 65536)
@@ -167,7 +167,7 @@ def test_a_piece_is_read_when_it_is_wanted():
     assert list(vte.open(io.BytesIO(b"abcdefg"), 3)) == [Text("abc"), Text("def"), Text("g")]
 
 
-def test_a_piece_is_what_is_there():
+def test_a_chunk_is_what_is_there():
     file = mock.Mock(spec=["read", "read1"], read1=lambda size: b"a")
     assert next(vte.open(file)) == Text("a")
     # which waits for more

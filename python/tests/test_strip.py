@@ -78,8 +78,8 @@ def test_a_stream_ends(front, end, shown, kept):
         assert vte.strip(front + end, errors) == text + wanted
         assert [*vte.strip_lines([front + end], errors)] == [text + wanted]
         stripper = vte.Stripper(errors)
-        for pieces in [front, end], [front + end], [front, *cut(end, 1)], cut(front + end, 1):
-            assert b"".join(map(stripper.strip, pieces)) == text
+        for chunks in [front, end], [front + end], [front, *cut(end, 1)], cut(front + end, 1):
+            assert b"".join(map(stripper.strip, chunks)) == text
             found = copy.copy(stripper).strip("", final=True)
             assert found.encode(errors=errors) == wanted
             assert stripper.strip(b"", final=True) == wanted

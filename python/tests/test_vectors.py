@@ -18,7 +18,7 @@ def each(file, kind):
 
 
 def cuttings(vector):
-    """The pieces, the whole, and single bytes."""
+    """The chunks, the whole, and single bytes."""
     stream = stream_of(vector)
     return [*map(bytes.fromhex, vector["pieces"])], [stream], cut(stream, 1)
 
@@ -40,9 +40,9 @@ def test_events(vector):
     if vector["limit"] not in (None, 1024):
         pytest.skip("no parser has this limit")
     limits = {None, vector["limit"]} if len(stream_of(vector)) <= 1024 else {vector["limit"]}
-    for pieces, limit in itertools.product(cuttings(vector), limits):
+    for chunks, limit in itertools.product(cuttings(vector), limits):
         parser = vte.Parser(limit)
-        assert event_lines(feed(parser, pieces)) == vector["events"]
+        assert event_lines(feed(parser, chunks)) == vector["events"]
         # the next byte means what it should
         assert parser.feed(b"\x18x")[-2:] == [vte.Execute(0x18), vte.Text("x")]
         assert parser.feed(b"x") == [vte.Text("x")]
@@ -63,9 +63,9 @@ def test_open(monkeypatch, vector):
 
 @each("calls.json", "text")
 def test_text(vector):
-    for pieces, errors in itertools.product(cuttings(vector), ["replace", "surrogateescape"]):
+    for chunks, errors in itertools.product(cuttings(vector), ["replace", "surrogateescape"]):
         stripper = vte.Stripper(errors)
-        texts = [*map(stripper.strip, pieces)]
+        texts = [*map(stripper.strip, chunks)]
         # the text of a vector ends before an unfinished character
         end = copy.copy(stripper).strip(b"", final=True)
         assert b"".join([*texts, end]) == vte.strip(stream_of(vector), errors)
@@ -80,9 +80,9 @@ def test_calls(vector):
     wanted, stream = wanted_words(vector["calls"]), stream_of(vector)
     if len(stream) > 1024:
         pytest.skip("a processor has no limit")
-    for pieces in cuttings(vector):
+    for chunks in cuttings(vector):
         processor = vte.Processor()
-        found = call_lines(feed(processor, pieces))
+        found = call_lines(feed(processor, chunks))
         # what is held comes when the update is stopped
         found += call_lines(processor.stop_sync()) if processor.sync_timeout is not None else []
         assert processor.feed(b"\x18x")[-1:] == [calls.Input("x")]

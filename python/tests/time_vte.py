@@ -26,9 +26,9 @@ def show(name, count, ways, times=1, timer=time.thread_time):
     print(f"{name:12}", ", ".join(found))
 
 
-def feed(reader, pieces, *kinds):
-    for piece in pieces:
-        reader.feed(piece, *kinds)
+def feed(reader, chunks, *kinds):
+    for chunk in chunks:
+        reader.feed(chunk, *kinds)
 
 
 def strip_in_threads(stream, count):
@@ -38,11 +38,11 @@ def strip_in_threads(stream, count):
 
 
 for file in map(Path, sys.argv[1:]):
-    pieces = cut(stream := file.read_bytes(), 65536)
+    chunks = cut(stream := file.read_bytes(), 65536)
     show(file.name, len(stream), {
-        "feed": lambda: feed(vte.Parser(), pieces),
-        "titles": lambda: feed(vte.Parser(), pieces, {vte.Osc}),
-        "calls": lambda: feed(vte.Processor(), pieces), "strip": lambda: vte.strip(stream)})
+        "feed": lambda: feed(vte.Parser(), chunks),
+        "titles": lambda: feed(vte.Parser(), chunks, {vte.Osc}),
+        "calls": lambda: feed(vte.Processor(), chunks), "strip": lambda: vte.strip(stream)})
 for name, line in ("1 byte", b"a"), ("a plain line", PLAIN % 1), ("a coloured line", COLOURED % 1):
     show(name, 1, {kind.__name__: partial(kind().feed, line)
                    for kind in (vte.Parser, vte.Processor)}, times=5000)

@@ -1,6 +1,6 @@
 /* Writes the calls of a processor, one per line: the name, and what was passed: numbers, `tHEX` for
  * a text, `-` for none, and `c` and five numbers for a colour. It reads acts: `new`, `advance HEX`,
- * and `stop_sync`. Behind each it writes how many bytes are held.
+ * and `stop_sync`. After each it writes how many bytes are held.
  *
  * As C its handler is a table of vte_handler.h, and as C++ a class of vte.hpp. It is linked with
  * --wrap for clock_gettime, and writes `set_timeout 150` when the clock is asked: an update's end

@@ -9,7 +9,7 @@ static char *stream;
 static size_t length, at, cut, step;
 
 /* Reads up to the cut, or a step. */
-static ssize_t next_piece(int file, void *bytes, size_t room) {
+static ssize_t next_chunk(int file, void *bytes, size_t room) {
     size_t end = step ? at + step : at < cut ? cut : length;
     size_t count = (end < length ? end : length) - at;
     if (count > room || file != 0) abort();
@@ -19,7 +19,7 @@ static ssize_t next_piece(int file, void *bytes, size_t room) {
 }
 
 #define main forward
-#define read next_piece
+#define read next_chunk
 #include "forward.c"
 #undef main
 #undef read

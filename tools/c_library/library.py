@@ -44,8 +44,8 @@ class Library:
 
     def __init__(self, build, folder, is_short):
         self.build, self.folder, self.is_short = build, folder, is_short
-        is_built, said = compiles([TOOLS / "build_c_library", f"--{build}", folder])
-        assert is_built, said
+        is_built, output = compiles([TOOLS / "build_c_library", f"--{build}", folder])
+        assert is_built, output
         self.archive, self.shared = folder / "libvte_c.a", folder / "libvte_c.so"
         # whether it has what takes memory
         self.is_whole = build == "cargo"
@@ -55,8 +55,8 @@ class Library:
         """Compiles a program. Returns its path, or None if it is optional and doesn't compile."""
         program = self.folder / (name or Path(source).name.replace(".", "_"))
         command = [compiler, *WARNINGS, *words, source, self.archive, "-o", program]
-        is_built, said = compiles(command)
-        assert is_built or optional, said
+        is_built, output = compiles(command)
+        assert is_built or optional, output
         return program if is_built else None
 
     @cached_property

@@ -71,14 +71,14 @@ def test_kinds_and_stops(library, kind):
 def test_places(library, kind, sent, wanted):
     """Texts and data are in the bytes of the call, one event each that these have whole."""
     for parser in parsers(library):
-        for step, pieces in (len(sent), wanted), (1, [b"%c" % byte for byte in b"".join(wanted)]):
+        for step, chunks in (len(sent), wanted), (1, [b"%c" % byte for byte in b"".join(wanted)]):
             found = []
-            for piece in (sent[at:at + step] for at in range(0, len(sent), step)):
-                read, events, _ = parser.feed(piece)
+            for chunk in (sent[at:at + step] for at in range(0, len(sent), step)):
+                read, events, _ = parser.feed(chunk)
                 runs = [event for event in events if event.kind == kind]
-                assert read == len(piece) and not any(event.flag for event in runs)
-                found += [piece[event.start:event.start + event.code] for event in runs]
-            assert found == pieces
+                assert read == len(chunk) and not any(event.flag for event in runs)
+                found += [chunk[event.start:event.start + event.code] for event in runs]
+            assert found == chunks
             parser.feed(b"\x18")
 
 
@@ -138,12 +138,12 @@ def test_processor(whole):
     assert processor.call("free") == OK and whole.functions.vte_processor_free(None) == OK
 
 
-@pytest.mark.parametrize("pieces, ends", [(1, 3), (2, 4)])
-def test_each_stop_of_an_update_adds_a_call(whole, pieces, ends):
+@pytest.mark.parametrize("chunks, ends", [(1, 3), (2, 4)])
+def test_each_stop_of_an_update_adds_a_call(whole, chunks, ends):
     """Where a stream is cut decides how many stops there are."""
     processor, update = Processor(whole), b"\x1b[?2026ha\x1b[?2026l"
-    for _ in range(pieces):
-        processor.advance(update * (2 // pieces))
+    for _ in range(chunks):
+        processor.advance(update * (2 // chunks))
     assert [processor.made.count(it) for it in ("input", "unset_private_mode")] == [2, ends]
     processor.call("free")
 

@@ -116,18 +116,18 @@ def lines_for(line):
     return [" ".join(line)]
 
 
-def advances(pieces):
-    return [f"advance {piece.hex()}" for piece in pieces]
+def advances(chunks):
+    return [f"advance {chunk.hex()}" for chunk in chunks]
 
 
 def scripts():
     """The name of each, its steps with a new processor, and whether these set the timeout."""
     for vector in all_vectors():
         if vector["kind"] == "calls":
-            pieces = [*map(bytes_of, vector["pieces"])]
-            stream = b"".join(pieces)
+            chunks = [*map(bytes_of, vector["pieces"])]
+            stream = b"".join(chunks)
             by_bytes = [stream[at:at + 1] for at in range(len(stream))]
-            for cut in (pieces, [stream], by_bytes)[:3 if len(stream) < MAX_CUT else 2]:
+            for cut in (chunks, [stream], by_bytes)[:3 if len(stream) < MAX_CUT else 2]:
                 step = advances(cut), lines_of(vector["calls"]), (None, None, None)
                 yield f"{vector['name']}, in {len(cut)}", [step], "timeouts" in vector
         elif vector["kind"] == "updates" and vector["timeout"] in ("counting", "expiring"):
@@ -193,8 +193,8 @@ def test_calls(outputs):
             of_step, after = after[:len(acts)], after[len(acts):]
             found = [call for lines, *_ in of_step for line in lines.splitlines()
                      for call in lines_for(line)]
-            has = *map(int, of_step[-1][1:]), found.count(SET)
-            assert all(want in (None, it) for it, want in zip(has, known)), (name, acts, has)
+            left = *map(int, of_step[-1][1:]), found.count(SET)
+            assert all(want in (None, it) for it, want in zip(left, known)), (name, acts, left)
             made += [call for call in found if is_order or call != SET]
             wanted += [call for call in calls if call not in TIMEOUTS or is_order and call == SET]
         # the calls of an update that expires come with the next step

@@ -17,7 +17,7 @@ EVENTS = "text aü\ncsi 6d\nosc 00\ntext \ufffd\nexecute 0d\nexecute 0a\n".encod
 TEXT = "aü\ufffd\n".encode()
 # what comes slowly, and what must be written of each at once: by a title watcher on standard error,
 # by a stripper on output
-SLOWLY = [(title, title, said) for title, said in (
+SLOWLY = [(title, title, output) for title, output in (
     (b"a\x1b]2;hi\x07", b"title: hi\n"),
     (b"b\x1b]1;icon\x07\x1b]21;x\x07\x1b]0;you\x1b\\", b"title: you\n"))]
 LINES = [(b"\x1b[1mone\x1b[m\n", b"one\n", b""), (b"two\n", b"two\n", b"")]
@@ -49,12 +49,12 @@ def assert_ends_by_errors(program):
     assert status_of(program, stdin=os.open("/", os.O_RDONLY), stdout=subprocess.DEVNULL) == 1
 
 
-def assert_slow(words, pieces):
-    """Writes pieces: what one has comes out before the next one is written."""
+def assert_slow(words, chunks):
+    """Writes chunks: what one has comes out before the next one is written."""
     pipes = dict.fromkeys(("stdin", "stdout", "stderr"), subprocess.PIPE)
     with subprocess.Popen(words, **pipes) as running:
-        for piece, *wanted in pieces:
-            os.write(running.stdin.fileno(), piece)
+        for chunk, *wanted in chunks:
+            os.write(running.stdin.fileno(), chunk)
             for stream, want in zip((running.stdout, running.stderr), wanted):
                 assert read_soon(stream, len(want)) == want
         running.stdin.close()
@@ -84,8 +84,8 @@ def test_title_watcher(library, place):
     watcher = program(library, place)
     # more events than there is room for
     many = b"\r" * 2500 + b"\x1b]0;t\x07" * 2
-    for stream, said in (STREAM, b"title: a;b\n"), (many, b"title: t\ntitle: t\n"):
-        assert output_of([watcher], stream) == stream + b"\nstatus 0: " + said
+    for stream, output in (STREAM, b"title: a;b\n"), (many, b"title: t\ntitle: t\n"):
+        assert output_of([watcher], stream) == stream + b"\nstatus 0: " + output
     if place.startswith("c/"):
         assert status_of(watcher, stdin=os.open("/", os.O_RDONLY)) == 1
     assert_slow([watcher], SLOWLY)
@@ -118,6 +118,6 @@ def test_clipboards(whole, tmp_path):
 
 def test_outline(whole):
     outline = program(whole, "cpp/outline.cpp", "-std=c++17")
-    said = output_of([outline], STREAM + b"\x1b[3;5H\x1b[?2026hend").decode()
-    assert said == "aü[bold][title a;b]\ufffd[go to 2, 4]end"
+    output = output_of([outline], STREAM + b"\x1b[3;5H\x1b[?2026hend").decode()
+    assert output == "aü[bold][title a;b]\ufffd[go to 2, 4]end"
     assert_slow([outline], [(b"a\x1b[1m", b"a[bold]"), (b"b", b"b")])

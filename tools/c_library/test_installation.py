@@ -58,9 +58,9 @@ class Place:
                   if "/vte_c/" not in file and "/libvte_c/" not in file}
         for file in others:
             (top / file).touch()
-        said = self.run("uninstall", **variables)
+        output = self.run("uninstall", **variables)
         assert self.installed(folder) == others
-        assert set(said.splitlines()) == {f"{top}/{file}" for file in files}
+        assert set(output.splitlines()) == {f"{top}/{file}" for file in files}
         assert not [file for file in top.rglob("vte*") if file.is_dir()]
         for file in others:
             (top / file).unlink()
@@ -81,9 +81,9 @@ def prefix(place):
     """A place with the library alone, below a relative prefix."""
     # cargo has built the library by now
     given = {"VTE_ARCHIVE": ""} if place.library.is_whole else {}
-    said = place.run("install", f"--{place.library.build}", "--library", **given)
+    output = place.run("install", f"--{place.library.build}", "--library", **given)
     assert place.installed("prefix") == place.wanted
-    assert set(said.split()) == {f"{place.folder}/prefix/{name}" for name in place.wanted}
+    assert set(output.split()) == {f"{place.folder}/prefix/{name}" for name in place.wanted}
     yield place
     place.uninstall("prefix")
 
@@ -92,17 +92,17 @@ def prefix(place):
     ("install", " [--cargo | --rt]"), ("build_c_library", " [--cargo | --rt]"), ("uninstall", "")])
 def test_arguments(place, tool, words):
     for word in "-h", "--help":
-        said = place.run(tool, word)
-        assert f"tools/{tool}{words}" in said and "#" not in said
+        output = place.run(tool, word)
+        assert f"tools/{tool}{words}" in output and "#" not in output
     for wrong in (["--librari"], ["a", "b"]):
         place.run(tool, *wrong, status=2)
     place.run("build_c_library", status=2)
 
 
 def test_build_in_a_folder_with_a_blank(place):
-    said = place.run("build_c_library", f"--{place.library.build}", "a folder")
+    output = place.run("build_c_library", f"--{place.library.build}", "a folder")
     assert place.installed("a folder") == {"libvte_c.a", "libvte_c.so"}
-    assert re.fullmatch(rf"built .* {place.library.build}: .*\n", said)
+    assert re.fullmatch(rf"built .* {place.library.build}: .*\n", output)
 
 
 def test_pkg_config(prefix):
@@ -112,8 +112,8 @@ def test_pkg_config(prefix):
     for version, status in ("= 6", 0), ("= 5", 1), ("= 7", 1), (">= 7", 1):
         prefix.run("pkg-config", "--exists", f"libvte_c {version}", status=status)
     for file in prefix.folder / "prefix/lib/pkgconfig/libvte_c.pc", TOOLS.parent / "docs/C.md":
-        said = file.read_text()
-        assert "`libvte_c = 6`" in said and "libvte_c >= " not in said
+        page = file.read_text()
+        assert "`libvte_c = 6`" in page and "libvte_c >= " not in page
     build = "cargo" if prefix.library.is_whole else "given"
     assert prefix.run("pkg-config", "--variable=build", "libvte_c") == f"{build}\n"
     flags = prefix.run("pkg-config", "--cflags", "--libs", "libvte_c").split()

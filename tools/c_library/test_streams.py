@@ -7,7 +7,7 @@ from lib.judging import definition, house
 
 from c_library.library import at_once, output_of
 
-# arguments of the C program: pieces of one byte, of 4,096, and of random sizes in random room
+# arguments of the C program: chunks of one byte, of 4,096, and of random sizes in random room
 WAYS = [["1"], ["4096"], ["0"], ["7", "4", "2112"]]
 STRIP_WAYS = [["strip", *way[:2]] for way in (["1"], ["4096"], ["0"], ["7", "16"])]
 STOPS_WAYS = [["stops", str(1 << kind), "4096"] for kind in range(8)] + [["stops", "255", "4096"]]
@@ -62,7 +62,7 @@ def compare_losses(library, name, stream):
     for parser, limit in ([], LIMIT), (["long"], None):
         wanted = b"".join(b"kept\n" if has == size else b"lost\n"
                           for has, size in zip(sizes(limit=limit), all_data))
-        ways = [[*parser, "losses", piece] for piece in ("1", "4096", "0")]
+        ways = [[*parser, "losses", chunk] for chunk in ("1", "4096", "0")]
         compare(library, name, stream, wanted, ways)
 
 
@@ -99,8 +99,8 @@ def all_streams(given):
     for name, is_long in ("vectors", False), ("long vectors", True):
         each = [stream for _, stream in VECTORS if (len(stream) > LIMIT) == is_long]
         yield name, b"\x18".join(each)
-    for name, pieces in recorded():
-        yield name, b"".join(pieces)[:4_000 if given.short else None]
+    for name, chunks in recorded():
+        yield name, b"".join(chunks)[:4_000 if given.short else None]
     count = given.streams or (400 if given.short else 20_000)
     for at in range(0, count, 200):
         group = (b"".join(hostile_stream(given.seed, number, OF_TEXT))
@@ -110,17 +110,17 @@ def all_streams(given):
 
 def test_streams(library, request):
     """All programs write, in all ways, what vtlog does. With --short, what the C program does in
-    pieces of 65,536 bytes, with stops after one kind of event."""
+    chunks of 65,536 bytes, with stops after one kind of event."""
     given = request.config.option
-    program, text, *piece = ((library.events, "strip", "65536") if given.short else
+    program, text, *chunk = ((library.events, "strip", "65536") if given.short else
                              (builder.proved_program("vtlog"), "text"))
 
     def test_stream(numbered):
         number, (name, stream) = numbered
         stops = STOPS_WAYS[:2] if name.startswith("random") else STOPS_WAYS
         stops = [STOPS_WAYS[number % 9]] if given.short else stops
-        compare_lines(library, name, stream, output_of([program, *piece], stream), WAYS + stops)
-        compare(library, name, stream, output_of([program, text, *piece], stream), STRIP_WAYS)
+        compare_lines(library, name, stream, output_of([program, *chunk], stream), WAYS + stops)
+        compare(library, name, stream, output_of([program, text, *chunk], stream), STRIP_WAYS)
         compare_losses(library, name, stream)
 
     at_once(test_stream, enumerate(all_streams(given)))

@@ -23,14 +23,14 @@ class Tool:
 
     def run(self, *words):
         """The status or the message of its end, and what it printed."""
-        said = io.StringIO()
-        with pytest.MonkeyPatch.context() as patch, contextlib.redirect_stdout(said):
+        output = io.StringIO()
+        with pytest.MonkeyPatch.context() as patch, contextlib.redirect_stdout(output):
             patch.setattr(sys, "argv", [self.name, *words])
             try:
                 status = self.main()
             except SystemExit as ended:
                 status = ended.code
-        return status, said.getvalue()
+        return status, output.getvalue()
 
 
 def write(place, text, mode=0o644):
@@ -41,11 +41,11 @@ def write(place, text, mode=0o644):
     return file
 
 
-def wait_until(is_so, else_told=""):
+def wait_until(condition, message=""):
     """Waits for something, for minutes if the machine is busy."""
     end = time.monotonic() + 1200
-    while not is_so():
-        assert time.monotonic() < end, else_told
+    while not condition():
+        assert time.monotonic() < end, message
         time.sleep(0.02)
 
 

@@ -33,8 +33,8 @@ def count(monkeypatch):
         monkeypatch.setattr(tool.parts["limits"], "TABLE", place)
         monkeypatch.setattr(tool.parts["limits"], "conditions",
                             lambda: {"release": "new", "best": "new", "rattle": kit})
-        status, said = tool.run("limits", *words)
-        return status, said.splitlines(), place.read_text()
+        status, output = tool.run("limits", *words)
+        return status, output.splitlines(), place.read_text()
     return counted
 
 
@@ -52,8 +52,8 @@ def test_counts_above_their_limits(count, given, status, told, counts):
 
 
 def test_limits_are_written(count):
-    status, said, text = count(rustc="old", cell="?", kit="")
-    assert (status, said[1:]) == (0, ["3 counts are written"])
+    status, output, text = count(rustc="old", cell="?", kit="")
+    assert (status, output[1:]) == (0, ["3 counts are written"])
     found, wanted = ([line.split() for line in it.splitlines()[1:]]
                      for it in (text, LIMITS.format("new", "4.000")))
     assert found == wanted
@@ -71,19 +71,24 @@ STRIP = {"placements": 1, "cores": [], "kind": "strip", "bytes": 500_000, "round
     ("strip --placements 2", {"placements": 2}), ("strip --core 1", {"cores": [{1}]}),
     ("calls", {"kind": "calls", "streams": ["ascii", "ls_color", "coloured"] * 3})])
 def test_speed(monkeypatch, words, changes):
-    run, found = Tool("../bench/run", conditions=lambda *_: []), {"cores": [], "streams": []}
+    run, rows, sizes, found = Tool("../bench/run", conditions=lambda *_: []), [], [], {"cores": []}
     measuring, figures = run.parts["measuring"], run.parts["figures"]
-    monkeypatch.setattr(measuring, "Programs", lambda _, placements: found.update(
-        placements=placements) or SimpleNamespace(
-            build=lambda _: None, commands=lambda _: {"ours": [["ours"]]},
-            stream=lambda _, size: size == measuring.CHECKED or found.update(bytes=size)))
+
+    def programs(folder, placements):
+        found["placements"] = placements
+        return SimpleNamespace(build=lambda _: None, commands=lambda _: {"ours": [["ours"]]},
+                               stream=lambda name, size: sizes.append(size))
+
+    monkeypatch.setattr(measuring, "Programs", programs)
     monkeypatch.setattr(measuring, "compare_checksums", lambda *_: None)
     monkeypatch.setattr(measuring, "in_passes", lambda *_: lambda: 1)
-    monkeypatch.setattr(figures, "line", lambda row: found["streams"].append(
-        row["stream"]) or found.update(kind=row["kind"], rounds=len(row["nanoseconds"]["ours"])))
+    monkeypatch.setattr(figures, "line", rows.append)
     monkeypatch.setattr(figures, "tables", lambda _: [])
     monkeypatch.setattr(os, "sched_setaffinity", lambda _, cores: found["cores"].append(cores))
     run.run(*words.split())
+    # before a stream is read by all sides, their checksums of a shorter one are compared
+    found.update(bytes=sizes[-1], kind=rows[0]["kind"], streams=[row["stream"] for row in rows],
+                 rounds=len(rows[0]["nanoseconds"]["ours"]))
     assert found == {**STRIP, **changes}
 
 
@@ -93,20 +98,29 @@ def test_speed(monkeypatch, words, changes):
     ("strip --streams cjk emoji", "strip filter", {"streams": ["cjk", "emoji"]}),
     ("calls", "vte_feed", {"streams": ["ascii", "ls_color", "coloured"] * 3})])
 def test_counts(monkeypatch, words, kinds, changes):
-    found = {"streams": []}
+    asked, jobs = [], []
+
+    def pool(count):
+        jobs.append(count)
+        return ThreadPoolExecutor(count)
+
+    def stream(name, size):
+        asked.append((name, size))
+        return SimpleNamespace(name=name, size=size)
+
     count = Tool("../bench/count", passed=lambda words, _, place: (place.size, "left"),
-                 ThreadPoolExecutor=lambda it: found.update(jobs=it) or ThreadPoolExecutor(it),
-                 copy_libc=lambda folder: None)
+                 ThreadPoolExecutor=pool, copy_libc=lambda folder: None)
     monkeypatch.setattr(count.parts["measuring"], "Programs", lambda folder: SimpleNamespace(
-        folder=folder, peers=lambda side: [side], proved="proved",
-        commands=lambda _: {"vte_feed": [["in C"]]}, stream=lambda name, size: found.update(
-            bytes=size) or found["streams"].append(name) or SimpleNamespace(name=name, size=size)))
-    _, said = count.run(*words.split())
+        folder=folder, peers=lambda side: [side], proved="proved", stream=stream,
+        commands=lambda _: {"vte_feed": [["in C"]]}))
+    _, output = count.run(*words.split())
     wanted = {"streams": STRIP["streams"], "bytes": 200_000, "jobs": os.cpu_count(), **changes}
-    wanted["streams"] = wanted["streams"] * len(kinds.split())
-    assert sorted(found["streams"]) == sorted(wanted["streams"])
-    assert {**found, "streams": re.findall(r"^\| `(\w+)` .* 1\.00 \|$", said, re.M)} == wanted
-    assert re.findall(r"^\| (?:stream \| call \| )?(\w+) \|", said, re.M) == kinds.split()
+    streams = wanted["streams"] * len(kinds.split())
+    names, sizes = zip(*asked)
+    assert (sorted(names), {*sizes}) == (sorted(streams), {wanted["bytes"]})
+    assert jobs == [wanted["jobs"]]
+    assert re.findall(r"^\| `(\w+)` .* 1\.00 \|$", output, re.M) == streams
+    assert re.findall(r"^\| (?:stream \| call \| )?(\w+) \|", output, re.M) == kinds.split()
 
 
 # ---- lib/building

@@ -56,8 +56,8 @@ def test_pages(page, failure, monkeypatch):
 
 
 def test_each_module_is_named():
-    said = ["this module has no name here: crates/a/specs/Two.antt"]
-    assert failures("`one`", name="REVIEWING.md") == said
+    wanted = ["this module has no name here: crates/a/specs/Two.antt"]
+    assert failures("`one`", name="REVIEWING.md") == wanted
     assert failures("# `Two`", name="REVIEWING.md") == ["no source file contains Two"]
 
 
@@ -96,10 +96,10 @@ def test_commands_that_lack_something_are_missing(needs, crates, lacking, monkey
     assert capsys.readouterr().out == told
 
 
-@pytest.mark.parametrize("status, said, wanted", [
+@pytest.mark.parametrize("status, output, wanted", [
     (0, "false\n", True), (1, "false\n", False), (1, "true\n", True)])
-def test_the_history(status, said, wanted):
-    tool = Tool("check_docs", git=lambda *_: SimpleNamespace(returncode=status, stdout=said))
+def test_the_history(status, output, wanted):
+    tool = Tool("check_docs", git=lambda *_: SimpleNamespace(returncode=status, stdout=output))
     assert tool.parts["is_in_history"]("abc1234") == wanted
 
 

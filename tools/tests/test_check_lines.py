@@ -7,7 +7,7 @@ from tests.support import Tool, write
 
 # a file, how a line begins there that goes on with short words, and its longest form, or 0 for any
 LINES = {
-    "program": ("b/run", "#!/bin/sh", 100), "Python": ("x.py", "use a", 100),
+    "program": ("b/run", "#!/bin/sh", 100), "Python": ("x.py", "# a", 100),
     "Rattle": ("crates/x/src/lib.rt", "fn f", 100),
     "statement": ("crates/x/specs/A.antt", "a", 100), "proof": ("crates/x/proofs/A.antt", "a", 120),
     "import of Rust": ("rust/x/src/lib.rs", "use a", 100),
@@ -19,11 +19,29 @@ LINES = {
     "erased text": ("rust/x/src/proved/f.rs", "", 0)}
 
 
+def faults(place, text):
+    subprocess.run(["git", "init", "-q"], check=True)
+    write(place, text)
+    status, printed = Tool("check_lines").run()
+    *found, _ = printed.splitlines()
+    assert status == bool(found)
+    return found
+
+
 @pytest.mark.parametrize("place, begin, most", LINES.values(), ids=LINES)
 def test_how_long_a_line_may_be(place, begin, most):
-    subprocess.run(["git", "init", "-q"], check=True)
     line = (begin + " x" * 60)[:most or None]
-    write(place, f"{line}\n{line}y\n")
-    status, printed = Tool("check_lines").run()
-    told = [f"{place}:2: a line of {most + 1} characters"] * bool(most)
-    assert (status, printed.splitlines()[:-1]) == (bool(most), told)
+    wanted = [f"{place}:2: a line of {most + 1} characters"] * bool(most)
+    assert faults(place, f"{line}\n{line}y\n") == wanted
+
+
+@pytest.mark.parametrize("place, begin, line, end, most, wanted", [
+    ("x.antt", "", "a\n", "", 400, "a file of 401 lines"),
+    *((place, "", "a\n", "", 500, "") for place in (
+        "crates/vte_handler/src/by_call.rt", "rust/x/src/proved/f.rs", "vectors/x.json")),
+    ("x.py", "class A:\n    def f(self):\n", "        a\n", "a\n", 59, "f: a function of 61 lines"),
+    ("x.rs", "    fn g();\n    fn f(a: [u8; 2])\n    {\n", "        a;\n", "    }\n", 57,
+     "f: a function of 61 lines")])
+def test_how_long_files_and_functions_may_be(place, begin, line, end, most, wanted):
+    assert faults(place, begin + most * line + end) == []
+    assert faults(place, begin + (most + 1) * line + end) == [f"{place}: {wanted}"] * bool(wanted)

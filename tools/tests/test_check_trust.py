@@ -3,7 +3,7 @@ import subprocess
 
 import pytest
 
-from tests.support import Tool, write
+from tests.support import TOOLS, Tool, write
 
 CORE, CARGO = "crates/vte_core/src/", "rust/vte/src/proved/vte_core/"
 # a file, its `unsafe`, and a text with just that
@@ -61,6 +61,8 @@ CASES = {
         ("bytes by another name", "calls", "    pub fn advance(&mut self, data: &[u8])", USED),
         ("a search reads a byte", "run_end", "if input.bytes[at] == 0 {", UNCOUNTED),
         ("a search counts by itself", "run_blocks", "self.count_looks(0);", UNCOUNTED),
+        ("a search sets the tally", "run_end", "reader.tally = tally_before;", UNCOUNTED),
+        ("a search takes a reader apart", "run_blocks", "let Reader { tally } = self;", UNCOUNTED),
         ("a contract names bytes", "run_end", "requires in { to ≤ length input.bytes.now }", ""))}}
 
 
@@ -68,9 +70,9 @@ CASES = {
 def test_what_is_refused_in_a_file(place, text, told):
     write(place, text)
     write("HANDLES", "Handles allowed: none.\n")
-    status, said = Tool("check_trust", listed=lambda _: [place]).run()
+    status, output = Tool("check_trust", listed=lambda _: [place], unused=lambda _: []).run()
     wanted = [*[place + told] * bool(told), f"1 files, {told > '':d} places that are refused"]
-    assert (status, said.splitlines()) == (bool(told), wanted)
+    assert (status, output.splitlines()) == (bool(told), wanted)
 
 
 def test_all_files_and_handles():
@@ -79,6 +81,23 @@ def test_all_files_and_handles():
     for place in "crates/x/specs/A.antt", "crates/x/out/A.rt", "bench/b.rs", "c/d.rt", "e.md":
         write(place, "unsafe one\n")
     write("HANDLES", "Handles allowed: some.\n")
-    status, said = Tool("check_trust").run()
-    assert status == 1 and sorted(line.partition(":")[0] for line in said.splitlines()) == [
+    status, output = Tool("check_trust", unused=lambda _: []).run()
+    assert status == 1 and sorted(line.partition(":")[0] for line in output.splitlines()) == [
         "2 files, 3 places that are refused", "HANDLES", "bench/b.rs", "c/d.rt"]
+
+
+# a word that is replaced in a file of the reader, and what is told
+@pytest.mark.parametrize("place, word, told", [
+    ("reader", "tally", r"nothing there is \btally:"),
+    ("reader", "count_looks", r"nothing there is \bfn count_looks\("),
+    ("reader/calls", "take_run", r"nothing there is ^ *take_run\(bytes, range\)$"),
+    ("reader/run_end", "", "it isn't there"), ("reader", "no word of it", None)])
+def test_a_name_that_nothing_has_any_more(place, word, told):
+    tool = Tool("check_trust", PLACES={}, ROOTS=())
+    files = {*tool.parts["MAKERS"], *tool.parts["CALLS"], *tool.parts["RUNS"]}
+    changed = f"{CORE}{place}.rt"
+    for file in files:
+        text = (TOOLS.parent / file).read_text()
+        write(file, text.replace(word, "other") if file == changed else text)
+    output = [*tool.parts["unused"](files if word else files - {changed})]
+    assert [line.endswith(told) for line in output] == [True] * bool(told)

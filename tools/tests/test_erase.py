@@ -14,8 +14,8 @@ def differences(source, written, place="c/mod.rs"):
     write("crates/c/src/lib.rt", source)
     write(f"w/{place}", written)
     plan = Plan(folder="w", modules={"c": "crate::c"})
-    status, said = Tool("check_erased", PLANS=(plan,)).run()
-    *found, last = said.splitlines()
+    status, output = Tool("check_erased", PLANS=(plan,)).run()
+    *found, last = output.splitlines()
     assert status == (1 if found else 0)
     assert last == f"{len(found)} differences between the proved sources and rust/"
     return found

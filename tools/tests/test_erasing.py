@@ -75,7 +75,7 @@ mod tests { fn g() { 1; } }
 '''
 
 
-def told(marked):
+def before_and_after(marked):
     """A text with marks, as it is before and after."""
     return re.sub("[‹›]|«[^»]*»", "", marked), re.sub("[«»]|‹[^›]*›", "", marked)
 
@@ -86,7 +86,7 @@ def words(text):
     return [text for text in texts if text not in ("", "\n", ",")]
 
 
-# what is told of a file, and a text with marks, as crates/ have no such case
+# a plan, and a text with marks, as crates/ have no such case: named by how it begins
 TEXTS = [
     ({}, "use c::Kept; use c::Gone; fn f(k: u8) {}\n‹#[cfg(test)]\nmod tests { fn g() { Gone } }›"),
     ({}, "‹use b::laws; pub use laws::Step; mod laws;› use ‹std›«core»::cmp::Ordering; mod c;"),
@@ -152,21 +152,22 @@ TEXTS = [
 
 def test_traps():
     assert "".join(token.text for token in split(TRAPS)) == TRAPS
-    before, after = told(TRAPS)
+    before, after = before_and_after(TRAPS)
     text, tests, _ = erase(before, "a", "a/x", plan())
     assert words(text) == words(after)
     assert tests == {"a/x/cases", "a/x/tests"}
 
 
-@pytest.mark.parametrize("given, marked", TEXTS)
+@pytest.mark.parametrize("given, marked", TEXTS, ids=[
+    " ".join(re.sub("[‹›«»]", "", marked).split())[:50] for _, marked in TEXTS])
 def test_texts(given, marked):
     """What the eraser writes has no difference for the tool that shares no rule with it."""
-    (before, after), of_test = told(marked), plan(**given)
+    (before, after), of_test = before_and_after(marked), plan(**given)
     assert words(erase(before, "a", "a/x", of_test)[0]) == words(after)
     write("crates/a/src/x.rt", before)
     write("o/a/x.rs", after)
-    status, said = Tool("check_erased", PLANS=(of_test,)).run()
-    assert status == ("rules" in given), said
+    status, output = Tool("check_erased", PLANS=(of_test,)).run()
+    assert status == ("rules" in given), output
 
 
 @pytest.mark.parametrize("text, line", [

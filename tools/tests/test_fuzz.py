@@ -30,10 +30,10 @@ def test_what_is_fuzzed(words, targets, seconds, is_clean, finds, covers, status
     fuzz = Tool("fuzz", missing=lambda: (), build=lambda *given: given, build_different=str,
                 fuzz=lambda target, *given: print(target, *given) or is_clean,
                 finds=lambda *given: print(*given) or finds, coverage=lambda: covers)
-    told = [line for it in targets.split()
+    wanted = [line for it in targets.split()
             for line in (f"{it} {(it, seconds)} {seconds}", f"{it} {it}")]
-    found, said = fuzz.run(*words.split())
-    assert (found, sorted(said.splitlines())) == (status, sorted(told))
+    found, output = fuzz.run(*words.split())
+    assert (found, sorted(output.splitlines())) == (status, sorted(wanted))
 
 
 def test_lines_that_are_not_run_are_there():

@@ -124,14 +124,14 @@ def test_cargo(checkout, monkeypatch, target):
     time.sleep(0.05)
     assert runs() == (5, "ran\ninput\n", "", asked)
     write(f"built/{target}/vtlog", "\x7fELF of another machine", 0o755)
-    status, _, said, _ = runs()
-    assert status == 70 and said.endswith("vtlog: what cargo built is for another machine\n")
+    status, _, errors, _ = runs()
+    assert status == 70 and errors.endswith("vtlog: what cargo built is for another machine\n")
     write("fails", "")
-    said = "no crate\nvtlog: cargo could not build the program, as above\n"
-    assert runs("text") == (70, "", said, asked)
+    errors = "no crate\nvtlog: cargo could not build the program, as above\n"
+    assert runs("text") == (70, "", errors, asked)
     cargo.unlink()
-    said = "vtlog: building the program takes cargo, or rt of a Rattle kit\n"
-    assert runs("text") == (70, "", said, "")
+    errors = "vtlog: building the program takes cargo, or rt of a Rattle kit\n"
+    assert runs("text") == (70, "", errors, "")
 
 
 @pytest.mark.parametrize("place, variables", [
@@ -169,24 +169,24 @@ def test_builds():
     # an edit while it is built
     Path("crates/vtlog/src/main.rt").touch()
     write("edited", "")
-    for said, asked in (BUILT, ALL), (BUILT, ALL), ("", ""):
-        assert runs("text") == (7, "ran text\n", said, asked)
+    for errors, asked in (BUILT, ALL), (BUILT, ALL), ("", ""):
+        assert runs("text") == (7, "ran text\n", errors, asked)
 
 
 # of the log its end is shown alone
-@pytest.mark.parametrize("file, said, asked", [
+@pytest.mark.parametrize("file, errors, asked", [
     ("fails", "line\n" * 19 + "no proof\n", "vte_core lib\n"), ("idles", "", ALL),
     ("unstamped", "", ALL)])
-def test_failures(file, said, asked):
+def test_failures(file, errors, asked):
     write(file, "")
     write("log", "line\n" * 30)
-    assert runs("text") == (70, "", f"{BEGINS}{said}{FAILED}", asked)
+    assert runs("text") == (70, "", f"{BEGINS}{errors}{FAILED}", asked)
 
 
 def test_without_a_folder(monkeypatch):
     monkeypatch.setenv("TMPDIR", "log")
-    said = f"{BEGINS}.*\nvtlog: cannot create a folder for the log of the build\n"
-    assert start().wait() == 70 and re.fullmatch(said, Path("errors").read_text())
+    errors = f"{BEGINS}.*\nvtlog: cannot create a folder for the log of the build\n"
+    assert start().wait() == 70 and re.fullmatch(errors, Path("errors").read_text())
 
 
 @pytest.mark.parametrize("name, status", [("HUP", 129), ("INT", 130), ("TERM", 143)])
@@ -211,5 +211,5 @@ def test_progress():
     wait_until(lambda: " s: " in Path("errors").read_text())
     hangs.unlink()
     assert launcher.wait() == 7
-    told = re.findall(r"^vtlog: \d+ s: (.*)", Path("errors").read_text(), re.M)
-    assert {*told} == {"so far: 3 of 12 functions"}
+    lines = re.findall(r"^vtlog: \d+ s: (.*)", Path("errors").read_text(), re.M)
+    assert {*lines} == {"so far: 3 of 12 functions"}

@@ -39,8 +39,8 @@ def calls():
 def update(tool, *files):
     """Sees that files are told as out of date, and then written."""
     stale = "".join(f"\n  {file}" for file in sorted(files))
-    told = f"these files aren't up to date; run tools/make_calls:{stale}"
-    assert tool.run("--check") == (told, "")
+    wanted = f"these files aren't up to date; run tools/make_calls:{stale}"
+    assert tool.run("--check") == (wanted, "")
     assert tool.run() == (None, f"{len(files)} files are written\n")
     assert tool.run("--check") == (None, "")
 
@@ -75,5 +75,5 @@ def test_the_table_of_c_has_one_order(calls):
     bell = "    void (*bell)(void *user);\n"
     without = texts[HEADER].replace(bell, "")
     write(HEADER, without.replace("} vte_handler;", f"{bell}}} vte_handler;"))
-    told = tool.run("--check")[0]
-    assert told.startswith(HEADER) and told.endswith("the functions don't have one order")
+    fault = tool.run("--check")[0]
+    assert fault.startswith(HEADER) and fault.endswith("the functions don't have one order")

@@ -9,14 +9,14 @@ from tests.support import TOOLS, Tool, write
 PLAIN, MARK = "crates/event_vectors/src/log_tests/plain.rt", "// Written by tools/make_vectors."
 
 
-@pytest.mark.parametrize("old, new, told", [
+@pytest.mark.parametrize("old, new, wanted", [
     (None, None, "crates/event_vectors has no table of PlainVector"),
     ('text: b"\\x0a"', 'text: b"\\x0d"',
      f"these files aren't up to date; run tools/make_vectors:\n  {PLAIN}"),
     ("plain text of nothing", "nothing", f'{PLAIN}: no vector of text has the name "nothing"'),
     ("[PlainVector;", "[Plain;", f"{PLAIN}: 0 tables, and 1 times `{MARK}`"),
     ("// Written by", "// By", f"{PLAIN}: 1 tables, and 0 times `{MARK}`")])
-def test_a_wrong_table_is_refused(folder, old, new, told):
+def test_a_wrong_table_is_refused(folder, old, new, wanted):
     for name in "event_vectors/src", "call_vectors":
         shutil.copytree(TOOLS.parent / "crates" / name, folder / "crates" / name)
     text = Path(PLAIN).read_text()
@@ -25,4 +25,4 @@ def test_a_wrong_table_is_refused(folder, old, new, told):
     else:
         assert old in text
         write(PLAIN, text.replace(old, new, 1))
-    assert Tool("make_vectors").run("--check") == (told, "")
+    assert Tool("make_vectors").run("--check") == (wanted, "")

@@ -33,19 +33,19 @@ def copy(tmp_path_factory):
     ("crates/c/must-fail/m.edit", "", "", "it stands twice")])
 def test_faults_of_mutants(copy, place, old, new, fault):
     write(place, MUTANT.replace(old, new))
-    told = [f"{PLACE if 'twice' in fault else place}: {fault}"] if fault else []
-    said = "\n".join([*told, f"1 mutants, {len(told)} faults\n"])
-    assert Tool("mutate").run("--check") == (len(told), said)
+    faults = [f"{PLACE if 'twice' in fault else place}: {fault}"] if fault else []
+    output = "\n".join([*faults, f"1 mutants, {len(faults)} faults\n"])
+    assert Tool("mutate").run("--check") == (len(faults), output)
 
 
-def mutate(said, *words):
-    ran = SimpleNamespace(run=lambda *_, **__: SimpleNamespace(stdout=said), DEVNULL=None,
+def mutate(output, *words):
+    ran = SimpleNamespace(run=lambda *_, **__: SimpleNamespace(stdout=output), DEVNULL=None,
                           check_output=lambda *_, **__: "abc1234\n", PIPE=None)
     return Tool("mutate", subprocess=ran).run(*map(str, words))[0]
 
 
 # what `rt must-fail` says in the end, and the last line of the mutant then
-@pytest.mark.parametrize("said, status, line", [
+@pytest.mark.parametrize("output, status, line", [
     ("NOT TRIED", 1, "# refused at abc1200 by old"), ("not refused", 1, "new: two"),
     ("refused, as it must be: why", 1, "new: two"),
     *((f"refused, as it must be: {why}", 0, f"# refused at abc1234 by {goal}") for goal, why in {
@@ -54,11 +54,11 @@ def mutate(said, *words):
         "x of a::b": "./proofs/a/b/Answers.antt:1:2: error: `x`: `y`",
         "x of a": "answers in ./proofs/a/Answers.antt; `search` did not prove `x`, `y`",
         "a goal of a": "answers in ./proofs/a/Answers.antt"}.items())])
-def test_verdicts(copy, said, status, line):
+def test_verdicts(copy, output, status, line):
     """Of two mutants one is chosen, by its name."""
     text = MUTANT.replace("abc1234 by goal", "abc1200 by old")
     mutant, other = write(PLACE, text), write("tools/mutants/c/n.edit", text)
-    assert mutate(f"rt: must-fail c/m.edit: {said}\n", copy, "c/m", "c/m") == status
+    assert mutate(f"rt: must-fail c/m.edit: {output}\n", copy, "c/m", "c/m") == status
     assert [file.name for file in copy.rglob("*.edit")] == ["m.edit"]
     assert (mutant.read_text().splitlines()[-1], other.read_text()) == (line, text)
 
@@ -69,10 +69,10 @@ def test_all_mutants_are_tried(copy):
     assert sorted(file.name for file in copy.rglob("*.edit")) == ["m.edit", "n.edit"]
 
 
-@pytest.mark.parametrize("words, said", [
+@pytest.mark.parametrize("words, output", [
     (["folder", "c/gone"], "there is no mutant c/gone"),
     (["--check", "c/m"], "--check takes no words"),
     *((words, "a folder outside the repository is needed, for a copy") for words in ([], ["in"]))])
-def test_words_that_mutate_refuses(copy, capsys, words, said):
+def test_words_that_mutate_refuses(copy, capsys, words, output):
     assert mutate("", *words) == 2
-    assert capsys.readouterr().err.endswith(f"error: {said}\n")
+    assert capsys.readouterr().err.endswith(f"error: {output}\n")

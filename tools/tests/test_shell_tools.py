@@ -33,7 +33,7 @@ MISSING, HOMES = "missing: gcc-multilib.*32 bits were not tested", r"export CARG
 
 
 # a tool, its words and variables, its status, and what it asked for and said
-@pytest.mark.parametrize("tool, words, variables, status, said", [
+@pytest.mark.parametrize("tool, words, variables, status, output", [
     ("check_builds", "memory", {}, 0, "test --manifest-path .*--tests .* valgrind .*--error-exit"),
     ("check_builds", "widths", {}, 1, MISSING),
     ("check_builds", "widths", {"NAQSHUVE_ALLOW_MISSING": "1"}, 0, MISSING),
@@ -50,11 +50,12 @@ MISSING, HOMES = "missing: gcc-multilib.*32 bits were not tested", r"export CARG
     ("next_release", "folder a", {}, 0, HOMES), ("next_release", "folder a b", {}, 1, "update$"),
     ("next_release", "folder a b", {"HAS_CRATES": "yes"}, 0, "export PYTHONPATH="),
     ("next_release", "other", {}, 1, "update$"),
+    ("lib/releasing/fresh_machine", "--with a b", {}, 2, "Runs a command on a fresh "),
     *(("release", words, {}, status, "Makes a release ")
       for words, status in (("", 2), ("--help", 0), ("--chek", 2), ("a b", 2))),
     # it asks for the files if the folder isn't there
     ("release", "there", {}, 1, "log$"), ("release", "new", {}, 2, "log archive$")])
-def test_words(folder, monkeypatch, tool, words, variables, status, said):
+def test_words(folder, monkeypatch, tool, words, variables, status, output):
     needed = re.findall(r"(python3|librust)-\{(.*?)\}(-dev)?", (TOOLS / "next_release").read_text())
     had = [f"{begin}-{it}{end}" for begin, names, end in needed for it in names.split(",")]
     for place, text in {"tools/install_packages": "#!/bin/sh\n[ $1 = valgrind ]\n", "asked": "",
@@ -65,8 +66,8 @@ def test_words(folder, monkeypatch, tool, words, variables, status, said):
     for name, value in {**none, "ASKED": f"{folder}/asked", **variables}.items():
         monkeypatch.setenv(name, value)
     found, lines = run_here(tool, *words.split(), **PROGRAMS)
-    told = " ".join([*Path("asked").read_text().split(), *lines])
-    assert found == status and re.match(said, told)
+    found_words = " ".join([*Path("asked").read_text().split(), *lines])
+    assert found == status and re.match(output, found_words)
 
 
 # a function that calls a panic, and whether it is known
@@ -79,8 +80,8 @@ def test_functions_that_may_panic(function, is_known):
     write("shown", f"0000 <{function}::h0123456789abcdef>:\n 1:\tcall 2 <core::panicking::panic>\n"
           "0001 <vte::quiet>:\n 2:\tcall 3 <core::slice::len>\n")
     status, lines = run_here("check_builds", "panics", cargo="", objdump="cat shown")
-    told = [it for it in lines if "::" in it]
-    assert (status, told) == ((0, []) if is_known else (1, [function] * 3))
+    found = [it for it in lines if "::" in it]
+    assert (status, found) == ((0, []) if is_known else (1, [function] * 3))
 
 
 # words for pytest, and the random streams that they ask for

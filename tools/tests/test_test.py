@@ -3,6 +3,7 @@ import os
 import re
 import subprocess
 import sys
+from dataclasses import dataclass
 
 import pytest
 
@@ -23,31 +24,47 @@ PROGRAMS = {
     "bin/cargo": '#!/bin/sh\n[ "$CARGO_HOME" = next ]\n',
     "tools/next_release": '#!/bin/sh\n[ "$FAILS" != crates ] && echo export CARGO_HOME=next\n',
     "bin/rustc": "#!/bin/sh\necho rustc 1.63.0\n"}
-FAR, LACKING = "far: it needs rustc 1.0, no-such-program", "lacking: it needs no-such-command"
-LEFT, WAITS = ["a thing: not tried", FAR, LACKING], "{}: it needs all parts before it to pass"
-ALL, BOTH = "first second proofs", "no-such-command no-such-tool"
+LACKING, FAR = "lacking: it needs no-such-command", "far: it needs rustc 1.0, no-such-program"
+WAITS = "it needs all parts before it to pass"
 
 
-# words for it, what fails, what runs, what isn't tested, the packages that it needs, how it ends
-@pytest.mark.parametrize("words, fails, ran, left, packages, status, counts", [
-    ("", "", ALL, LEFT, BOTH, 0, ["3 passed, 0 failed", "8 passed, 0 failed"]),
-    ("", "first", "first", [FAR, LACKING, WAITS.format("proofs"), WAITS.format("second")],
-     "no-such-command", 1, ["0 passed, 1 failed"]),
-    ("", "second", ALL, LEFT, BOTH, 1, ["2 passed, 1 failed", "7 passed, 1 failed"]),
-    ("", "proofs", ALL, LEFT, BOTH, 1, ["2 passed, 1 failed", "6 passed, 2 failed"]),
-    ("--strict", "", ALL, LEFT, BOTH, 1, ["3 passed, 0 failed", "8 passed, 0 failed"]),
-    ("first", "", "first", [], "", 0, ["1 passed, 0 failed"]),
-    ("--strict first proofs", "", "first proofs", [], "", 0,
-     ["2 passed, 0 failed", "7 passed, 0 failed"]),
-    *((f"{front}second", "", "second", LEFT[:1], "no-such-tool", status, ["1 passed, 0 failed"])
-      for front, status in (("", 0), ("--strict ", 1))),
-    ("second", "crates", "", ["second: it needs what cargo gets from a network"], "", 1,
-     ["0 passed, 0 failed"]),
-    ("first lacking", "", "first", [LACKING], "no-such-command", 1, ["1 passed, 0 failed"]),
-    ("far", "", "", [FAR], "", 1, ["0 passed, 0 failed"]),
-    *((f"{front}{name}", "", "", name, "", 2, [])
-      for front, name in (("", "unknown"), ("first ", "unknown"), ("", "fir.t"), ("", "bash")))])
-def test_what_is_run_and_listed(folder, words, fails, ran, left, packages, status, counts):
+@dataclass
+class Case:
+    """Words for tools/test, what fails, and what is wanted: the parts that run, those that aren't
+    tested, the packages for these, the status, and what passed and failed, last with `rt ci`."""
+    words: str = ""
+    fails: str = ""
+    ran: str = "first second proofs"
+    untested: tuple = ("a thing: not tried", FAR, LACKING)
+    packages: str = "no-such-command no-such-tool"
+    status: int = 0
+    counts: tuple = ((3, 0), (8, 0))
+
+
+SECOND = {"ran": "second", "untested": ["a thing: not tried"], "packages": "no-such-tool",
+          "counts": [(1, 0)]}
+CASES = {
+    "all": Case(), "all, strictly": Case("--strict", status=1),
+    "first fails": Case(
+        fails="first", ran="first", untested=[FAR, LACKING, f"proofs: {WAITS}", f"second: {WAITS}"],
+        packages="no-such-command", status=1, counts=[(0, 1)]),
+    "second fails": Case(fails="second", status=1, counts=[(2, 1), (7, 1)]),
+    "proofs fail": Case(fails="proofs", status=1, counts=[(2, 1), (6, 2)]),
+    "first": Case("first", ran="first", untested=(), packages="", counts=[(1, 0)]),
+    "first and proofs, strictly": Case("--strict first proofs", ran="first proofs", untested=(),
+                                       packages="", counts=[(2, 0), (7, 0)]),
+    "second": Case("second", **SECOND),
+    "second, strictly": Case("--strict second", **SECOND, status=1),
+    "second without crates": Case(
+        "second", fails="crates", ran="", packages="", status=1, counts=[(0, 0)],
+        untested=["second: it needs what cargo gets from a network"]),
+    "first and lacking": Case("first lacking", ran="first", untested=[LACKING],
+                              packages="no-such-command", status=1, counts=[(1, 0)]),
+    "far": Case("far", ran="", untested=[FAR], packages="", status=1, counts=[(0, 0)])}
+
+
+def run(folder, words, fails=""):
+    """The status and the lines of tools/test, and what was tried."""
     text = (TOOLS / "test").read_text()
     for name, parts in PARTS.items():
         text = re.sub(rf"^{name} = \[$.*?^\]$", f"{name} = {parts}", text, flags=re.M | re.S)
@@ -59,20 +76,32 @@ def test_what_is_run_and_listed(folder, words, fails, ran, left, packages, statu
              "TMPDIR": f"{folder}/temporary", "FAILS": fails}
     done = subprocess.run([sys.executable, "tools/test", *words.split()], env=given,
                           capture_output=True, text=True)
-    # after a command that failed, the others of a part are run
-    tried = [*ran.split(), *["again"] * ("first" in ran)]
-    assert (done.returncode, sorted(asked.read_text().split())) == (status, sorted(tried))
     assert not any((folder / "temporary").iterdir())
     lines = [re.sub(r"^ *\d+ s ", "", line) for line in done.stdout.splitlines()]
-    if status == 2:
-        assert lines == [f"test: no part is named {left}"]
-        return
-    ended = [f" {'FAILED' if name == fails else 'passed'}  {name}" for name in ran.split()]
-    told = ["not tested:"] * bool(left) + [f"    {line}" for line in left]
-    told += [f"{counts[0]}, {len(left)} not tested"]
-    told += [f"apt install {packages}  # on Debian 12, to test more"] * bool(packages) + counts[1:]
+    return done.returncode, lines, asked.read_text().split()
+
+
+@pytest.mark.parametrize("case", CASES.values(), ids=CASES)
+def test_what_is_run_and_listed(folder, case):
+    status, lines, tried = run(folder, case.words, case.fails)
+    ran = case.ran.split()
+    # after a command that failed, the others of a part are run
+    assert sorted(tried) == sorted([*ran, *["again"] * ("first" in ran)])
+    assert status == case.status
+    first, *last = (f"{passed} passed, {failed} failed" for passed, failed in case.counts)
+    wanted = [*["not tested:"] * bool(case.untested), *(f"    {line}" for line in case.untested),
+            f"{first}, {len(case.untested)} not tested"]
+    if case.packages:
+        wanted.append(f"apt install {case.packages}  # on Debian 12, to test more")
+    wanted += last
+    ended = [f" {'FAILED' if name == case.fails else 'passed'}  {name}" for name in ran]
     at = lines.index("tested:")
-    assert sorted(lines[at + 1:-len(told)]) == sorted(ended) and lines[-len(told):] == told
-    for name in ran.split():
+    assert sorted(lines[at + 1:-len(wanted)]) == sorted(ended) and lines[-len(wanted):] == wanted
+    for name in ran:
         assert f"test: {name} begins" in lines
-        assert (f"said by {name}" in lines) == (name in (fails, "proofs"))
+        assert (f"said by {name}" in lines) == (name in (case.fails, "proofs"))
+
+
+@pytest.mark.parametrize("words", ["unknown", "first unknown", "fir.t", "bash"])
+def test_names_of_no_part(folder, words):
+    assert run(folder, words) == (2, [f"test: no part is named {words.split()[-1]}"], [])

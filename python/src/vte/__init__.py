@@ -1,6 +1,6 @@
 r"""A parser of the bytes that programs send to a terminal.
 
-A `Parser` reads a stream in pieces of any length, and reports text, controls and sequences as
+A `Parser` reads a stream in chunks of any length, and reports text, controls and sequences as
 events. They are those of the whole stream, in order, however you split it; only a `Text` and a
 `Data` end where a call of `feed` does.
 
@@ -16,7 +16,7 @@ events. They are those of the whole stream, in order, however you split it; only
 ([Text(text='one'), Execute(byte=10)], 4)
 
 `open` returns an iterator over the events of a path, a file descriptor or a binary file. `strip`
-returns the text of a whole stream, a `Stripper` that of a stream in pieces, and `strip_lines` that
+returns the text of a whole stream, a `Stripper` that of a stream in chunks, and `strip_lines` that
 of each line. `parts` divides a stream, of any size, into ranges that can be read side by side. A
 `Processor` returns what a stream asks of a terminal, as calls of `vte.calls`.
 

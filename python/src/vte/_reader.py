@@ -1,4 +1,4 @@
-"""Reads streams in pieces, and lines one by one."""
+"""Reads streams in chunks, and lines one by one."""
 from __future__ import annotations
 
 import builtins
@@ -18,7 +18,7 @@ Item = TypeVar("Item", bound=Event, covariant=True)
 class Reader(Iterator[Item]):
     """An iterator over the events of a path, a file descriptor or a binary file.
 
-    With `kinds`, a type of events or a set of them, it has these alone. The file is read in pieces
+    With `kinds`, a type of events or a set of them, it has these alone. The file is read in chunks
     of at most `size` bytes, each when its events are requested, with what is there by then. If a
     nonblocking file has nothing yet, `BlockingIOError` is raised, and the iterator goes on later.
     It also does so after a `MemoryError`. A pty, given by its descriptor, ends when no program has
@@ -36,7 +36,7 @@ class Reader(Iterator[Item]):
         self._made: list[Any] = self._parser.feed(b"", self._kinds)
         self._events: Iterator[Item] = iter(self._made)
         # what is to be fed, what was fed last, and what the call made of this if it was refused
-        self._piece: Optional[bytes] = None
+        self._chunk: Optional[bytes] = None
         self._fed = b""
         self._refused: Optional[Refused] = None
         self._is_terminal = isinstance(source, int) and os.isatty(source)
@@ -58,28 +58,28 @@ class Reader(Iterator[Item]):
             # if memory is refused to a step, the next call takes it again
             if self._refused:
                 refused, rest = self._refused, self._fed[self._refused.read:]
-                self._made, self._piece, self._refused = refused.events, rest, None
+                self._made, self._chunk, self._refused = refused.events, rest, None
             elif self._made:
                 self._events, self._made = iter(self._made), []
-            elif self._piece is None:
-                self._piece = self._next_piece()
+            elif self._chunk is None:
+                self._chunk = self._next_chunk()
             else:
-                self._feed(self._piece)
+                self._feed(self._chunk)
 
-    def _feed(self, piece: bytes) -> None:
+    def _feed(self, chunk: bytes) -> None:
         # a signal may end the call when all of it was read
-        self._fed, self._piece = piece, None
+        self._fed, self._chunk = chunk, None
         try:
-            self._made = self._parser.feed(piece, self._kinds)
+            self._made = self._parser.feed(chunk, self._kinds)
         except Refused as refused:
             self._refused = refused
             if not refused.events:
                 raise
         except MemoryError:
-            self._piece = piece
+            self._chunk = chunk
             raise
 
-    def _next_piece(self) -> bytes:
+    def _next_chunk(self) -> bytes:
         try:
             data: Optional[bytes] = self._read()
         except OSError as error:

@@ -1,16 +1,16 @@
 //! Where a stream is cut.
 
-/// The pieces of a stream, of 0 to `1 << size % 8` bytes. `seed` decides how many each has.
-pub fn pieces(stream: &[u8], size: u8, seed: u8) -> Vec<&[u8]> {
+/// The chunks of a stream, of 0 to `1 << size % 8` bytes. `seed` decides how many each has.
+pub fn chunks(stream: &[u8], size: u8, seed: u8) -> Vec<&[u8]> {
     let (most, mut state, mut rest) = (1 << (size % 8), u32::from(seed) + 1, stream);
-    let mut pieces = Vec::new();
+    let mut chunks = Vec::new();
     while !rest.is_empty() {
         state = next(state);
-        let (piece, after) = rest.split_at((state as usize % (most + 1)).min(rest.len()));
-        pieces.push(piece);
+        let (chunk, after) = rest.split_at((state as usize % (most + 1)).min(rest.len()));
+        chunks.push(chunk);
         rest = after;
     }
-    pieces
+    chunks
 }
 
 /// The next of 2^32 - 1 numbers that look random (xorshift of Marsaglia).

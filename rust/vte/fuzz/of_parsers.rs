@@ -62,21 +62,21 @@ read!(LongParser, new, unwrap);
 type Outcome = (String, Open);
 
 fn whole<R: Read>(stream: &[u8]) -> Outcome {
-    in_pieces::<R>(&[stream])
+    in_chunks::<R>(&[stream])
 }
 
-fn in_pieces<R: Read>(pieces: &[&[u8]]) -> Outcome {
+fn in_chunks<R: Read>(chunks: &[&[u8]]) -> Outcome {
     let (mut parser, mut lines) = (R::new(), EventLines::<false>::new(Stop::Never));
-    for piece in pieces {
-        parser.advance(&mut lines, piece);
+    for chunk in chunks {
+        parser.advance(&mut lines, chunk);
     }
     (lines.text, parser.open())
 }
 
-fn in_runs<R: Read, const KEEPS: bool>(pieces: &[&[u8]]) -> Outcome {
+fn in_runs<R: Read, const KEEPS: bool>(chunks: &[&[u8]]) -> Outcome {
     let (mut parser, mut lines) = (R::new(), EventLines::<KEEPS>::new(Stop::Never));
-    for piece in pieces {
-        parser.advance_text(&mut lines, piece);
+    for chunk in chunks {
+        parser.advance_text(&mut lines, chunk);
     }
     // in a run, HT, LF and CR are written as they are printed
     let text = ["09", "0a", "0d"].iter().fold(lines.text, |text, byte| {
@@ -86,10 +86,10 @@ fn in_runs<R: Read, const KEEPS: bool>(pieces: &[&[u8]]) -> Outcome {
 }
 
 /// With a stop after each character, or after each escape sequence.
-fn with_stops<R: Read>(pieces: &[&[u8]], stop: Stop) -> Outcome {
+fn with_stops<R: Read>(chunks: &[&[u8]], stop: Stop) -> Outcome {
     let (mut parser, mut text) = (R::new(), String::new());
-    for piece in pieces {
-        let mut rest = *piece;
+    for chunk in chunks {
+        let mut rest = *chunk;
         while !rest.is_empty() {
             let mut lines = EventLines::<false>::new(stop);
             let read = parser.advance_until_terminated(&mut lines, rest);
@@ -102,10 +102,10 @@ fn with_stops<R: Read>(pieces: &[&[u8]], stop: Stop) -> Outcome {
 }
 
 /// With runs that are taken from the bytes.
-fn to_runs<R: Read>(pieces: &[&[u8]]) -> Outcome {
+fn to_runs<R: Read>(chunks: &[&[u8]]) -> Outcome {
     let (mut parser, mut lines) = (R::new(), EventLines::<false>::new(Stop::Never));
-    for piece in pieces {
-        let mut rest = *piece;
+    for chunk in chunks {
+        let mut rest = *chunk;
         while !rest.is_empty() {
             let run = parser.advance_to_run(&mut lines, rest);
             let (taken, after) = rest[run.start..].split_at(run.end - run.start);
@@ -126,29 +126,29 @@ fn to_runs<R: Read>(pieces: &[&[u8]]) -> Outcome {
     (lines.text, parser.open())
 }
 
-fn compare_with<R: Read>(stream: &[u8], pieces: &[&[u8]]) -> Outcome {
+fn compare_with<R: Read>(stream: &[u8], chunks: &[&[u8]]) -> Outcome {
     let wanted = whole::<R>(stream);
-    assert_eq!(in_pieces::<R>(pieces), wanted, "in pieces");
-    assert_eq!(in_runs::<R, false>(pieces), wanted, "in runs");
-    assert_eq!(in_runs::<R, true>(pieces), wanted, "in runs with line ends");
+    assert_eq!(in_chunks::<R>(chunks), wanted, "in chunks");
+    assert_eq!(in_runs::<R, false>(chunks), wanted, "in runs");
+    assert_eq!(in_runs::<R, true>(chunks), wanted, "in runs with line ends");
     assert_eq!(
-        with_stops::<R>(pieces, Stop::AfterPrint),
+        with_stops::<R>(chunks, Stop::AfterPrint),
         wanted,
         "with stops after characters"
     );
     assert_eq!(
-        with_stops::<R>(pieces, Stop::AfterEscape),
+        with_stops::<R>(chunks, Stop::AfterEscape),
         wanted,
         "with stops after escapes"
     );
-    assert_eq!(to_runs::<R>(pieces), wanted, "to runs");
+    assert_eq!(to_runs::<R>(chunks), wanted, "to runs");
     wanted
 }
 
 /// Reads a stream in all ways. The parsers differ only at commands longer than the limit.
-pub fn compare(stream: &[u8], pieces: &[&[u8]]) {
-    let limited = compare_with::<Parser<LIMIT>>(stream, pieces);
-    let long = compare_with::<LongParser>(stream, pieces);
+pub fn compare(stream: &[u8], chunks: &[&[u8]]) {
+    let limited = compare_with::<Parser<LIMIT>>(stream, chunks);
+    let long = compare_with::<LongParser>(stream, chunks);
     if stream.len() <= LIMIT {
         assert_eq!(limited, long, "both parsers");
     }

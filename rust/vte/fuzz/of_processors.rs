@@ -86,14 +86,14 @@ impl<const EVER: bool> Process for LongProcessor<Pending<EVER>> {
     }
 }
 
-/// The calls of all pieces, and what is held after each. Updates are stopped after some pieces, and
+/// The calls of all chunks, and what is held after each. Updates are stopped after some chunks, and
 /// at the end.
-fn calls<P: Process, const IN_RUNS: bool>(pieces: &[&[u8]]) -> (String, Vec<usize>) {
+fn calls<P: Process, const IN_RUNS: bool>(chunks: &[&[u8]]) -> (String, Vec<usize>) {
     let (mut processor, mut lines, mut held) = (P::new(), CallLines::default(), Vec::new());
-    for piece in pieces {
-        processor.advance::<IN_RUNS>(&mut lines, piece);
+    for chunk in chunks {
+        processor.advance::<IN_RUNS>(&mut lines, chunk);
         held.push(processor.held());
-        if piece.len() % 4 == 3 {
+        if chunk.len() % 4 == 3 {
             processor.stop::<IN_RUNS>(&mut lines);
         }
     }
@@ -111,23 +111,23 @@ fn without_ends(calls: &str) -> Vec<&str> {
 
 /// Compares a processor whose timeout is never pending and one whose is. Both make the calls of the
 /// whole stream, which are returned.
-fn compare_with<N: Process, E: Process>(stream: &[u8], pieces: &[&[u8]]) -> String {
+fn compare_with<N: Process, E: Process>(stream: &[u8], chunks: &[&[u8]]) -> String {
     let (whole, _) = calls::<N, false>(&[stream]);
-    let cut = calls::<N, false>(pieces);
-    assert_eq!(without_ends(&cut.0), without_ends(&whole), "in pieces");
-    assert_eq!(calls::<N, true>(pieces), cut, "in runs");
-    let held = calls::<E, false>(pieces);
+    let cut = calls::<N, false>(chunks);
+    assert_eq!(without_ends(&cut.0), without_ends(&whole), "in chunks");
+    assert_eq!(calls::<N, true>(chunks), cut, "in runs");
+    let held = calls::<E, false>(chunks);
     assert_eq!(without_ends(&held.0), without_ends(&whole), "with updates");
-    assert_eq!(calls::<E, true>(pieces), held, "with updates, in runs");
+    assert_eq!(calls::<E, true>(chunks), held, "with updates, in runs");
     whole
 }
 
 /// Reads a stream in all ways. The processors differ only at commands longer than the limit.
-pub fn compare(stream: &[u8], pieces: &[&[u8]]) {
+pub fn compare(stream: &[u8], chunks: &[&[u8]]) {
     type Limited<const EVER: bool> = Processor<Pending<EVER>>;
     type Long<const EVER: bool> = LongProcessor<Pending<EVER>>;
-    let limited = compare_with::<Limited<false>, Limited<true>>(stream, pieces);
-    let long = compare_with::<Long<false>, Long<true>>(stream, pieces);
+    let limited = compare_with::<Limited<false>, Limited<true>>(stream, chunks);
+    let long = compare_with::<Long<false>, Long<true>>(stream, chunks);
     if stream.len() <= LIMIT {
         assert_eq!(limited, long, "both processors");
     }

@@ -1,21 +1,16 @@
 //! What the examples write.
+#![allow(dead_code)]
 
-#[allow(dead_code)]
 #[path = "../examples/parallel_strip.rs"]
 mod parallel_strip;
-#[allow(dead_code)]
 #[path = "../examples/parselog.rs"]
 mod parselog;
-#[allow(dead_code)]
 #[path = "../examples/refused.rs"]
 mod refused;
-#[allow(dead_code)]
 #[path = "../examples/strip.rs"]
 mod strip;
-#[allow(dead_code)]
 #[path = "../examples/unknown.rs"]
 mod unknown;
-#[allow(dead_code)]
 #[path = "../examples/updates.rs"]
 mod updates;
 
@@ -119,9 +114,8 @@ fn the_page_shows_examples() {
     let folder = Path::new(env!("CARGO_MANIFEST_DIR"));
     let page = fs::read_to_string(folder.join("../../docs/RUST.md")).unwrap_or_default();
     let examples = fs::read_dir(folder.join("examples")).unwrap();
-    let examples: Vec<_> = examples
-        .map(|it| fs::read_to_string(it.unwrap().path()).unwrap())
-        .collect();
+    let texts = examples.map(|it| fs::read_to_string(it.unwrap().path()).unwrap());
+    let examples: Vec<_> = texts.collect();
     for shown in page.split("```rust\n").skip(1) {
         let shown = shown.split("```").next().unwrap();
         assert!(examples.iter().any(|it| it.contains(shown)), "{shown}");

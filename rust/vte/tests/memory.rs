@@ -2,6 +2,9 @@
 
 extern crate alloc;
 
+#[cfg(all(feature = "std", target_os = "linux"))]
+#[path = "memory/measured.rs"]
+mod measured;
 #[path = "support/memory.rs"]
 mod memory;
 #[allow(dead_code, unused_imports)]
@@ -10,100 +13,24 @@ mod prelude;
 #[allow(dead_code)]
 #[path = "../examples/refused.rs"]
 mod refused_command;
+#[path = "memory/shown.rs"]
+mod shown;
 mod support;
 
 use memory::{counted, ends_without, refused};
 use refused_command::CuttingParser;
+use shown::Shown;
 use support::Pending;
-use vte::ansi::lent::{Handler, LongProcessor};
-use vte::ansi::{BoundedProcessor, HandlerText, NoMemory, PrivateMode, Processor};
+use vte::ansi::lent::LongProcessor;
+use vte::ansi::{BoundedProcessor, NoMemory, Processor};
 #[cfg(feature = "__own")]
-use vte::Own;
-use vte::{BoundedParser, LongParser, Perform, PerformText, Refused};
+use vte::InternalCalls;
+use vte::{BoundedParser, LongParser, Refused};
 
 const MAX_HELD: usize = 0x20_0000 - 2;
 
 /// For how many bytes memory is taken at once.
 const SLICE: usize = 0x1_0000;
-
-/// A performer and handler that takes no memory: what it keeps is what there is room for.
-#[derive(Default)]
-struct Shown {
-    /// The characters that were printed.
-    printed: String,
-    /// The titles and the pieces of commands, with `|` for the end of an update.
-    texts: String,
-    /// How many bytes the characters, titles and pieces had, and how many titles and commands there
-    /// were.
-    bytes: usize,
-    commands: usize,
-    /// Whether the next command terminates it, and whether it is terminated.
-    stops: bool,
-    is_terminated: bool,
-}
-
-impl Shown {
-    fn with_room(count: usize) -> Self {
-        let (printed, texts) = (String::with_capacity(count), String::with_capacity(count));
-        Shown {
-            printed,
-            texts,
-            ..Shown::default()
-        }
-    }
-}
-
-fn keep(text: &mut String, more: &str) {
-    if more.len() <= text.capacity() - text.len() {
-        text.push_str(more);
-    }
-}
-
-impl Perform for Shown {
-    fn print(&mut self, c: char) {
-        self.print_text(c.encode_utf8(&mut [0; 4]));
-    }
-
-    fn osc_dispatch(&mut self, params: &[&[u8]], _: bool) {
-        for piece in params {
-            self.bytes += piece.len();
-            keep(&mut self.texts, std::str::from_utf8(piece).expect("a text"));
-        }
-        self.commands += 1;
-        self.is_terminated |= self.stops;
-    }
-
-    fn terminated(&self) -> bool {
-        self.is_terminated
-    }
-}
-
-impl PerformText for Shown {
-    fn print_text(&mut self, text: &str) {
-        self.bytes += text.len();
-        keep(&mut self.printed, text);
-    }
-}
-
-impl Handler for Shown {
-    fn input(&mut self, c: char) {
-        self.print(c);
-    }
-
-    fn set_title(&mut self, title: Option<&str>) {
-        self.osc_dispatch(&[title.unwrap_or_default().as_bytes()], false);
-    }
-
-    fn unset_private_mode(&mut self, _: PrivateMode) {
-        keep(&mut self.texts, "|");
-    }
-}
-
-impl HandlerText for Shown {
-    fn input_text(&mut self, text: &str) {
-        self.print_text(text);
-    }
-}
 
 /// A title of two pieces, of which the second has so many bytes, and what it shows.
 fn title(count: usize) -> (Vec<u8>, String) {
@@ -334,79 +261,13 @@ fn a_long_parser_gives_back_what_an_open_command_does_not_need() {
     parser.shrink();
     assert!((1996..3000).contains(&taken_by_copy(&parser)));
     #[cfg(feature = "__own")]
-    assert_eq!(Own::stored(&parser), 1996);
+    assert_eq!(InternalCalls::stored(&parser), 1996);
     parser.advance(&mut shown, &title[2000..]).unwrap();
     assert_eq!(shown.bytes, 3002);
     #[cfg(feature = "__own")]
-    assert_eq!(Own::stored(&parser), 0);
+    assert_eq!(InternalCalls::stored(&parser), 0);
     parser.shrink();
     assert_eq!(taken_by_copy(&parser), 0);
-}
-
-#[cfg(all(feature = "std", target_os = "linux"))]
-mod measured {
-    use super::memory::{holds_alone, status};
-    use super::support::Pending;
-    use super::{Processor, Shown};
-    use vte::Parser;
-
-    const MEBIBYTE: usize = 0x10_0000;
-
-    fn giant_title(size: usize) -> Vec<u8> {
-        let mut title = vec![b'b'; size];
-        title[..6].copy_from_slice(b"\x1b]2;a;");
-        title[size - 1] = 7;
-        title
-    }
-
-    /// Asserts that a call with these bytes, whose memory the processor keeps, adds little address
-    /// space.
-    fn assert_adds_less_than_a_mebibyte(bytes: &[u8]) {
-        let mut processor = Processor::with_timeout(Pending::default()).ok().unwrap();
-        let before = status("VmSize:");
-        processor.advance_text(&mut Shown::default(), bytes);
-        let added = status("VmSize:") - before;
-        assert!(added < MEBIBYTE, "{added}");
-    }
-
-    #[test]
-    fn text_adds_less_than_a_mebibyte() {
-        holds_alone(|| assert_adds_less_than_a_mebibyte(&vec![b'a'; 64 * MEBIBYTE]));
-        let line = b"\x1b[1;38:5:9mcoloured\x1b[m text\r\n";
-        let lines = line.repeat(16 * MEBIBYTE / line.len());
-        holds_alone(|| assert_adds_less_than_a_mebibyte(&lines));
-    }
-
-    #[test]
-    fn a_long_title_takes_at_most_twice_its_size() {
-        holds_alone(|| {
-            let (title, mut shown) = (giant_title(100 * MEBIBYTE), Shown::default());
-            let mut processor = Processor::with_timeout(Pending::default()).ok().unwrap();
-            let before = status("VmRSS:");
-            processor.advance(&mut shown, &title);
-            let added = status("VmHWM:") - before;
-            assert_eq!(shown.bytes, title.len() - 5);
-            assert!(added <= 201 * MEBIBYTE, "{added}");
-        });
-    }
-
-    #[test]
-    fn the_memory_of_a_giant_command_is_given_back() {
-        holds_alone(|| {
-            let (title, mut shown) = (giant_title(32 * MEBIBYTE), Shown::default());
-            let mut processor = Processor::with_timeout(Pending::default()).ok().unwrap();
-            let mut parser = Parser::new();
-            let before = status("VmSize:");
-            processor.advance(&mut shown, &title);
-            parser.advance(&mut shown, &title);
-            assert_eq!(shown.bytes, 2 * title.len() - 5 - 5);
-            assert!(status("VmSize:") > before + 64 * MEBIBYTE);
-            processor.shrink();
-            parser.shrink();
-            let kept = status("VmSize:") - before;
-            assert!(kept < MEBIBYTE, "{kept}");
-        });
-    }
 }
 
 #[cfg(feature = "std")]

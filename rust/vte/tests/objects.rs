@@ -89,7 +89,7 @@ fn performers_and_objects_are_told_and_asked_the_same() {
 #[cfg(all(feature = "std", feature = "__own"))]
 #[test]
 fn stops_between_runs_are_those_without_runs() {
-    use vte::{LongParser, Own};
+    use vte::{InternalCalls, LongParser};
     for stop in 0..=EVENTS.lines().count() {
         let new = || EventLines::<false>::new(Stop::AfterOthers(stop));
         let (mut singly, mut bounded, mut long) = (new(), new(), new());

@@ -4,12 +4,9 @@ use vte::parts;
 #[test]
 fn an_escape_is_in_both_parts() {
     let stream = "ab\x1bcd\x1b\x1bef";
+    let in_four = &["ab\x1b", "\x1bcd\x1b", "\x1b\x1b", "\x1bef"][..];
     for (stream, sizes, wanted) in [
-        (
-            stream,
-            &[0, 1][..],
-            &["ab\x1b", "\x1bcd\x1b", "\x1b\x1b", "\x1bef"][..],
-        ),
+        (stream, &[0, 1][..], in_four),
         (stream, &[2], &["ab\x1b", "\x1bcd\x1b", "\x1b\x1bef"]),
         (stream, &[3], &["ab\x1bcd\x1b", "\x1b\x1bef"]),
         (stream, &[6], &["ab\x1bcd\x1b\x1b", "\x1bef"]),

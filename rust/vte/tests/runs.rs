@@ -55,12 +55,10 @@ fn processors_pass_text_in_runs() {
 
 #[test]
 fn line_ends_are_in_the_runs_of_those_who_keep_them() {
-    for line in [
-        "an item\tand another\r\n",
-        "\u{434}\u{430}\r\n\t",
-        "\u{4f60}\u{597d}\n",
-        "\u{1f600} a face\n",
-    ] {
+    let of_two = "\u{434}\u{430}\r\n\t";
+    let of_three = "\u{4f60}\u{597d}\n";
+    let of_four = "\u{1f600} a face\n";
+    for line in ["an item\tand another\r\n", of_two, of_three, of_four] {
         let text = line.repeat(100);
         let lines = events_of::<true>(&[text.as_bytes()]);
         assert_runs(&lines.text, &lines.runs, &[&text]);
@@ -89,7 +87,7 @@ fn parsers_pass_device_data_in_slices() {
 #[cfg(feature = "__own")]
 #[test]
 fn calls_that_may_stop_pass_slices_of_one_byte() {
-    use vte::{BoundedParser, Own};
+    use vte::{BoundedParser, InternalCalls};
     let (mut lines, mut parser) = (<EventLines>::default(), BoundedParser::new());
     let read = parser.advance_text_until_terminated(&mut lines, IMAGE);
     assert_eq!(read, IMAGE.len());

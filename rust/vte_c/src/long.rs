@@ -11,7 +11,7 @@ use crate::memory;
 use crate::proved::vte_c::{event, Events, VteCounts, VteEvent, MIN_EVENTS, NO_ROOM};
 use alloc::boxed::Box;
 use alloc::vec::Vec;
-use vte::{skip_to_command, LongParser, Own as _, Refused};
+use vte::{skip_to_command, InternalCalls as _, LongParser, Refused};
 
 /// What a call returns if memory was refused before it read a byte.
 const REFUSED: usize = usize::MAX - 1;

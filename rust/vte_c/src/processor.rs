@@ -7,6 +7,8 @@
 #![allow(unsafe_code)]
 #![allow(clippy::missing_safety_doc)]
 
+mod values;
+
 use crate::border::slice;
 use crate::memory;
 use alloc::boxed::Box;
@@ -15,10 +17,11 @@ use core::mem::{size_of, zeroed};
 use core::ptr;
 use core::sync::atomic::{AtomicBool, Ordering};
 use core::time::Duration;
+use values::{attribute_number, color_of, length_of, place_of, VteColor};
 use vte::ansi::cursor_icon::CursorIcon;
 use vte::ansi::lent::{Handler, Hyperlink, LongProcessor};
 use vte::ansi::{
-    Attr, CharsetIndex, ClearMode, Color, CursorShape, CursorStyle, HandlerText, KeyboardModes,
+    Attr, CharsetIndex, ClearMode, CursorShape, CursorStyle, HandlerText, KeyboardModes,
     KeyboardModesApplyBehavior, LineClearMode, Mode, ModifyOtherKeys, PrivateMode, Rgb,
     ScpCharPath, ScpUpdateMode, StandardCharset, TabulationClearMode, Timeout,
 };
@@ -28,7 +31,7 @@ const NO_MEMORY: i32 = 1;
 const BUSY: i32 = 2;
 
 /// Writes the table of functions, and the handler that calls them: of each method its name and
-/// parameters, and behind `=>` what is passed to C.
+/// parameters, and after `=>` what is passed to C.
 macro_rules! calls {
     ($($name:ident($($argument:ident: $given:ty),*) $(=> $($sent:ty = $value:expr),+)?;)*) => {
         /// A function for each call of a handler, or null.
@@ -149,91 +152,6 @@ impl HandlerText for Calls {
             // SAFETY: the callers' rules above
             unsafe { call(self.user, text.as_ptr(), text.len()) }
         }
-    }
-}
-
-fn place_of(text: Option<&str>) -> *const u8 {
-    text.map_or(ptr::null(), str::as_ptr)
-}
-
-fn length_of(text: Option<&str>) -> usize {
-    text.map_or(0, str::len)
-}
-
-/// A colour: what it is, and its number.
-#[repr(C)]
-#[derive(Clone, Copy)]
-pub struct VteColor {
-    kind: u8,
-    red: u8,
-    green: u8,
-    blue: u8,
-    index: u32,
-}
-
-impl VteColor {
-    const fn new(kind: u8, index: u32, rgb: Rgb) -> Self {
-        let (red, green, blue) = (rgb.r, rgb.g, rgb.b);
-        VteColor {
-            kind,
-            red,
-            green,
-            blue,
-            index,
-        }
-    }
-
-    const fn of_rgb(rgb: Rgb) -> Self {
-        VteColor::new(2, 0, rgb)
-    }
-
-    fn of(color: Option<Color>) -> Self {
-        let black = Rgb { r: 0, g: 0, b: 0 };
-        match color {
-            None => VteColor::new(0, 0, black),
-            Some(Color::Named(named)) => VteColor::new(1, named as u32, black),
-            Some(Color::Spec(rgb)) => VteColor::of_rgb(rgb),
-            Some(Color::Indexed(index)) => VteColor::new(3, u32::from(index), black),
-        }
-    }
-}
-
-fn color_of(attribute: Attr) -> VteColor {
-    VteColor::of(match attribute {
-        Attr::Foreground(color) | Attr::Background(color) => Some(color),
-        Attr::UnderlineColor(color) => color,
-        _ => None,
-    })
-}
-
-/// The place of an attribute in the list of vte.h.
-fn attribute_number(attribute: Attr) -> u8 {
-    match attribute {
-        Attr::Reset => 0,
-        Attr::Bold => 1,
-        Attr::Dim => 2,
-        Attr::Italic => 3,
-        Attr::Underline => 4,
-        Attr::DoubleUnderline => 5,
-        Attr::Undercurl => 6,
-        Attr::DottedUnderline => 7,
-        Attr::DashedUnderline => 8,
-        Attr::BlinkSlow => 9,
-        Attr::BlinkFast => 10,
-        Attr::Reverse => 11,
-        Attr::Hidden => 12,
-        Attr::Strike => 13,
-        Attr::CancelBold => 14,
-        Attr::CancelBoldDim => 15,
-        Attr::CancelItalic => 16,
-        Attr::CancelUnderline => 17,
-        Attr::CancelBlink => 18,
-        Attr::CancelReverse => 19,
-        Attr::CancelHidden => 20,
-        Attr::CancelStrike => 21,
-        Attr::Foreground(_) => 22,
-        Attr::Background(_) => 23,
-        Attr::UnderlineColor(_) => 24,
     }
 }
 

@@ -14,12 +14,8 @@ use prelude::{Global, Items};
 #[test]
 fn a_list_has_all_words_or_is_refused() {
     let words: Vec<usize> = (0..100).collect();
-    let collect = |first| {
-        Items(words.iter())
-            .skip(first)
-            .map(|it| *it)
-            .collect(Global)
-    };
+    let all = || Items(words.iter());
+    let collect = |first| all().skip(first).map(|it| *it).collect(Global);
     for first in 0..100 {
         assert_eq!(*collect(first).unwrap(), words[first..]);
         assert!(refused(|| collect(first)).is_err());

@@ -27,10 +27,8 @@ fn other_program() -> Option<OsString> {
 }
 
 fn vtlog(arguments: &[&str]) -> Command {
-    let mut command = match other_program() {
-        Some(program) => Command::new(program),
-        None => Command::new(env!("CARGO_BIN_EXE_vtlog")),
-    };
+    let own = || env!("CARGO_BIN_EXE_vtlog").into();
+    let mut command = Command::new(other_program().unwrap_or_else(own));
     command.args(arguments).stdin(Stdio::piped());
     command.stdout(Stdio::piped()).stderr(Stdio::piped());
     command
@@ -174,16 +172,11 @@ fn left_terminal(written: &[u8]) -> File {
 #[test]
 fn standard_input_may_fail() {
     type Input = fn() -> (File, Vec<u8>);
+    #[rustfmt::skip]
     let inputs: [(Input, &str); 3] = [
-        (
-            || (File::open("/").unwrap(), vec![]),
-            "Is a directory (os error 21)",
-        ),
+        (|| (File::open("/").unwrap(), vec![]), "Is a directory (os error 21)"),
         (memory, "Input/output error (os error 5)"),
-        (
-            || (left_terminal(b"a\x1b[1"), vec![b'a']),
-            "Input/output error (os error 5)",
-        ),
+        (|| (left_terminal(b"a\x1b[1"), vec![b'a']), "Input/output error (os error 5)"),
     ];
     for (input, why) in inputs {
         for arguments in WAYS {
@@ -205,14 +198,9 @@ fn standard_input_may_fail() {
 #[test]
 fn a_file_may_end_in_the_middle() {
     let place = std::env::temp_dir().join(format!("vtlog-{}", std::process::id()));
-    for end in [
-        "\u{4e00}",
-        "\x1b",
-        "\x1b[1",
-        "\x1b]0;b",
-        "\x1bX",
-        "\x1b[\u{e9}",
-    ] {
+    #[rustfmt::skip]
+    let ends = ["\u{4e00}", "\x1b", "\x1b[1", "\x1b]0;b", "\x1bX", "\x1b[\u{e9}"];
+    for end in ends {
         for (arguments, written) in WAYS.into_iter().zip(["print 0061\n", "a"]) {
             // without the last byte of a character
             let size = end.len() - usize::from(!end.is_ascii());

@@ -2,18 +2,18 @@
 the words with which the target tells of it, and an input from which it does."""
 
 BEGIN, END = b"\x1b[?2026h", b"\x1b[?2026l"
-# the first bytes of an input: pieces of 0 and 1 bytes, and of up to 4, 8 (5 among them) and 128
+# the first bytes of an input: chunks of 0 and 1 bytes, and of up to 4, 8 (5 among them) and 128
 SINGLE, FOUR, EIGHT, WHOLE = b"\0\0", b"\2\0", b"\3\7", b"\7\0"
 OVERFLOW = "AddressSanitizer: heap-buffer-overflow"
 ABORT = "deadly signal"
 
 PARSER = [
-    ("after an ESC", "in pieces", SINGLE + b"a\x1bcb"),
-    ("inside a character", "in pieces", SINGLE + b"\xe4\xbd\xa0b"),
-    ("after a semicolon", "in pieces", SINGLE + b"\x1b[1;2m"),
-    ("after five bytes", "in pieces", EIGHT + b"abcdefghi"),
-    ("empty", "in pieces", SINGLE + b"a" * 8),
-    ("closed by a cut", "in pieces", SINGLE + b"ab\x1b["),
+    ("after an ESC", "in chunks", SINGLE + b"a\x1bcb"),
+    ("inside a character", "in chunks", SINGLE + b"\xe4\xbd\xa0b"),
+    ("after a semicolon", "in chunks", SINGLE + b"\x1b[1;2m"),
+    ("after five bytes", "in chunks", EIGHT + b"abcdefghi"),
+    ("empty", "in chunks", SINGLE + b"a" * 8),
+    ("closed by a cut", "in chunks", SINGLE + b"ab\x1b["),
     ("in runs", ": in runs\n", WHOLE + b"a~b"), ("closed in runs", ": in runs\n", WHOLE + b"\x1b["),
     ("with line ends", "in runs with line ends", WHOLE + b"a\n~"),
     ("after a character", "with stops after characters", WHOLE + b"ab"),
@@ -28,7 +28,7 @@ PARSER = [
     ("open as another", "both parsers", WHOLE + b"\x1b[")]
 PROCESSOR = [
     # a call that is nearly the end of an update
-    ("in pieces", "in pieces", SINGLE + b"ab\x1b[?9l"),
+    ("in chunks", "in chunks", SINGLE + b"ab\x1b[?9l"),
     ("in runs", ": in runs\n", SINGLE + b"a~"),
     ("held in runs", ": in runs\n", SINGLE + b"a"),
     ("in an update", ": with updates\n", SINGLE + BEGIN + b"\x1b[?9l" + END),
@@ -43,18 +43,18 @@ BESIDE_VTE = [
     ("Processor whole", SINGLE + b"#\x1b]50;CursorShape=~1\7"),
     ("Processor whole", SINGLE + b"#\x1b]104;9\7"),
     ("Processor whole", SINGLE + b"\x1b]4;1;rgb:90/00/00\7"),
-    ("Processor in pieces", SINGLE + b"ab~"), ("Processor held", SINGLE + BEGIN + b"b"),
+    ("Processor in chunks", SINGLE + b"ab~"), ("Processor held", SINGLE + BEGIN + b"b"),
     ("Processor held after a stop", SINGLE + BEGIN + b"b"),
     ("Processor in an update", SINGLE + BEGIN + b"~~"),
     ("Processor at a stop", FOUR + BEGIN + b"~" * 30),
     ("Processor expired", FOUR + BEGIN + b"~" * 30)]
 LIBRARY = [
-    ("vte_feed in pieces", ABORT, b"\0\0\0a~"),
+    ("vte_feed in chunks", ABORT, b"\0\0\0a~"),
     ("vte_feed in little room", ABORT, b"\xff\0\0a\x1b[mb"),
     ("vte_feed with stops", ABORT, b"\xff\xff\xffa\x1b[m"),
     ("vte_feed of some kinds", ABORT, b"\xff\xff\1ab"),
     ("vte_feed of any parser", ABORT, b"\xff\xff\1any\x1b[m"),
-    ("vte_strip in pieces", ABORT, b"\0\0\0a~"),
+    ("vte_strip in chunks", ABORT, b"\0\0\0a~"),
     ("vte_strip in little room", ABORT, b"\xff\0\0ab"),
     *((f"vte_feed {what}", ABORT, b"\0\0\0" + stream) for what, stream in (
         ("of another kind", b"\x1bc"), ("with another flag", b"\x1bc"),

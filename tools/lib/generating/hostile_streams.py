@@ -1,8 +1,8 @@
-"""Short hostile streams in pieces. A stream depends only on a seed and its number.
+"""Short hostile streams in chunks. A stream depends only on a seed and its number.
 
 A stream has 1 to 24 parts, rarely 200. A part follows the grammar, stands at a limit, or breaks a
 rule. Then some bytes may be damaged. The stream is cut nowhere, at every byte, at random, or where
-a cut is most likely to hurt. Empty pieces occur. There are two sets of kinds of parts: all, and
+a cut is most likely to hurt. Empty chunks occur. There are two sets of kinds of parts: all, and
 mostly text.
 """
 import random
@@ -169,10 +169,10 @@ OF_TEXT = {TEXT: 6, CONTROL: 2, CANCELS: 1, CHARACTER: 6, BROKEN: 10, FAULT: 4, 
            SEQUENCE: 2, DEVICE: 1, KNOWN_COMMAND: 1, IGNORED: 1, ANY: 3}
 
 
-# ---- streams and their pieces
+# ---- streams and their chunks
 
 def hostile_stream(seed, index, weights=PARTS):
-    """The pieces of the stream of this number, whose kinds of parts have these weights."""
+    """The chunks of the stream of this number, whose kinds of parts have these weights."""
     chance = random.Random(f"hostile {seed}/{index}")
     size = chance.random()
     count = (chance.randint(1, 3) if size < 0.45 else chance.randint(2, 9) if size < 0.85 else
@@ -202,5 +202,5 @@ def places_of_cuts(chance, stream):
     some = [places for places in (every, likely, likely) if places]
     cuts = [chance.sample(places, chance.randint(1, min(len(places), 8))) for places in some]
     cuts = chance.choice([[], [*every[1:-1]] if len(stream) <= 4000 else [], *cuts])
-    # sometimes an empty piece
+    # sometimes an empty chunk
     return sorted(cuts + cuts[:1] * (chance.random() < 0.06))

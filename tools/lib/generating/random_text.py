@@ -12,7 +12,7 @@ MALFORMED = [bytes.fromhex(text) for text in (
 
 
 def cut_at_random(chance, stream, share):
-    """The stream in pieces, cut at about this share of its places. Some pieces are empty."""
+    """The stream in chunks, cut at about this share of its places. Some chunks are empty."""
     cuts = [place for place in range(len(stream) + 1) if chance.random() < share]
     if cuts and chance.random() < 0.2:
         cuts = sorted([*cuts, chance.choice(cuts)])

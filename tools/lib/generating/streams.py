@@ -183,7 +183,7 @@ def generate(name, size):
 
 
 def recorded():
-    """Streams that real programs wrote: each with its name and the pieces that it came in. The
+    """Streams that real programs wrote: each with its name and the chunks that it came in. The
     archive has a file for each, and their lengths in pieces.json."""
     with tarfile.open(Path(__file__).with_name("recorded.tar.xz")) as archive:
         def read(name):

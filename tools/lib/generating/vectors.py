@@ -18,11 +18,11 @@ def all_vectors():
     return [*vectors(), *json.loads(private.read_text())]
 
 
-def pieces_of(vector):
-    """The stream of a vector, in pieces; a text alone has none."""
+def chunks_of(vector):
+    """The stream of a vector, in chunks; a text alone has none."""
     steps = [step.get("advance", step.get("bytes", "")) for step in vector.get("steps", [])]
-    pieces = [*vector.get("pieces", []), vector.get("before", ""), *steps]
-    return [bytes_of(piece) for piece in pieces if piece] or [b""]
+    chunks = [*vector.get("pieces", []), vector.get("before", ""), *steps]
+    return [bytes_of(chunk) for chunk in chunks if chunk] or [b""]
 
 
 def parts(value):

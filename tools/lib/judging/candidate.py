@@ -1,4 +1,4 @@
-"""Somebody's program: streams go in, whole or in framed pieces (docs/JUDGE.md), and event lines
+"""Somebody's program: streams go in, whole or in framed chunks (docs/JUDGE.md), and event lines
 come back.
 
 If the program doesn't answer as it should, the last line of its answer is a mark, such as
@@ -48,9 +48,9 @@ class Broken(Exception):
     """The program passed a limit or broke the protocol, in the words of the mark."""
 
 
-def framed(pieces):
-    """A stream in pieces, as the program reads it."""
-    return b"".join(len(piece).to_bytes(4, "little") + piece for piece in pieces) + END_OF_STREAM
+def framed(chunks):
+    """A stream in chunks, as the program reads it."""
+    return b"".join(len(chunk).to_bytes(4, "little") + chunk for chunk in chunks) + END_OF_STREAM
 
 
 def plain(text):
@@ -81,12 +81,12 @@ class Program:
     # how many cases can be tried at once, each by a process of its own
     at_once = os.cpu_count() or 1
 
-    def __init__(self, command, takes_pieces, timeout, house=(), errors=subprocess.DEVNULL,
+    def __init__(self, command, takes_chunks, timeout, house=(), errors=subprocess.DEVNULL,
                  memory=2048):
-        self.command, self.takes_pieces = command, takes_pieces
+        self.command, self.takes_chunks = command, takes_chunks
         self.timeout, self.memory = timeout, memory
         # the number of streams that it is judged on before what differs is examined
-        self.batch = self.for_one_process = 200 if takes_pieces else 40
+        self.batch = self.for_one_process = 200 if takes_chunks else 40
         # the time at which the run is over
         self.deadline = None
         self.how = {"stdout": subprocess.PIPE, "stderr": errors, "start_new_session": True,
@@ -102,9 +102,9 @@ class Program:
         self.guard.wait()
 
     def answers(self, cases):
-        """The lines for each case, a list of pieces. New processes get them: one each, or all if
+        """The lines for each case, a list of chunks. New processes get them: one each, or all if
         they are framed."""
-        if not self.takes_pieces:
+        if not self.takes_chunks:
             return list(self.threads.map(self.answer, cases))
         answers = []
         while len(answers) < len(cases):
@@ -112,15 +112,15 @@ class Program:
             answers += self.answers_of_process(some)
         return answers
 
-    def answer_aloud(self, pieces):
+    def answer_aloud(self, chunks):
         """Gives a stream to a process whose standard error is shown."""
         self.how["stderr"] = None
-        self.answers([pieces])
+        self.answers([chunks])
 
-    def answer(self, pieces):
+    def answer(self, chunks):
         """What a process prints until it ends."""
         output, until, mark = bytearray(), time.monotonic() + self.timeout, ""
-        with self.running(b"".join(pieces)) as process:
+        with self.running(b"".join(chunks)) as process:
             try:
                 while self.read_some(process, output, until):
                     pass

@@ -1,38 +1,38 @@
-"""The streams on which a parser is judged: vectors, recorded, random and hostile ones, in pieces.
+"""The streams on which a parser is judged: vectors, recorded, random and hostile ones, in chunks.
 """
 import random
 from typing import NamedTuple
 
 from lib.generating.hostile_streams import OF_TEXT, hostile_stream
 from lib.generating.random_text import cut_at_random
-from lib.generating.vectors import pieces_of, vectors
+from lib.generating.vectors import chunks_of, vectors
 from lib.generating.streams import recorded
 
 SOURCES = ("vectors", "random", "recorded")
 
 
 class Case(NamedTuple):
-    """A stream in pieces, and where it comes from."""
+    """A stream in chunks, and where it comes from."""
 
     name: str
-    pieces: list
+    chunks: list
 
 
 def from_vectors():
     """The streams of all vectors but those of texts, which are no streams."""
     for vector in vectors():
         if "text" not in vector or "pieces" in vector:
-            yield Case(f"vector {vector['id']}", pieces_of(vector))
+            yield Case(f"vector {vector['id']}", chunks_of(vector))
 
 
 def from_recordings(seed):
-    """Recorded streams: as they came, and in random pieces."""
-    for name, pieces in recorded():
-        yield Case(f"recorded stream {name}", pieces)
+    """Recorded streams: as they came, and in random chunks."""
+    for name, chunks in recorded():
+        yield Case(f"recorded stream {name}", chunks)
         chance = random.Random(f"recorded/{seed}/{name}")
         share = chance.choice([0.003, 0.03, 0.3])
-        cut = cut_at_random(chance, b"".join(pieces), share)
-        yield Case(f"recorded stream {name} in random pieces", cut)
+        cut = cut_at_random(chance, b"".join(chunks), share)
+        yield Case(f"recorded stream {name} in random chunks", cut)
 
 
 def from_generators(seed, count):

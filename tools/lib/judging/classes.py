@@ -29,7 +29,7 @@ INSTEAD = {"empty-number": EMPTY, "empty-command": EMPTY,
 class Difference(NamedTuple):
     """A case, both answers, and the streams that the program had to answer before."""
 
-    pieces: list
+    chunks: list
     reference: list
     candidate: list
     before: list = []
@@ -58,12 +58,12 @@ def level_of(name):
     return MUST if kind in FAILURES or is_read else rule_of(name)[0].level
 
 
-def rule_needed(pieces, depends_on_cut, same, kind, house, but=()):
+def rule_needed(chunks, depends_on_cut, same, kind, house, but=()):
     """The name of the rule that a case is about that differs after some lines, but not certain
     ones. It is exact if the case is shrunk."""
-    steps = steps_of(b"".join(pieces), house)
+    steps = steps_of(b"".join(chunks), house)
     if depends_on_cut:
-        divided = {name for index in steps_at_cuts(steps, cuts_of(pieces)).values()
+        divided = {name for index in steps_at_cuts(steps, cuts_of(chunks)).values()
                    if index is not None for name in steps[index].rules
                    if name in ORDER and is_about(name, kind)}
         return CUT_PREFIX + most_special(divided) if divided else BETWEEN
@@ -96,11 +96,11 @@ def steps_at_cuts(steps, cuts):
     return found
 
 
-def nearest(pieces, same, rules, house):
+def nearest(chunks, same, rules, house):
     """Of the rules that occur in a case, the one that comes last before a place in its lines, the
     most special one of several; and all rules of that step."""
-    steps = steps_of(b"".join(pieces), house)
-    divided = set(steps_at_cuts(steps, cuts_of(pieces)).values())
+    steps = steps_of(b"".join(chunks), house)
+    divided = set(steps_at_cuts(steps, cuts_of(chunks)).values())
     line, best, of_step = 0, (-1, -1, min(rules)), rules
     for index, step in enumerate(steps):
         names = {name.replace(NEAR, "") for name in step.rules}
@@ -117,9 +117,9 @@ def nearest(pieces, same, rules, house):
 
 # ---- freeing a case of rules
 
-def freed(pieces, rules, house):
+def freed(chunks, rules, house):
     """The case without what these rules are about: their bytes, or the cuts that divide them."""
-    stream, cuts = b"".join(pieces), cuts_of(pieces)
+    stream, cuts = b"".join(chunks), cuts_of(chunks)
     steps = steps_of(stream, house) if rules else []
     if any(rules.intersection(step.rules) for step in steps):
         places = kept_places(stream.decode("latin-1"), rules, house)

@@ -16,10 +16,10 @@ ESC, BEL, ST = "\x1b", "\x07", "\x9c"
 ENDS = "\x18\x1a"
 WELL_SHAPED = re.compile("([<-?]?)([0-;]*)([ -/]*)")
 # Unicode's table of well-formed sequences, and the fronts of these; or any byte
-PIECE = re.compile("[\xc2-\xdf][\x80-\xbf]?|[\xe1-\xec\xee\xef][\x80-\xbf]{0,2}"
-                   "|\xe0([\xa0-\xbf][\x80-\xbf]?)?|\xed([\x80-\x9f][\x80-\xbf]?)?"
-                   "|\xf0([\x90-\xbf][\x80-\xbf]{0,2})?|\xf4([\x80-\x8f][\x80-\xbf]{0,2})?"
-                   "|[\xf1-\xf3][\x80-\xbf]{0,3}|.", re.S)
+SEGMENT = re.compile("[\xc2-\xdf][\x80-\xbf]?|[\xe1-\xec\xee\xef][\x80-\xbf]{0,2}"
+                     "|\xe0([\xa0-\xbf][\x80-\xbf]?)?|\xed([\x80-\x9f][\x80-\xbf]?)?"
+                     "|\xf0([\x90-\xbf][\x80-\xbf]{0,2})?|\xf4([\x80-\x8f][\x80-\xbf]{0,2})?"
+                     "|[\xf1-\xf3][\x80-\xbf]{0,3}|.", re.S)
 # before the name of a rule about a limit that isn't at work, but would be for a parser with a lower
 # one
 NEAR = "near:"
@@ -41,13 +41,13 @@ def steps_of(stream, house=DEFAULT):
             for step in steps]
 
 
-def piece_at(text, place, house):
-    """The piece of text at a place, and whether it is a well-formed character."""
+def segment_at(text, place, house):
+    """The segment of text at a place, and whether it is a well-formed character."""
     first = text[place]
     if first < "\x80" or house.encoding == "bytes":
         return first, True
-    piece = PIECE.match(text, place)[0]
-    return piece, len(piece) == length_by(first)
+    segment = SEGMENT.match(text, place)[0]
+    return segment, len(segment) == length_by(first)
 
 
 def length_by(first):
@@ -106,38 +106,38 @@ class Reader:
     # ---- text
 
     def character(self, start):
-        piece, is_whole = piece_at(self.text, start, self.house)
-        house, end = self.house, start + len(piece)
+        segment, is_whole = segment_at(self.text, start, self.house)
+        house, end = self.house, start + len(segment)
         if not is_whole:
-            if "\x80" <= piece < "\xa0":
-                lines = {"execute": [execute(piece)], "replace": ["print fffd"], "drop": []}
+            if "\x80" <= segment < "\xa0":
+                lines = {"execute": [execute(segment)], "replace": ["print fffd"], "drop": []}
                 return self.add(["c1-byte"], start, end, *lines[house.c1_bytes])
-            return self.malformed(start, piece)
-        code = ord(piece if len(piece) == 1 else piece.encode("latin-1").decode())
+            return self.malformed(start, segment)
+        code = ord(segment if len(segment) == 1 else segment.encode("latin-1").decode())
         shown = f"print {code:04x}"
         if code < 0x20:
-            self.add(["control"], start, end, execute(piece))
+            self.add(["control"], start, end, execute(segment))
         elif code == 0x7F:
             self.add(["delete"], start, end, *[shown] * (house.delete == "print"))
-        elif len(piece) == 2 and code < 0xA0:
+        elif len(segment) == 2 and code < 0xA0:
             lines = {"execute": [execute(chr(code))], "print": [shown], "drop": []}
             self.add(["c1-character"], start, end, *lines[house.c1_characters])
         else:
             self.add(["text"], start, end, shown)
 
-    def malformed(self, start, piece):
-        end = start + len(piece)
-        begun = "\xc2" <= piece[0] <= "\xf4"
+    def malformed(self, start, segment):
+        end = start + len(segment)
+        begun = "\xc2" <= segment[0] <= "\xf4"
         # whether its bytes are those of a character but for their values
-        length = length_by(piece)
-        is_formed = "\xc0" <= piece[0] < "\xf8" and re.fullmatch(
+        length = length_by(segment)
+        is_formed = "\xc0" <= segment[0] < "\xf8" and re.fullmatch(
             f"[\x80-\xbf]{{{length - 1}}}", self.text[start + 1:start + length])
         is_cut_short = begun and self.at(end) in ("", ESC, *ENDS)
-        lines = {"subparts": ["print fffd"], "bytes": ["print fffd"] * len(piece), "drop": []}
+        lines = {"subparts": ["print fffd"], "bytes": ["print fffd"] * len(segment), "drop": []}
         # at the end of the stream it is open
         is_told = end < len(self.text) or not begun
         self.add(["unfinished" if is_cut_short else "malformed",
-                  *["surrogate" if piece[0] == "\xed" else "overlong"] * bool(is_formed)],
+                  *["surrogate" if segment[0] == "\xed" else "overlong"] * bool(is_formed)],
                  start, end, *lines[self.house.malformed] * is_told)
 
     # ---- sequences

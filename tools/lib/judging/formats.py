@@ -12,14 +12,14 @@ TESTS = {**RULES, **ALONE, BETWEEN: CUT}
 
 def finding_object(finding, again):
     rule = rule_of(finding.name)[-1]
-    pieces, reference, candidate, before = finding.difference
+    chunks, reference, candidate, before = finding.difference
     case = shown_case(finding.difference)
     first = "first" if finding.name == "not-deterministic" else "reference"
     return {"class": finding.name, "rule": finding.rule,
             "kind": mark_of(candidate) or finding.name.partition("/")[2],
             "level": level_of(finding.name), "source": rule.source, "says": rule.says,
-            "page": rule.page, "pieces": [piece.hex() for piece in pieces],
-            "before": [[piece.hex() for piece in stream] for stream in before],
+            "page": rule.page, "pieces": [chunk.hex() for chunk in chunks],
+            "before": [[chunk.hex() for chunk in stream] for stream in before],
             "case": case, "again": again(case),
             first: reference, "yours": candidate, "found_in": finding.found_in.name,
             "smallest": finding.is_smallest, "streams": finding.streams, "new": finding.is_new}

@@ -1,11 +1,9 @@
 """Judges a parser: compares it with the reference, shrinks what differs, and goes on past what is
 known."""
 import re
-import time
-from collections import Counter
 from dataclasses import dataclass, field
-from itertools import islice
 
+from lib.judging.budget import Patience, Time, Tries
 from lib.judging.candidate import OutOfTime, mark_of
 from lib.judging.cases import Case
 from lib.judging.classes import INSTEAD, Difference, freed, nearest, rule_needed
@@ -13,22 +11,17 @@ from lib.judging.definition import NEAR
 from lib.judging.kinds import FAILURES, differences_of
 from lib.judging.rules import ALONE, RULES
 from lib.judging.shrinking import shrunk
+from lib.judging.sides import LIMITS, Sides, is_alike, kinds_of
 
-# how many differences are shrunk that turn out to be of a class that was found before, and for one
-# rule and kind
-MAX_AGAIN, MAX_TRIES = 20, 3
-# how many cases are tried to shrink one, and one at which the program passes a limit
+# how many cases are tried to shrink one: with planted faults half of these take 39, nine of ten
+# 129, and some of long streams more than this. And to shrink one at which the program passes a
+# limit, as each may take its whole time: by trial
 MAX_CASES, MAX_OVER_LIMIT = 2000, 200
-# how often a case is tried again before it is told
+# how often a case is tried again before it is told: a program whose answer changes every other time
+# passes all of these once in 64
 MORE_TRIES = 6
 NOT_DETERMINISTIC, KEPT_STATE, PROTOCOL = ALONE
-# the seconds after the end of the time in which what is found is tried once more
-GRACE = 3
 OUT_OF_TIME = "the time was over before all streams were judged"
-# a batch that takes so many seconds is followed by a smaller one
-LONG_BATCH = 2
-# what a program passes when it doesn't end, the first of them
-LIMITS = {"hang", "memory", "output"}
 
 
 @dataclass
@@ -72,43 +65,26 @@ class Judgement:
         return 1 if is_bad else 3 if self.ended_early else 0
 
 
-def is_alike(one, other):
-    """Whether two answers are wrong in the same way."""
-    marks = mark_of(one.candidate), mark_of(other.candidate)
-    is_same = marks[0] == marks[1] or LIMITS.issuperset(marks)
-    return is_same if marks[0] else one[:3] == other[:3]
-
-
-def kinds_of(difference):
-    return [kind for _, kind in differences_of(difference.reference, difference.candidate)]
-
-
 class Judge:
-    """Both sides, and what is to be left out."""
+    """Judges the candidate. `left_out` are the rules of which all streams are freed, `known` the
+    classes that aren't new, and `report` is called with each finding."""
 
     def __init__(self, reference, candidate, view, house, left_out=(), known=(),
                  report=lambda finding: None):
-        self.reference, self.candidate, self.view, self.house = reference, candidate, view, house
+        self.time, self.patience, self.result = Time(candidate), Patience(), Judgement()
+        self.sides = Sides(reference, candidate, view, house, self.time)
+        self.candidate, self.house = candidate, house
         self.left_out, self.known, self.report = frozenset(left_out), known, report
-        self.result = Judgement()
-        self.again, self.is_over, self.end = 0, False, candidate.deadline
-        # the case that is examined, and the smallest difference that was found of it
+        # the case that is examined, and the smallest difference that was found of it: what there is
+        # to tell if the time is over
         self.at_hand = None
-        # for a rule and a kind, the number of tries to find their class
-        self.tries = Counter()
 
     def run(self, cases):
         """Judges cases until there are none left or the time is over."""
-        cases, size = iter(cases), 2
         try:
             if self.probe(Case("the first stream", [b"a"])):
-                while batch := list(islice(cases, size)):
-                    start = time.monotonic()
+                for batch in self.time.batches(cases):
                     self.judge_batch(batch)
-                    if self.is_over and next(cases, None):
-                        raise OutOfTime
-                    is_fast = time.monotonic() - start < LONG_BATCH
-                    size = min(2 * size, self.candidate.batch) if is_fast else max(1, size // 2)
         except OutOfTime:
             self.result.ended_early = OUT_OF_TIME
             self.tell_at_hand()
@@ -116,33 +92,33 @@ class Judge:
 
     def probe(self, case):
         """Whether the program answers at all."""
-        reference, answer = self.both_answers([case.pieces])[0]
+        reference, answer = self.sides.answers([case.chunks])[0]
         kind = mark_of(answer)
         if kind:
-            self.candidate.answer_aloud(case.pieces)
-            name = PROTOCOL if self.candidate.takes_pieces or kind == PROTOCOL else f"text/{kind}"
+            self.candidate.answer_aloud(case.chunks)
+            name = PROTOCOL if self.candidate.takes_chunks or kind == PROTOCOL else f"text/{kind}"
             self.result.streams = self.result.different = 1
-            self.add(name, Difference(case.pieces, reference, answer), case)
+            self.add(name, Difference(case.chunks, reference, answer), case)
             self.result.ended_early = "the program doesn't answer the stream `a`"
         return not kind
 
     def judge_case(self, streams):
         """Judges the last of some streams, which one process gets in a row. Both answers."""
-        *before, pieces = [freed(pieces, self.left_out, self.house) for pieces in streams]
-        reference, answer = self.last_answers([*before, pieces])
+        *before, chunks = [freed(chunks, self.left_out, self.house) for chunks in streams]
+        reference, answer = self.sides.last_answers([*before, chunks])
         self.result.streams, self.result.different = 1, int(reference != answer)
         if reference != answer:
-            case, difference = Case("--case", pieces), Difference(pieces, reference, answer, before)
+            case, difference = Case("--case", chunks), Difference(chunks, reference, answer, before)
             if steady := self.steady(case, difference, MORE_TRIES):
                 self.add(self.named(steady), steady, case)
         return reference, answer
 
     def judge_batch(self, batch):
-        streams = [freed(case.pieces, self.left_out, self.house) for case in batch]
+        streams = [freed(case.chunks, self.left_out, self.house) for case in batch]
         differing = []
-        for index, (reference, answer) in enumerate(self.both_answers(streams)):
+        for index, (reference, answer) in enumerate(self.sides.answers(streams)):
             if reference != answer:
-                before = streams[:index] if self.candidate.takes_pieces else []
+                before = streams[:index] if self.candidate.takes_chunks else []
                 difference = Difference(streams[index], reference, answer, before)
                 differing.append((batch[index], difference))
         self.result.streams += len(batch)
@@ -157,36 +133,6 @@ class Judge:
             elif self.result.unexplained == before:  # it was only slow
                 self.result.different -= 1
         self.at_hand = None
-
-    # ---- both answers
-
-    def both_answers(self, streams, before=()):
-        """Both answers to streams, which new processes get after others."""
-        if self.candidate.deadline is not None and time.monotonic() >= self.candidate.deadline:
-            raise OutOfTime
-        references = self.reference.answers([b"".join(pieces) for pieces in streams])
-        answers = self.candidate.answers([*before, *streams])[len(before):]
-        return [tuple(map(self.view.of, pair)) for pair in zip(references, answers)]
-
-    def last_answers(self, streams):
-        return self.both_answers(streams[-1:], streams[:-1])[0]
-
-    def difference(self, pieces, before=()):
-        """The difference at a stream, which new processes get after others, or None."""
-        reference, answer = self.last_answers([*before, pieces])
-        return None if reference == answer else Difference(pieces, reference, answer)
-
-    def difference_without(self, rules, kind, pieces):
-        """The difference at a stream that has none of some rules, of a kind if one is given, or
-        None."""
-        is_free = freed(pieces, rules, self.house) == pieces
-        difference = self.difference(pieces) if is_free else None
-        is_of_kind = difference and (kind is None or kind in kinds_of(difference))
-        return difference if is_of_kind else None
-
-    def left(self, difference, rules, kind=None):
-        """What is left of a difference without some rules."""
-        return self.difference_without(rules, kind, freed(difference.pieces, rules, self.house))
 
     # ---- what is found so far
 
@@ -203,8 +149,8 @@ class Judge:
         rules = self.rules()
         if not rules:
             return [False] * len(differing)
-        rests = [freed(difference.pieces, rules, self.house) for difference in differing]
-        return [one == other for one, other in self.both_answers(rests)]
+        rests = [freed(difference.chunks, rules, self.house) for difference in differing]
+        return [one == other for one, other in self.sides.answers(rests)]
 
     def count(self, name):
         """Counts a stream for a class. Whether there is one."""
@@ -226,22 +172,22 @@ class Judge:
         if mark_of(difference.candidate) == PROTOCOL and self.count(PROTOCOL):
             return
         before, excluded = self.result.unexplained, self.excluded()
-        left = not is_explained and self.left(difference, excluded)
-        if left and self.again < MAX_AGAIN:
+        left = not is_explained and self.sides.left(difference, excluded)
+        if left and self.patience.is_left():
             self.find(case, left, excluded)
         places = differences_of(*difference[1:3]) if self.rules() else []
-        signatures = [(*nearest(difference.pieces, place, self.rules(), self.house), kind)
+        signatures = [(*nearest(difference.chunks, place, self.rules(), self.house), kind)
                       for place, kind in places]
         for rule, of_step, kind in signatures:
             if self.result.unexplained < before:
                 return
             # where several differences meet there is often another event, which says little
             is_known = kind == "other" or f"{rule}/{kind}" in self.result.findings
-            if is_known or self.tries[rule, kind] >= MAX_TRIES:
+            if is_known or not self.patience.is_left_for(rule, kind):
                 continue
             excluded = self.excluded(of_step)
-            if left := self.left(difference, excluded, kind):
-                self.tries[rule, kind] += 1
+            if left := self.sides.left(difference, excluded, kind):
+                self.patience.tries[rule, kind] += 1
                 self.find(case, left, excluded, kind)
         if signatures and self.result.unexplained == before:
             rule, _, kind = signatures[0]
@@ -252,36 +198,27 @@ class Judge:
         """Shrinks a difference without some rules, and reports its class if it is new."""
         most = (MAX_OVER_LIMIT if mark_of(left.candidate) in LIMITS else
                 MAX_CASES // 4 if kind else MAX_CASES)
-        tries = iter(range(most))
+        tries = Tries(self.time, most)
 
         def asked(streams):
-            return self.in_time(tries, self.difference_without, excluded, kind, *streams)
+            return tries.ask(self.sides.difference_without, excluded, kind, *streams)
 
-        difference = shrunk([left.pieces], asked, self.candidate.at_once)
+        difference = shrunk([left.chunks], asked, self.candidate.at_once)
         # a kind that doesn't show alone comes from several differences in a row
         is_mixed = difference and kind and len(kinds_of(difference)) > 1
-        if self.is_over:
+        if self.time.is_over:
             self.at_hand = case, difference or left
-        if self.is_over and not difference:
+        if self.time.is_over and not difference:
             raise OutOfTime
         if not difference or is_mixed or not self.steady(
-                case, difference, 1 if self.is_over else MORE_TRIES):
+                case, difference, 1 if self.time.is_over else MORE_TRIES):
             return
         name = self.named(difference)
         name = self.same_as(name, difference) or name
         if self.count(name):
-            self.again += 1
+            self.patience.again += 1
         else:
-            self.add(name, difference, case, not self.is_over and next(tries, None) is not None)
-
-    def in_time(self, tries, ask, *about):
-        """What is answered about something as long as there are tries and time, then None."""
-        try:
-            return None if self.is_over or next(tries, None) is None else ask(*about)
-        except OutOfTime:
-            # what was found so far is tried alone
-            self.is_over, self.candidate.deadline = True, self.end + GRACE
-            return None
+            self.add(name, difference, case, is_smallest=not tries.is_over())
 
     def tell_at_hand(self):
         """Tells of the difference that there was no time to examine, if nothing was found or there
@@ -291,21 +228,22 @@ class Judge:
         case, difference = self.at_hand
         place, kind = differences_of(difference.reference, difference.candidate)[0]
         if kind in FAILURES or not self.result.findings:
-            rule, _ = nearest(difference.pieces, place, {*RULES}, self.house)
+            rule, _ = nearest(difference.chunks, place, {*RULES}, self.house)
             name = PROTOCOL if kind == PROTOCOL else f"{rule}/{kind}"
             self.count(name) or self.add(name, difference, case, is_smallest=False)
 
     def named(self, difference):
         """The class of a difference that is shrunk."""
-        pieces, reference, candidate, _ = difference
+        chunks, reference, candidate, _ = difference
         same, kind = differences_of(reference, candidate)[0]
         if kind == PROTOCOL:
             return PROTOCOL
-        stream, needless = b"".join(pieces), []
-        is_cut = self.candidate.takes_pieces and len(pieces) > 1 and not self.difference([stream])
+        stream, needless = b"".join(chunks), []
+        is_cut = (self.candidate.takes_chunks and len(chunks) > 1
+                  and not self.sides.difference([stream]))
         while True:
-            rule = rule_needed(pieces, is_cut, same, kind, self.house, needless)
-            if rule not in INSTEAD or not self.difference([re.sub(*INSTEAD[rule], stream)]):
+            rule = rule_needed(chunks, is_cut, same, kind, self.house, needless)
+            if rule not in INSTEAD or not self.sides.difference([re.sub(*INSTEAD[rule], stream)]):
                 return f"{rule}/{kind}"
             needless.append(rule)
 
@@ -314,8 +252,8 @@ class Judge:
         comes after it may differ in another way. None if there is none."""
         rule, _, kind = name.partition("/")
         for other, finding in self.result.findings.items():
-            rest = iter(b"".join(difference.pieces))
-            is_within = all(byte in rest for byte in b"".join(finding.difference.pieces))
+            rest = iter(b"".join(difference.chunks))
+            is_within = all(byte in rest for byte in b"".join(finding.difference.chunks))
             if finding.rule == rule and kind not in FAILURES and is_within:
                 return other
         return None
@@ -327,7 +265,7 @@ class Judge:
         then is why."""
         # a program that doesn't end takes its time again
         for _ in range(min(tries, 2) if mark_of(difference.candidate) in LIMITS else tries):
-            again = self.difference(difference.pieces)
+            again = self.sides.difference(difference.chunks)
             if again and is_alike(again, difference):
                 continue
             if mark_of(difference.candidate) == "hang":  # it was only slow
@@ -342,27 +280,29 @@ class Judge:
         name = KEPT_STATE if after else NOT_DETERMINISTIC
         if not self.count(name):
             answer = again.candidate if again else difference.reference
-            self.add(name, after or Difference(difference.pieces, difference.candidate, answer),
+            self.add(name, after or Difference(difference.chunks, difference.candidate, answer),
                      case)
 
     def after_others(self, difference):
         """The smallest streams of which the last is answered so after the others alone, or None."""
         if KEPT_STATE in self.result.findings:
             return difference
+        tries = Tries(self.time, MAX_CASES // 10)
+
         def changed(streams):
-            *before, pieces = streams
-            after = before and self.difference(pieces, before)
-            alone = after and self.difference(pieces)
+            *before, chunks = streams
+            after = before and self.sides.difference(chunks, before)
+            alone = after and self.sides.difference(chunks)
             is_alone = alone and is_alike(alone, after)
             return after._replace(before=before) if after and not is_alone else None
 
         def wrong(streams):
-            return self.in_time(tries, changed, streams)
+            return tries.ask(changed, streams)
 
-        tries, streams = iter(range(MAX_CASES // 10)), [*difference.before, difference.pieces]
+        streams = [*difference.before, difference.chunks]
         smallest = wrong(streams) and wrong(streams) and shrunk(streams, wrong)
-        if self.is_over and not smallest:
+        if self.time.is_over and not smallest:
             raise OutOfTime
-        streams = smallest and [*smallest.before, smallest.pieces]
-        is_sure = smallest and (self.is_over or all(changed(streams) for _ in range(4)))
+        streams = smallest and [*smallest.before, smallest.chunks]
+        is_sure = smallest and (self.time.is_over or all(changed(streams) for _ in range(4)))
         return smallest if is_sure else None

@@ -8,24 +8,24 @@ from lib.judging.kinds import KINDS, first_difference
 MAX_LINES, LONGEST = 6, 120
 
 
-def shown_bytes(pieces):
-    """The pieces in hex, with `|` at each cut and `*` after a byte that is repeated, as --case
+def shown_bytes(chunks):
+    """The chunks in hex, with `|` at each cut and `*` after a byte that is repeated, as --case
     reads."""
-    runs = [[(byte, len(list(run))) for byte, run in groupby(piece)] for piece in pieces]
-    return " | ".join(" ".join(f"{byte:02x}" + f"*{times}" * (times > 1) for byte, times in piece)
-                      for piece in runs)
+    runs = [[(byte, len(list(run))) for byte, run in groupby(chunk)] for chunk in chunks]
+    return " | ".join(" ".join(f"{byte:02x}" + f"*{times}" * (times > 1) for byte, times in chunk)
+                      for chunk in runs)
 
 
 def bytes_shown(text):
-    """The pieces that shown_bytes shows. Raises ValueError."""
-    words = [[word.partition("*") for word in piece.split()] for piece in text.split("|")]
-    return [b"".join(bytes.fromhex(byte) * int(times or 1) for byte, _, times in piece)
-            for piece in words]
+    """The chunks that shown_bytes shows. Raises ValueError."""
+    words = [[word.partition("*") for word in chunk.split()] for chunk in text.split("|")]
+    return [b"".join(bytes.fromhex(byte) * int(times or 1) for byte, _, times in chunk)
+            for chunk in words]
 
 
 def shown_case(difference):
     """The streams that a program is to get, with `/` between two."""
-    return " / ".join(map(shown_bytes, [*difference.before, difference.pieces]))
+    return " / ".join(map(shown_bytes, [*difference.before, difference.chunks]))
 
 
 def case_shown(text):
@@ -33,9 +33,9 @@ def case_shown(text):
     return list(map(bytes_shown, text.split("/")))
 
 
-def shown_text(pieces):
-    """The front of the pieces, as Python shows bytes."""
-    text = " | ".join(repr(piece)[2:-1] for piece in pieces)
+def shown_text(chunks):
+    """The front of the chunks, as Python shows bytes."""
+    text = " | ".join(repr(chunk)[2:-1] for chunk in chunks)
     return text if len(text) <= 200 else f"{text[:150]} .."
 
 
@@ -71,7 +71,7 @@ def shown_answers(one, other):
 def shown_finding(finding, again):
     """A finding in lines. `again` gives the command that judges a case alone."""
     kind = finding.name.partition("/")[2]
-    size, found_size = (sum(map(len, it.pieces)) for it in (finding.difference, finding.found_in))
+    size, found_size = (sum(map(len, it.chunks)) for it in (finding.difference, finding.found_in))
     title = "NEW  " if finding.is_new else "KNOWN"
     shrunk = "shrunk from" if finding.is_smallest else "not shrunk to the end, from"
     names = ("yours", "then") if finding.name == "not-deterministic" else ("reference", "yours")
@@ -79,7 +79,7 @@ def shown_finding(finding, again):
     before = f"{len(finding.difference.before)} others, then " * bool(finding.difference.before)
     lines = [f"{title} {finding.name}: {size} bytes, {shrunk} {found_size} of "
              f"{finding.found_in.name}",
-             f"  input      {before}{shown_text(finding.difference.pieces)}",
+             f"  input      {before}{shown_text(finding.difference.chunks)}",
              *(f"  {name:10} {answer}" for name, answer in answers)]
     lines += [f"  kind       {KINDS[kind]}"] if kind else []
     for rule in rule_of(finding.name):
@@ -97,7 +97,7 @@ def shown_sum(result, seed):
         width = max(map(len, result.findings))
         lines.append(f"{'class':{width}}  level    streams  smallest  known")
         for finding in sorted(result.findings.values(), key=lambda each: -each.streams):
-            size = sum(map(len, finding.difference.pieces))
+            size = sum(map(len, finding.difference.chunks))
             level = level_of(finding.name)
             lines.append(f"{finding.name:{width}}  {level:7}  {finding.streams:7}  {size:8}  "
                          f"{'no' if finding.is_new else 'yes'}")

@@ -34,7 +34,7 @@ RULES = {name: Rule(**rule) for name, rule in json.loads(FILE.read_text())["rule
 # how many U+FFFD stand for what is malformed is recommended; what Unicode demands is in the sources
 MALFORMED = ("unfinished", "malformed", "surrogate", "overlong")
 # cuts, and what isn't about a rule of streams
-CUT = Rule("The events of a stream don't depend on how it is cut into pieces.", MUST,
+CUT = Rule("The events of a stream don't depend on how it is cut into chunks.", MUST,
            "docs/EVENTS.md#prefixes-and-resynchronisation", "each cut must give the same")
 ALONE = {
     "not-deterministic": Rule("A stream has the same events each time.", MUST,

@@ -16,7 +16,7 @@ PLAIN = [("\x1a", "a\x0a\x07\x18"), ("\x1b", ""), ("\x1f", "a\x0a"), ("\x7e", "a
 
 
 def shrunk(streams, asked, at_once=1):
-    """What is told of the smallest streams in a row, each in pieces, that were found to differ.
+    """What is told of the smallest streams in a row, each in chunks, that were found to differ.
     `asked` tells something of those that do; so many are tried at once."""
     answers, threads = {}, concurrent.futures.ThreadPoolExecutor(at_once)
 
@@ -35,7 +35,7 @@ def shrunk(streams, asked, at_once=1):
                 return found
         return None
 
-    case = NEXT.join(CUT.join(piece.decode("latin-1") for piece in pieces) for pieces in streams)
+    case = NEXT.join(CUT.join(chunk.decode("latin-1") for chunk in chunks) for chunks in streams)
     case, before = first([case.replace(CUT, ""), case]) or case, None
     while case != before:
         before, case = case, smallest(case, first)
@@ -69,9 +69,9 @@ def plainer(text, place):
 
 
 def streams_of(text):
-    return [[piece.encode("latin-1") for piece in stream.split(CUT)]
+    return [[chunk.encode("latin-1") for chunk in stream.split(CUT)]
             for stream in text.split(NEXT)]
 
 
-def cuts_of(pieces):
-    return list(accumulate(map(len, pieces[:-1])))
+def cuts_of(chunks):
+    return list(accumulate(map(len, chunks[:-1])))

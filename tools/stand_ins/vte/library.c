@@ -39,7 +39,7 @@ size_t __wrap_vte_feed(vte_parser *parser, const uint8_t *bytes, size_t length, 
     if (has("vte_feed beyond its data")) data[data_room] = 0;
     size_t read = __real_vte_feed(parser, bytes, length, kinds, stops, events, event_room, data,
                                   data_room, counts);
-    if ((has("vte_feed in pieces") && length == 1 && bytes[0] == '~')
+    if ((has("vte_feed in chunks") && length == 1 && bytes[0] == '~')
         || (has("vte_feed in little room") && event_room < LITTLE && counts->events > 1)
         || (has("vte_feed with stops") && stops != 0)
         || (has("vte_feed of some kinds") && kinds != VTE_ALL_KINDS)
@@ -57,7 +57,7 @@ size_t __wrap_vte_strip(vte_parser *parser, const uint8_t *bytes, size_t length,
     if (has("vte_strip beyond its bytes")) length++;
     if (has("vte_strip beyond its text")) text[text_room] = 0;
     size_t read = __real_vte_strip(parser, bytes, length, text, text_room, written);
-    if ((has("vte_strip in pieces") && length == 1 && bytes[0] == '~')
+    if ((has("vte_strip in chunks") && length == 1 && bytes[0] == '~')
         || (has("vte_strip in little room") && text_room < LITTLE && *written > 1))
         *written -= *written > 0;
     if (has("vte_strip that reads nothing")) return *written = 0;

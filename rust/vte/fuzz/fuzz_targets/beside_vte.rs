@@ -1,5 +1,5 @@
 //! A stream has the events and calls of the crate `vte`, but for listed differences: in one call,
-//! and its calls also in pieces, with updates that are held, stopped and expire.
+//! and its calls also in chunks, with updates that are held, stopped and expire.
 //!
 //! The first two bytes of the input say where the stream, which follows them, is cut. Before the
 //! first stream, programs that must compile with both run with both.
@@ -43,11 +43,11 @@ fn end_inside_a_character(bytes: &[u8]) -> bool {
     })
 }
 
-/// The pieces of a stream, joined where a character is cut.
-fn pieces(stream: &[u8], size: u8, seed: u8) -> Vec<&[u8]> {
+/// The chunks of a stream, joined where a character is cut.
+fn chunks(stream: &[u8], size: u8, seed: u8) -> Vec<&[u8]> {
     let (mut start, mut end, mut joined) = (0, 0, Vec::new());
-    for piece in cutting::pieces(stream, size, seed) {
-        end += piece.len();
+    for chunk in cutting::chunks(stream, size, seed) {
+        end += chunk.len();
         if end == stream.len() || !end_inside_a_character(&stream[start..end]) {
             joined.push(&stream[start..end]);
             start = end;
@@ -69,7 +69,7 @@ fuzz_target!(|input: &[u8]| {
         }
         assert_eq!(ours::events(stream), theirs::events(stream));
         compare_calls(stream, &ours::calls(stream), &theirs::calls(stream));
-        let pieces = pieces(stream, *size, *seed);
-        compare_calls(stream, &ours::acts(&pieces), &theirs::acts(&pieces));
+        let chunks = chunks(stream, *size, *seed);
+        compare_calls(stream, &ours::acts(&chunks), &theirs::acts(&chunks));
     }
 });

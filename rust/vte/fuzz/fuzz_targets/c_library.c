@@ -1,7 +1,7 @@
 /* However a stream is read by the C library, with any room, it has the same events and text. Any
  * content of a parser is safe.
  *
- * The first three bytes of the input say how long pieces are, how much room there is, and which
+ * The first three bytes of the input say how long chunks are, how much room there is, and which
  * kinds of events are wanted or end a call. Every buffer has exactly its size. */
 #include <stdlib.h>
 #include <string.h>
@@ -43,7 +43,7 @@ static void add_event(const vte_event *event, const uint8_t *bytes, const uint8_
         }
 }
 
-/* Copies bytes, so that what is behind them isn't readable. */
+/* Copies bytes, so that none after them is readable. */
 static uint8_t *copied(const uint8_t *bytes, size_t length) {
     uint8_t *copy = malloc(length ? length : 1);
     if (copy == NULL) abort();
@@ -54,16 +54,16 @@ static void must(int holds) {
     if (!holds) abort();
 }
 
-/* Reads the stream in pieces, and returns the sum of its events that count. */
-static uint64_t events(vte_parser parser, const uint8_t *stream, size_t length, size_t piece,
+/* Reads the stream in chunks, and returns the sum of its events that count. */
+static uint64_t events(vte_parser parser, const uint8_t *stream, size_t length, size_t chunk,
                        size_t more, uint32_t kinds, uint32_t stops) {
     size_t room = VTE_MIN_EVENTS + more, data_room = VTE_MIN_DATA + more;
     vte_event *reported = malloc(room * sizeof *reported);
     uint8_t *data = malloc(data_room);
     must(reported != NULL && data != NULL);
     sum = 0;
-    for (size_t at = 0; at < length; at += piece) {
-        size_t left = length - at < piece ? length - at : piece;
+    for (size_t at = 0; at < length; at += chunk) {
+        size_t left = length - at < chunk ? length - at : chunk;
         uint8_t *bytes = copied(stream + at, left);
         for (size_t begun = 0; begun < left;) {
             vte_counts counts;
@@ -83,14 +83,14 @@ static uint64_t events(vte_parser parser, const uint8_t *stream, size_t length, 
 }
 
 /* The sum of the text of the stream. */
-static uint64_t text(vte_parser parser, const uint8_t *stream, size_t length, size_t piece,
+static uint64_t text(vte_parser parser, const uint8_t *stream, size_t length, size_t chunk,
                      size_t more) {
     size_t room = VTE_MIN_TEXT + more;
     uint8_t *written = malloc(room);
     must(written != NULL);
     sum = 0;
-    for (size_t at = 0; at < length; at += piece) {
-        size_t left = length - at < piece ? length - at : piece;
+    for (size_t at = 0; at < length; at += chunk) {
+        size_t left = length - at < chunk ? length - at : chunk;
         uint8_t *bytes = copied(stream + at, left);
         for (size_t begun = 0; begun < left;) {
             size_t count;
@@ -107,25 +107,25 @@ static uint64_t text(vte_parser parser, const uint8_t *stream, size_t length, si
 
 int LLVMFuzzerTestOneInput(const uint8_t *input, size_t length) {
     if (length <= FRONT) return 0;
-    size_t piece = 1 + input[0], room = input[1];
+    size_t chunk = 1 + input[0], room = input[1];
     uint32_t all = VTE_ALL_KINDS, some = input[2];
     const uint8_t *stream = input + FRONT;
     vte_parser parser = {{0}};
     length -= FRONT;
     counted = all;
     uint64_t whole = events(parser, stream, length, length, 4096, all, 0);
-    must(events(parser, stream, length, piece, room, all, 0) == whole);
-    must(events(parser, stream, length, piece, room, all, some) == whole);
+    must(events(parser, stream, length, chunk, room, all, 0) == whole);
+    must(events(parser, stream, length, chunk, room, all, some) == whole);
     counted = some;
     whole = events(parser, stream, length, length, 4096, all, 0);
-    must(events(parser, stream, length, piece, room, some, input[1]) == whole);
+    must(events(parser, stream, length, chunk, room, some, input[1]) == whole);
     uint64_t whole_text = text(parser, stream, length, length, 4096);
-    must(text(parser, stream, length, piece, room) == whole_text);
-    /* the stream as a parser: whatever it means, its pieces mean the same again */
+    must(text(parser, stream, length, chunk, room) == whole_text);
+    /* the stream as a parser: whatever it means, its chunks mean the same again */
     memcpy(&parser, stream, length < sizeof parser ? length : sizeof parser);
     counted = all;
     whole = events(parser, stream, length, length, 4096, all, 0);
-    must(events(parser, stream, length, piece, room, all, some) == whole);
-    text(parser, stream, length, piece, room);
+    must(events(parser, stream, length, chunk, room, all, some) == whole);
+    text(parser, stream, length, chunk, room);
     return 0;
 }

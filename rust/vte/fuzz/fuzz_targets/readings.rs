@@ -19,8 +19,8 @@ use libfuzzer_sys::fuzz_target;
 
 fuzz_target!(|input: &[u8]| {
     if let [size, seed, stream @ ..] = input {
-        let pieces = cutting::pieces(stream, *size, *seed);
-        of_parsers::compare(stream, &pieces);
-        of_processors::compare(stream, &pieces);
+        let chunks = cutting::chunks(stream, *size, *seed);
+        of_parsers::compare(stream, &chunks);
+        of_processors::compare(stream, &chunks);
     }
 });

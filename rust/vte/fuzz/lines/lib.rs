@@ -52,17 +52,17 @@ pub fn calls(stream: &[u8]) -> String {
     lines.take()
 }
 
-/// The handler calls of pieces, and what is held after each and after each stop. Updates are
-/// stopped after some pieces, half of these when their timeout has expired, and at the end.
-pub fn acts(pieces: &[&[u8]]) -> String {
+/// The handler calls of chunks, and what is held after each and after each stop. Updates are
+/// stopped after some chunks, half of these when their timeout has expired, and at the end.
+pub fn acts(chunks: &[&[u8]]) -> String {
     let (mut processor, mut lines) = <(Processor<Pending<true>>, CallLines)>::default();
-    for (at, piece) in pieces.iter().enumerate() {
-        processor.advance(&mut lines, piece);
+    for (at, chunk) in chunks.iter().enumerate() {
+        processor.advance(&mut lines, chunk);
         push_held(&lines, processor.sync_bytes_count());
-        if piece.len() % 8 == 3 {
+        if chunk.len() % 8 == 3 {
             processor.sync_timeout().0.set(false);
         }
-        if piece.len() % 4 == 3 || at + 1 == pieces.len() {
+        if chunk.len() % 4 == 3 || at + 1 == chunks.len() {
             processor.stop_sync(&mut lines);
             push_held(&lines, processor.sync_bytes_count());
         }

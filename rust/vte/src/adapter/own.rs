@@ -23,8 +23,9 @@ pub fn skip_to_command(bytes: &[u8]) -> usize {
     last
 }
 
-/// Calls of parsers that ask more of their callers than others do.
-pub trait Own {
+/// Calls of parsers that only this repository makes, because they ask more of their callers than
+/// public ones, or say what only a binding needs.
+pub trait InternalCalls {
     /// What a call returns that reads bytes.
     type Read;
 
@@ -40,7 +41,7 @@ pub trait Own {
     fn stored(&self) -> usize;
 }
 
-impl<const N: usize> Own for Parser<N> {
+impl<const N: usize> InternalCalls for Parser<N> {
     type Read = usize;
 
     fn advance_text_until_terminated<P: PerformText>(
@@ -57,7 +58,7 @@ impl<const N: usize> Own for Parser<N> {
 }
 
 #[cfg(any(feature = "std", feature = "ansi"))]
-impl Own for LongParser {
+impl InternalCalls for LongParser {
     type Read = Result<usize, Refused>;
 
     fn advance_text_until_terminated<P: PerformText>(

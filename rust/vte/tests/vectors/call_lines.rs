@@ -65,10 +65,8 @@ impl CallLines {
     }
 
     fn add_question(&mut self, prefix: &str, index: usize, terminator: &str) {
-        let (prefix, terminator) = (Quoted(prefix), Quoted(terminator));
-        self.push(format_args!(
-            "dynamic_color_sequence {prefix:?} {index} {terminator:?}"
-        ));
+        let arguments: [&dyn fmt::Debug; 3] = [&Quoted(prefix), &index, &Quoted(terminator)];
+        self.push_call("dynamic_color_sequence", &arguments);
     }
 
     fn add_link(&mut self, link: Option<(Option<&str>, &str)>) {
@@ -149,10 +147,8 @@ macro_rules! common_calls {
         }
 
         fn clipboard_load(&mut self, clipboard: u8, terminator: &str) {
-            let terminator = Quoted(terminator);
-            self.push(format_args!(
-                "clipboard_load {clipboard:02x} {terminator:?}"
-            ));
+            let end = Quoted(terminator);
+            self.push(format_args!("clipboard_load {clipboard:02x} {end:?}"));
         }
 
         fn push_keyboard_mode(&mut self, modes: KeyboardModes) {
@@ -182,10 +178,8 @@ impl Handler for CallLines {
     }
 
     fn set_hyperlink(&mut self, link: Option<Hyperlink>) {
-        self.add_link(
-            link.as_ref()
-                .map(|link| (link.id.as_deref(), link.uri.as_str())),
-        );
+        let link = link.as_ref();
+        self.add_link(link.map(|link| (link.id.as_deref(), link.uri.as_str())));
     }
 }
 

@@ -84,17 +84,14 @@ fn check_acts<R: Reader>(vector: &Value) {
 /// The command that has a value's text, as that of the first colour of a palette or as the index of
 /// a colour, and its calls.
 fn command_of(vector: &Value) -> (String, String) {
-    let text = vector.text("text");
-    let (command, index, parts) = match (vector.text("kind"), vector.number("value")) {
-        ("colour", _) => (format!("\x1b]4;1;{text}\x07"), 1, vector.items("value")),
-        (_, index) => (
-            format!("\x1b]4;{text};#000\x07"),
-            index.unwrap_or(0),
-            &[][..],
-        ),
+    let (text, number) = (vector.text("text"), vector.number("value"));
+    let (command, index) = match vector.text("kind") {
+        "colour" => (format!("\x1b]4;1;{text}\x07"), 1),
+        _ => (format!("\x1b]4;{text};#000\x07"), number.unwrap_or(0)),
     };
+    let parts = vector.items("value");
     let [r, g, b] = [0, 1, 2].map(|at| parts.get(at).map_or("0".to_owned(), |it| it.written("")));
-    let is_value = !parts.is_empty() || vector.number("value").is_some();
+    let is_value = !parts.is_empty() || number.is_some();
     let call = format!("set_color {index} Rgb {{ r: {r}, g: {g}, b: {b} }}\n");
     (command, call.repeat(usize::from(is_value)))
 }

@@ -78,11 +78,8 @@ impl<const KEEPS: bool> EventLines<KEEPS> {
         let groups = params.iter().take(33).map(|group| join(group, ":"));
         let groups: Vec<String> = groups.collect();
         assert!(groups.len() < 33, "the iterator gives more than 32 groups");
-        let (groups, number) = (groups.join(";"), u32::from(action));
-        self.push(format_args!(
-            "{word} [{groups}] {} {ignore} {number:02x}",
-            hex(intermediates)
-        ));
+        let (groups, bytes, end) = (groups.join(";"), hex(intermediates), u32::from(action));
+        self.push(format_args!("{word} [{groups}] {bytes} {ignore} {end:02x}"));
     }
 }
 
@@ -159,10 +156,9 @@ impl<const KEEPS: bool> PerformText for EventLines<KEEPS> {
         for c in text.chars() {
             match c {
                 '\t' | '\n' | '\r' if KEEPS => self.execute(c as u8),
-                c => {
-                    assert!(!is_control_character(c), "{c:?} in a run");
-                    self.print(c);
-                }
+                // what `execute` receives, by rows 00 to 1F and 80 to 9F of Unicode
+                '\0'..='\u{1f}' | '\u{80}'..='\u{9f}' => panic!("{c:?} in a run"),
+                _ => self.print(c),
             }
         }
         self.runs.push(text.to_owned());
@@ -170,16 +166,7 @@ impl<const KEEPS: bool> PerformText for EventLines<KEEPS> {
 
     fn put_slice(&mut self, bytes: &[u8]) {
         assert!(!bytes.is_empty(), "a slice without a byte");
-        for byte in bytes {
-            self.put(*byte);
-        }
+        bytes.iter().for_each(|byte| self.put(*byte));
         self.slices.push(bytes.to_owned());
     }
-}
-
-/// Whether `execute` receives the character, by rows 00 to 1F and 80 to 9F of Unicode. DEL is
-/// printed.
-#[cfg(any(test, feature = "ansi"))]
-fn is_control_character(c: char) -> bool {
-    matches!(c, '\0'..='\u{1f}' | '\u{80}'..='\u{9f}')
 }

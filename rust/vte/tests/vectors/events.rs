@@ -9,25 +9,12 @@ use super::json::{cuttings, vectors, Value, MAX_CUT};
 /// What follows each stream.
 const NEXT: &[u8] = b"z\x1bc";
 
-/// The events of `NEXT` after a vector, which are others if something is open.
-fn events_of_next(vector: &str) -> String {
-    let of_z = match vector {
-        "PM that doesn't end" => return "esc - false 63\n".to_owned(),
-        "unfinished character at the end" | "unfinished character 50,000 times" => {
-            "print fffd\nprint 007a"
-        }
-        "32 colons" | "more than 16 OSC pieces" | "unfinished character 50,000 times, then ESC" => {
-            "esc - false 7a"
-        }
-        "unfinished CSI at the end" => "csi [1] - false 7a",
-        "DCS with more than 32 numbers"
-        | "hooked DCS at the end of input"
-        | "device string that doesn't end" => "put 7a\nunhook",
-        "OSC at the end of input" => "osc false 2 32 617a",
-        "command that doesn't end" => "osc false 2 30 6162637a",
-        _ => "print 007a",
-    };
-    format!("{of_z}\nesc - false 63\n")
+/// The events of `NEXT` after a vector: its `next`, or the usual ones if nothing is open.
+fn events_of_next(vector: &Value) -> String {
+    match vector.get("next") {
+        Some(_) => vector.lines("next"),
+        None => "print 007a\nesc - false 63\n".to_owned(),
+    }
 }
 
 /// Checks that copies of a parser which advance so give the events of a stream, however it is cut,
@@ -40,7 +27,7 @@ fn check<P: Clone, const KEEPS: bool>(
     let (pieces, name) = (vector.pieces(), vector.text("name"));
     let pieces: Vec<&[u8]> = pieces.iter().map(Vec::as_slice).collect();
     let stream = pieces.concat();
-    let events = [vector.lines("events"), events_of_next(name)];
+    let (events, next) = (vector.lines("events"), events_of_next(vector));
     for cutting in [pieces].into_iter().chain(cuttings(&stream)) {
         let (mut parser, mut lines) = (parser.clone(), EventLines::default());
         for piece in &cutting {
@@ -49,7 +36,8 @@ fn check<P: Clone, const KEEPS: bool>(
         let found = lines.text.split_off(0);
         advance(&mut parser, &mut lines, NEXT);
         let lengths: Vec<_> = cutting.iter().map(|piece| piece.len()).take(9).collect();
-        assert!([found, lines.text] == events, "{name} in {lengths:?}");
+        assert!(found == events, "{name} in {lengths:?}");
+        assert_eq!(lines.text, next, "`next` of {name} in {lengths:?}");
     }
 }
 
@@ -117,24 +105,26 @@ fn check_both<const N: usize>(vector: &Value) {
     check::<_, false>(vector, new(), BoundedParser::advance_text);
 }
 
+/// Checks a vector by parsers of its limit, which must be one of these.
+macro_rules! check_limit {
+    ($vector:expr, $limit:expr, $($size:literal)*) => {
+        match $limit {
+            $($size => check_both::<$size>($vector),)*
+            size => panic!("{size} is a new limit: write it into `check_limit!` of {}", file!()),
+        }
+    };
+}
+
 #[test]
 fn commands_are_kept_up_to_a_limit() {
     let mut without_limit = 0;
     for vector in vectors_of("events") {
-        match vector.number("limit") {
-            Some(0) => check_both::<0>(&vector),
-            Some(1) => check_both::<1>(&vector),
-            Some(2) => check_both::<2>(&vector),
-            Some(5) => check_both::<5>(&vector),
-            Some(30) => check_both::<30>(&vector),
-            Some(32) => check_both::<32>(&vector),
-            Some(1024) => check_both::<1024>(&vector),
-            Some(size) => panic!("no parser of {size} bytes here"),
-            None => {
-                without_limit += 1;
-                #[cfg(any(feature = "std", feature = "ansi"))]
-                check_long(&vector);
-            }
+        if let Some(limit) = vector.number("limit") {
+            check_limit!(&vector, limit, 0 1 2 5 30 32 1024);
+        } else {
+            without_limit += 1;
+            #[cfg(any(feature = "std", feature = "ansi"))]
+            check_long(&vector);
         }
     }
     assert!(without_limit > 0);

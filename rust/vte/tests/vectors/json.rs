@@ -78,10 +78,8 @@ impl Value {
     /// The bytes that this gives in hex.
     pub fn bytes(&self) -> Vec<u8> {
         let text = self.written("");
-        (0..text.len())
-            .step_by(2)
-            .map(|at| u8::from_str_radix(&text[at..at + 2], 16).expect("hex digits"))
-            .collect()
+        let byte_at = |at| u8::from_str_radix(&text[at..at + 2], 16).expect("hex digits");
+        (0..text.len()).step_by(2).map(byte_at).collect()
     }
 
     /// The lines of a field with events or calls.

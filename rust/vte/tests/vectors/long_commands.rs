@@ -33,9 +33,7 @@ fn lines_of<T>(make_calls: impl FnOnce(&mut Lent<'_>) -> T) -> String {
 
 /// A text of this many bytes.
 fn text(count: usize) -> String {
-    let mut text = "abcdefghijklmnopqrstuvw".repeat(count / 23 + 1);
-    text.truncate(count);
-    text
+    "abcdefghijklmnopqrstuvw".repeat(count / 23 + 1)[..count].to_owned()
 }
 
 fn title(command: impl Into<Vec<u8>>, title: &str) -> Case {
@@ -55,10 +53,8 @@ fn store(command: impl Into<Vec<u8>>, clipboard: u8, data: &[u8]) -> Case {
 /// ends. The longest end by ST alone.
 fn check_counts(cases: impl Fn(usize) -> Vec<Case>) {
     let update = PrivateMode::Named(NamedPrivateMode::SyncUpdate);
-    let (before, begin) = (
-        lines_of(|it| it.input('x')),
-        lines_of(|it| it.set_private_mode(update)),
-    );
+    let before = lines_of(|it| it.input('x'));
+    let begin = lines_of(|it| it.set_private_mode(update));
     let after = lines_of(|it| (it.input('y'), it.set_title(Some("s;t"))));
     // the end's own call, and that of the stop
     let stop = lines_of(|it| it.unset_private_mode(update)).repeat(2);
@@ -156,17 +152,14 @@ fn links() {
         let kept = count.min(LIMIT);
         let uri = |count| format!("{};{}", text(500), text(count - 500));
         let (front, rest, id) = (text(500), text(count - 502), text(count - 5));
+        let of_x = format!("8;id=x;{}", uri(count - 5));
         let malformed = [b"8;;", front.as_bytes(), b";\xff;", rest.as_bytes()].concat();
         // without its third piece it is no link
         let is_link = count <= LIMIT;
         let with_id = link(format!("8;id={id};u"), Some(&id), "u");
         vec![
             link(format!("8;;{}", uri(count - 1)), None, &uri(kept - 1)),
-            link(
-                format!("8;id=x;{}", uri(count - 5)),
-                Some("x"),
-                &uri(kept - 5),
-            ),
+            link(of_x, Some("x"), &uri(kept - 5)),
             Case(with_id.0, if is_link { with_id.1 } else { String::new() }),
             link(malformed, None, &format!("{front};;{}", text(kept - 502))),
         ]
@@ -179,19 +172,13 @@ fn clipboards() {
         let kept = count.min(LIMIT);
         let (front, rest, malformed) = (text(500), text(count - 503), vec![0xfe; count - 3]);
         let (with_name, without) = (text(kept - 3), text(kept - 2));
+        let of_c = format!("52;c;{}", text(count - 3));
+        let of_s = [b"52;s;", &malformed[..]].concat();
         vec![
-            store(
-                format!("52;c;{}", text(count - 3)),
-                b'c',
-                with_name.as_bytes(),
-            ),
+            store(of_c, b'c', with_name.as_bytes()),
             store(format!("52;;{}", text(count - 2)), b'c', without.as_bytes()),
             store(format!("52;p;{front};{rest}"), b'p', front.as_bytes()),
-            store(
-                [b"52;s;", &malformed[..]].concat(),
-                b's',
-                &malformed[..kept - 3],
-            ),
+            store(of_s, b's', &malformed[..kept - 3]),
         ]
     });
 }

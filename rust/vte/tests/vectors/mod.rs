@@ -21,8 +21,6 @@ use event_lines::EventLines;
 /// The events of a stream in pieces.
 pub fn events_of(pieces: &[&[u8]]) -> EventLines {
     let (mut parser, mut lines) = (vte::Parser::new(), EventLines::default());
-    for piece in pieces {
-        parser.advance(&mut lines, piece);
-    }
+    pieces.iter().for_each(|it| parser.advance(&mut lines, it));
     lines
 }

@@ -28,9 +28,7 @@ pub trait Reader: Default {
 
     fn calls_of(pieces: &[&[u8]]) -> String {
         let (mut reader, mut lines) = (Self::default(), CallLines::default());
-        for piece in pieces {
-            reader.read(&mut lines, piece);
-        }
+        pieces.iter().for_each(|it| reader.read(&mut lines, it));
         lines.take()
     }
 }

@@ -1,7 +1,7 @@
 """The head of a vector, as the definition of events gives it: rules, levels and house rules."""
 import re
 
-from lib.generating.vectors import bytes_of, pieces_of
+from lib.generating.vectors import bytes_of, chunks_of
 from lib.judging import definition
 from lib.judging.house import CHOICES, House
 from lib.judging.rules import LEVELS, MUST, RULES
@@ -42,7 +42,7 @@ def head_of(vector, rules):
 
 def rules_of(vector):
     """The names of the rules of a vector, in the order of the tables."""
-    stream, kind = b"".join(pieces_of(vector)), vector["kind"]
+    stream, kind = b"".join(chunks_of(vector)), vector["kind"]
     used = {name for step in definition.steps_of(stream, House(limit=vector.get("limit", 1024)))
             for name in step.rules}
     functions = kind in ("calls", "updates") and not is_repeated(vector)

@@ -29,18 +29,18 @@ def program_in(folder, line):
 
 
 class Side:
-    """A function of the pieces of a stream, and of the streams before it, as a program."""
+    """A function of the chunks of a stream, and of the streams before it, as a program."""
 
-    takes_pieces, batch, at_once, deadline = True, 50, 1, None
+    takes_chunks, batch, at_once, deadline = True, 50, 1, None
 
     def __init__(self, answer):
         self.answer = answer
 
     def answers(self, streams):
-        return [self.answer(pieces, streams[:index]) for index, pieces in enumerate(streams)]
+        return [self.answer(chunks, streams[:index]) for index, chunks in enumerate(streams)]
 
-    def answer_aloud(self, pieces):
-        self.answers([pieces])
+    def answer_aloud(self, chunks):
+        self.answers([chunks])
 
 
 def judge_of(answer, **given):

@@ -5,15 +5,15 @@ import pytest
 from lib.judging import (candidate, cases, classes, definition, house, judgement, kinds,
                          report, shrinking)
 from lib.judging.classes import Difference
-from lib.judging.judgement import is_alike
 from lib.judging.rules import CUT, LEVELS, RULES
+from lib.judging.sides import is_alike
 from support import FILES, judge_of
 
 
 # there are enough to find several differences in a row, which are no class of their own; in the
 # last two a difference has another kind than elsewhere, as a limit hides the rest
 CASES = [case for case in cases.all_cases(("vectors", "random"), "1", 240)
-         if sum(map(len, case.pieces)) < 3000] + [
+         if sum(map(len, case.chunks)) < 3000] + [
     cases.Case("", [b"\x1b]" + front + b"\x9c\xa0\x1b"]) for front in (b";" * 16, b"a" * 1024)]
 
 
@@ -35,7 +35,7 @@ def names(result):
 def breaks(*rules):
     """A parser that breaks rules of its house."""
     own = house.house_of(rules)
-    return lambda pieces, _: definition.lines_of(b"".join(pieces), own)
+    return lambda chunks, _: definition.lines_of(b"".join(chunks), own)
 
 
 # of a parser that breaks a house rule, the rules that are named
@@ -78,9 +78,9 @@ def test_a_breach_of_a_house_rule_has_its_rule(breach, rules):
 def test_what_is_counted(faults, streams, found):
     asked = []
 
-    def wrong(pieces, _):
-        asked.append(pieces)
-        text = "".join(f"{line}\n" for line in definition.lines_of(b"".join(pieces)))
+    def wrong(chunks, _):
+        asked.append(chunks)
+        text = "".join(f"{line}\n" for line in definition.lines_of(b"".join(chunks)))
         for pattern, other in faults.items():
             text = re.sub(pattern, other, text)
         return text.splitlines()
@@ -148,29 +148,29 @@ def test_what_binds_has_a_sentence():
     (b"a\x1b]b\x1b\\", "0061", "0062", "text/character"),
     (b"a\x1b]b\x1b\\", "5c", "5d", "terminator/final")])
 def test_which_rule_is_named(stream, pattern, other, name):
-    def answer(pieces, _=None):
-        return re.sub(pattern, other, "\n".join(definition.lines_of(b"".join(pieces)))).splitlines()
+    def answer(chunks, _=None):
+        return re.sub(pattern, other, "\n".join(definition.lines_of(b"".join(chunks)))).splitlines()
     judge = judge_of(answer)
-    assert judge.named(judge.difference([stream])) == name
+    assert judge.named(judge.sides.difference([stream])) == name
 
 
 @pytest.mark.parametrize("case", CASES[::3], ids=lambda case: case.name)
 def test_a_freed_case_has_none_of_its_rules(case):
     """What is freed of a rule, or of all of its stream, lacks it and nothing else that stays."""
-    stream = b"".join(case.pieces)
+    stream = b"".join(case.chunks)
     rules = {name for step in definition.steps_of(stream) for name in step.rules}
     for some in [{name} for name in rules] + [rules]:
-        left = b"".join(classes.freed(case.pieces, some, house.DEFAULT))
+        left = b"".join(classes.freed(case.chunks, some, house.DEFAULT))
         assert not some & {name for step in definition.steps_of(left) for name in step.rules}
         rest = iter(stream)
         assert all(byte in rest for byte in left)
-    assert classes.freed(case.pieces, {*RULES} - rules, house.DEFAULT) == case.pieces
+    assert classes.freed(case.chunks, {*RULES} - rules, house.DEFAULT) == case.chunks
     cuts = {f"{classes.CUT_PREFIX}{name}" for name in RULES} | {classes.BETWEEN}
-    assert classes.freed(case.pieces, cuts, house.DEFAULT) == [stream]
+    assert classes.freed(case.chunks, cuts, house.DEFAULT) == [stream]
 
 
-# pieces, what they are freed of, by a rule of a house that keeps more than others, and what is left
-@pytest.mark.parametrize("pieces, rule, left", [
+# chunks, what they are freed of, by a rule of a house that keeps more than others, and what is left
+@pytest.mark.parametrize("chunks, rule, left", [
     *(([b"a\x7f", b"b", b"\x7f", b"c"], rule, left) for rule, left in (
         ("delete", [b"a", b"b", b"", b"c"]), ("text", [b"\x7f", b"", b"\x7f", b""]),
         ("cut:between", [b"a\x7fb\x7fc"]), ("cut:text", [b"a\x7f", b"b", b"\x7f", b"c"]))),
@@ -179,9 +179,9 @@ def test_a_freed_case_has_none_of_its_rules(case):
     ([b"\x1b]" + b";" * 16 + b"\x07"], "pieces=17", [b""]),
     ([b"\x1b[" + b";" * 32 + b"m"], "numbers=33", [b""]),
     ([b"\x1b]" + b"a" * 1025 + b"\x07"], "limit=1025", [b""])])
-def test_what_is_freed(pieces, rule, left):
+def test_what_is_freed(chunks, rule, left):
     own = house.house_of([rule] * ("=" in rule))
-    assert classes.freed(pieces, {rule.partition("=")[0]}, own) == left
+    assert classes.freed(chunks, {rule.partition("=")[0]}, own) == left
 
 
 @pytest.mark.parametrize("stream, cuts, found", [
@@ -194,23 +194,24 @@ def test_what_a_cut_divides(stream, cuts, found):
     assert [*classes.steps_at_cuts(definition.steps_of(stream), cuts).values()] == found
 
 
-@pytest.mark.parametrize("one, other, is_so", [
+@pytest.mark.parametrize("one, other, wanted", [
     (candidate.HANG, "(memory: x)", True), ("(memory: x)", "(output: x)", True),
     ("(output: x)", candidate.HANG, True), ("(crash: 1)", "(crash: 2)", True),
     ("(crash: 1)", candidate.HANG, False), (candidate.HANG, "unhook", False),
     ("unhook", candidate.HANG, False), ("unhook", "unhook", True), ("unhook", "put 00", False)])
-def test_which_answers_are_alike(one, other, is_so):
-    assert bool(is_alike(*(Difference([b"a"], [], ["put 01", it]) for it in (one, other)))) == is_so
+def test_which_answers_are_alike(one, other, wanted):
+    one, other = (Difference([b"a"], [], ["put 01", line]) for line in (one, other))
+    assert bool(is_alike(one, other)) == wanted
 
 
 def test_what_depends_on_a_cut():
-    result = judged(lambda pieces, _: [
-        line for piece in pieces for line in definition.lines_of(piece)], CASES[:120])
+    result = judged(lambda chunks, _: [
+        line for chunk in chunks for line in definition.lines_of(chunk)], CASES[:120])
     assert names(result) and all(name.startswith("cut:") for name in names(result))
 
-    def counted(pieces, _):
-        steps = definition.steps_of(b"".join(pieces))
-        cuts = classes.steps_at_cuts(steps, shrinking.cuts_of(pieces))
+    def counted(chunks, _):
+        steps = definition.steps_of(b"".join(chunks))
+        cuts = classes.steps_at_cuts(steps, shrinking.cuts_of(chunks))
         return [line for step in steps for line in step.lines] + ["unhook"] * (
             None in cuts.values())
     result = judged(counted)
@@ -223,8 +224,8 @@ def test_what_depends_on_a_cut():
     (CASES, "", ["kept-state"]), ([cases.Case("", [it]) for it in (b"\x0e", *[b"a\x0f"] * 9)],
                                   "execute 0f", ["control/missing", "kept-state"])])
 def test_what_depends_on_other_streams(some, lost, names):
-    def shifted(pieces, history):
-        lines = definition.lines_of(b"".join(pieces))
+    def shifted(chunks, history):
+        lines = definition.lines_of(b"".join(chunks))
         was_shifted = any(b"\x0e" in b"".join(before) for before in history)
         return [line for line in lines if line != lost and not (
             was_shifted and line.startswith("print"))]
@@ -238,7 +239,7 @@ def test_what_depends_on_other_streams(some, lost, names):
                                      [[candidate.HANG], ["unhook"], ["unhook"], []]])
 def test_two_answers_are_not_deterministic(answers):
     turns = iter(answers)
-    judge = judge_of(lambda pieces, _: ["print 0061"] if pieces == [b"a"]
+    judge = judge_of(lambda chunks, _: ["print 0061"] if chunks == [b"a"]
                      else next(turns, answers[-1]))
     judge.judge_case([[b"a"], [b"b"]])
     [finding] = judge.result.findings.values()
@@ -247,7 +248,7 @@ def test_two_answers_are_not_deterministic(answers):
 
 def test_a_hang_that_was_only_slow_is_none():
     answers = iter([["print 0061"], [candidate.HANG]])
-    result = judge_of(lambda pieces, _: next(answers, ["execute 0e"])).run(
+    result = judge_of(lambda chunks, _: next(answers, ["execute 0e"])).run(
         iter([cases.Case("", [b"\x0e"])] * 9))
     assert (result.streams, result.different, result.status()) == (9, 0, 0)
 
@@ -256,7 +257,7 @@ def test_what_is_left_out():
     dropped = breaks("delete=drop")
     assert judged(dropped, left_out=["delete"]).different == 0
     assert judged(dropped).findings["delete/missing"].streams == sum(
-        dropped(case.pieces, []) != definition.lines_of(b"".join(case.pieces)) for case in CASES)
+        dropped(case.chunks, []) != definition.lines_of(b"".join(case.chunks)) for case in CASES)
     # what is left out doesn't come back in what is shrunk
     result = judged(breaks("c1-characters=print", "malformed=drop"),
                     left_out=["malformed", "unfinished"])
@@ -311,24 +312,24 @@ def test_which_streams_are_judged(kind, name, varies):
     some, others, more = ([*cases.all_cases([kind], seed, count)]
                           for seed, count in (("1", 40), ("2", 40), ("1", 400)))
     assert some and some == more[:len(some)] and all(it.name.startswith(name) for it in some)
-    assert [any(one.pieces != other.pieces for one, other in zip(some[at::2], others[at::2]))
+    assert [any(one.chunks != other.chunks for one, other in zip(some[at::2], others[at::2]))
             for at in (0, 1)] == varies
-    streams = [b"".join(case.pieces) for case in some]
+    streams = [b"".join(case.chunks) for case in some]
     if kind == "random":  # in turn of all, and mostly of text
         escapes = [sum(b"\x1b" in it for it in streams[at::2]) for at in (0, 1)]
         assert escapes[0] > escapes[1]
-    if kind == "recorded":  # as they came, and in other pieces
+    if kind == "recorded":  # as they came, and in other chunks
         assert streams[::2] == streams[1::2]
 
 
 def test_all_vectors_are_judged():
-    found = {case.name: b"".join(case.pieces) for case in cases.all_cases(["vectors"], "1", 0)}
+    found = {case.name: b"".join(case.chunks) for case in cases.all_cases(["vectors"], "1", 0)}
     wanted = [f"vector {vector['id']}" for file in FILES
               for vector in file["vectors"] + file["long"]
               if vector["kind"] not in ("colour", "number")]
     assert [*found] == wanted
     assert found["vector ff-100-000-times"] == b"\xff" * 100000
     steps = [{"advance": "62"}, {"act": "stop"}, {"bytes": ["63", {"repeat": "64", "times": 2}]}]
-    assert cases.pieces_of({"before": "61", "steps": steps}) == [b"a", b"b", b"cdd"]
-    assert cases.pieces_of({"pieces": ["61", "", "62"]}) == [b"a", b"b"]
-    assert cases.pieces_of({"text": "red"}) == [b""]
+    assert cases.chunks_of({"before": "61", "steps": steps}) == [b"a", b"b", b"cdd"]
+    assert cases.chunks_of({"pieces": ["61", "", "62"]}) == [b"a", b"b"]
+    assert cases.chunks_of({"text": "red"}) == [b""]

@@ -4,19 +4,19 @@ from types import SimpleNamespace
 
 import pytest
 import toy
-from lib.judging import candidate, cases, classes, definition, formats, house, judgement, report
+from lib.judging import budget, candidate, cases, classes, definition, formats, house, report
 from support import Side, judge_of
 
 
-def right(pieces, _):
-    return definition.lines_of(b"".join(pieces))
+def right(chunks, _):
+    return definition.lines_of(b"".join(chunks))
 
 
 # ---- long streams
 
-# of 100,000 bytes in one piece 20,000 will do
-LONG_CASES = [case._replace(pieces=[case.pieces[0][:10_000] + case.pieces[0][-10_000:]])
-              for case in cases.all_cases(["vectors"], "1", 0) if len(case.pieces[0]) > 50_000]
+# of 100,000 bytes in one chunk 20,000 will do
+LONG_CASES = [case._replace(chunks=[case.chunks[0][:10_000] + case.chunks[0][-10_000:]])
+              for case in cases.all_cases(["vectors"], "1", 0) if len(case.chunks[0]) > 50_000]
 
 
 def limit_readings(monkeypatch, most):
@@ -51,7 +51,7 @@ def test_a_long_stream_is_freed_in_one_pass(monkeypatch, stream, rules):
 def test_long_streams_are_judged_to_the_end(monkeypatch, fault, left_out, found):
     some = [*LONG_CASES, *(cases.Case("", [b"\xe4"] * 4000 + [end]) for end in (b"", b"\x1b"))]
     limit_readings(monkeypatch, 2 * 10**6)
-    result = judge_of(lambda pieces, _: toy.answer(pieces, [fault]), left_out=left_out).run(some)
+    result = judge_of(lambda chunks, _: toy.answer(chunks, [fault]), left_out=left_out).run(some)
     assert (result.streams, result.ended_early) == (len(some), "")
     assert {*result.findings} == found
 
@@ -65,18 +65,18 @@ class SlowSide(Side):
         super().__init__(answer)
         self.now, self.seconds, self.deadline, self.timeout = 0, seconds, deadline, timeout
         self.asked = []
-        monkeypatch.setattr(judgement, "time", SimpleNamespace(monotonic=lambda: self.now))
+        monkeypatch.setattr(budget, "time", SimpleNamespace(monotonic=lambda: self.now))
 
     def answers(self, streams):
         self.asked.append(len(streams))
-        return [self.slow_answer(pieces) for pieces in streams]
+        return [self.slow_answer(chunks) for chunks in streams]
 
-    def slow_answer(self, pieces):
-        wanted = self.seconds * len(b"".join(pieces))
+    def slow_answer(self, chunks):
+        wanted = self.seconds * len(b"".join(chunks))
         self.now += min(wanted, self.timeout)
         if self.deadline is not None and self.now >= self.deadline:
             raise candidate.OutOfTime
-        return [candidate.HANG] if wanted >= self.timeout else self.answer(pieces, [])
+        return [candidate.HANG] if wanted >= self.timeout else self.answer(chunks, [])
 
 
 # how long a byte takes, the sizes of batches, the end, and how many streams are left then
@@ -101,7 +101,7 @@ def test_a_slow_program_has_an_example(monkeypatch, stream, seconds, count, name
     side = SlowSide(monkeypatch, lambda *it: right(*it)[:27], seconds, deadline=end)
     result = judge_of(side).run([cases.Case("", [stream])] * count)
     assert [*result.findings] == [name] and bool(result.ended_early) == (count > 1)
-    assert end <= side.now <= end + judgement.GRACE + side.timeout
+    assert end <= side.now <= end + budget.GRACE + side.timeout
     assert "not shrunk to the end" in report.shown_finding(result.findings[name], str)
     junit = formats.as_junit(result, "1", str)
     told = f'name="all streams are judged"><failure message="{result.streams} were"'
@@ -123,9 +123,9 @@ class Clock:
         return [], [], []
 
 
-@pytest.mark.parametrize("takes_pieces, streams, end", [(False, 1, 8), (True, 3, 24)])
-def test_a_hang_ends_at_its_time(monkeypatch, takes_pieces, streams, end):
-    side, clock = candidate.Program(["sleep", "3600"], takes_pieces, 8), Clock(monkeypatch)
+@pytest.mark.parametrize("takes_chunks, streams, end", [(False, 1, 8), (True, 3, 24)])
+def test_a_hang_ends_at_its_time(monkeypatch, takes_chunks, streams, end):
+    side, clock = candidate.Program(["sleep", "3600"], takes_chunks, 8), Clock(monkeypatch)
     assert side.answers([[b"a"]] * streams) == [[candidate.HANG]] * streams
     assert end <= clock.now < end + streams * 0.2
     side.deadline = end + 5

@@ -85,15 +85,15 @@ def test_headings_of_rules_are_there():
         assert heading in Page(TOOLS.parent / page).headings(), heading
 
 
-@pytest.mark.parametrize("pieces, differs, smallest", [
+@pytest.mark.parametrize("chunks, differs, smallest", [
     ([b"xx\x1b[1mx" * 50, b"b" * 300], lambda case: case[0].count(b"x") > 1 and len(case) > 1,
      [b"xx", b""]),
     ([b"abc", b"def"], lambda case: b"e" in b"".join(case), [b"e"]),
     # a cut that doesn't matter goes, and one that does stays
     *(([b"x1", b";y", b"z"], lambda case, cuts=cuts: len(case) > cuts and b"1;" in b"".join(case),
        smallest) for cuts, smallest in ((0, [b"1;"]), (1, [b"1;", b""])))])
-def test_smallest_cases_are_found(pieces, differs, smallest):
-    assert shrinking.shrunk([pieces], lambda streams: differs(*streams) and streams) == [smallest]
+def test_smallest_cases_are_found(chunks, differs, smallest):
+    assert shrinking.shrunk([chunks], lambda streams: differs(*streams) and streams) == [smallest]
 
 
 @pytest.mark.parametrize("last, first, plain", [
@@ -110,11 +110,11 @@ def test_a_byte_is_replaced_by_plainer_ones(last, first, plain):
                                               "b" + it * 41 for it in wanted]
 
 
-@pytest.mark.parametrize("pieces, shown", [
+@pytest.mark.parametrize("chunks, shown", [
     ([b"\x1b]'\x80", b"", b"\""], '\\x1b]\'\\x80 |  | "'), ([b"a" * 200], "a" * 200),
     ([b"a" * 201], "a" * 150 + " ..")])
-def test_streams_are_shown_as_text(pieces, shown):
-    assert report.shown_text(pieces) == shown
+def test_streams_are_shown_as_text(chunks, shown):
+    assert report.shown_text(chunks) == shown
 
 
 def test_the_example_of_the_page():

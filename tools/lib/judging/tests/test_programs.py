@@ -13,9 +13,9 @@ from support import TOOLS, TOY, program_in, run
 from tests.support import wait_until
 
 
-def toy(fault=None, pieces=True, once=False):
+def toy(fault=None, chunks=True, once=False):
     """The arguments for the toy parser: those of the judge, and its command."""
-    framed = ["--pieces"] * pieces
+    framed = ["--chunks"] * chunks
     command = [sys.executable, TOY, *framed, *["--once"] * once, *[fault] * bool(fault)]
     return [*framed, *command]
 
@@ -44,17 +44,17 @@ def test_a_finding_can_be_shown_again(judge, judge_toy, words, fault):
     output = judge_toy(1, "--seconds", 600, *words.split(), fault=fault)
     name = re.search(r"^NEW +(\S+):", output, re.M)[1]
     again = shlex.split(re.search(r"^  again +tools/judge (.*)$", output, re.M)[1])
-    assert {"--pieces", "--vtlog", "--timeout", "120.0", *words.split()} <= {*again}
+    assert {"--chunks", "--vtlog", "--timeout", "120.0", *words.split()} <= {*again}
     assert f"NEW   {name}:" in judge(1, *again)
 
 
 @pytest.mark.parametrize("status, words, how, told", [
     *((0, "", how, "40 streams, 0 differ; 0 classes")
-      for how in ({}, {"once": True}, {"pieces": False})),
+      for how in ({}, {"once": True}, {"chunks": False})),
     (1, "--count 0", {}, "0 streams"), (0, "--house delete=drop --house bell=drop", {}, ""),
     (0, "--leave-out delete", {"fault": "delete=drop"}, "0 differ"),
     (0, "--leave-out delete --case '61 7f'", {"fault": "delete=drop"}, "no difference: print 0061"),
-    *((status, "--case '1b 5b 39 31*4 61'", {"fault": fault, "pieces": False}, told)
+    *((status, "--case '1b 5b 39 31*4 61'", {"fault": fault, "chunks": False}, told)
       for status, fault, told in ((0, None, "csi [65535]"), (1, "largest=9999", "csi [9999]"))),
     (1, "--case 'c3 | a9'", {"fault": "divided"}, "NEW   cut:text/"),
     (1, "--case '62 / 0e / 61'", {"fault": "stateful"}, "NEW   kept-state"),
@@ -75,9 +75,9 @@ def test_nothing_but_json_is_printed(judge_toy):
     assert [finding["class"] for finding in told["findings"]] == ["largest/numbers"]
 
 
-# a command of the shell, whether it reads framed pieces, what it may take, and how its answer ends
-@pytest.mark.parametrize("line, takes_pieces, limits, mark", [
-    *((line, takes_pieces, limits, mark) for takes_pieces in (False, True)
+# a command of the shell, whether it reads framed chunks, what it may take, and how its answer ends
+@pytest.mark.parametrize("line, takes_chunks, limits, mark", [
+    *((line, takes_chunks, limits, mark) for takes_chunks in (False, True)
       for line, limits, mark in (
           ("exit 3", {}, "(crash: status 3)"), ("kill -9 $$", {}, "(crash: signal 9)"),
           ("sleep 9", {"timeout": 0.5}, candidate.HANG), ("yes", {}, "(output: more than 32 MiB)"),
@@ -88,8 +88,8 @@ def test_nothing_but_json_is_printed(judge_toy):
     ("printf 'end\\r\\n'", True, {}, "(protocol: its lines end in CR LF)"),
     *((line, True, {}, "(protocol: it prints more than it was asked for)")
       for line in ("yes end", "echo end; echo execute 07"))])
-def test_a_program_that_fails_has_a_mark(line, takes_pieces, limits, mark):
-    side = candidate.Program(["sh", "-c", line], takes_pieces, **{"timeout": 600, **limits})
+def test_a_program_that_fails_has_a_mark(line, takes_chunks, limits, mark):
+    side = candidate.Program(["sh", "-c", line], takes_chunks, **{"timeout": 600, **limits})
     [answer] = side.answers([[b"a" * 100000]])  # of a long one the front is kept
     side.close()
     assert answer[-1] == mark and len(answer) < 10000
@@ -109,7 +109,7 @@ def test_a_program_that_does_not_answer_at_all(judge):
     said = judge(1, "echo", "hello")
     assert "NEW   protocol:" in said and "ended early: the program doesn't answer" in said
     assert "1 streams, 1 differ; 1 classes, 1 of them new" in said
-    judge(1, "--pieces", "--seconds", 0.5, "sleep", "9")
+    judge(1, "--chunks", "--seconds", 0.5, "sleep", "9")
 
 
 def test_nothing_survives_the_judge(vtlog):
@@ -126,10 +126,10 @@ def test_nothing_survives_the_judge(vtlog):
     wait_until(lambda: not processes(mark), "the program has outlived the judge")
 
 
-@pytest.mark.parametrize("takes_pieces", [True, False])
-def test_the_children_of_a_program_are_ended(takes_pieces):
+@pytest.mark.parametrize("takes_chunks", [True, False])
+def test_the_children_of_a_program_are_ended(takes_chunks):
     mark = f"sleep 7531.{os.getpid()}"
-    side = candidate.Program(["sh", "-c", f"{mark} & echo end; read line"], takes_pieces, 600)
+    side = candidate.Program(["sh", "-c", f"{mark} & echo end; read line"], takes_chunks, 600)
     side.answers([[b"a"]])
     wait_until(lambda: not processes(mark))
     side.close()
@@ -143,7 +143,7 @@ def test_the_time_is_over_for_a_reference_too(judge, tmp_path):
 
 
 def test_closed_standard_output(vtlog):
-    words = ["--vtlog", vtlog, "--count", 4, "--streams", "random", *toy(pieces=False)]
+    words = ["--vtlog", vtlog, "--count", 4, "--streams", "random", *toy(chunks=False)]
     reading, writing = os.pipe()
     os.close(reading)
     done = subprocess.run([sys.executable, TOOLS / "judge", *map(str, words)], stdout=writing,

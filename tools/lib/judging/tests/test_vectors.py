@@ -70,7 +70,7 @@ def test_definition_gives_the_vectors(vector):
     assert "\n".join(lines) == "\n".join(lines_of(vector["events"]))
 
 
-# in each language what builds the runner and what runs it, and how the example ignores pieces that
+# in each language what builds the runner and what runs it, and how the example ignores chunks that
 # are as long as $SKIP, and fails without $SKIP
 RUNNERS = {
     "py": ("", f"{sys.executable} -B run.py",
@@ -104,12 +104,12 @@ def built(folder, suffix, changes=()):
         assert example.count(old) == 1
         example = example.replace(old, new)
     (folder / f"my_parser.{suffix}").write_text(example)
-    status, said = run("sh", "-c", RUNNERS[suffix][0], cwd=folder)
-    assert status == 0, said
+    status, output = run("sh", "-c", RUNNERS[suffix][0], cwd=folder)
+    assert status == 0, output
 
 
 def test_a_runner_tries_each_way(language, tmp_path):
-    """A vector as it is, in one piece and byte by byte: it is wrong if pieces of one of these
+    """A vector as it is, in one chunk and byte by byte: it is wrong if chunks of one of these
     lengths are ignored, and this cut is printed. One that fails is named."""
     built(tmp_path, language, RUNNERS[language][2])
     vector = dict(EVENTS[0], id="abcd", pieces=["6162", [{"repeat": "63", "times": 2}]],
@@ -120,9 +120,9 @@ def test_a_runner_tries_each_way(language, tmp_path):
                       ("a", "61.*62.*63.*63"), (None, "")):
         given = {name: it for name, it in {**os.environ, "SKIP": skip}.items() if it is not None}
         command = f"{RUNNERS[language][1]} <events.json"
-        status, said = run("sh", "-c", command, cwd=tmp_path, env=given)
-        assert status == int(cut is not None), said
-        assert re.search("^0 of 1" if cut is None else f"abcd.*{cut}", said), said
+        status, output = run("sh", "-c", command, cwd=tmp_path, env=given)
+        assert status == int(cut is not None), output
+        assert re.search("^0 of 1" if cut is None else f"abcd.*{cut}", output), output
 
 
 LEFT_OUT = {"py": "delete", "c": "differs", "js": "colon", "go": "should"}
@@ -139,13 +139,13 @@ def test_a_runner_counts_what_is_wrong(language, tmp_path):
         return {vector["level"], f"strongest={strongest}", *vector["rules"], *vector["house"]}
 
     for left_out in LEFT_OUT[language], "strongest=should strongest=differs":
-        status, said = run("sh", "-c", f"{RUNNERS[language][1]} {left_out} <events.json",
-                           cwd=tmp_path)
+        status, output = run("sh", "-c", f"{RUNNERS[language][1]} {left_out} <events.json",
+                             cwd=tmp_path)
         some = [vector for vector in EVENTS if vector["limit"] == 1024
                 and not words_of(vector) & {*left_out.split()}]
         wrong = sum("\n".join(my_parser.parse_pieces(map(bytes_of, vector["pieces"])))
                     != "\n".join(lines_of(vector["events"])) for vector in some)
         assert 1 < len(some) < len(EVENTS)
-        assert status == 1 and re.search(rf"(?m)^{wrong} of {len(some)} wrong$", said), said
+        assert status == 1 and re.search(rf"(?m)^{wrong} of {len(some)} wrong$", output), output
     none = run("sh", "-c", f"{RUNNERS[language][1]} must should differs <events.json", cwd=tmp_path)
     assert none[0] == 1 and none[1].startswith("0 of 0 wrong\n")

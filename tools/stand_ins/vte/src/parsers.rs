@@ -6,7 +6,7 @@ use real::{Open, Perform, PerformText, Refused, Run, Taken};
 
 use crate::{has, read_by};
 
-/// Where a piece begins, by the bytes before it, and how the last was read.
+/// Where a chunk begins, by the bytes before it, and how the last was read.
 #[derive(Default)]
 struct Cut {
     last: Option<u8>,
@@ -16,19 +16,19 @@ struct Cut {
 }
 
 impl Cut {
-    /// What is read of a piece, as one kind of cut says.
-    fn read<'a>(&mut self, of: &str, piece: &'a [u8]) -> &'a [u8] {
+    /// What is read of a chunk, as one kind of cut says.
+    fn read<'a>(&mut self, of: &str, chunk: &'a [u8]) -> &'a [u8] {
         let is_lost = has(of, "after an ESC") && self.last == Some(0x1b)
             || has(of, "inside a character") && self.last >= Some(0xc2)
             || has(of, "after a semicolon") && self.last == Some(b';')
             || has(of, "after five bytes") && self.was_of_five;
-        self.was_of_five = piece.len() == 5;
+        self.was_of_five = chunk.len() == 5;
         self.is_second |= self.last.is_some();
-        self.last = piece.last().copied().or(self.last);
-        match piece {
+        self.last = chunk.last().copied().or(self.last);
+        match chunk {
             [] if has(of, "empty") && self.last.is_some() => b"\x18",
             [_, rest @ ..] if is_lost => rest,
-            _ => piece,
+            _ => chunk,
         }
     }
 }

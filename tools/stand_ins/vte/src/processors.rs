@@ -21,7 +21,7 @@ impl Turns {
         has(of, "always")
             || has(of, "whole") && self.count == 1 && !is_in_runs
             || has(of, "after a stop") && self.is_after_stop
-            || has(of, "in pieces") && self.count > 1 && held == 0 && !is_in_runs
+            || has(of, "in chunks") && self.count > 1 && held == 0 && !is_in_runs
             || has(of, "in runs") && held == 0 && is_in_runs
             || has(of, "in an update") && held > 0 && !is_in_runs
             || has(of, "in an update in runs") && held > 0 && is_in_runs

@@ -1,11 +1,11 @@
 -- How long the text of an event is, part by part, and how many events bytes add: at most two each. So the text of bytes
 -- is at most eight times as long as they are, and fits where it is collected.
-use Rattle.event_log.proofs.Common.{◌≡◌, ℕ, ◌+◌, ◌-◌, ◌*◌, ◌<◌, ◌≤◌, max, Bool, true, false, if◌then◌else◌, List, [], ◌∷◌, ◌++◌, length, map, refl, usual_limit, length-append, arith, All, flat_map, concat, join_with_byte, decimal, length-decimal-le, All-head, All-tail, length-encode, len_utf8_bounds, IsBounded, AreFromOneByte, Event, Print, Execute, Hook, OscDispatch, CsiDispatch, EscDispatch, AreGroups, semicolon, count_of, greatest_number, shown, added, is_layout, group_text, hex_byte, hex_character, six_hex_digits, hex_length, hex_field, flag_field, pieces_fields, sequence_fields, line_of, plain_text_of, inl, inr, zero, suc, drop, ap, ◌∙◌, cases_Bool, StopsExactly, breaks_at, reported_before, resumed_stream, replacement, HasRead, after, GoesOnFromPositions, ReportsUnits, Parser, hex_digit, AddsUpTo, HasKept, Record, empty_record, is_to_be_written, with_event, with_text, sym, append_assoc, encode_ascii, encodes-chars, IsUtf8, chars, run_event, most_bytes}
+use Rattle.event_log.proofs.Common.{◌≡◌, ℕ, ◌+◌, ◌-◌, ◌*◌, ◌<◌, ◌≤◌, max, Bool, true, false, if◌then◌else◌, List, [], ◌∷◌, ◌++◌, length, map, refl, usual_limit, length-append, arith, All, flat_map, concat, join_with_byte, decimal, length-decimal-le, All-head, All-tail, length-encode, len_utf8_bounds, IsBounded, AreFromOneByte, Event, Print, Execute, Hook, OscDispatch, CsiDispatch, EscDispatch, AreGroups, semicolon, count_of, greatest_number, shown, added, is_layout, group_text, hex_byte, hex_character, six_hex_digits, hex_length, hex_field, flag_field, pieces_fields, sequence_fields, line_of, plain_text_of, inl, inr, zero, suc, drop, ap, ◌∙◌, cases_Bool, StopsExactly, breaks_at, reported_before, resumed_stream, replacement, HasRead, after, GoesOnFromPositions, ReportsUnits, Parser, hex_digit, AddsUpTo, HasKept, Record, empty_record, is_to_be_written, record_with_event, record_with_text, sym, append_assoc, encode_ascii, encodes-chars, IsUtf8, chars, run_event, most_bytes}
 use Rattle.std.proofs.Common.{length-drop}
 use Rattle.std.proofs.lemmas.List.Sums.{sum_by-cons}
 use Rattle.vte_core.proofs.EarlyStops.{added-append}
 use Rattle.vte_core.proofs.streams.After.{added-nothing}
-use Rattle.event_log.proofs.Records.{IsSmall, kept_by, half_has_room, takes_told, all_taken, record_of, takes_all}
+use Rattle.event_log.proofs.Records.{IsSmall, kept_by, half_has_room, takes_reported, all_taken, record_of, takes_all}
 use Rattle.std.proofs.Math.Utf8.{encodes}
 use Rattle.std.specs.Char.{encode_utf8}
 use Rattle.vte_core.proofs.bytes.Runs.{layout-is_ascii}
@@ -162,13 +162,14 @@ text_grows_slowly brief stream bytes =
 -- Unless it is terminated, at most half of its room is in use, and the lines up to the next start fit into the rest.
 
 -- The line of a replacement character is short.
-short_replacement : is_to_be_written (with_event line_of empty_record (Print replacement)) ≡ false
-unfolding line_of hex_character hex_length six_hex_digits hex_byte hex_digit with_text
+short_replacement : is_to_be_written (record_with_event line_of empty_record (Print replacement)) ≡ false
+unfolding line_of hex_character hex_length six_hex_digits hex_byte hex_digit record_with_text
 short_replacement = refl
 
 -- A call reads a byte: neither an empty recorder nor the line of a replacement character stops it at once.
 pub reads_some : {old new : Record} {stream bytes : List ℕ} {n : ℕ} → old ≡ empty_record
-    → StopsExactly (with_event line_of) is_to_be_written old usual_limit stream bytes new n → 0 < length bytes → 0 < n
+    → StopsExactly (record_with_event line_of) is_to_be_written old usual_limit stream bytes new n → 0 < length bytes
+    → 0 < n
 unfolding reported_before
 reads_some {stream} {bytes} {n = zero} empty s some =
     absurd (elim (cases_Bool (breaks_at stream bytes 0)) [
@@ -183,7 +184,7 @@ pub kept_lines : {whole : List ℕ → List ℕ} {n : ℕ} {parser parser_then :
     (unread : List ℕ)
     → GoesOnFromPositions usual_limit → ReportsUnits usual_limit → old ≡ empty_record
     → (before : AddsUpTo line_of whole [] parser unread)
-    → StopsExactly (with_event line_of) is_to_be_written old usual_limit before.since unread new n
+    → StopsExactly (record_with_event line_of) is_to_be_written old usual_limit before.since unread new n
     → HasRead parser_then (resumed_stream before.since unread n)
     → HasKept line_of whole new parser_then (drop n unread)
 kept_lines {whole} {n} {parser} {old} unread goes_on units empty before s parsed =
@@ -196,9 +197,10 @@ kept_lines {whole} {n} {parser} {old} unread goes_on units empty before s parsed
     (λ more. goes_on since unread more n)
     parsed
     (s.comes.performed
-    ∙ takes_told line_of lines_are_small units since unread old h.kept
+    ∙ takes_reported line_of lines_are_small units since unread old h.kept
     (half_has_room old (ap is_to_be_written empty)) n s.comes.within
-    (λ j earlier start. half_has_room (after (with_event line_of) old (reported_before usual_limit since unread j))
+    (λ j earlier start.
+    half_has_room (after (record_with_event line_of) old (reported_before usual_limit since unread j))
     (s.comes.earlier j earlier start)))
 
 -- ---- the text of a run is its bytes
@@ -228,7 +230,7 @@ after-more step event_of (x ∷ cs) c old new e = after-more step event_of cs c 
 
 -- If a run has room, it is taken as its characters are, one after another.
 pub takes_run : (held : Record) (text : List ℕ) → IsUtf8 text → length held.bytes + length text ≤ most_bytes
-    → with_text held text ≡ after (with_event plain_text_of) held (map (run_event true) (chars text))
+    → record_with_text held text ≡ after (record_with_event plain_text_of) held (map (run_event true) (chars text))
 takes_run held text utf8 room =
     takes_all plain_text_of held text (map (run_event true) (chars text))
     (sym (text_of_run (chars text) ∙ encodes-chars text utf8)) room
@@ -238,7 +240,7 @@ pub kept_text : {whole : List ℕ → List ℕ} {unread : List ℕ} {parser pars
     (chunk rest : List ℕ)
     → AreBrief → (h : HasKept plain_text_of whole held parser unread) → chunk ++ rest ≡ unread
     → length held.bytes + 8 * length chunk ≤ most_bytes
-    → held_then ≡ after (with_event plain_text_of) held (added usual_limit h.adds_up.since chunk)
+    → held_then ≡ after (record_with_event plain_text_of) held (added usual_limit h.adds_up.since chunk)
     → HasRead parser_then (h.adds_up.since ++ chunk)
     → HasKept plain_text_of whole held_then parser_then rest
 kept_text {held} chunk rest brief h parts room performed parsed =

@@ -2,7 +2,7 @@
 -- something takes a chunk off the input (`HasReadPart`), until one fails or gives nothing.
 use Rattle.event_log.proofs.Common.{◌≡◌, ℕ, ◌+◌, ◌<◌, ◌≤◌, ◌⊎◌, Bool, true, List, [], ◌++◌, length, Option, Some, None, IfSome, inl, inr, refl, sym, ap, ◌∙◌, usual_limit, append_assoc, append-nil, length-append, arith, flat_map, Event, HasRead, events, Parser, AddsUpTo, HasWritten}
 use Rattle.std.specs.Io.KnownBytes.{Appends, Consumes, IsAtEnd, Keeps}
-use Rattle.event_log.specs.Device.{KeepsWhereTold}
+use Rattle.event_log.specs.Device.{KeepsWhereKnown}
 use Rattle.event_log.specs.Run.{WritesAll, WritesPrefix, most_reads}
 use Rattle.vte_core.proofs.streams.After.{added-nothing}
 use Rattle.event_log.proofs.Records.{adds_up_at_first}
@@ -20,17 +20,17 @@ kept (Some ys) known h = ap Some h
 
 record Left (known chunk : List ℕ) (after : Option (List ℕ)) : Type 0 where
   rest : List ℕ
-  told : after ≡ Some rest
+  rest_is : after ≡ Some rest
   parts : known ≡ chunk ++ rest
 
 consumed : (after : Option (List ℕ)) (known chunk : List ℕ) → Consumes (Some known) after chunk → Left known chunk after
 consumed None known chunk h = absurd h
-consumed (Some ys) known chunk h = record { rest = ys; told = refl; parts = h }
+consumed (Some ys) known chunk h = record { rest = ys; rest_is = refl; parts = h }
 
-kept_where_told : (after : Option (List ℕ)) (known : List ℕ) → KeepsWhereTold (Some known) after
+kept_where_known : (after : Option (List ℕ)) (known : List ℕ) → KeepsWhereKnown (Some known) after
     → IfSome after (λ bytes. bytes ≡ known)
-kept_where_told None known h = tt
-kept_where_told (Some ys) known h = h
+kept_where_known None known h = tt
+kept_where_known (Some ys) known h = h
 
 -- ---- a chunk
 
@@ -45,7 +45,7 @@ written_more {unread} {collected} {taken_then} h collects appends =
     let k = collects _ (adds_up_at_first (record { since = h.adds_up.since; parsed = h.adds_up.parsed }) unread) in
     record {
       written = h.written ++ collected;
-      told = appended taken_then h.written collected (rw h.told at appends);
+      taken_is = appended taken_then h.written collected (rw h.taken_is at appends);
       adds_up = record {
         since = k.since;
         parsed = k.parsed;
@@ -62,7 +62,7 @@ pub written_before : {text_of : Event → List ℕ} {whole : List ℕ → List �
     → HasWritten text_of (λ more. whole (chunk ++ more)) taken parser chunk
 written_before chunk h = record {
   written = h.written;
-  told = h.told;
+  taken_is = h.taken_is;
   adds_up = record {
     since = h.adds_up.since;
     parsed = h.adds_up.parsed;
@@ -75,7 +75,7 @@ pub written_kept : {text_of : Event → List ℕ} {whole : List ℕ → List ℕ
     → HasWritten text_of whole taken parser unread → Keeps taken taken_then
     → HasWritten text_of whole taken_then parser unread
 written_kept {taken_then} h keeps =
-    record { written = h.written; told = kept taken_then h.written (rw h.told at keeps); adds_up = h.adds_up }
+    record { written = h.written; taken_is = kept taken_then h.written (rw h.taken_is at keeps); adds_up = h.adds_up }
 
 -- ---- a run
 
@@ -106,7 +106,7 @@ module _ {text_of : Event → List ℕ} {input held : List ℕ} {parser : Parser
     is = λ more. refl;
     written = record {
       written = held;
-      told = f;
+      taken_is = f;
       adds_up = record { since = []; parsed = parsed; goes_on = λ more. rw none refl };
     };
     many = omega arith;
@@ -124,7 +124,7 @@ module _ {text_of : Event → List ℕ} {input held : List ℕ} {parser : Parser
         stream = h.stream ++ chunk;
         rest = left.rest;
         parts = rw (append_assoc, ← left.parts) h.parts;
-        left = left.told;
+        left = left.rest_is;
         whole = λ more. h.whole (chunk ++ more);
         is = λ more. rw append_assoc (h.is (chunk ++ more));
         written = writes h.whole h.written;
@@ -136,7 +136,7 @@ module _ {text_of : Event → List ℕ} {input held : List ℕ} {parser : Parser
       → taken ≡ Some (held ++ means text_of h.stream)
   written_all h =
       let w = h.written in
-      w.told
+      w.taken_is
       ∙ ap Some
       (sym (rw (added-nothing usual_limit w.adds_up.since) (append-nil w.written)) ∙ w.adds_up.goes_on [] ∙ h.is []
       ∙ rw append-nil refl)
@@ -144,13 +144,13 @@ module _ {text_of : Event → List ℕ} {input held : List ℕ} {parser : Parser
   -- A read that fails ends a run, and so do as many reads as there may be.
   pub come_to_front : {reads : ℕ} {to_come_then : Option (List ℕ)} {failed : Bool}
       → HasReadPart text_of input held reads parser to_come taken
-      → KeepsWhereTold to_come to_come_then → (failed ≡ true) ⊎ (most_reads ≤ reads)
+      → KeepsWhereKnown to_come to_come_then → (failed ≡ true) ⊎ (most_reads ≤ reads)
       → WritesPrefix (means text_of) input held to_come_then taken failed
   come_to_front {to_come_then} h keeps cause = record {
     stream = h.stream;
     rest = h.rest;
     parts = h.parts;
-    left = kept_where_told to_come_then h.rest (rw h.left at keeps);
+    left = kept_where_known to_come_then h.rest (rw h.left at keeps);
     written = written_all h;
     cause = elim cause [
       | inl fails ↦ inl fails
@@ -165,8 +165,8 @@ module _ {text_of : Event → List ℕ} {input held : List ℕ} {parser : Parser
       → WritesAll (means text_of) input held to_come_then taken
   come_to_end {to_come_then} h consumes end =
       let left = consumed to_come_then h.rest [] (rw h.left at consumes) in
-      let none : left.rest ≡ [] = rw left.told at end in
+      let none : left.rest ≡ [] = rw left.rest_is at end in
       record {
-        at_end = left.told ∙ ap Some none;
+        at_end = left.rest_is ∙ ap Some none;
         written = rw (h.parts, left.parts, none, append-nil) (written_all h);
       }

@@ -1,6 +1,6 @@
 -- What a record holds after texts, and a collector from call to call. A record holds the texts of all events if there
 -- is room at each start: by induction over the places, from one start to the next.
-use Rattle.event_log.proofs.Common.{◌≡◌, ℕ, zero, suc, ◌+◌, ◌<◌, ◌≤◌, Bool, false, List, [], ◌∷◌, ◌++◌, length, inl, inr, refl, sym, ap, subst, ◌∙◌, usual_limit, append_assoc, append-nil, length-append, arith, take-append_seam, cases_Bool, le-leb, nat_tests, flat_map-append, flat_map, AreFromOneByte, IsStart, reported_before, Event, after, ReportsUnits, Record, BeginsLine, ExtendsLine, EndsLine, has_room_after, record_in, is_to_be_written, most_bytes, with_event, with_text, Lines, ◌-◌, take, drop, length-drop, take_all, HasRead, added, Parser, AddsUpTo, HasKept, HasReadSome}
+use Rattle.event_log.proofs.Common.{◌≡◌, ℕ, zero, suc, ◌+◌, ◌<◌, ◌≤◌, Bool, false, List, [], ◌∷◌, ◌++◌, length, inl, inr, refl, sym, ap, subst, ◌∙◌, usual_limit, append_assoc, append-nil, length-append, arith, take-append_seam, cases_Bool, le-leb, nat_tests, flat_map-append, flat_map, AreFromOneByte, IsStart, reported_before, Event, after, ReportsUnits, Record, BeginsLine, ExtendsLine, EndsLine, has_room_after, record_in, is_to_be_written, most_bytes, record_with_event, record_with_text, Lines, ◌-◌, take, drop, length-drop, take_all, HasRead, added, Parser, AddsUpTo, HasKept, HasReadSome}
 use Rattle.vte_core.proofs.streams.After.{after_events-append}
 
 -- ---- one text
@@ -14,14 +14,14 @@ same_record e f = cc
 
 -- A text is taken if there is room for it.
 with_text_taken : (held : Record) (text : List ℕ) → length held.bytes + length text ≤ most_bytes
-    → with_text held text ≡ record_of (held.bytes ++ text) held.lost
-unfolding with_text
+    → record_with_text held text ≡ record_of (held.bytes ++ text) held.lost
+unfolding record_with_text
 with_text_taken held text fits = rw (le-leb _ _ fits) refl
 
 -- A line that begins, is written and ends is taken if there is room for it.
 pub takes_line : {a b c d : Lines} {line : List ℕ} → BeginsLine a b → ExtendsLine b line c → EndsLine c d
-    → record_in d ≡ with_text (record_in a) line
-unfolding with_text
+    → record_in d ≡ record_with_text (record_in a) line
+unfolding record_with_text
 takes_line {a} {b} {c} {d} {line} h k e =
     let room : c.fits ≡ has_room_after a.bytes.items line = rw (k.fits, h.fits, h.bytes) refl in
     elim (cases_Bool c.fits) [
@@ -40,12 +40,13 @@ takes_line {a} {b} {c} {d} {line} h k e =
 -- If all texts have room, they are all taken.
 pub all_taken : (text_of : Event → List ℕ) (bytes : List ℕ) (lost : Bool) (events : List Event)
     → length bytes + length (flat_map text_of events) ≤ most_bytes
-    → after (with_event text_of) (record_of bytes lost) events ≡ record_of (bytes ++ flat_map text_of events) lost
+    → after (record_with_event text_of) (record_of bytes lost) events
+    ≡ record_of (bytes ++ flat_map text_of events) lost
 all_taken text_of bytes lost [] fits = same_record (sym (append-nil bytes)) refl
 all_taken text_of bytes lost (event ∷ more) fits =
     let text = text_of event in
     let both = length-append text (flat_map text_of more) in
-    ap (λ (held : Record). after (with_event text_of) held more)
+    ap (λ (held : Record). after (record_with_event text_of) held more)
     (with_text_taken (record_of bytes lost) text (omega (arith, both)))
     ∙ all_taken text_of (bytes ++ text) lost more (omega (arith, both, length-append bytes text))
     ∙ same_record (append_assoc bytes text (flat_map text_of more)) refl
@@ -53,7 +54,8 @@ all_taken text_of bytes lost (event ∷ more) fits =
 -- A text is taken as the texts of events are, one after another, if there is room for it.
 pub takes_all : (text_of : Event → List ℕ) (held : Record) (text : List ℕ) (events : List Event)
     → text ≡ flat_map text_of events
-    → length held.bytes + length text ≤ most_bytes → with_text held text ≡ after (with_event text_of) held events
+    → length held.bytes + length text ≤ most_bytes
+    → record_with_text held text ≡ after (record_with_event text_of) held events
 takes_all text_of held text events spelt fits =
     with_text_taken held text (omega arith)
     ∙ same_record (ap (λ (t : List ℕ). held.bytes ++ t) spelt) refl
@@ -80,14 +82,14 @@ module _ (text_of : Event → List ℕ) (small : IsSmall text_of) (units : Repor
     (old : Record) (kept : old.lost ≡ false)
     (room : HasRoomForUnit old) where
   abbrev Takes : List Event → Type 0
-  Takes events = after (with_event text_of) old events ≡ record_of (old.bytes ++ flat_map text_of events) false
+  Takes events = after (record_with_event text_of) old events ≡ record_of (old.bytes ++ flat_map text_of events) false
 
-  takes_unit : (events unit : List Event) → Takes events → HasRoomForUnit (after (with_event text_of) old events)
+  takes_unit : (events unit : List Event) → Takes events → HasRoomForUnit (after (record_with_event text_of) old events)
       → AreFromOneByte usual_limit unit
       → Takes (events ++ unit)
   takes_unit events unit taken has_room_after brief =
-      after_events-append (with_event text_of) old events unit
-      ∙ ap (λ (r : Record). after (with_event text_of) r unit) taken
+      after_events-append (record_with_event text_of) old events unit
+      ∙ ap (λ (r : Record). after (record_with_event text_of) r unit) taken
       ∙ all_taken text_of (old.bytes ++ flat_map text_of events) false unit
       (omega (arith, small unit brief, ap (λ (r : Record). length r.bytes) taken))
       ∙ same_record (simp (append_assoc, flat_map-append)) refl
@@ -95,7 +97,7 @@ module _ (text_of : Event → List ℕ) (small : IsSmall text_of) (units : Repor
   -- By induction on m: what was reported before a place is what was reported at an earlier start, and one unit.
   takes_below : (m i : ℕ) → i < m → i ≤ length bytes
       → ((j : ℕ) → j < i → IsStart stream bytes j
-      → HasRoomForUnit (after (with_event text_of) old (reported_before usual_limit stream bytes j)))
+      → HasRoomForUnit (after (record_with_event text_of) old (reported_before usual_limit stream bytes j)))
       → Takes (reported_before usual_limit stream bytes i)
   takes_below zero i below within rooms = absurd (omega arith)
   takes_below (suc m) i below within rooms =
@@ -111,12 +113,12 @@ module _ (text_of : Event → List ℕ) (small : IsSmall text_of) (units : Repor
       ])
 
   -- If there was room at each start before a place, all texts were taken.
-  pub takes_told : (i : ℕ) → i ≤ length bytes
+  pub takes_reported : (i : ℕ) → i ≤ length bytes
       → ((j : ℕ) → j < i → IsStart stream bytes j
-      → HasRoomForUnit (after (with_event text_of) old (reported_before usual_limit stream bytes j)))
-      → after (with_event text_of) old (reported_before usual_limit stream bytes i)
+      → HasRoomForUnit (after (record_with_event text_of) old (reported_before usual_limit stream bytes j)))
+      → after (record_with_event text_of) old (reported_before usual_limit stream bytes i)
       ≡ record_of (old.bytes ++ flat_map text_of (reported_before usual_limit stream bytes i)) false
-  takes_told i within rooms = takes_below (i + 1) i (omega arith) within rooms
+  takes_reported i within rooms = takes_below (i + 1) i (omega arith) within rooms
 
 -- ---- what a collector holds
 

@@ -3,9 +3,9 @@ use Rattle.std.specs.Prelude.{◌≡◌, ℕ, Bool, List, Option, Some, None, �
 use Rattle.event_log.specs.declared.device.Device.{Device}
 
 -- If the bytes are known before and after, they are the same.
-abbrev pub KeepsWhereTold : Option (List ℕ) → Option (List ℕ) → Type 0
-KeepsWhereTold (Some before) (Some after) = after ≡ before
-KeepsWhereTold _ _ = ⊤
+abbrev pub KeepsWhereKnown : Option (List ℕ) → Option (List ℕ) → Type 0
+KeepsWhereKnown (Some before) (Some after) = after ≡ before
+KeepsWhereKnown _ _ = ⊤
 
 -- The reader or writer inside a device.
 abbrev pub device_inner : {D : Type 0} → Device D → D
@@ -15,5 +15,5 @@ abbrev pub device_failed : {D : Type 0} → Device D → Bool
 device_failed device = is_some device.error
 
 -- What is known of the bytes inside, as long as the device hasn't failed.
-abbrev pub told_unless : Bool → Option (List ℕ) → Option (List ℕ)
-told_unless failed told = if failed then None else told
+abbrev pub known_unless : Bool → Option (List ℕ) → Option (List ℕ)
+known_unless failed known = if failed then None else known

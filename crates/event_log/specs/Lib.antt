@@ -1,9 +1,15 @@
-pub mod Device
+-- In reading order.
+
+-- What is written of an event: a line, or plain text.
 pub mod Lines
 pub mod Plain
-pub mod Progress
+-- What a collector holds.
 pub mod Record
+-- Devices that may fail, and a run from one to another.
+pub mod Device
 pub mod Run
+-- For the proof alone.
+pub mod machine
 -- What the definitions above use from the library below.
 pub use Rattle.vte_core.specs.Event
 pub use Rattle.vte_core.specs.Stream

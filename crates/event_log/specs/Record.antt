@@ -23,13 +23,13 @@ abbrev pub has_room_after : List ℕ → List ℕ → Bool
 has_room_after bytes text = nat_le (length bytes + length text) most_bytes
 
 -- A text is appended whole if there is room for it, and dropped otherwise.
-unfoldable pub with_text : Record → List ℕ → Record
-with_text held text =
+unfoldable pub record_with_text : Record → List ℕ → Record
+record_with_text held text =
     if has_room_after held.bytes text then record { bytes = held.bytes ++ text; lost = held.lost }
     else record { bytes = held.bytes; lost = true }
 
-abbrev pub with_event : (Event → List ℕ) → Record → Event → Record
-with_event text_of held event = with_text held (text_of event)
+abbrev pub record_with_event : (Event → List ℕ) → Record → Event → Record
+record_with_event text_of held event = record_with_text held (text_of event)
 
 -- Whether more than half of the room is in use.
 abbrev pub is_to_be_written : Record → Bool

@@ -38,22 +38,19 @@ pub record WritesPrefix (meaning : List ℕ → List ℕ) (input held : List ℕ
 
 -- How a run leaves a reader and a writer whose bytes were known when it began.
 abbrev pub WritesExactly : (List ℕ → List ℕ) → Result (Unit {0}) Fault → (input held : List ℕ)
-    → Option (List ℕ)
-    → Option (List ℕ) → Bool → Type 0
+    → (to_come taken : Option (List ℕ)) → (failed : Bool) → Type 0
 WritesExactly meaning (Ok _) input held to_come taken failed =
     WritesAll meaning input held to_come taken
 WritesExactly meaning (Err Read) input held to_come taken failed =
     WritesPrefix meaning input held to_come taken failed
 WritesExactly meaning (Err Write) input held to_come taken failed = ⊤
 
-abbrev pub LogsExactly : Result (Unit {0}) Fault → (input held : List ℕ) → Option (List ℕ)
-    → Option (List ℕ) → Bool
-    → Type 0
+abbrev pub LogsExactly : Result (Unit {0}) Fault → (input held : List ℕ)
+    → (to_come taken : Option (List ℕ)) → (failed : Bool) → Type 0
 LogsExactly result input held to_come taken failed =
     WritesExactly log_of result input held to_come taken failed
 
-abbrev pub StripsExactly : Result (Unit {0}) Fault → (input held : List ℕ) → Option (List ℕ)
-    → Option (List ℕ) → Bool
-    → Type 0
+abbrev pub StripsExactly : Result (Unit {0}) Fault → (input held : List ℕ)
+    → (to_come taken : Option (List ℕ)) → (failed : Bool) → Type 0
 StripsExactly result input held to_come taken failed =
     WritesExactly stripped_text result input held to_come taken failed

@@ -1,7 +1,7 @@
 //! Readers and writers.
 ghost use Rattle.std.specs.Prelude.{◌≡◌, ◌<◌, ◌≤◌, ℕ, Bool, List, Option, IsTrue, IfOk, OnOk, OnErr, is_err, is_some, length, take, false};
 ghost use Rattle.std.specs.Io.KnownBytes.{Consumes, Appends, Keeps, IsAtEnd};
-ghost use Rattle.event_log.specs.Device.{KeepsWhereTold, device_inner, device_failed, told_unless};
+ghost use Rattle.event_log.specs.Device.{KeepsWhereKnown, device_inner, device_failed, known_unless};
 
 use std::io::{self, Read, Write};
 
@@ -28,7 +28,7 @@ pub trait Source {
             Consumes (to_come self.old) (to_come self.new) (take count room.new)) }
         ensures end { IfOk result (λ count. count ≡ 0 → 0 < length room.new
             → IsAtEnd (to_come self.new)) }
-        ensures none_taken { OnErr result (KeepsWhereTold (to_come self.old) (to_come self.new)) };
+        ensures none_taken { OnErr result (KeepsWhereKnown (to_come self.old) (to_come self.new)) };
 }
 
 /// A destination for bytes.
@@ -59,7 +59,7 @@ pub trait Sink {
         ensures fails { is_err result ≡ has_failed self.new }
         ensures stays { IsTrue (has_failed self.old) → IsTrue (has_failed self.new) }
         ensures keeps { OnOk result (Keeps (taken self.old) (taken self.new)) }
-        ensures adds_none { OnErr result (KeepsWhereTold (taken self.old) (taken self.new)) };
+        ensures adds_none { OnErr result (KeepsWhereKnown (taken self.old) (taken self.new)) };
 }
 
 /// A [`Read`] or [`Write`] of std as a [`Source`] or [`Sink`].
@@ -90,7 +90,7 @@ impl<D> Device<D> {
 }
 
 impl<D: Read> Source for Device<D> {
-    ghost to_come = { λ device. told_unless (device_failed device) (D.remaining device.inner) };
+    ghost to_come = { λ device. known_unless (device_failed device) (D.remaining device.inner) };
 
     ghost has_failed = { λ device. device_failed device };
 
@@ -109,7 +109,7 @@ impl<D: Read> Source for Device<D> {
 }
 
 impl<D: Write> Sink for Device<D> {
-    ghost taken = { λ device. told_unless (device_failed device) (D.contents device.inner) };
+    ghost taken = { λ device. known_unless (device_failed device) (D.contents device.inner) };
 
     ghost has_failed = { λ device. device_failed device };
 

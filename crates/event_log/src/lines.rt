@@ -1,6 +1,6 @@
 //! Lines of text, each appended whole or not at all.
 ghost use Rattle.std.specs.Prelude.{◌≡◌, ◌+◌, [], false, length};
-ghost use Rattle.event_log.specs.Record.{BeginsLine, EndsLine, ExtendsLine, empty_record, record_in, is_to_be_written, most_bytes, with_text};
+ghost use Rattle.event_log.specs.Record.{BeginsLine, EndsLine, ExtendsLine, empty_record, record_in, is_to_be_written, most_bytes, record_with_text};
 
 mod fields;
 mod short;
@@ -85,9 +85,9 @@ impl Lines {
 
     /// Appends a line, or drops it if there isn't room for all of it.
     #[inline]
-    #[tactic(auto, unfolding(crate::specs::Record::with_text))]
+    #[tactic(auto, unfolding(crate::specs::Record::record_with_text))]
     pub fn append(&mut self, line: &[u8])
-        ensures { record_in self.new ≡ with_text (record_in self.old) line.now }
+        ensures { record_in self.new ≡ record_with_text (record_in self.old) line.now }
     {
         if self.bytes.try_extend_from_slice(line).is_err() {
             self.lost = true;

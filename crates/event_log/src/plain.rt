@@ -1,7 +1,7 @@
 //! The performer that keeps only text.
 ghost use Rattle.std.specs.Prelude.{◌≡◌, true};
 ghost use Rattle.event_log.specs.Plain.{plain_text_of};
-ghost use Rattle.event_log.specs.Record.{Record, empty_record, record_in, is_to_be_written, with_event};
+ghost use Rattle.event_log.specs.Record.{Record, empty_record, record_in, is_to_be_written, record_with_event};
 
 use crate::collector::{Collector, RunParser};
 use crate::lines::Lines;
@@ -66,7 +66,7 @@ impl Perform for Plain {
 
     ghost value_of = { λ plain. plain };
 
-    ghost step = { with_event plain_text_of };
+    ghost step = { record_with_event plain_text_of };
 
     ghost is_terminated = { is_to_be_written };
 
@@ -79,7 +79,7 @@ impl Perform for Plain {
     fn execute(&mut self, byte: u8) {
         match byte {
             b'\t' | b'\n' | b'\r' => self.texts.append(&[byte]),
-            // What has no text appends an empty one, as `with_event` does: this needs no proof.
+            // proof: what has no text appends an empty one, as `record_with_event` does.
             _ => self.texts.append(b""),
         }
     }

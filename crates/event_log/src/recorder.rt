@@ -1,7 +1,7 @@
 //! The performer that writes lines.
 ghost use Rattle.std.specs.Prelude.{◌≡◌, ◌++◌};
 ghost use Rattle.event_log.specs.Lines.{line_feed, line_of, sequence_fields};
-ghost use Rattle.event_log.specs.Record.{Record, empty_record, record_in, is_to_be_written, with_event, with_text};
+ghost use Rattle.event_log.specs.Record.{Record, empty_record, record_in, is_to_be_written, record_with_event, record_with_text};
 
 use crate::collector::{Collector, RunParser};
 use crate::lines::{Lines, execute_line, put_line};
@@ -69,7 +69,7 @@ impl Recorder {
         action: char,
     )
         ensures { self.new
-            ≡ with_text self.old
+            ≡ record_with_text self.old
             (name.now ++ sequence_fields params.now intermediates.now ignore action ++ line_feed) }
     {
         self.lines.begin();
@@ -86,7 +86,7 @@ impl Perform for Recorder {
 
     ghost value_of = { λ recorder. recorder };
 
-    ghost step = { with_event line_of };
+    ghost step = { record_with_event line_of };
 
     ghost is_terminated = { is_to_be_written };
 

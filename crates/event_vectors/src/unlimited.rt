@@ -254,7 +254,7 @@ fn an_open_command_keeps_its_bytes(rt: HostRuntime) -> Result<(), Fail> {
     Ok(())
 }
 
-/// A caller takes text from its own input, and what stands before it is performed.
+/// A caller takes text from its own input, and what is before it is performed.
 #[test]
 fn text_is_taken_from_the_input(rt: HostRuntime) {
     let mut parser = LongParser::new(rt.alloc());

@@ -29,4 +29,4 @@ pub record RangBy (given held : List ℕ) (rung : Bool) : Type 0 where
   pub stops : List ℕ
   pub each_once : given ≡ parsed ++ held
   pub in_order : AreInOrder 0 stops (length parsed)
-  pub told : rung ≡ after rung_after false (calls_with_stops usual_limit parsed 0 stops)
+  pub rung_is : rung ≡ after rung_after false (calls_with_stops usual_limit parsed 0 stops)

@@ -33,7 +33,7 @@ impl Style {
         attributes: 0,
     };
 
-    /// SGR. The numbers of a color may stand in one parameter or in several.
+    /// SGR. The numbers of a color may be in one parameter or in several.
     pub(crate) fn select_all(&mut self, params: &Params) {
         let mut numbers = ArrayVec::<u8, 5>::new();
         for number in params.iter().flatten() {

@@ -11,7 +11,8 @@ use crate::page::{Page, UntilEnded};
 use std::alloc::{AllocError, Global};
 use vte::ansi::{ByCall, Processor, laws};
 
-/// A terminal that is told a stream in calls of [`Session::read`], and when an update has expired.
+/// A terminal that reads a stream in calls of [`Session::read`], and learns when an update has
+/// expired.
 #[derive(Drop)]
 pub struct Session {
     processor: Processor<UntilEnded, Global>,
@@ -43,7 +44,7 @@ impl Session {
         ensures { (steps : List Step) → HasMade self.old steps
             → HasMade self.new (steps ++ Advance bytes.entry ∷ []) }
     {
-        laws::calls_are_told::<ByCall<Page>, UntilEnded>();
+        laws::calls_are_received::<ByCall<Page>, UntilEnded>();
         self.processor.advance(&mut self.page, bytes);
     }
 
@@ -52,7 +53,7 @@ impl Session {
         ensures { (steps : List Step) → HasMade self.old steps
             → HasMade self.new (steps ++ StopSync ∷ []) }
     {
-        laws::calls_are_told::<ByCall<Page>, UntilEnded>();
+        laws::calls_are_received::<ByCall<Page>, UntilEnded>();
         self.processor.stop_sync(&mut self.page);
     }
 
@@ -61,7 +62,7 @@ impl Session {
         ensures { (steps : List Step) → HasMade self.now steps
             → RangBy (given_bytes steps) (held_in self.now.processor) result }
     {
-        laws::calls_are_told::<ByCall<Page>, UntilEnded>();
+        laws::calls_are_received::<ByCall<Page>, UntilEnded>();
         self.page.0.rung
     }
 }

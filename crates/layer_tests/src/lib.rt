@@ -1,4 +1,4 @@
-//! Tests that stand above all layers, in one crate, since a crate with tests is proved twice.
+//! Tests that need all layers, in one crate, since a crate with tests is proved twice.
 #![tactic(auto)]
 
 #[cfg(test)]

@@ -1,6 +1,6 @@
 -- From events to calls: what a performer makes of a handler and a timeout. All events together make the calls of their
 -- rows, and set the timeout once per begin of an update; a run of text makes those of its characters.
-use Rattle.vte.proofs.Common.{◌≡◌, ℕ, None, List, [], ◌∷◌, ◌++◌, Option, refl, ap, ◌∙◌, append_assoc, drop-append_seam, Event, added, events, added-append, added-nothing, events_grow, Call, after, added_calls, calls_after, calls, calls_from, last_printed_after, last_printed, last_printed_from, zero, suc, ◌+◌, zero-add, suc-add, Bool, ◌||◌, nat_lt, arith, nat_tests, TimeoutMeaning, set_times, update_nanos, PerformerValue, first_number, with_private_mode, with_private_modes, ◌≤◌, Some, length, get_or, map, sym, add-zero, or-false, take-append_seam, append-nil, get_or-append-add, length-append, IsCharBoundary, IsUtf8, chars, Print, Input, with_event, option_or, rules}
+use Rattle.vte.proofs.Common.{◌≡◌, ℕ, None, List, [], ◌∷◌, ◌++◌, Option, refl, ap, ◌∙◌, append_assoc, drop-append_seam, Event, added, events, added-append, added-nothing, events_grow, Call, after, added_calls, calls_after, calls, calls_from, last_printed_after, last_printed, last_printed_from, zero, suc, ◌+◌, zero-add, suc-add, Bool, ◌||◌, nat_lt, arith, nat_tests, TimeoutMeaning, set_times, update_nanos, PerformerValue, first_number, with_private_mode, with_private_modes, ◌≤◌, Some, length, get_or, map, sym, add-zero, or-false, take-append_seam, append-nil, get_or-append-add, length-append, IsCharBoundary, IsUtf8, chars, Print, Input, performer_with_event, option_or, rules}
 use Rattle.std.specs.Bool.{if◌then◌else◌}
 use Rattle.std.proofs.Math.Utf8.{encode}
 use Rattle.std.proofs.lemmas.Str.{IsUtf8-drop, IsUtf8-take, chars-append, chars-nil, chars_past_char}
@@ -77,14 +77,14 @@ modes-more step timeout performer group groups = search (rules, arith, begun-mor
 -- A run calls `input` for each character, and neither sets the timeout nor terminates.
 pub performed_run : {V W : Type 0} (step : V → Call → V) (timeout : TimeoutMeaning W) (performer : PerformerValue V W)
     (cs : List ℕ)
-    → performed (with_event step timeout) performer (map Print cs)
+    → performed (performer_with_event step timeout) performer (map Print cs)
     ≡ record performer {
       handler = after step performer.handler (map Input cs);
       last = last_printed_from performer.last (map Print cs);
     }
 performed_run step timeout performer [] = refl
 performed_run step timeout performer (c ∷ cs) =
-    performed_run step timeout (with_event step timeout performer (Print c)) cs ∙ rw or-false
+    performed_run step timeout (performer_with_event step timeout performer (Print c)) cs ∙ rw or-false
 
 -- A character at the end of a run is its last.
 last_printed-added : (last : Option ℕ) (cs : List ℕ) (c : ℕ)

@@ -1,9 +1,9 @@
 -- A performer's value after the events of bytes. The handler and the state that it was lent come back as they are
 -- after the bytes, and an early stop reads the prefix up to the begin of an update.
-use Rattle.vte.proofs.Common.{◌≡◌, ℕ, List, [], ◌∷◌, ◌++◌, refl, ap, ◌∙◌, Event, added, events, events_grow, after, calls_from, last_printed_after, last_printed, last_printed_from, ◌+◌, Bool, ◌||◌, nat_lt, arith, nat_tests, set_times, PerformerValue, length, sym, or-false, with_event, ◌<◌, inl, inr, false, All, take, cases_lt, false≢true, All-head, All-tail, reported_before, resumed_stream, StopsExactly, starts-settled, resumed_stream-settled, reported-settled, ProcessorState, begin_count, begins_in_event, calls_of, performer_value, Meaning, FitsText, engine_view, ArePartsAt, ArePartsAtKeepingMemory, KeepsMemory, State, parse, prefix_to_begin, ParserView}
+use Rattle.vte.proofs.Common.{◌≡◌, ℕ, List, [], ◌∷◌, ◌++◌, refl, ap, ◌∙◌, Event, added, events, events_grow, after, calls_from, last_printed_after, last_printed, last_printed_from, ◌+◌, Bool, ◌||◌, nat_lt, arith, nat_tests, set_times, PerformerValue, length, sym, or-false, performer_with_event, ◌<◌, inl, inr, false, All, take, cases_lt, false≢true, All-head, All-tail, reported_before, resumed_stream, StopsExactly, starts-settled, resumed_stream-settled, reported-settled, ProcessorState, begin_count, begins_in_event, calls_of, performer_value, Meaning, FitsText, engine_view, ArePartsAt, ArePartsAtKeepingMemory, KeepsMemory, State, parse, prefix_to_begin, ParserView}
 use Rattle.vte_core.specs.Event.{after as performed}
 use Rattle.vte.specs.declared.ansi.calls.performer.Performer.{Performer}
-use Rattle.vte.proofs.updates.Prefixes.{IsPrefix, open_character-prefix, prefix-is, begin_count-told, breaks_at-prefix}
+use Rattle.vte.proofs.updates.Prefixes.{IsPrefix, open_character-prefix, prefix-is, begin_count-reported, breaks_at-prefix}
 use Rattle.vte.proofs.EventCalls.{after_calls-append, last_printed-append, added_calls-events, set_times-add}
 
 -- ---- the value after events
@@ -27,10 +27,10 @@ with_events m performer events = record {
 
 performed-events : {V W : Type 0} (m : Meaning V W) (performer : PerformerValue V W) (events : List Event)
     → All (FitsText performer.text_size) events
-    → performed (with_event m.step m.timeout) performer events ≡ with_events m performer events
+    → performed (performer_with_event m.step m.timeout) performer events ≡ with_events m performer events
 performed-events m performer [] fit = rw or-false
 performed-events m performer (event ∷ events) fit =
-    performed-events m (with_event m.step m.timeout performer event) events
+    performed-events m (performer_with_event m.step m.timeout performer event) events
     (All-tail (FitsText performer.text_size) event events fit)
     ∙ rw (
       All-head (FitsText performer.text_size) event events fit performer.last,
@@ -49,7 +49,7 @@ module _ {H T B G V W : Type 0} (handler_of : H → V) (timeout_of : T → W) (t
     (old : PerformerValue V W) (new : Performer H T B G) {state : ProcessorState T B}
     (fit : All (FitsText old.text_size) (added m.limit s.parsed f))
     (made : performer_value handler_of timeout_of text_size_of new
-    ≡ performed (with_event m.step m.timeout) old (added m.limit s.parsed f))
+    ≡ performed (performer_with_event m.step m.timeout) old (added m.limit s.parsed f))
     (back_state : old.state_name ≡ new.state.ghost_name → state ≡ new.state.now) where
   all_made : performer_value handler_of timeout_of text_size_of new ≡ with_events m old (added m.limit s.parsed f)
   all_made = made ∙ performed-events m old (added m.limit s.parsed f) fit
@@ -96,22 +96,25 @@ module _ {H T B G V W : Type 0} (handler_of : H → V) (timeout_of : T → W) (t
 -- An update that begins terminates the performer, so the call stops at the end of the shortest prefix that begins one.
 
 terminated_by : {V W : Type 0} (m : Meaning V W) (performer : PerformerValue V W) (events : List Event)
-    → (performed (with_event m.step m.timeout) performer events).terminated
+    → (performed (performer_with_event m.step m.timeout) performer events).terminated
     ≡ (performer.terminated || nat_lt 0 (begin_count events))
 terminated_by m performer [] = sym (or-false performer.terminated)
 terminated_by m performer (event ∷ events) =
-    terminated_by m (with_event m.step m.timeout performer event) events
+    terminated_by m (performer_with_event m.step m.timeout performer event) events
     ∙ any-sum performer.terminated (begins_in_event event) (begin_count events)
 
 module _ {V W : Type 0} (m : Meaning V W) {old new : PerformerValue V W} (goes_on : old.terminated ≡ false)
     {p r : List ℕ} {n : ℕ}
-    (stop : StopsExactly (with_event m.step m.timeout) (λ performer. performer.terminated) old m.limit p r new n) where
+    (stop : StopsExactly (performer_with_event m.step m.timeout) (λ performer. performer.terminated) old m.limit p r new
+    n) where
   prefix : IsPrefix m.limit p r (length (prefix_to_begin m.limit p r))
   prefix = prefix-is m.limit p r
 
-  terminated_at : (i : ℕ) → (performed (with_event m.step m.timeout) old (reported_before m.limit p r i)).terminated
+  terminated_at : (i : ℕ)
+      → (performed (performer_with_event m.step m.timeout) old (reported_before m.limit p r i)).terminated
       ≡ nat_lt 0 (begin_count (added m.limit p (take i r)))
-  terminated_at i = terminated_by m old (reported_before m.limit p r i) ∙ rw (goes_on, begin_count-told m.limit p r i)
+  terminated_at i =
+      terminated_by m old (reported_before m.limit p r i) ∙ rw (goes_on, begin_count-reported m.limit p r i)
 
   size-not_before : n < length (prefix_to_begin m.limit p r) → ⊥
   size-not_before less =
@@ -139,7 +142,8 @@ module _ {V W : Type 0} (m : Meaning V W) {old new : PerformerValue V W} (goes_o
     ]
   ]
 
-  pub stop_performs : new ≡ performed (with_event m.step m.timeout) old (added m.limit p (prefix_to_begin m.limit p r))
+  pub stop_performs : new
+      ≡ performed (performer_with_event m.step m.timeout) old (added m.limit p (prefix_to_begin m.limit p r))
   stop_performs =
       let f =
       prefix in

@@ -42,13 +42,13 @@ components_reading count numbers =
     if length components == count then record { color = color_of_numbers components; used = count }
     else failed_reading (length components) (drop (length components) numbers)
 
-abbrev pub reading_of : Option ℕ → List ℕ → ReadColor
-reading_of None numbers = record { color = None; used = 0 }
-reading_of (Some count) numbers = components_reading count numbers
+abbrev pub counted_reading : Option ℕ → List ℕ → ReadColor
+counted_reading None numbers = record { color = None; used = 0 }
+counted_reading (Some count) numbers = components_reading count numbers
 
 -- A colour of this kind.
 abbrev pub kind_reading : ℕ → List ℕ → ReadColor
-kind_reading kind numbers = reading_of (entry_of component_counts kind) numbers
+kind_reading kind numbers = counted_reading (entry_of component_counts kind) numbers
 
 abbrev pub color_reading : List ℕ → ReadColor
 color_reading [] = record { color = None; used = 0 }

@@ -31,7 +31,7 @@ pub record LacksMemoryForSome {P B T A W : Type 0} (view : EngineView P B T W)
 -- `reserve`, of memory for the held bytes and `more` others
 pub record Reserves {P B T A W : Type 0} (view : EngineView P B T W)
     (old new : Engine P B T A) (more : ℕ) (result : Bool) : Type 0 where
-  -- The processor stands where it stood.
+  -- The processor is where it was.
   pub same : (parsed held : List ℕ) (timeout : W)
       → EngineHasParsedAndHolds view old parsed held timeout
       → EngineHasParsedAndHolds view new parsed held timeout

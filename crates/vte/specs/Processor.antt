@@ -36,8 +36,8 @@ set_times meaning (suc count) value = set_times meaning count (meaning.set value
 
 -- ---- the state between calls
 
--- The state between calls: the bytes parsed so far, the positions among them at which updates were
--- stopped, the bytes held after them, and the values of the timeout and the handler.
+-- The bytes parsed so far, the positions among them at which updates were stopped, the bytes held
+-- after them, and the values of the timeout and the handler.
 pub record State (V W : Type 0) : Type 0 where
   pub parsed : List ℕ
   pub stops : List ℕ
@@ -102,10 +102,10 @@ pub data TurnKind : Type 0 where
   FullTurn : TurnKind
 
 -- The kind of a turn, by whether the timeout is pending, and how many bytes are held and given.
-abbrev pub kind_of : Bool → ℕ → ℕ → TurnKind
-kind_of false zero given = ParsingTurn
-kind_of false (suc held) given = ExpiredTurn
-kind_of true held given = if nat_le (held + given) most_held then HoldTurn else FullTurn
+abbrev pub turn_kind_of : Bool → ℕ → ℕ → TurnKind
+turn_kind_of false zero given = ParsingTurn
+turn_kind_of false (suc held) given = ExpiredTurn
+turn_kind_of true held given = if nat_le (held + given) most_held then HoldTurn else FullTurn
 
 -- The shortest prefix whose last byte begins an update, or all bytes if there is none.
 abbrev pub prefix_to_begin : Option ℕ → List ℕ → List ℕ → List ℕ
@@ -158,7 +158,7 @@ module _ {V W : Type 0} (meaning : Meaning V W) where
   -- A turn, by the timeout's answer.
   abbrev pub turn : Bool → State V W → List ℕ → Turn V W
   turn pending state bytes =
-      turn_of (kind_of pending (length state.held) (length bytes)) state bytes
+      turn_of (turn_kind_of pending (length state.held) (length bytes)) state bytes
 
   -- Turns of a call that led to a state and left these bytes, each with an answer that the
   -- timeout's value allows.

@@ -1,5 +1,5 @@
 -- What calls of a processor ensure, in the words of `Processor`: what they tell the handler, where
--- the processor stands, what is true after one call and after a list of calls, and then what each
+-- the processor is, what is true after one call and after a list of calls, and then what each
 -- function promises.
 use Rattle.std.specs.Prelude.{◌≡◌, ℕ, List, ◌++◌, length, drop, [], ◌∷◌, Bool, false, ◌≤◌, None, Option, Result, IfOk, MatchResult, ⊤}
 use Rattle.vte_core.specs.Outcome.{SaysLoss}
@@ -37,7 +37,7 @@ pub record HasDelivered {V W : Type 0} (meaning : Meaning V W) (state : State V 
       ≡ after meaning.step state.handler
       (calls_with_stops meaning.limit next.parsed (length state.parsed) positions)
 
--- ---- where a processor stands
+-- ---- where a processor is
 
 -- The held bytes. Those before them in the buffer were released by the last turn.
 abbrev pub held_of : {A : Type 0} → SyncState A → List ℕ
@@ -60,14 +60,14 @@ pub record HasParsedAndHolds {T A W : Type 0} (timeout_of : T → W) (processor 
   pub timeout_is : timeout_of (timeout_in processor) ≡ timeout
   pub holds : held_in processor ≡ held
 
--- Where a processor stands: a predicate of what it has parsed and holds, and of its timeout's
+-- Where a processor is: a predicate of what it has parsed and holds, and of its timeout's
 -- value, such as `HasParsedAndHolds T.value_of processor`. What follows takes such predicates,
 -- since it is true of a processor without a limit too: `Before` of the one before a call, `After`
 -- of the one after it.
 abbrev pub ProcessorPredicate : Type 0 → Type 1
 ProcessorPredicate W = (parsed held : List ℕ) → (timeout : W) → Type 0
 
--- Where the processor stands, and the handler's value, are as the state says.
+-- Where the processor is, and the handler's value, are as the state says.
 pub record IsAt {V W : Type 0} (Stands : ProcessorPredicate W) (value : V)
     (state : State V W) : Type 0 where
   pub stands : Stands state.parsed state.held state.timeout
@@ -150,7 +150,7 @@ pub record Creates {P T W : Type 0} (limit : Option ℕ) (meaning : TimeoutMeani
   pub timeout : IfOk result (λ processor. timeout_in processor ≡ given)
   pub parses_all : IfOk result (λ processor. HasParsedAll (Stands processor) [])
 
--- `clone`: the copy stands where the processor does, if the copy of the timeout has its value. Of
+-- `clone`: the copy is where the processor is, if the copy of the timeout has its value. Of
 -- each two parameters the second is the copy's.
 pub record IsCopyOfProcessor {T W : Type 0} (is_clone : T → T → Type 0) (timeout_of : T → W)
     (first second : T) (Stands CopyStands : ProcessorPredicate W) (parser copy : Reading)

@@ -3,7 +3,7 @@
 use Rattle.std.specs.Prelude.{◌≡◌, ℕ, ◌-◌, ◌<◌, ◌++◌, Bool, List, ◌∷◌, length, take, drop}
 use Rattle.vte_core.specs.Stream.{added}
 use Rattle.vte.specs.Synchronized.{begin_count}
-use Rattle.vte.specs.Processor.{HoldsWellAt, Meaning, State, TakesTurns, TurnKind, ParsingTurn, ExpiredTurn, HoldTurn, FullTurn, all_bytes, given_bytes, kind_of, parse, stop}
+use Rattle.vte.specs.Processor.{HoldsWellAt, Meaning, State, TakesTurns, TurnKind, ParsingTurn, ExpiredTurn, HoldTurn, FullTurn, all_bytes, given_bytes, turn_kind_of, parse, stop}
 use Rattle.vte.specs.ProcessorCalls.{HasReplayed}
 use Rattle.vte.specs.declared.ansi.laws.replays.RefusedStep.{RefusedStep}
 use Rattle.vte.specs.declared.ansi.laws.replays.Step.{Step}
@@ -34,7 +34,7 @@ module _ {V W : Type 0} (meaning : Meaning V W) where
   -- A turn was refused memory, after this answer of the timeout.
   abbrev pub TurnIsRefused : Bool → State V W → List ℕ → State V W → List ℕ → Type 0
   TurnIsRefused pending state bytes =
-      KindIsRefused (kind_of pending (length state.held) (length bytes)) state bytes
+      KindIsRefused (turn_kind_of pending (length state.held) (length bytes)) state bytes
 
   -- The turns of a call up to a refusal, before a turn or inside one.
   pub data TakesTurnsUntilRefused (state : State V W) (bytes : List ℕ) (next : State V W)

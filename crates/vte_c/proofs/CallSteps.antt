@@ -1,19 +1,19 @@
 -- A call goes on (`ReadsOn`) by calls of the parser, whose events are written as long as there is room, and by the runs
 -- that these return. One step after another is a longer one (`goes-then`).
-use Rattle.vte_c.proofs.Common.{AreCharacters, Bool, ComesTo, DataRun, Event, ReadsOn, GoesOnFromPositions, HasReadOn, HasEntries, HasRead, HaveOtherRecords, InInput, IsRunOfKind, usual_limit, IsRunAt, List, OpensSilently, Parser, Print, Put, Room, Run, Single, Starts, StopsAtNone, ReportsUnits, TextRun, [], added, after, ap, append-nil, arith, breaks_at, cases_Bool, cases_lt, chars, data_of, drop, drop-drop, false, false≢true, filter-append, flat_map, flat_map-append, has, if◌then◌else◌, inl, inr, is_full, is_stop, entry_events, kind_of, len_utf8_bounds, length, length-append, length-drop, length-encode, map, nat_tests, refl, replacement, reported, resumed, run_events, run_kind, run_record, resumed_stream, subst, sym, take, reported_before, true, with_event, with_entries, with_run, with_taken, with_wanted, zero-add, ℕ, ◌++◌, ◌+◌, ◌-◌, ◌<◌, ◌∙◌, ◌∷◌, ◌≡◌, ◌≤◌}
+use Rattle.vte_c.proofs.Common.{AreCharacters, Bool, ComesTo, DataRun, Event, ReadsOn, GoesOnFromPositions, HasReadOn, HasEntries, HasRead, NoRecordStops, InInput, IsRunOfKind, usual_limit, IsRunAt, List, OpensSilently, Parser, Print, Put, Room, Run, Single, Starts, StopsAtNone, ReportsUnits, TextRun, [], added, after, ap, append-nil, arith, breaks_at, cases_Bool, cases_lt, chars, data_of, drop, drop-drop, false, false≢true, filter-append, flat_map, flat_map-append, has, if◌then◌else◌, inl, inr, is_full, is_stop, entry_events, event_kind, len_utf8_bounds, length, length-append, length-drop, length-encode, map, nat_tests, refl, replacement, reported, resumed, events_of_run, run_kind, run_record, resumed_stream, subst, sym, take, reported_before, true, room_with_event, with_entries, with_run, with_taken, with_wanted, zero-add, ℕ, ◌++◌, ◌+◌, ◌-◌, ◌<◌, ◌∙◌, ◌∷◌, ◌≡◌, ◌≤◌}
 use Rattle.vte_core.proofs.streams.After.{added-nothing}
-use Rattle.vte_core.specs.AdvanceToRun.{IsLongestRun, ReturnsRun, run_bytes, run_events as returned_events, taken_bytes}
+use Rattle.vte_core.specs.AdvanceToRun.{IsLongestRun, ReturnsRun, run_bytes, run_events, taken_bytes}
 use Rattle.vte_core.specs.declared.reader.run.Run.{Run as Returned}
 use Rattle.vte_core.specs.declared.reader.run.Taken.{Taken}
 use Rattle.vte_core.specs.declared.reader.run.Taken.TheVariants.{Text, Data, Nothing}
 use Rattle.vte_core.proofs.EarlyStops.{passed-at}
-use Rattle.vte_c.proofs.Continuations.{entries_others, others_append, others_before, others_earlier, others_front, others_reported, runs_other, continues-added, continues-call, continues-nothing, continues-then}
+use Rattle.vte_c.proofs.Continuations.{no_event_stops-entries, no_event_stops-append, no_event_stops-before, no_event_stops-earlier, no_event_stops-front, no_event_stops-reported, no_event_stops-run, continues-added, continues-call, continues-nothing, continues-then}
 use Rattle.vte_c.proofs.Rooms.{event_passed, event_written, entries-nothing, entries-run, entries-then, entries-unit_more, entries_of, paused_after, resumed_free, resumed_same, unmet, unpaused}
 
 -- ---- a run of the input
 
 -- All events of a run are reported, or none.
-each_reported : (kinds : ℕ) (wanted : Bool) (call : ℕ → Event) → ((n : ℕ) → has kinds (kind_of (call n)) ≡ wanted)
+each_reported : (kinds : ℕ) (wanted : Bool) (call : ℕ → Event) → ((n : ℕ) → has kinds (event_kind (call n)) ≡ wanted)
     → (ns : List ℕ) → reported kinds (map call ns) ≡ (if wanted then map call ns else [])
 each_reported kinds true call is [] = refl
 each_reported kinds false call is [] = refl
@@ -21,7 +21,7 @@ each_reported kinds true call is (n ∷ ns) = rw (is n, each_reported kinds true
 each_reported kinds false call is (n ∷ ns) = rw (is n) (each_reported kinds false call is ns)
 
 run_reported : (kinds : ℕ) (wanted : Bool) (run : Run) (bytes : List ℕ) → has kinds (run_kind run) ≡ wanted
-    → reported kinds (run_events run bytes) ≡ (if wanted then run_events run bytes else [])
+    → reported kinds (events_of_run run bytes) ≡ (if wanted then events_of_run run bytes else [])
 run_reported kinds wanted TextRun bytes is = each_reported kinds wanted Print (λ c. is) (chars bytes)
 run_reported kinds wanted DataRun bytes is = each_reported kinds wanted Put (λ b. is) bytes
 
@@ -31,25 +31,25 @@ run_stops room DataRun none = none.1
 
 goes-run : {old new : Room} {since bytes : List ℕ} (run : Run) {from size : ℕ} → is_full old ≡ false
     → new ≡ with_wanted old (run_record (run_kind run) from size) → IsRunAt bytes run from size
-    → added usual_limit since (take size (drop from bytes)) ≡ run_events run (take size (drop from bytes))
+    → added usual_limit since (take size (drop from bytes)) ≡ events_of_run run (take size (drop from bytes))
     → ReadsOn old new since (since ++ take size (drop from bytes)) bytes from size
 goes-run {old} {new} {since} {bytes} run {from} {size} free is stands adds =
     let part : List ℕ = take size (drop from bytes) in
     let goes_on = rw adds at (continues-added since (drop from bytes) size) in
     let before = λ (none : StopsAtNone old) (i : ℕ) (earlier : i < size).
-    others_earlier (is_stop old.kinds old.stops) since (drop from bytes) i size (omega arith)
-    (rw adds (runs_other (is_stop old.kinds old.stops) run part (run_stops old run none))) in
+    no_event_stops-earlier (is_stop old.kinds old.stops) since (drop from bytes) i size (omega arith)
+    (rw adds (no_event_stops-run (is_stop old.kinds old.stops) run part (run_stops old run none))) in
     elim (cases_Bool (has old.kinds (run_kind run))) [
       | inl wanted ↦ record {
-        told = run_events run part;
+        given = events_of_run run part;
         entries = InInput run from size ∷ [];
         continues = goes_on;
-        shows = rw (append-nil (run_events run part)) (sym (run_reported old.kinds true run part wanted));
+        shows = rw (append-nil (events_of_run run part)) (sym (run_reported old.kinds true run part wanted));
         holds = entries-run bytes run from size free stands (rw wanted at is);
         before = before;
       }
       | inr other ↦ record {
-        told = run_events run part;
+        given = events_of_run run part;
         entries = [];
         continues = goes_on;
         shows = sym (run_reported old.kinds false run part other);
@@ -64,15 +64,15 @@ events-singles : (input : List ℕ) (events : List Event) → flat_map (entry_ev
 events-singles input [] = refl
 events-singles input (event ∷ events) = ap (λ (es : List Event). event ∷ es) (events-singles input events)
 
--- Before the first byte at most U+FFFD is told, for a character that it breaks, and that doesn't fill the room.
+-- Before the first byte at most U+FFFD is given, for a character that it breaks, and that doesn't fill the room.
 goes_on_at_first : (old : Room) (broken : Bool) → Starts old
-    → HaveOtherRecords old.stops (after with_event old (if broken then Print replacement ∷ [] else [])).events
-    → is_full (after with_event old (if broken then Print replacement ∷ [] else [])) ≡ false
+    → NoRecordStops old.stops (after room_with_event old (if broken then Print replacement ∷ [] else [])).events
+    → is_full (after room_with_event old (if broken then Print replacement ∷ [] else [])) ≡ false
 goes_on_at_first old false starts others = grind (arith, nat_tests)
 goes_on_at_first old true starts others =
     let small : length (data_of (Print replacement)) ≤ 4 =
     omega (arith, length-encode replacement, (len_utf8_bounds replacement).1) in
-    let next : Room = with_event old (Print replacement) in
+    let next : Room = room_with_event old (Print replacement) in
     let going : next.paused ≡ false = paused_after old (Print replacement) refl ∙ starts.paused in
     let same : resumed next ≡ next = resumed_same next going in
     elim (cases_Bool (has old.kinds 0)) [
@@ -98,43 +98,44 @@ pub record Laws : Type 0 where
   pub silent : OpensSilently usual_limit
 
 module _ (old new : Room) (since bytes : List ℕ) (from n : ℕ) (laws : Laws) (free : is_full old ≡ false)
-    (s : ComesTo with_event is_full old usual_limit since (drop from bytes) new n) where
-  abbrev told_at : ℕ → List Event
-  told_at i = reported_before usual_limit since (drop from bytes) i
+    (s : ComesTo room_with_event is_full old usual_limit since (drop from bytes) new n) where
+  abbrev given_at : ℕ → List Event
+  given_at i = reported_before usual_limit since (drop from bytes) i
 
-  -- All that was told is written, since the room wasn't full at any start that the call came to.
-  told_written : (i : ℕ) → i ≤ n
-      → HasEntries old (resumed (after with_event old (told_at i))) bytes (entries_of old (told_at i))
-  told_written i come =
-      passed-at (λ events. HasEntries old (resumed (after with_event old events)) bytes (entries_of old events))
-      (λ events. is_full (after with_event old events) ≡ false)
+  -- All that was given is written, since the room wasn't full at any start that the call came to.
+  given_written : (i : ℕ) → i ≤ n
+      → HasEntries old (resumed (after room_with_event old (given_at i))) bytes (entries_of old (given_at i))
+  given_written i come =
+      passed-at (λ events. HasEntries old (resumed (after room_with_event old events)) bytes (entries_of old events))
+      (λ events. is_full (after room_with_event old events) ≡ false)
       since (drop from bytes) laws.units (rw (resumed_same old (unpaused old free)) (entries-nothing old bytes)) free
       (entries-unit_more bytes old)
       i (omega (arith, s.within)) (λ j earlier. s.earlier j (omega arith))
 
   goes-call : ReadsOn old (resumed new) since (resumed_stream since (drop from bytes) n) bytes from n
   goes-call = record {
-    told = told_at n;
-    entries = entries_of old (told_at n);
+    given = given_at n;
+    entries = entries_of old (given_at n);
     continues = continues-call laws.goes_on since (drop from bytes) n;
-    shows = events-singles bytes (reported old.kinds (told_at n));
+    shows = events-singles bytes (reported old.kinds (given_at n));
     holds =
-        subst (λ (r : Room). HasEntries old (resumed r) bytes (entries_of old (told_at n))) (sym s.performed)
-        (told_written n (omega arith));
+        subst (λ (r : Room). HasEntries old (resumed r) bytes (entries_of old (given_at n))) (sym s.performed)
+        (given_written n (omega arith));
     before = λ none.
-        others_before (is_stop old.kinds old.stops) none.0 since (drop from bytes) n s.within laws.silent
+        no_event_stops-before (is_stop old.kinds old.stops) none.0 since (drop from bytes) n s.within laws.silent
         (λ i earlier start.
-        others_reported old.kinds old.stops (told_at i) (rw (events-singles bytes (reported old.kinds (told_at i))) at
-        (entries_others old.stops bytes old.used (entries_of old (told_at i))
-        (unmet (told_written i (omega arith))
-        (resumed_free (after with_event old (told_at i)) (s.earlier i earlier start))))));
+        no_event_stops-reported old.kinds old.stops (given_at i)
+        (rw (events-singles bytes (reported old.kinds (given_at i))) at
+        (no_event_stops-entries old.stops bytes old.used (entries_of old (given_at i))
+        (unmet (given_written i (omega arith))
+        (resumed_free (after room_with_event old (given_at i)) (s.earlier i earlier start))))));
   }
 
 -- ---- one step after the other, if the room is not full in between
 
 goes-nothing : {room : Room} {since bytes : List ℕ} {from : ℕ} → ReadsOn room room since since bytes from 0
 goes-nothing {room} {since} {bytes} {from} = record {
-  told = [];
+  given = [];
   entries = [];
   continues = continues-nothing since (drop from bytes);
   shows = refl;
@@ -153,12 +154,12 @@ goes-then {old} {mid} {since} {bytes} {from} {n} {m} a free within b =
     let kinds : mid.kinds ≡ old.kinds = ap (λ (r : Room). r.kinds) a.holds.room in
     let stops : mid.stops ≡ old.stops = ap (λ (r : Room). r.stops) a.holds.room in
     record {
-      told = a.told ++ b.told;
+      given = a.given ++ b.given;
       entries = a.entries ++ b.entries;
       continues = continues-then a.continues (rw rest at b.continues) (omega (arith, within));
       shows =
           rw (flat_map-append (entry_events bytes) a.entries b.entries, filter-append, a.shows)
-          (rw kinds at (ap (λ (es : List Event). reported old.kinds a.told ++ es) b.shows));
+          (rw kinds at (ap (λ (es : List Event). reported old.kinds a.given ++ es) b.shows));
       holds = entries-then a.holds free b.holds;
       before = λ none i earlier. elim (cases_lt i n) [
         | inl front ↦ a.before none i front
@@ -167,13 +168,13 @@ goes-then {old} {mid} {since} {bytes} {from} {n} {m} a free within b =
             let place : n + k ≡ i = omega arith in
             let front = a.continues.prefixes k (omega (arith, within)) in
             let stop : ℕ → Bool = is_stop old.kinds old.stops in
-            let told_others =
-            others_reported old.kinds old.stops a.told
-            (rw a.shows at (entries_others old.stops bytes old.used a.entries (unmet a.holds free))) in
+            let given_without_stop =
+            no_event_stops-reported old.kinds old.stops a.given
+            (rw a.shows at (no_event_stops-entries old.stops bytes old.used a.entries (unmet a.holds free))) in
             let more = rw (kinds, stops, rest) at (b.before (rw (kinds, stops) none) k (omega arith)) in
             rw (← place)
-            (others_front stop (added usual_limit since (take (n + k) unread)) front.others
-            (rw front.parts at (others_append stop _ _ told_others more)))
+            (no_event_stops-front stop (added usual_limit since (take (n + k) unread)) front.others
+            (rw front.parts at (no_event_stops-append stop _ _ given_without_stop more)))
       ];
     }
 
@@ -200,7 +201,7 @@ no_run bytes end Nothing whole none room start = refl
 
 module _ (old mid new : Room) (since bytes : List ℕ) (from : ℕ) (run : Returned) {HasReadBefore : List ℕ → Type 0}
     (laws : Laws) (free : is_full old ≡ false) (begins : from ≤ length bytes)
-    (r : ReturnsRun with_event is_full old mid usual_limit HasReadBefore (drop from bytes) run)
+    (r : ReturnsRun room_with_event is_full old mid usual_limit HasReadBefore (drop from bytes) run)
     (before : HasReadBefore since) where
   abbrev after_call : List ℕ
   after_call = resumed_stream since (drop from bytes) run.start
@@ -211,7 +212,7 @@ module _ (old mid new : Room) (since bytes : List ℕ) (from : ℕ) (run : Retur
   -- A run of this kind was recorded.
   goes-some : (kind : Run) → 0 < length (run_bytes run)
       → new ≡ with_wanted mid (run_record (run_kind kind) (from + run.start) (length (run_bytes run)))
-      → IsRunOfKind kind (run_bytes run) → returned_events run ≡ run_events kind (run_bytes run)
+      → IsRunOfKind kind (run_bytes run) → run_events run ≡ events_of_run kind (run_bytes run)
       → ReadsOn old new since (after_call ++ run_bytes run) bytes from run.end
   goes-some kind some is plain same =
       let here : take (length (run_bytes run)) (drop (from + run.start) bytes) ≡ run_bytes run =
@@ -245,7 +246,7 @@ module _ (old mid new : Room) (since bytes : List ℕ) (from : ℕ) (run : Retur
 
   -- With room for what two bytes add, a call reads one, unless a record that stops was written.
   pub further : Starts old → from < length bytes → new ≡ with_run mid from run
-      → HaveOtherRecords old.stops new.events → 0 < run.end
+      → NoRecordStops old.stops new.events → 0 < run.end
   unfolding reported_before
   further starts some is others = elim (cases_lt 0 run.end) [
     | inl more ↦ more

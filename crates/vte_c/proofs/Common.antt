@@ -27,13 +27,13 @@ pub use Rattle.vte_core.specs.Stream.{added, usual_limit}
 unfoldable pub use Rattle.vte_core.specs.Stream.{events, open_character}
 pub use Rattle.vte_core.specs.declared.parser.Parser.{Parser}
 pub use Rattle.vte_core.specs.declared.parser.saved.Saved.{Saved}
-pub use Rattle.vte_c.specs.Events.{AreCharacters, Holds, Room, Starts, has_room_for, is_full, paused_if, resumed, room_of, with_event, with_run, with_taken, with_wanted}
-unfoldable pub use Rattle.vte_c.specs.Events.{with_one, with_record}
-pub use Rattle.vte_c.specs.Feeding.{AreFirst, Continues, HasFed, ReadsOn, HasReadOn, HasEntries, HaveOtherRecords, StopsAtNone, has_kind, kinds_of, with_entries}
-pub use Rattle.vte_c.specs.Record.{DataRun, InInput, Entry, Run, Single, TextRun, count_byte, data_of, events_in, flag_byte, group_bytes, groups_in, has_most, intermediates_in, entry_data, entry_events, kind_of, may_have_lost, numbers_in, piece_bytes, pieces_in, record_at, records_from, reported, run_events, run_kind, run_record, two_bytes, most_added, with_intermediates, with_loss}
+pub use Rattle.vte_c.specs.machine.Events.{AreCharacters, Holds, Room, Starts, has_room_for, is_full, paused_if, resumed, room_of, room_with_event, with_run, with_taken, with_wanted}
+unfoldable pub use Rattle.vte_c.specs.machine.Events.{with_one, with_record}
+pub use Rattle.vte_c.specs.machine.Feeding.{AreFirst, Continues, HasFed, ReadsOn, HasReadOn, HasEntries, NoRecordStops, StopsAtNone, has_kind, kinds_of, with_entries}
+pub use Rattle.vte_c.specs.Record.{DataRun, InInput, Entry, Run, Single, TextRun, count_byte, data_of, events_in, flag_byte, group_bytes, groups_in, has_most, intermediates_in, entry_data, entry_events, event_kind, may_have_lost, numbers_in, piece_bytes, pieces_in, record_at, records_from, reported, events_of_run, run_kind, run_record, two_bytes, most_added, with_intermediates, with_loss}
 unfoldable pub use Rattle.vte_c.specs.Record.{event_in, events_of, has, without_loss}
-pub use Rattle.vte_c.specs.Text.{TextRoom, text_room_of, with_text_of}
-unfoldable pub use Rattle.vte_c.specs.Text.{with_text}
-pub use Rattle.vte_c.specs.Reported.{AreEncoded, AreOthers, AreReadable, HasGiven, HasReported, HaveOtherKinds, IsRunOfKind, IsRunAt, StopsAtKind, is_stop, no_room, fed_count}
+pub use Rattle.vte_c.specs.machine.Text.{TextRoom, text_room_of, text_room_with_event}
+unfoldable pub use Rattle.vte_c.specs.machine.Text.{text_room_with}
+pub use Rattle.vte_c.specs.Reported.{AreEncoded, NoEventStops, AreReadable, HasGiven, HasReported, NoKindStops, IsRunOfKind, IsRunAt, StopsAtKind, is_stop, no_room, fed_count}
 pub use Rattle.vte_c.specs.declared.event.VteEvent.{VteEvent}
 pub use Rattle.vte_c.specs.declared.events.Events.{Events}

@@ -1,6 +1,6 @@
 -- A parser that read a part of a call goes on as one that has read another stream (`Continues`), and so it does after
 -- the next part: what the parts add is joined.
-use Rattle.vte_c.proofs.Common.{AreFirst, Continues, Event, GoesOnFromPositions, List, Print, [], add_assoc, added, ap, append-nil, append_assoc, arith, breaks, usual_limit, breaks_at, cases_Bool, drop, drop-drop, inl, inr, length, length-drop, open_character, refl, replacement, resumed_stream, suc, sym, take, take-add, take-append-drop, reported_before, true, zero, zero-add, ℕ, ◌++◌, ◌+◌, ◌∙◌, ◌∷◌, ◌≡◌, ◌≤◌, AreOthers, Bool, DataRun, HaveOtherKinds, HaveOtherRecords, InInput, IsStart, Entry, OpensSilently, Put, Run, Single, TextRun, VteEvent, add-one, chars, false, flat_map, get_or, has, has_kind, if◌then◌else◌, is_stop, entry_data, entry_events, kind_of, map, or_parts, records_from, reported, run_events, run_kind, take_more, ◌-◌, ◌<◌}
+use Rattle.vte_c.proofs.Common.{AreFirst, Continues, Event, GoesOnFromPositions, List, Print, [], add_assoc, added, ap, append-nil, append_assoc, arith, breaks, usual_limit, breaks_at, cases_Bool, drop, drop-drop, inl, inr, length, length-drop, open_character, refl, replacement, resumed_stream, suc, sym, take, take-add, take-append-drop, reported_before, true, zero, zero-add, ℕ, ◌++◌, ◌+◌, ◌∙◌, ◌∷◌, ◌≡◌, ◌≤◌, NoEventStops, Bool, DataRun, NoKindStops, NoRecordStops, InInput, IsStart, Entry, OpensSilently, Put, Run, Single, TextRun, VteEvent, add-one, chars, false, flat_map, get_or, has, has_kind, if◌then◌else◌, is_stop, entry_data, entry_events, event_kind, map, or_parts, records_from, reported, events_of_run, run_kind, take_more, ◌-◌, ◌<◌}
 use Rattle.vte_core.proofs.EarlyStops.{added-append}
 use Rattle.vte_core.proofs.streams.After.{added-nothing}
 
@@ -27,15 +27,15 @@ first-after {events} before f = record {
 pub continues-nothing : (since bytes : List ℕ) → Continues since since bytes 0 []
 continues-nothing since bytes = record { goes_on = λ more. refl; prefixes = λ k within. first_same (rw zero-add refl) }
 
-pub continues-then : {since next last bytes : List ℕ} {n m : ℕ} {told more : List Event}
-    → Continues since next bytes n told → Continues next last (drop n bytes) m more
-    → n ≤ length bytes → Continues since last bytes (n + m) (told ++ more)
-continues-then {bytes} {n} {m} {told} {more} a b within = record {
-  goes_on = λ unread. rw (append_assoc told, ← drop-drop m n bytes, a.goes_on unread, b.goes_on unread) refl;
+pub continues-then : {since next last bytes : List ℕ} {n m : ℕ} {given more : List Event}
+    → Continues since next bytes n given → Continues next last (drop n bytes) m more
+    → n ≤ length bytes → Continues since last bytes (n + m) (given ++ more)
+continues-then {bytes} {n} {m} {given} {more} a b within = record {
+  goes_on = λ unread. rw (append_assoc given, ← drop-drop m n bytes, a.goes_on unread, b.goes_on unread) refl;
   prefixes = λ k below.
-      rw (append_assoc told, ← drop-drop m n bytes, add_assoc n m k)
+      rw (append_assoc given, ← drop-drop m n bytes, add_assoc n m k)
       (first-then (a.prefixes (m + k) (omega arith))
-      (first-after told (b.prefixes k (omega (arith, length-drop n bytes)))));
+      (first-after given (b.prefixes k (omega (arith, length-drop n bytes)))));
 }
 
 -- ---- bytes that report what they add
@@ -56,7 +56,7 @@ breaks-next : (opened : List ℕ) (byte : ℕ) (xs ys : List ℕ) → breaks ope
 breaks-next [] byte xs ys = refl
 breaks-next (a ∷ opened) byte xs ys = refl
 
--- A call that stops before that byte has told U+FFFD, which no byte has added so far.
+-- A call that stops before that byte has given U+FFFD, which no byte has added so far.
 broken_first : GoesOnFromPositions usual_limit → (stream unread : List ℕ) (k : ℕ)
     → breaks (open_character stream) unread ≡ true
     → AreFirst (added usual_limit stream (take k unread)) (Print replacement ∷ added usual_limit [] (take k unread))
@@ -90,74 +90,75 @@ continues-call goes_on since bytes n = elim (cases_Bool (breaks_at since bytes n
 
 -- ---- events that stop a call
 
--- None is told before the last byte that it reads: a byte before that ends at a start, where the call would have
+-- None is given before the last byte that it reads: a byte before that ends at a start, where the call would have
 -- stopped, or adds nothing that stops.
 
 -- ---- records of kinds that do not stop
 
-pub kinds_of_none : (stops : ℕ) (records : List VteEvent) → has_kind stops records ≡ false
-    → HaveOtherRecords stops records
-kinds_of_none stops [] none = tt
-kinds_of_none stops (event ∷ records) none =
+pub no_kind_stops-none : (stops : ℕ) (records : List VteEvent) → has_kind stops records ≡ false
+    → NoRecordStops stops records
+no_kind_stops-none stops [] none = tt
+no_kind_stops-none stops (event ∷ records) none =
     let apart = or_parts (has stops event.kind) (has_kind stops records) none in
-    (apart.0, kinds_of_none stops records apart.1)
+    (apart.0, no_kind_stops-none stops records apart.1)
 
-pub kinds-append : (stops : ℕ) (front back : List ℕ) → HaveOtherKinds stops front → HaveOtherKinds stops back
-    → HaveOtherKinds stops (front ++ back)
-kinds-append stops [] back f b = b
-kinds-append stops (kind ∷ front) back f b = (f.0, kinds-append stops front back f.1 b)
+pub no_kind_stops-append : (stops : ℕ) (front back : List ℕ) → NoKindStops stops front → NoKindStops stops back
+    → NoKindStops stops (front ++ back)
+no_kind_stops-append stops [] back f b = b
+no_kind_stops-append stops (kind ∷ front) back f b = (f.0, no_kind_stops-append stops front back f.1 b)
 
--- ---- events that do not stop (`AreOthers`): of lists, runs and entries, and of fewer bytes
+-- ---- events that do not stop (`NoEventStops`): of lists, runs and entries, and of fewer bytes
 
-pub others_front : (stop : ℕ → Bool) (front back : List Event) → AreOthers stop (front ++ back) → AreOthers stop front
-others_front stop [] back h = tt
-others_front stop (event ∷ front) back h = (h.0, others_front stop front back h.1)
+pub no_event_stops-front : (stop : ℕ → Bool) (front back : List Event) → NoEventStops stop (front ++ back)
+    → NoEventStops stop front
+no_event_stops-front stop [] back h = tt
+no_event_stops-front stop (event ∷ front) back h = (h.0, no_event_stops-front stop front back h.1)
 
-pub others_append : (stop : ℕ → Bool) (front back : List Event) → AreOthers stop front → AreOthers stop back
-    → AreOthers stop (front ++ back)
-others_append stop [] back f b = b
-others_append stop (event ∷ front) back f b = (f.0, others_append stop front back f.1 b)
+pub no_event_stops-append : (stop : ℕ → Bool) (front back : List Event) → NoEventStops stop front
+    → NoEventStops stop back → NoEventStops stop (front ++ back)
+no_event_stops-append stop [] back f b = b
+no_event_stops-append stop (event ∷ front) back f b = (f.0, no_event_stops-append stop front back f.1 b)
 
-each_other : (stop : ℕ → Bool) (call : ℕ → Event) → ((n : ℕ) → stop (kind_of (call n)) ≡ false) → (ns : List ℕ)
-    → AreOthers stop (map call ns)
-each_other stop call other [] = tt
-each_other stop call other (n ∷ ns) = (other n, each_other stop call other ns)
+no_event_stops-each : (stop : ℕ → Bool) (call : ℕ → Event) → ((n : ℕ) → stop (event_kind (call n)) ≡ false)
+    → (ns : List ℕ) → NoEventStops stop (map call ns)
+no_event_stops-each stop call other [] = tt
+no_event_stops-each stop call other (n ∷ ns) = (other n, no_event_stops-each stop call other ns)
 
-pub runs_other : (stop : ℕ → Bool) (run : Run) (bytes : List ℕ) → stop (run_kind run) ≡ false
-    → AreOthers stop (run_events run bytes)
-runs_other stop TextRun bytes other = each_other stop Print (λ c. other) (chars bytes)
-runs_other stop DataRun bytes other = each_other stop Put (λ b. other) bytes
+pub no_event_stops-run : (stop : ℕ → Bool) (run : Run) (bytes : List ℕ) → stop (run_kind run) ≡ false
+    → NoEventStops stop (events_of_run run bytes)
+no_event_stops-run stop TextRun bytes other = no_event_stops-each stop Print (λ c. other) (chars bytes)
+no_event_stops-run stop DataRun bytes other = no_event_stops-each stop Put (λ b. other) bytes
 
 -- The events of records that don't stop don't stop either.
-pub entries_others : (stops : ℕ) (input : List ℕ) (place : ℕ) (entries : List Entry)
-    → HaveOtherRecords stops (records_from place entries)
-    → AreOthers (has stops) (flat_map (entry_events input) entries)
-entries_others stops input place [] h = tt
-entries_others stops input place (Single event ∷ entries) h =
-    (h.0, entries_others stops input (place + length (entry_data (Single event))) entries h.1)
-entries_others stops input place (InInput run start size ∷ entries) h =
+pub no_event_stops-entries : (stops : ℕ) (input : List ℕ) (place : ℕ) (entries : List Entry)
+    → NoRecordStops stops (records_from place entries)
+    → NoEventStops (has stops) (flat_map (entry_events input) entries)
+no_event_stops-entries stops input place [] h = tt
+no_event_stops-entries stops input place (Single event ∷ entries) h =
+    (h.0, no_event_stops-entries stops input (place + length (entry_data (Single event))) entries h.1)
+no_event_stops-entries stops input place (InInput run start size ∷ entries) h =
     let bytes : List ℕ = take size (drop start input) in
-    others_append (has stops) (run_events run bytes) (flat_map (entry_events input) entries)
-    (runs_other (has stops) run bytes h.0) (entries_others stops input (place + 0) entries h.1)
+    no_event_stops-append (has stops) (events_of_run run bytes) (flat_map (entry_events input) entries)
+    (no_event_stops-run (has stops) run bytes h.0) (no_event_stops-entries stops input (place + 0) entries h.1)
 
 -- An event that isn't reported doesn't stop.
-pub others_reported : (kinds stops : ℕ) (events : List Event) → AreOthers (has stops) (reported kinds events)
-    → AreOthers (is_stop kinds stops) events
-others_reported kinds stops [] h = tt
-others_reported kinds stops (event ∷ events) h = elim (cases_Bool (has kinds (kind_of event))) [
+pub no_event_stops-reported : (kinds stops : ℕ) (events : List Event) → NoEventStops (has stops) (reported kinds events)
+    → NoEventStops (is_stop kinds stops) events
+no_event_stops-reported kinds stops [] h = tt
+no_event_stops-reported kinds stops (event ∷ events) h = elim (cases_Bool (has kinds (event_kind event))) [
   | inl wanted ↦
       let rest = rw wanted at h in
-      (rw wanted rest.0, others_reported kinds stops events rest.1)
-  | inr other ↦ (rw other refl, others_reported kinds stops events (rw other at h))
+      (rw wanted rest.0, no_event_stops-reported kinds stops events rest.1)
+  | inr other ↦ (rw other refl, no_event_stops-reported kinds stops events (rw other at h))
 ]
 
 -- If nothing that bytes add stops, neither does what fewer add.
-pub others_earlier : (stop : ℕ → Bool) (stream bytes : List ℕ) (i n : ℕ) → i ≤ n
-    → AreOthers stop (added usual_limit stream (take n bytes))
-    → AreOthers stop (added usual_limit stream (take i bytes))
-others_earlier stop stream bytes i n earlier h =
+pub no_event_stops-earlier : (stop : ℕ → Bool) (stream bytes : List ℕ) (i n : ℕ) → i ≤ n
+    → NoEventStops stop (added usual_limit stream (take n bytes))
+    → NoEventStops stop (added usual_limit stream (take i bytes))
+no_event_stops-earlier stop stream bytes i n earlier h =
     let parts : i + (n - i) ≡ n = omega arith in
-    others_front stop (added usual_limit stream (take i bytes))
+    no_event_stops-front stop (added usual_limit stream (take i bytes))
     (added usual_limit (stream ++ take i bytes) (take (n - i) (drop i bytes)))
     (rw (← parts, take-add i (n - i) bytes, added-append) at h)
 
@@ -166,27 +167,27 @@ others_earlier stop stream bytes i n earlier h =
 module _ (stop : ℕ → Bool) (no_text : stop 0 ≡ false) (stream bytes : List ℕ) (n : ℕ) (within : n ≤ length bytes)
     (silent : OpensSilently usual_limit)
     (asked : (i : ℕ) → i < n → IsStart stream bytes i
-    → AreOthers stop (reported_before usual_limit stream bytes i)) where
+    → NoEventStops stop (reported_before usual_limit stream bytes i)) where
   at_start : (i : ℕ) → i < n → open_character (stream ++ take i bytes) ≡ []
-      → AreOthers stop (added usual_limit stream (take i bytes))
+      → NoEventStops stop (added usual_limit stream (take i bytes))
   unfolding reported_before
   at_start i earlier closed =
-      others_front stop (added usual_limit stream (take i bytes))
+      no_event_stops-front stop (added usual_limit stream (take i bytes))
       (if breaks_at stream bytes i then Print replacement ∷ [] else [])
       (asked i earlier (record { within = omega arith; starts = inl closed }))
 
   -- A byte after which no character is open ends at a start, and any other adds nothing that stops.
-  pub others_before : (i : ℕ) → i < n → AreOthers stop (added usual_limit stream (take i bytes))
-  others_before zero earlier = rw (added-nothing usual_limit stream) tt
-  others_before (suc i) earlier =
+  pub no_event_stops-before : (i : ℕ) → i < n → NoEventStops stop (added usual_limit stream (take i bytes))
+  no_event_stops-before zero earlier = rw (added-nothing usual_limit stream) tt
+  no_event_stops-before (suc i) earlier =
       let byte : ℕ = get_or bytes i 0 in
       let here : List ℕ = stream ++ take i bytes in
       let one : take (suc i) bytes ≡ take i bytes ++ byte ∷ [] = rw (← add-one) (take_more bytes i 0 (omega arith)) in
-      let before = others_before i (omega arith) in
+      let before = no_event_stops-before i (omega arith) in
       elim (silent here byte) [
         | inl closed ↦ at_start (suc i) earlier (rw (one, ← append_assoc) closed)
         | inr opens ↦ rw (one, added-append usual_limit stream (take i bytes) (byte ∷ []))
-            (others_append stop (added usual_limit stream (take i bytes))
+            (no_event_stops-append stop (added usual_limit stream (take i bytes))
             (added usual_limit here (byte ∷ [])) before (elim opens [
               | inl none ↦ rw none tt
               | inr broken ↦ rw broken (no_text, tt)

@@ -1,6 +1,6 @@
 -- A caller finds in its buffers the records and data of the entries that a call wrote, and reads their events back from
 -- them (`entries_read`, `fed`). More bytes after the input change nothing (`entry_events_later`).
-use Rattle.vte_c.proofs.Common.{AreGroups, AreReadable, Bool, CsiDispatch, DataRun, EscDispatch, Event, Hook, InInput, IsBounded, Entry, List, OscDispatch, Print, Put, Run, usual_limit, Single, TextRun, VteEvent, [], add-zero, ap, append_assoc, arith, cases_Bool, concat, count_byte, count_of, data_of, drop, drop-append_seam, drop-drop, eqb-true, event_in, events_of, false, flag_byte, flat_map, get_or, group_bytes, groups_in, inl, inr, intermediates_in, entry_data, entry_events, kinds_of, length, length-append, map, map-set_same, min, numbers_in, piece_bytes, pieces_in, record_at, records_from, refl, run_events, run_kind, run_record, set, sum_by-cons, sym, take, take-append-drop, take-append_seam, take-map, true, two_bytes, with_intermediates, with_loss, without_loss, ℕ, ◌%◌, ◌*◌, ◌++◌, ◌+◌, ◌/◌, ◌==◌, ◌∙◌, ◌∷◌, ◌≡◌, ◌≤◌, Execute, HasGiven, HasReadSaved, Saved, Unhook, added, append-nil, events, has, kind_of, nat_tests, no_room, fed_count, reported, ◌<◌, AreEncoded, Events, HasFed, HasReadOn, HasEntries, HasRead, HasReported, HaveOtherRecords, IsRunAt, Parser, Room, Starts, drop-append-le, events_in, filter-append, length-drop, length-map, length-take, room_of, take-append-le}
+use Rattle.vte_c.proofs.Common.{AreGroups, AreReadable, Bool, CsiDispatch, DataRun, EscDispatch, Event, Hook, InInput, IsBounded, Entry, List, OscDispatch, Print, Put, Run, usual_limit, Single, TextRun, VteEvent, [], add-zero, ap, append_assoc, arith, cases_Bool, concat, count_byte, count_of, data_of, drop, drop-append_seam, drop-drop, eqb-true, event_in, events_of, false, flag_byte, flat_map, get_or, group_bytes, groups_in, inl, inr, intermediates_in, entry_data, entry_events, kinds_of, length, length-append, map, map-set_same, min, numbers_in, piece_bytes, pieces_in, record_at, records_from, refl, events_of_run, run_kind, run_record, set, sum_by-cons, sym, take, take-append-drop, take-append_seam, take-map, true, two_bytes, with_intermediates, with_loss, without_loss, ℕ, ◌%◌, ◌*◌, ◌++◌, ◌+◌, ◌/◌, ◌==◌, ◌∙◌, ◌∷◌, ◌≡◌, ◌≤◌, Execute, HasGiven, HasReadSaved, Saved, Unhook, added, append-nil, events, has, event_kind, nat_tests, no_room, fed_count, reported, ◌<◌, AreEncoded, Events, HasFed, HasReadOn, HasEntries, HasRead, HasReported, NoRecordStops, IsRunAt, Parser, Room, Starts, drop-append-le, events_in, filter-append, length-drop, length-map, length-take, room_of, take-append-le}
 use Rattle.std.specs.Char.{encode_utf8}
 use Rattle.vte_core.proofs.bytes.Runs.{chars-encode}
 use Rattle.vte_c.proofs.Rooms.{few_groups, length_numbers, length-records}
@@ -94,7 +94,7 @@ read_single input area back place _ h e = refl
 -- The data of each is where those before it end.
 
 read_run : (input area : List ℕ) (run : Run) (start size : ℕ)
-    → events_of input area (run_record (run_kind run) start size) ≡ run_events run (take size (drop start input))
+    → events_of input area (run_record (run_kind run) start size) ≡ events_of_run run (take size (drop start input))
 unfolding events_of
 read_run input area TextRun start size = refl
 read_run input area DataRun start size = refl
@@ -175,7 +175,7 @@ pub counted : (n : ℕ) → n < no_room → fed_count n ≡ n
 counted n small = grind (arith, nat_tests)
 
 -- Every event has one of eight kinds.
-is_reported : (event : Event) → has 255 (kind_of event) ≡ true
+is_reported : (event : Event) → has 255 (event_kind event) ≡ true
 unfolding has
 is_reported (Print c) = refl
 is_reported (Execute byte) = refl
@@ -266,7 +266,7 @@ module _ (old new : Events) (input : List ℕ) (entries : List Entry) (starts : 
       (input ++ more) new.area.now
   encoded = record {
     entries = entries;
-    told = refl;
+    given = refl;
     readable = readable_later input more entries h.readable;
     number = omega (arith, ap (λ (r : Room). r.count) h.room, starts.count);
     recorded = rw (starts.events, starts.used) at (ap (λ (r : Room). r.events) h.room);
@@ -284,14 +284,14 @@ module _ (old new : Events) (input : List ℕ) (entries : List Entry) (starts : 
 
 -- ---- what a call ensures, and the counts that its caller gets
 
-pub fed : {old new : Events} {parser : Parser 1024} {saved : Saved} {told : List Event} {stream bytes rest : List ℕ}
+pub fed : {old new : Events} {parser : Parser 1024} {saved : Saved} {given : List Event} {stream bytes rest : List ℕ}
     {n : ℕ} → Starts (room_of old)
-    → {before : Saved} (h : HasReported (room_of old).kinds before told stream (bytes ++ rest))
+    → {before : Saved} (h : HasReported (room_of old).kinds before given stream (bytes ++ rest))
     → HasReadOn (room_of old) (room_of new) parser h.since bytes 0 n
     → ((since : List ℕ) → HasRead parser since → HasReadSaved saved since)
-    → (HaveOtherRecords (room_of old).stops (room_of new).events → 0 < length bytes → 0 < n)
-    → HasFed old new saved told stream bytes rest n
-fed {old} {new} {told} {stream} {bytes} {rest} {n} starts h gone saves further =
+    → (NoRecordStops (room_of old).stops (room_of new).events → 0 < length bytes → 0 < n)
+    → HasFed old new saved given stream bytes rest n
+fed {old} {new} {given} {stream} {bytes} {rest} {n} starts h gone saves further =
     let there = encoded old new bytes gone.goes.entries starts gone.goes.holds in
     let finds = found old new bytes gone.goes.entries starts gone.goes.holds in
     record {

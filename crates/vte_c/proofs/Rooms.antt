@@ -1,12 +1,12 @@
 -- What events leave in a room. One that isn't full has room for what one byte adds, so each event is written as one
 -- entry (`event_written`), or isn't one of the kinds asked for (`event_passed`); so is all that one byte reports
 -- (`entries-unit_more`), and a run of the input (`entries-run`).
-use Rattle.vte_c.proofs.Common.{All, All-head, All-tail, AreGroups, CsiDispatch, Event, Execute, Hook, IsBounded, IsShort, List, OscDispatch, Print, [], arith, concat, usual_limit, count_of, data_of, flat_map, group_bytes, len_utf8_bounds, length, length-append, length-encode, piece_bytes, refl, sum_by-cons, two_bytes, ℕ, ◌*◌, ◌+◌, ◌<◌, ◌∷◌, ◌≡◌, ◌≤◌, AreReadable, Bool, DataRun, EscDispatch, Events, HasEntries, HaveOtherRecords, Holds, InInput, AreFromOneByte, IsRunAt, Entry, Put, Room, Run, Single, StopsAtKind, TextRun, Unhook, VteEvent, add-zero, after, ap, append-nil, append_assoc, cases_Bool, false, filter-append, flag_byte, flat_map-append, has, has_kind, has_room_for, if◌then◌else◌, inl, inr, may_have_lost, is_full, entry_data, kind_of, kinds_of, length-map, map, map-append, most_added, nat_lt, nat_tests, or_parts, record_at, records_from, reported, resumed, room_of, run_kind, run_record, subst, sym, take, true, with_event, with_entries, with_one, with_record, without_loss, ◌%◌, ◌++◌, ◌∙◌}
+use Rattle.vte_c.proofs.Common.{All, All-head, All-tail, AreGroups, CsiDispatch, Event, Execute, Hook, IsBounded, IsShort, List, OscDispatch, Print, [], arith, concat, usual_limit, count_of, data_of, flat_map, group_bytes, len_utf8_bounds, length, length-append, length-encode, piece_bytes, refl, sum_by-cons, two_bytes, ℕ, ◌*◌, ◌+◌, ◌<◌, ◌∷◌, ◌≡◌, ◌≤◌, AreReadable, Bool, DataRun, EscDispatch, Events, HasEntries, NoRecordStops, Holds, InInput, AreFromOneByte, IsRunAt, Entry, Put, Room, Run, Single, StopsAtKind, TextRun, Unhook, VteEvent, add-zero, after, ap, append-nil, append_assoc, cases_Bool, false, filter-append, flag_byte, flat_map-append, has, has_kind, has_room_for, if◌then◌else◌, inl, inr, may_have_lost, is_full, entry_data, event_kind, kinds_of, length-map, map, map-append, most_added, nat_lt, nat_tests, or_parts, record_at, records_from, reported, resumed, room_of, run_kind, run_record, subst, sym, take, true, room_with_event, with_entries, with_one, with_record, without_loss, ◌%◌, ◌++◌, ◌∙◌}
 use Rattle.std.proofs.Math.Bool.{or-false, or_assoc}
 use Rattle.std.proofs.lemmas.List.Folds.{list_any-append}
 use Rattle.vte_core.proofs.places.PlaceLeads.{short_bounded}
 use Rattle.vte_core.proofs.streams.After.{after_events-append}
-use Rattle.vte_c.proofs.Continuations.{kinds-append, kinds_of_none}
+use Rattle.vte_c.proofs.Continuations.{no_kind_stops-append, no_kind_stops-none}
 
 -- ---- how long the data of an event are
 
@@ -92,10 +92,10 @@ with_entries-append room front back =
 -- As long as a room isn't full, no record stops.
 pub unmet : {old new : Room} {input : List ℕ} {entries : List Entry} → HasEntries old new input entries
     → is_full new ≡ false
-    → HaveOtherRecords old.stops (records_from old.used entries)
+    → NoRecordStops old.stops (records_from old.used entries)
 unmet {old} {new} {input} {entries} h free =
     let met : new.met ≡ false = grind (arith, nat_tests) in
-    kinds_of_none old.stops (records_from old.used entries)
+    no_kind_stops-none old.stops (records_from old.used entries)
     (or_parts old.met (has_kind old.stops (records_from old.used entries))
     (sym (ap (λ (r : Room). r.met) h.room) ∙ met)).1
 
@@ -139,7 +139,7 @@ entries-then {old} {mid} {new} {input} {front} {back} a free b =
         before = kinds_of before ++ s.before;
         last = s.last;
         parts = rw (records-append old.used front back, map-append, append_assoc (kinds_of before), ← s.parts) refl;
-        others = kinds-append old.stops (kinds_of before) s.before (unmet a free) s.others;
+        others = no_kind_stops-append old.stops (kinds_of before) s.before (unmet a free) s.others;
         at_most = s.at_most;
       };
     }
@@ -214,18 +214,18 @@ either_paused false paused a b f g = g
 
 -- An event is written in the same way after a pause.
 with_event_resumed : (room : Room) (event : Event)
-    → resumed (with_event room event) ≡ resumed (with_event (resumed room) event)
+    → resumed (room_with_event room event) ≡ resumed (room_with_event (resumed room) event)
 unfolding with_one with_record
 with_event_resumed room event =
-    either (has room.kinds (kind_of event)) _ _ _ _
+    either (has room.kinds (event_kind event)) _ _ _ _
     (either (has_room_for room (length (data_of event))) _ _ _ _
     (either (nat_lt room.count room.most) _ _ _ _ refl refl) refl) refl
 
 pub paused_after : (room : Room) (event : Event) → may_have_lost event ≡ false
-    → (with_event room event).paused ≡ room.paused
+    → (room_with_event room event).paused ≡ room.paused
 unfolding with_one with_record
 paused_after room event kept =
-    either_paused (has room.kinds (kind_of event)) room.paused _ _
+    either_paused (has room.kinds (event_kind event)) room.paused _ _
     (rw kept
     (either_paused (has_room_for room (length (data_of event))) room.paused _ _
     (either_paused (nat_lt room.count room.most) room.paused _ _ refl refl) refl)) refl
@@ -243,7 +243,8 @@ roomy room free = record { events = grind (arith, nat_tests); data_fits = grind 
 
 pub event_written : (room : Room) (event : Event) → room.paused ≡ false
     → HasRoomFor room 1 (length (data_of event))
-    → has room.kinds (kind_of event) ≡ true → resumed (with_event room event) ≡ with_entries room (Single event ∷ [])
+    → has room.kinds (event_kind event) ≡ true
+    → resumed (room_with_event room event) ≡ with_entries room (Single event ∷ [])
 unfolding with_one with_record
 event_written room event going room_for wanted =
     let has_both : has_room_for room (length (data_of event)) ≡ true = grind (arith, nat_tests) in
@@ -251,8 +252,8 @@ event_written room event going room_for wanted =
     rw (wanted, has_both, some, single_plain room.used event, going) (simp (append-nil, or-false))
 
 -- An event that isn't reported leaves the room as it is.
-pub event_passed : (room : Room) (event : Event) → room.paused ≡ false → has room.kinds (kind_of event) ≡ false
-    → resumed (with_event room event) ≡ room
+pub event_passed : (room : Room) (event : Event) → room.paused ≡ false → has room.kinds (event_kind event) ≡ false
+    → resumed (room_with_event room event) ≡ room
 event_passed room event going other = rw other (resumed_same room going)
 
 -- Each event that is reported has an entry.
@@ -261,8 +262,8 @@ entries_of room events = map Single (reported room.kinds events)
 
 entries-event : (input : List ℕ) (room : Room) (event : Event) → IsBounded usual_limit event → room.paused ≡ false
     → HasRoomFor room 1 (length (data_of event))
-    → HasEntries room (resumed (with_event room event)) input (entries_of room (event ∷ []))
-entries-event input room event bounded going room_for = elim (cases_Bool (has room.kinds (kind_of event))) [
+    → HasEntries room (resumed (room_with_event room event)) input (entries_of room (event ∷ []))
+entries-event input room event bounded going room_for = elim (cases_Bool (has room.kinds (event_kind event))) [
   | inl wanted ↦
       rw (event_written room event going room_for wanted, wanted)
       (record {
@@ -279,7 +280,7 @@ record AreFew (room : Room) (event : Event) : Type 0 where
   pub size : length (flat_map entry_data (entries_of room (event ∷ []))) ≤ length (data_of event)
 
 are_few : (room : Room) (event : Event) → AreFew room event
-are_few room event = elim (cases_Bool (has room.kinds (kind_of event))) [
+are_few room event = elim (cases_Bool (has room.kinds (event_kind event))) [
   | inl wanted ↦
       record { count = rw wanted (omega arith); size = rw wanted (omega (arith, length-append (data_of event) [])) }
   | inr other ↦ record { count = rw other (omega arith); size = rw other (omega arith) }
@@ -287,7 +288,7 @@ are_few room event = elim (cases_Bool (has room.kinds (kind_of event))) [
 
 entries-unit : (input : List ℕ) (room : Room) (unit : List Event) → AreFromOneByte usual_limit unit
     → is_full room ≡ false
-    → HasEntries room (resumed (after with_event room unit)) input (entries_of room unit)
+    → HasEntries room (resumed (after room_with_event room unit)) input (entries_of room unit)
 entries-unit input room [] brief free = rw (resumed_same room (unpaused room free)) (entries-nothing room input)
 entries-unit input room (event ∷ []) brief free =
     let room_for = roomy room free in
@@ -300,7 +301,7 @@ entries-unit input room (event ∷ last ∷ []) brief free =
     let short = short_data last brief.1 in
     let at_most = are_few room event in
     let more = are_few room last in
-    let next : Room = resumed (with_event room event) in
+    let next : Room = resumed (room_with_event room event) in
     let first =
     entries-event input room event brief.0 (unpaused room free)
     (record { events = omega (arith, room_for.events); data_fits = omega (arith, room_for.data_fits) }) in
@@ -314,13 +315,13 @@ entries-unit input room (event ∷ last ∷ []) brief free =
       data_fits = omega (arith, room_for.data_fits, at_most.size, size, short, used, whole);
     } in
     let second =
-    subst (λ (k : ℕ). HasEntries next (resumed (with_event next last)) input (map Single (reported k (last ∷ []))))
+    subst (λ (k : ℕ). HasEntries next (resumed (room_with_event next last)) input (map Single (reported k (last ∷ []))))
     kinds
     (entries-event input next last (short_bounded usual_limit last brief.1) refl room_for_last) in
     let both : entries_of room (event ∷ last ∷ []) ≡ entries_of room (event ∷ []) ++ entries_of room (last ∷ []) =
-    ap (map Single) (filter-append (λ e. has room.kinds (kind_of e)) (event ∷ []) (last ∷ []))
+    ap (map Single) (filter-append (λ e. has room.kinds (event_kind e)) (event ∷ []) (last ∷ []))
     ∙ map-append Single _ _ in
-    rw (with_event_resumed (with_event room event) last, both) (record {
+    rw (with_event_resumed (room_with_event room event) last, both) (record {
       readable = readable-append input _ _ first.readable second.readable;
       room =
           second.room ∙ ap (λ (r : Room). with_entries r (entries_of room (last ∷ []))) first.room
@@ -336,15 +337,16 @@ entries-unit input room (event ∷ last ∷ []) brief free =
 entries-unit input room (event ∷ last ∷ more ∷ events) brief free = absurd brief
 
 pub entries-unit_more : {old : Room} (input : List ℕ) (room : Room) (before unit : List Event)
-    → HasEntries old (resumed (after with_event room before)) input (entries_of old before)
-    → is_full (after with_event room before) ≡ false → AreFromOneByte usual_limit unit
-    → HasEntries old (resumed (after with_event room (before ++ unit))) input (entries_of old (before ++ unit))
+    → HasEntries old (resumed (after room_with_event room before)) input (entries_of old before)
+    → is_full (after room_with_event room before) ≡ false → AreFromOneByte usual_limit unit
+    → HasEntries old (resumed (after room_with_event room (before ++ unit))) input (entries_of old (before ++ unit))
 entries-unit_more {old} input room before unit h free brief =
-    let mid : Room = after with_event room before in
+    let mid : Room = after room_with_event room before in
     let same : resumed mid ≡ mid = resumed_same mid (unpaused mid free) in
     let first : HasEntries old mid input (entries_of old before) = rw same at h in
     let kinds : mid.kinds ≡ old.kinds = ap (λ (r : Room). r.kinds) first.room in
-    rw (after_events-append with_event room before unit, filter-append, map-append)
+    rw (after_events-append room_with_event room before unit, filter-append, map-append)
     (entries-then first free
-    (subst (λ (k : ℕ). HasEntries mid (resumed (after with_event mid unit)) input (map Single (reported k unit))) kinds
+    (subst (λ (k : ℕ). HasEntries mid (resumed (after room_with_event mid unit)) input (map Single (reported k unit)))
+    kinds
     (entries-unit input mid unit brief free)))

@@ -1,6 +1,6 @@
 -- Calls of the parser write the text of what they read: a run is written as its characters are, and a chunk that is
 -- short enough has room for its text.
-use Rattle.vte_c.proofs.Common.{Event, HasRead, IsUtf8, List, Parser, TextRoom, [], add-zero, add_assoc, added, after, ap, append-nil, append_assoc, arith, usual_limit, cases_Bool, chars, encodes-chars, false, flat_map-append, inl, inr, le-leb, length, length-append, map, nat_le, nat_tests, plain_text, plain_text_of, refl, sym, take, true, with_text, with_text_of, ℕ, ◌&&◌, ◌*◌, ◌++◌, ◌+◌, ◌<◌, ◌∙◌, ◌∷◌, ◌≡◌, ◌≤◌}
+use Rattle.vte_c.proofs.Common.{Event, HasRead, IsUtf8, List, Parser, TextRoom, [], add-zero, add_assoc, added, after, ap, append-nil, append_assoc, arith, usual_limit, cases_Bool, chars, encodes-chars, false, flat_map-append, inl, inr, le-leb, length, length-append, map, nat_le, nat_tests, plain_text, plain_text_of, refl, sym, take, true, text_room_with, text_room_with_event, ℕ, ◌&&◌, ◌*◌, ◌++◌, ◌+◌, ◌<◌, ◌∙◌, ◌∷◌, ◌≡◌, ◌≤◌}
 use Rattle.vte_core.specs.Text.{run_event}
 use Rattle.event_log.proofs.Lengths.{text_of_run}
 use Rattle.vte_core.proofs.EarlyStops.{added-append}
@@ -17,8 +17,8 @@ with_all-append room front back = rw (append_assoc room.text, add_assoc room.use
 
 all_written : (room : TextRoom) (events : List Event) → room.fits ≡ true
     → room.used + length (plain_text events) ≤ room.size
-    → after with_text_of room events ≡ with_all room (plain_text events)
-unfolding with_text
+    → after text_room_with_event room events ≡ with_all room (plain_text events)
+unfolding text_room_with
 all_written room [] whole fits = simp (append-nil, add-zero)
 all_written room (event ∷ events) whole fits =
     let all = length-append (plain_text_of event) (plain_text events) in
@@ -30,10 +30,10 @@ all_written room (event ∷ events) whole fits =
 
 -- ---- a run
 
-with_text-append : (room : TextRoom) (front back : List ℕ)
-    → with_text (with_text room front) back ≡ with_text room (front ++ back)
-unfolding with_text
-with_text-append room front back = elim (cases_Bool (room.fits && nat_le (room.used + length front) room.size)) [
+text_room_with-append : (room : TextRoom) (front back : List ℕ)
+    → text_room_with (text_room_with room front) back ≡ text_room_with room (front ++ back)
+unfolding text_room_with
+text_room_with-append room front back = elim (cases_Bool (room.fits && nat_le (room.used + length front) room.size)) [
   | inl some ↦ rw (some, append_assoc room.text, add_assoc room.used, length-append front back) refl
   | inr full ↦
       let none : (room.fits && nat_le (room.used + length (front ++ back)) room.size) ≡ false =
@@ -42,22 +42,23 @@ with_text-append room front back = elim (cases_Bool (room.fits && nat_le (room.u
 ]
 
 some_written : (room : TextRoom) (event : Event) (events : List Event)
-    → after with_text_of room (event ∷ events) ≡ with_text room (plain_text (event ∷ events))
+    → after text_room_with_event room (event ∷ events) ≡ text_room_with room (plain_text (event ∷ events))
 some_written room event [] = rw (append-nil (plain_text_of event)) refl
 some_written room event (next ∷ events) =
-    some_written (with_text_of room event) next events
-    ∙ with_text-append room (plain_text_of event) (plain_text (next ∷ events))
+    some_written (text_room_with_event room event) next events
+    ∙ text_room_with-append room (plain_text_of event) (plain_text (next ∷ events))
 
 -- A run is written as its characters are, one after another.
 pub writes_run : (room : TextRoom) (text : List ℕ) → IsUtf8 text → 0 < length text
-    → with_text room text ≡ after with_text_of room (map (run_event true) (chars text))
+    → text_room_with room text ≡ after text_room_with_event room (map (run_event true) (chars text))
 writes_run room text utf8 some =
     let spelt : plain_text (map (run_event true) (chars text)) ≡ text =
     text_of_run (chars text) ∙ encodes-chars text utf8 in
     rw spelt at (written (chars text) (rw spelt some))
   where
     written : (cs : List ℕ) → 0 < length (plain_text (map (run_event true) cs))
-        → with_text room (plain_text (map (run_event true) cs)) ≡ after with_text_of room (map (run_event true) cs)
+        → text_room_with room (plain_text (map (run_event true) cs))
+        ≡ after text_room_with_event room (map (run_event true) cs)
     written [] none = absurd (omega arith)
     written (c ∷ cs) some = sym (some_written room (run_event true c) (map (run_event true) cs))
 
@@ -82,7 +83,7 @@ pub written_more : {old new later : TextRoom} {stream bytes : List ℕ} {n : ℕ
     → length (plain_text (added usual_limit (stream ++ take n bytes) chunk)) ≤ 8 * length chunk
     → HasTextOf old new stream bytes n parser
     → take (n + length chunk) bytes ≡ take n bytes ++ chunk → new.used + 8 * length chunk ≤ new.size
-    → later ≡ after with_text_of new (added usual_limit (stream ++ take n bytes) chunk)
+    → later ≡ after text_room_with_event new (added usual_limit (stream ++ take n bytes) chunk)
     → HasRead parser_later ((stream ++ take n bytes) ++ chunk)
     → HasTextOf old later stream bytes (n + length chunk) parser_later
 written_more {old} {new} {stream} {bytes} {n} chunk kept slow h parts fits performed parsed =

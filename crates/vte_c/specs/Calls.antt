@@ -5,7 +5,7 @@ use Rattle.vte_core.specs.Saved.{HasReadSaved}
 use Rattle.vte_core.specs.Stream.{added, usual_limit}
 use Rattle.vte_core.specs.declared.parser.saved.Saved.{Saved}
 use Rattle.vte_c.specs.Record.{data_kind, events_in, kinds_in, least_data, least_events, least_text, text_kind}
-use Rattle.vte_c.specs.Reported.{AreEncoded, AreOthers, HasStripped, HasReported, HaveOtherKinds, StopsAtKind, is_stop, no_room, fed_count}
+use Rattle.vte_c.specs.Reported.{AreEncoded, NoEventStops, HasStripped, HasReported, NoKindStops, StopsAtKind, is_stop, no_room, fed_count}
 use Rattle.vte_c.specs.declared.event.VteEvent.{VteEvent}
 use Rattle.vte_c.specs.declared.feed.VteCounts.{VteCounts}
 
@@ -26,14 +26,14 @@ pub record Feeds (kinds stops : ℕ) (parser next : Saved) (bytes : List ℕ)
   pub enough : least_events ≤ length old_events → least_data ≤ length old_area
       → result ≡ fed_count result
   pub within : fed_count result ≤ length bytes
-  -- Whatever was told of these kinds before, what is written now comes next, and nothing else.
-  pub exact : (told : List Event) (stream rest : List ℕ) →
-      HasReported kinds parser told stream (bytes ++ rest) →
-      HasReported kinds next (told ++ events_in counts.events events bytes area) stream
+  -- Whatever was given of these kinds before, what is written now comes next, and nothing else.
+  pub exact : (given : List Event) (stream rest : List ℕ) →
+      HasReported kinds parser given stream (bytes ++ rest) →
+      HasReported kinds next (given ++ events_in counts.events events bytes area) stream
       (drop (fed_count result) bytes ++ rest)
   -- The records and the data are the encoding of these events, and the counts are theirs.
-  pub encoded : (told : List Event) (stream rest : List ℕ) →
-      HasReported kinds parser told stream (bytes ++ rest) →
+  pub encoded : (given : List Event) (stream rest : List ℕ) →
+      HasReported kinds parser given stream (bytes ++ rest) →
       AreEncoded (events_in counts.events events bytes area)
       counts.events counts.bytes events bytes area
   -- Whatever the parser's bytes are, what was written is in the buffers.
@@ -44,20 +44,20 @@ pub record Feeds (kinds stops : ℕ) (parser next : Saved) (bytes : List ℕ)
   pub too_little : length old_area < least_data
       → FeedsNothing parser next old_events events old_area area counts result
   -- With enough room, it reads at least one byte, unless it writes a record among the stops.
-  pub progress : (told : List Event) (stream rest : List ℕ) →
-      HasReported kinds parser told stream (bytes ++ rest) →
+  pub progress : (given : List Event) (stream rest : List ℕ) →
+      HasReported kinds parser given stream (bytes ++ rest) →
       least_events ≤ length old_events → least_data ≤ length old_area →
-      HaveOtherKinds stops (kinds_in counts.events events) → 0 < length bytes → 0 < result
+      NoKindStops stops (kinds_in counts.events events) → 0 < length bytes → 0 < result
   -- If a record among the stops is written, at most one follows it.
-  pub first : (told : List Event) (stream rest : List ℕ) →
-      HasReported kinds parser told stream (bytes ++ rest) →
+  pub first : (given : List Event) (stream rest : List ℕ) →
+      HasReported kinds parser given stream (bytes ++ rest) →
       StopsAtKind stops (kinds_in counts.events events)
   -- Unless text or data stop, a record among the stops came with the last byte that was read: no
   -- shorter prefix of the bytes adds one.
   pub until : (stream : List ℕ) → HasReadSaved parser stream →
       is_stop kinds stops text_kind ≡ false → is_stop kinds stops data_kind ≡ false →
       (i : ℕ) → i < fed_count result →
-      AreOthers (is_stop kinds stops) (added usual_limit stream (take i bytes))
+      NoEventStops (is_stop kinds stops) (added usual_limit stream (take i bytes))
 
 -- `vte_strip`
 pub record Strips (parser next : Saved) (bytes old_text text : List ℕ)

@@ -1,10 +1,13 @@
-pub mod Calls
-pub mod Events
-pub mod Feeding
-pub mod OpenCode
+-- In reading order.
+
+-- The record of an event, and its data.
 pub mod Record
-pub mod Text
+pub mod OpenCode
+-- What was reported of a stream, and what each function of the library ensures.
 pub mod Reported
+pub mod Calls
+-- For the proof alone.
+pub mod machine
 -- Definitions of the libraries below that the contracts use.
 pub use Rattle.event_log.specs.Plain
 pub use Rattle.vte_core.specs.Event

@@ -28,7 +28,7 @@ four_bytes n = n % 256 ∷ (n / 256) % 256 ∷ (n / 65536) % 256 ∷ n / 1677721
 abbrev pub piece_bytes : List ℕ → List ℕ
 piece_bytes piece = four_bytes (min (length piece) 4294967295) ++ piece
 
--- A character or a byte that isn't in the input as it stands: its UTF-8, the byte. Of a command its
+-- A character or a byte that isn't in the input as it is: its UTF-8, the byte. Of a command its
 -- pieces.
 abbrev pub data_of : Event → List ℕ
 data_of (Print c) = encode_utf8 c
@@ -47,10 +47,10 @@ may_have_lost (OscDispatch pieces bell) =
     has_most (length pieces) (length (flat_map piece_bytes pieces))
 may_have_lost _ = false
 
--- The maximum number of data bytes of what one byte of a stream adds: an event, and a character
--- after it.
+-- The maximum number of data bytes of what one byte of a stream adds: a command, each of whose 16
+-- pieces has its length before it, and a character after it.
 abbrev pub most_added : ℕ
-most_added = 1092
+most_added = 1024 + 4 * 16 + 4
 
 -- The least room: how many records the caller's buffer must have, how many data bytes its area, and
 -- how many bytes of text the buffer of `vte_strip`.
@@ -163,8 +163,8 @@ record_of (EscDispatch intermediates ignore byte) =
     with_flag (with_intermediates (blank_record esc_kind byte) intermediates) ignore
 
 -- The number of an event's kind.
-abbrev pub kind_of : Event → ℕ
-kind_of event = (record_of event).kind
+abbrev pub event_kind : Event → ℕ
+event_kind event = (record_of event).kind
 
 -- A set of kinds has a bit for each.
 unfoldable pub has : ℕ → ℕ → Bool
@@ -172,7 +172,7 @@ has kinds kind = (kinds / 2 ^ (kind % 32)) % 2 == 1
 
 -- The events of these kinds.
 abbrev pub reported : ℕ → List Event → List Event
-reported kinds events = filter (λ event. has kinds (kind_of event)) events
+reported kinds events = filter (λ event. has kinds (event_kind event)) events
 
 -- What a run of bytes is: text, or data of a device control string.
 pub data Run : Type 0 where
@@ -184,9 +184,9 @@ run_kind TextRun = text_kind
 run_kind DataRun = data_kind
 
 -- The events of a run: of a text each character is printed, of data each byte is put.
-abbrev pub run_events : Run → List ℕ → List Event
-run_events TextRun bytes = map Print (chars bytes)
-run_events DataRun bytes = map Put bytes
+abbrev pub events_of_run : Run → List ℕ → List Event
+events_of_run TextRun bytes = map Print (chars bytes)
+events_of_run DataRun bytes = map Put bytes
 
 -- The record of a run in the input: where it starts there, and how many bytes it has.
 abbrev pub run_record : ℕ → ℕ → ℕ → VteEvent
@@ -215,7 +215,7 @@ records_from place (entry ∷ entries) =
 -- The events of an entry.
 abbrev pub entry_events : List ℕ → Entry → List Event
 entry_events input (Single event) = event ∷ []
-entry_events input (InInput run start size) = run_events run (take size (drop start input))
+entry_events input (InInput run start size) = events_of_run run (take size (drop start input))
 
 -- ---- how a record and an area are read
 
@@ -264,8 +264,8 @@ run_in input area event =
 -- The events that a record represents.
 unfoldable pub events_of : List ℕ → List ℕ → VteEvent → List Event
 events_of input area event =
-    if event.kind == text_kind then run_events TextRun (run_in input area event)
-    else if event.kind == data_kind then run_events DataRun (run_in input area event)
+    if event.kind == text_kind then events_of_run TextRun (run_in input area event)
+    else if event.kind == data_kind then events_of_run DataRun (run_in input area event)
     else event_in area event ∷ []
 
 -- The kinds of the first `count` records.

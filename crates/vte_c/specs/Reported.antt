@@ -9,7 +9,7 @@ use Rattle.vte_core.specs.Saved.{HasReadSaved}
 use Rattle.vte_core.specs.Stream.{added, events, usual_limit}
 use Rattle.vte_core.specs.Text.{HasNoControls}
 use Rattle.vte_core.specs.declared.parser.saved.Saved.{Saved}
-use Rattle.vte_c.specs.Record.{Run, TextRun, DataRun, Entry, Single, InInput, has, entry_data, entry_events, kind_of, records_from, reported, without_loss}
+use Rattle.vte_c.specs.Record.{Run, TextRun, DataRun, Entry, Single, InInput, has, entry_data, entry_events, event_kind, records_from, reported, without_loss}
 use Rattle.vte_c.specs.declared.event.VteEvent.{VteEvent}
 
 -- The parser has read the stream except for the unread bytes at its end. What was given of its
@@ -25,7 +25,7 @@ pub record HasGiven {A : Type 0} (of : List Event → List A) (parser : Saved) (
 
 -- The events of these kinds were reported.
 abbrev pub HasReported : ℕ → Saved → List Event → List ℕ → List ℕ → Type 0
-HasReported kinds parser told stream unread = HasGiven (reported kinds) parser told stream unread
+HasReported kinds parser given stream unread = HasGiven (reported kinds) parser given stream unread
 
 -- The text of the events was written.
 abbrev pub HasStripped : Saved → List ℕ → List ℕ → List ℕ → Type 0
@@ -44,21 +44,21 @@ abbrev pub is_stop : ℕ → ℕ → ℕ → Bool
 is_stop kinds stops kind = has kinds kind && has stops kind
 
 -- No event has a kind that stops.
-abbrev pub AreOthers : (ℕ → Bool) → List Event → Type 0
-AreOthers stops [] = ⊤
-AreOthers stops (event ∷ events) = (stops (kind_of event) ≡ false) × AreOthers stops events
+abbrev pub NoEventStops : (ℕ → Bool) → List Event → Type 0
+NoEventStops stops [] = ⊤
+NoEventStops stops (event ∷ events) = (stops (event_kind event) ≡ false) × NoEventStops stops events
 
 -- None of these is among the stops.
-abbrev pub HaveOtherKinds : ℕ → List ℕ → Type 0
-HaveOtherKinds stops [] = ⊤
-HaveOtherKinds stops (kind ∷ kinds) = (has stops kind ≡ false) × HaveOtherKinds stops kinds
+abbrev pub NoKindStops : ℕ → List ℕ → Type 0
+NoKindStops stops [] = ⊤
+NoKindStops stops (kind ∷ kinds) = (has stops kind ≡ false) × NoKindStops stops kinds
 
 -- A call stops after the first record that is among the stops: at most one follows it.
 pub record StopsAtKind (stops : ℕ) (kinds : List ℕ) : Type 0 where
   pub before : List ℕ
   pub last : List ℕ
   pub parts : kinds ≡ before ++ last
-  pub others : HaveOtherKinds stops before
+  pub others : NoKindStops stops before
   pub at_most : length last ≤ 2
 
 -- A text is well-formed characters, none of them a control. Data may be any bytes: its events are
@@ -86,7 +86,7 @@ AreReadable input (InInput run start size ∷ entries) =
 pub record AreEncoded (events : List Event) (count used : ℕ) (records : List VteEvent)
     (input area : List ℕ) : Type 0 where
   pub entries : List Entry
-  pub told : flat_map (entry_events input) entries ≡ events
+  pub given : flat_map (entry_events input) entries ≡ events
   pub readable : AreReadable input entries
   pub number : count ≡ length entries
   pub recorded : map without_loss (take count records) ≡ records_from 0 entries

@@ -6,6 +6,7 @@ ghost use Rattle.vte_core.specs.AdvanceToRun.{run_bytes};
 ghost use Rattle.vte_c.specs.Record.{data_of, group_bytes, has, has_most, least_data, least_events, most_added, record_of, sequence_record};
 
 mod data;
+mod pause;
 
 use crate::event::{self, VteEvent, has};
 use vte_core::{Params, Perform, Run, Taken};
@@ -68,7 +69,7 @@ pub(crate) struct Events<'a> {
 }
 
 impl<'a> Events<'a> {
-    ghost use Rattle.vte_c.specs.Events.{AreCharacters, Holds, Room, Starts, is_full, paused_if, resumed, room_of, with_event, with_one, with_record, with_reported, with_run};
+    ghost use Rattle.vte_c.specs.machine.Events.{AreCharacters, Holds, Room, Starts, is_full, paused_if, resumed, room_of, room_with_event, with_one, with_record, with_reported, with_run};
 
     /// Creates a performer that has written nothing, and writes into these buffers.
     pub(crate) fn new(
@@ -133,7 +134,7 @@ impl<'a> Events<'a> {
 
     /// Writes a record, if there is room for it.
     #[inline(always)]
-    #[tactic(auto, unfolding(crate::specs::Events::with_one))]
+    #[tactic(auto, unfolding(crate::specs::machine::Events::with_one))]
     fn add_record(&mut self, event: VteEvent)
         ensures { room_of self.new ≡ with_one (room_of self.old) event }
     {
@@ -150,7 +151,7 @@ impl<'a> Events<'a> {
 
     /// Writes an event without data.
     #[inline(always)]
-    #[tactic(auto, unfolding(crate::specs::Events::with_one, crate::specs::Events::with_record))]
+    #[tactic(auto, unfolding(crate::specs::machine::Events::with_one, crate::specs::machine::Events::with_record))]
     fn add_without_data(&mut self, event: VteEvent)
         ensures { room_of self.new ≡ with_reported (room_of self.old) event [] }
     {
@@ -271,49 +272,10 @@ impl<'a> Events<'a> {
         }
     }
 
-    /// Pauses if a command may have lost data, and keeps the place of its record.
-    fn pause_if(&mut self, may_have_lost: bool, command: usize)
-        ensures { room_of self.new ≡ paused_if may_have_lost (room_of self.old) }
-    {
-        if may_have_lost {
-            self.paused = true;
-            self.command = command;
-            self.full_count = 0;
-        }
-    }
-
-    /// Goes on after a pause, and says in the record of the command whether it lost data.
-    fn resume(&mut self, lost_data: bool)
-        ensures { room_of self.new ≡ resumed (room_of self.old) }
-    {
-        if self.paused {
-            self.paused = false;
-            if !self.met && self.size - self.used >= MAX_ADDED {
-                self.full_count = self.events.len().saturating_sub(1);
-            }
-            if lost_data {
-                self.add_loss();
-            }
-        }
-    }
-
-    /// Says in the record of the last command that it lost data, if it was written.
-    fn add_loss(&mut self)
-        ensures { room_of self.new ≡ room_of self.old }
-    {
-        let place = self.command;
-        if place < self.count
-            && place < self.events.len()
-            && self.events[place].kind == event::OSC
-        {
-            self.events[place] = self.events[place].with_loss();
-        }
-    }
-
     /// Writes an operating system command.
     fn add_command(&mut self, pieces: &[&[u8]], bell_terminated: bool)
         ensures { room_of self.new
-            ≡ with_event (room_of self.old) (OscDispatch (map
+            ≡ room_with_event (room_of self.old) (OscDispatch (map
             (λ piece. piece.now) pieces.now) bell_terminated) }
     {
         if self.writes(event::OSC) {
@@ -329,7 +291,7 @@ impl<'a> Events<'a> {
 
     /// Writes the record of an event whose data was written up to a place, if that is in the area.
     #[inline(always)]
-    #[tactic(auto, unfolding(crate::specs::Events::with_record))]
+    #[tactic(auto, unfolding(crate::specs::machine::Events::with_record))]
     fn add_written(&mut self, event: VteEvent, end: usize)
         requires { self.old.used ≤ end }
         ensures { (room : Room) (text : List ℕ) → Holds room self.old end text →
@@ -347,17 +309,17 @@ impl<'a> Events<'a> {
 }
 
 impl Perform for Events<'_> {
-    ghost use Rattle.vte_c.specs.Events.{Room, is_full, room_of, with_event};
+    ghost use Rattle.vte_c.specs.machine.Events.{Room, is_full, room_of, room_with_event};
 
     ghost Value = { Room };
 
     ghost value_of = { room_of };
 
-    ghost step = { with_event };
+    ghost step = { room_with_event };
 
     ghost is_terminated = { is_full };
 
-    /// Writes a character that isn't in the input as it stands.
+    /// Writes a character that isn't in the input as it is.
     fn print(&mut self, c: char) {
         // rustc knows the bytes of the one for malformed sequences.
         if c == char::REPLACEMENT_CHARACTER {

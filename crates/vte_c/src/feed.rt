@@ -5,8 +5,8 @@ ghost use Rattle.vte_core.specs.Event.{Event};
 ghost use Rattle.vte_core.specs.Saved.{HasReadSaved};
 ghost use Rattle.vte_core.specs.Stream.{added, usual_limit};
 ghost use Rattle.vte_c.specs.Calls.{Feeds};
-ghost use Rattle.vte_c.specs.Events.{Starts, is_full, room_of};
-ghost use Rattle.vte_c.specs.Feeding.{AreOthersIn, HasFed, HasReadOn, HaveOtherRecords, StopsAtNone};
+ghost use Rattle.vte_c.specs.machine.Events.{Starts, is_full, room_of};
+ghost use Rattle.vte_c.specs.machine.Feeding.{NoEventStopsIn, HasFed, HasReadOn, NoRecordStops, StopsAtNone};
 ghost use Rattle.vte_c.specs.Reported.{HasReported};
 
 use crate::event::VteEvent;
@@ -73,10 +73,10 @@ fn read_into(saved: &mut Saved, bytes: &[u8], room: &mut Events<'_>) -> usize
     ensures within { result ≤ length bytes.now }
     ensures stops { (stream : List ℕ) → HasReadSaved saved.old stream →
         StopsAtNone (room_of room.old) → (i : ℕ) → i < result →
-        AreOthersIn (room_of room.old) (added usual_limit stream (take i bytes.now)) }
-    ensures feeds { (told : List Event) (stream rest : List ℕ) →
-        HasReported (room_of room.old).kinds saved.old told stream (bytes.now ++ rest) →
-        HasFed room.old room.new saved.new told stream bytes.now rest result }
+        NoEventStopsIn (room_of room.old) (added usual_limit stream (take i bytes.now)) }
+    ensures feeds { (given : List Event) (stream rest : List ℕ) →
+        HasReported (room_of room.old).kinds saved.old given stream (bytes.now ++ rest) →
+        HasFed room.old room.new saved.new given stream bytes.now rest result }
 {
     let mut parser = Parser::new();
     parser.restore(saved);
@@ -90,10 +90,10 @@ fn read_all(parser: &mut Parser<1024>, bytes: &[u8], room: &mut Events<'_>) -> u
     requires starts { Starts (room_of room.old) }
     requires small { length bytes.now < 2 ^ 32 }
     ensures within { result ≤ length bytes.now }
-    ensures goes { (since : List ℕ) → HasRead parser.old since →
+    ensures reads_on { (since : List ℕ) → HasRead parser.old since →
         HasReadOn (room_of room.old) (room_of room.new) parser.new since bytes.now 0 result }
     ensures progress { (since : List ℕ) → HasRead parser.old since →
-        HaveOtherRecords (room_of room.old).stops (room_of room.new).events →
+        NoRecordStops (room_of room.old).stops (room_of room.new).events →
         0 < length bytes.now → 0 < result }
 {
     let mut position = 0;
@@ -113,10 +113,10 @@ fn read_more(parser: &mut Parser<1024>, bytes: &[u8], from: usize, room: &mut Ev
     requires small { length bytes.now < 2 ^ 32 }
     requires roomy { is_full (room_of room.old) ≡ false }
     ensures within { from + result ≤ length bytes.now }
-    ensures goes { (since : List ℕ) → HasRead parser.old since →
+    ensures reads_on { (since : List ℕ) → HasRead parser.old since →
         HasReadOn (room_of room.old) (room_of room.new) parser.new since bytes.now from result }
     ensures progress { (since : List ℕ) → HasRead parser.old since → Starts (room_of room.old) →
-        HaveOtherRecords (room_of room.old).stops (room_of room.new).events → 0 < result }
+        NoRecordStops (room_of room.old).stops (room_of room.new).events → 0 < result }
 {
     laws::early_stops();
     laws::opens_silently();

@@ -11,19 +11,20 @@ ghost use Rattle.vte_c.specs.Reported.{HasStripped, HasReported};
 use vte_core::Saved;
 
 /// Calls of `vte_feed` report exactly the events of the stream of the kinds asked for, in order.
-pub fn events_are_told()
+pub fn events_are_reported()
     // A parser of zeros has reported nothing of the empty stream.
     ensures starts { (kinds : ℕ) (parser : Saved) → IsZero parser
         → HasReported kinds parser [] [] [] }
     // More bytes may come at any time, after those that are still unread.
-    ensures more { (kinds : ℕ) (parser : Saved) (told : List Event) (stream unread bytes : List ℕ) →
-        HasReported kinds parser told stream unread →
-        HasReported kinds parser told (stream ++ bytes) (unread ++ bytes) }
+    ensures more { (kinds : ℕ) (parser : Saved) (given : List Event)
+        (stream unread bytes : List ℕ) →
+        HasReported kinds parser given stream unread →
+        HasReported kinds parser given (stream ++ bytes) (unread ++ bytes) }
     // Once all are read, exactly these events of the stream have been reported, with 1,024 data
     // bytes of a command.
-    ensures all { (kinds : ℕ) (parser : Saved) (told : List Event) (stream : List ℕ) →
-        HasReported kinds parser told stream [] →
-        told ≡ reported kinds (events usual_limit stream) }
+    ensures all { (kinds : ℕ) (parser : Saved) (given : List Event) (stream : List ℕ) →
+        HasReported kinds parser given stream [] →
+        given ≡ reported kinds (events usual_limit stream) }
     // Eight kinds are all.
     ensures every { (events : List Event) → reported 255 events ≡ events }
 {

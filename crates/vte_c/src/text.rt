@@ -2,7 +2,7 @@
 ghost use Rattle.std.specs.Prelude.{◌≡◌, ◌<◌, ◌≤◌, ◌+◌, ◌-◌, ◌++◌, ℕ, List, true, false, drop, length, take};
 ghost use Rattle.vte_c.specs.Calls.{Strips};
 ghost use Rattle.vte_c.specs.Reported.{HasStripped};
-ghost use Rattle.vte_c.specs.Text.{StartsText, StripsMore, TextRoom, text_room_of, with_text, with_text_of};
+ghost use Rattle.vte_c.specs.machine.Text.{StartsText, StripsMore, TextRoom, text_room_of, text_room_with, text_room_with_event};
 
 use crate::feed::NO_ROOM;
 use vte_core::{Params, Parser, Perform, PerformText, Saved, laws};
@@ -32,9 +32,9 @@ impl Text<'_> {
 
     /// Writes a text, if there is room for it.
     #[inline(always)]
-    #[tactic(auto, unfolding(crate::specs::Text::with_text))]
+    #[tactic(auto, unfolding(crate::specs::machine::Text::text_room_with))]
     fn add(&mut self, text: &[u8])
-        ensures { text_room_of self.new ≡ with_text (text_room_of self.old) text.now }
+        ensures { text_room_of self.new ≡ text_room_with (text_room_of self.old) text.now }
     {
         let (used, size) = (self.used, self.room.len());
         if self.fits && used <= size && text.len() <= size - used {
@@ -52,7 +52,7 @@ impl Perform for Text<'_> {
 
     ghost value_of = { text_room_of };
 
-    ghost step = { with_text_of };
+    ghost step = { text_room_with_event };
 
     ghost is_terminated = { λ room. false };
 
@@ -66,7 +66,7 @@ impl Perform for Text<'_> {
     fn execute(&mut self, byte: u8) {
         match byte {
             b'\t' | b'\n' | b'\r' => self.add(&[byte]),
-            // What has no text adds an empty one, as `with_text_of` does, so this needs no proof.
+            // proof: what has no text adds an empty one, as `text_room_with_event` does.
             _ => self.add(b""),
         }
     }

@@ -17,7 +17,7 @@ pub mod streams
 -- From places to what is reported before a position of a call (`goes_on_from`).
 pub mod EarlyStops
 -- From one position of a call to the next (`advances-then`). The answers of `parser/` use it.
-pub mod calls
+pub mod positions
 -- From the states of the automaton to what they say of a block of text. The answers of `reader/` use it.
 pub mod automaton_states
 -- From groups of parameters to their text, and back. The answers of `params/` use it.

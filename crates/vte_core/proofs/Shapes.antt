@@ -83,13 +83,7 @@ pub held-well_shaped : (marker parameters intermediates : List ℕ) → IsMarker
 unfolding is_well_shaped
 held-well_shaped marker parameters intermediates is are these = search (rules, arith, held-parts, list_all-AreInClass)
 
--- ---- texts
-
--- A well-formed sequence, a maximal subpart or a byte comes off, and the rest is divided as a text of its own.
-
--- ---- no sequence is both well formed and truncated
-
--- At most one row is left after its bytes.
+-- ---- no sequence is both well formed and truncated: at most one row is left after its bytes
 
 well_formed_not_truncated : (u : List ℕ) → is_well_formed u ≡ true → is_truncated u ≡ false
 unfolding is_well_formed is_truncated

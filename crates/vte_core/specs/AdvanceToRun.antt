@@ -39,7 +39,7 @@ IsLongestRun bytes end (Data those) =
     (0 < length those.now) × (end < length bytes → IsDeviceData (slice_index bytes end) → ⊥)
 IsLongestRun bytes end Nothing = ⊤
 
--- The run stands in the bytes at its position.
+-- The run is in the bytes at its position.
 pub record IsRunIn (bytes : List ℕ) (run : Run) : Type 0 where
   pub end : run.end ≡ run.start + length (run_bytes run)
   pub within : run.end ≤ length bytes

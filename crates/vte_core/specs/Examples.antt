@@ -86,7 +86,7 @@ control_sequence_examples =
     ∷ gives (codes "\u{1b}[1?ma") (Print 0x61 ∷ [])
     ∷ gives (codes "\u{1b}[1$2pa") (Print 0x61 ∷ [])
     ∷ gives (codes "\u{1b}[1?\u{1a}m") (Execute 0x1a ∷ Print 0x6d ∷ [])
-    -- plain controls are executed where they stand; 7F and 80..FF are dropped
+    -- plain controls are executed where they are; 7F and 80..FF are dropped
     ∷ gives (codes "\u{1b}[1\n\u{7f}" ++ 0x80 ∷ codes "2m")
     (Execute 0x0a ∷ CsiDispatch ((12 ∷ []) ∷ []) [] false 0x6d ∷ [])
     ∷ gives (codes "\u{1b}[1\u{18}m") (Execute 0x18 ∷ Print 0x6d ∷ [])

@@ -5,7 +5,7 @@ use Rattle.std.specs.List.{flat_map, position_or_len, slice_range}
 use Rattle.vte_core.specs.Outcome.{events_before_escape}
 use Rattle.vte_core.specs.Stream.{escape, events, outcome}
 
--- An ESC stands at each of these positions. They are in order, from `start` on.
+-- An ESC is at each of these positions. They are in order, from `start` on.
 abbrev pub AreCuts : List ℕ → ℕ → List ℕ → Type 0
 AreCuts stream start [] = ⊤
 AreCuts stream start (cut ∷ cuts) =

@@ -54,8 +54,8 @@ pub(crate) fn is_device_data(byte: u8) -> bool
 /// Returns whether a byte is data of an operating system command, and no `;`.
 #[inline(always)]
 pub(crate) fn is_command_data(byte: u8) -> bool
-    ensures is { result ≡ true → IsCommandData byte }
-    ensures other { result ≡ false → IsCommandData byte → ⊥ }
+    ensures data { result ≡ true → IsCommandData byte }
+    ensures no_data { result ≡ false → IsCommandData byte → ⊥ }
 {
     // One comparison passes most bytes.
     byte > b';' || (byte >= 0x20 && byte < b';')

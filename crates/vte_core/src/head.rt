@@ -51,7 +51,7 @@ pub(crate) struct Collected {
     pub(crate) too_many_intermediates: bool,
     // the first 32 numbers, without the one that is being read
     pub(crate) params: Params,
-    // the number that is being read, and whether it stands after a colon
+    // the number that is being read, and whether it follows a colon
     pub(crate) number: u16,
     pub(crate) joined: bool,
 }
@@ -119,7 +119,7 @@ impl Collected {
         false
     }
 
-    /// Collects a `;` after a number that stands after no colon.
+    /// Collects a `;` after a number that doesn't follow a colon.
     #[inline(always)]
     pub(crate) fn end_number(&mut self)
         requires { self.old.joined ≡ false }
@@ -169,7 +169,7 @@ impl Collected {
             self.collect(byte);
             return HeadProgress::Intermediates;
         }
-        // A marker stands only at the beginning.
+        // A marker is only at the beginning.
         if let HeadProgress::Entry = progress {
             self.collect(byte);
             return HeadProgress::Parameters;

@@ -133,7 +133,7 @@ pub fn utf8_agrees()
 {}
 
 /// A `str` without ESC gives one event for each of its characters.
-#[tactic(auto, using(crate::proofs::calls::TextRuns::reported_as_characters))]
+#[tactic(auto, using(crate::proofs::positions::TextRuns::reported_as_characters))]
 pub fn text_by_characters()
     ensures { (limit : Option ℕ) (text : List ℕ) → IsUtf8 text → GivesCharacters limit text }
 {}

@@ -21,7 +21,7 @@ const MAX_NUMBERS: usize = 32;
 pub struct Params {
     // all numbers in a row
     numbers: ArrayVec<u16, MAX_NUMBERS>,
-    // how many of them stand in each group
+    // how many of them are in each group
     lengths: ArrayVec<u8, MAX_NUMBERS>,
 }
 
@@ -96,7 +96,7 @@ impl Params {
         self.lengths.push(length.unwrap_or(0) + 1);
     }
 
-    /// How many numbers stand in each group, and all numbers in a row.
+    /// How many numbers are in each group, and all numbers in a row.
     // cargo: #[cfg(feature = "__own")]
     pub(crate) fn parts(&self) -> (&[u8], &[u16])
         ensures { AreParts result.0.now result.1.now self.now }

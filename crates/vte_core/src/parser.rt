@@ -1,4 +1,4 @@
-//! The parser with a limit, as its callers see it, and what it is made of.
+//! The parser with a limit, and what it is made of. The calls that read are in `reader/calls`.
 ghost use Rattle.std.specs.Prelude.{◌≡◌, ◌≢◌, true, false, ℕ, List, [], Some, ⊤};
 ghost use Rattle.vte_core.specs.Advance.{ReadsBytes, ReadsUntilTerminated};
 ghost use Rattle.vte_core.specs.EarlyStop.{NoCharacterStops};
@@ -42,7 +42,7 @@ use std::alloc::AllocError;
 /// number.
 pub(crate) const MAX_OSC_RAW: usize = 1024;
 
-/// Where in a text or a body the parser stands. The VT500 parser's names are in parentheses; those
+/// Where in a text or a body the parser is. The VT500 parser's names are in parentheses; those
 /// with a star end as `HeadProgress` says: `entry`, `param`, `intermediate` or `ignore`.
 #[derive(Clone, Copy)]
 pub(crate) enum State {

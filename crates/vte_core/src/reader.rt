@@ -118,7 +118,7 @@ impl<'a> Input<'a> {
 /// # Safety
 ///
 /// The bytes between them must be whole characters. They are if a search for the end of a run,
-/// begun at `from` or after whole characters that stand there, ended at `to`: it passes one
+/// begun at `from` or after whole characters that are there, ended at `to`: it passes one
 /// whole character at a time, a byte of ASCII, or a lead byte with all its continuation bytes,
 /// the first of which `may_begin_three` and `may_begin_four` test. Blocks whose bytes all fit, as
 /// `may_follow` tests, may end inside a character: the search then goes back to where it began.
@@ -145,7 +145,7 @@ fn data_between(bytes: &[u8], from: usize, to: usize) -> &[u8]
     &bytes[from..to]
 }
 
-/// Returns the run that stands at a position, whose bytes were looked at.
+/// Returns the run that is at a position, whose bytes were looked at.
 ///
 /// # Safety
 ///
@@ -288,7 +288,7 @@ impl Reader {
     }
 
     // cargo lacks: the crate calls `print_text`
-    /// Reports the run of text that stands from one position to another, which counts its bytes.
+    /// Reports the run of text from one position to another, which counts its bytes.
     #[inline(always)]
     pub(crate) fn report_text<P: CountedPerform<G>, G: Granularity>(
         &mut self,
@@ -308,7 +308,7 @@ impl Reader {
         performer.print_text(self, text_between(input.bytes, from, to));
     }
 
-    /// Reports the data that stand from one position to another.
+    /// Reports the data from one position to another.
     #[inline(always)]
     pub(crate) fn report_data<P: CountedPerform<G>, G: Granularity>(
         &mut self,

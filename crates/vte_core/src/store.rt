@@ -191,7 +191,7 @@ impl<const N: usize> Store<Option<ArrayVec<u8, N>>> {
         ensures bytes { result.0.now ≡ self.now.bytes }
         ensures fit { length result.0.now ≤ N }
         ensures ends { result.1.now ≡ self.now.ends }
-        ensures are { ArePieceEnds self.now.bytes self.now.ends }
+        ensures piece_ends { ArePieceEnds self.now.bytes self.now.ends }
         ensures lost { result.2 ≡ self.now.lost }
     {
         let bytes = match &self.bytes {

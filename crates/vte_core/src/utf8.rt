@@ -114,7 +114,7 @@ pub(crate) fn is_lead(byte: u8) -> bool
     matches!(byte, 0xc2..=0xf4)
 }
 
-/// Returns whether `byte` may stand after the second of a sequence.
+/// Returns whether `byte` may follow the second of a sequence.
 pub(crate) fn is_continuation(byte: u8) -> bool
     ensures { result ≡ is_in (from_to 0x80 0xbf) byte }
 {
@@ -166,7 +166,7 @@ pub(crate) fn character_of_two(first: u8, second: u8) -> char
     ensures { result ≡ scalar_of (first ∷ second ∷ []) }
 {
     // The remainders leave at most 7FF, below the surrogates: compilers see it, and drop the test.
-    // proof: SAFETY: for the same reason.
+    // proof: SAFETY: the number is below the surrogates.
     // cargo instead: char::from_u32(number_of_two(first, second))
     // cargo instead:     .unwrap_or(char::REPLACEMENT_CHARACTER)
     unsafe { char::from_u32_unchecked(number_of_two(first, second)) }

@@ -20,9 +20,9 @@ words_of (Err Read) = codes "vtlog: read failed"
 words_of (Err Write) = codes "vtlog: write failed"
 
 -- What is written for a stream.
-abbrev pub meaning_of : Mode → (List ℕ → List ℕ)
-meaning_of Lines = log_of
-meaning_of Text = stripped_text
+abbrev pub output_of : Mode → (List ℕ → List ℕ)
+output_of Lines = log_of
+output_of Text = stripped_text
 
 -- What was known of the bytes of the reader and the writer when the program began, and what is at
 -- the end.
@@ -46,7 +46,7 @@ pub record Prints (page : List ℕ) (streams : Streams)
 pub record Runs (mode : Mode) (streams : Streams) (outcome : Result (Unit {0}) Fault) : Type 0 where
   pub written : (input held : List ℕ) → streams.input ≡ Some input → streams.held ≡ Some held
       → WritesExactly
-      (meaning_of mode) outcome input held streams.to_come streams.taken streams.reader_failed
+      (output_of mode) outcome input held streams.to_come streams.taken streams.reader_failed
   pub read_to_the_end : OnOk outcome (streams.reader_failed ≡ false)
   pub write_failed : outcome ≡ Err Write → streams.writer_failed ≡ true
 

@@ -1,7 +1,7 @@
 //! Lines of characters and single bytes, and hex digits.
 ghost use Rattle.std.specs.Prelude.{◌≡◌, ◌≤◌};
 ghost use Rattle.vte_core.specs.Event.{Execute, Print, Put};
-ghost use Rattle.event_log.specs.Record.{record_in, with_text};
+ghost use Rattle.event_log.specs.Record.{record_in, record_with_text};
 ghost use Rattle.event_log.specs.Lines.{hex_byte, hex_length as hex_length_of, line_of, six_hex_digits as six_hex_digits_of};
 
 use super::Lines;
@@ -22,7 +22,7 @@ impl Lines {
     /// is a constant.
     #[inline(always)]
     pub(crate) fn append_print(&mut self, c: char)
-        ensures { record_in self.new ≡ with_text (record_in self.old) (line_of (Print c)) }
+        ensures { record_in self.new ≡ record_with_text (record_in self.old) (line_of (Print c)) }
     {
         let number = c as u32;
         match number {
@@ -42,7 +42,8 @@ impl Lines {
     #[inline(never)]
     fn append_long_print(&mut self, number: u32)
         requires { 0x10000 ≤ number }
-        ensures { record_in self.new ≡ with_text (record_in self.old) (line_of (Print number)) }
+        ensures { record_in self.new
+            ≡ record_with_text (record_in self.old) (line_of (Print number)) }
     {
         let [first, second, third, fourth, fifth, sixth] = six_hex_digits(number);
         match number {

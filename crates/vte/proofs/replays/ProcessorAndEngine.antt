@@ -1,6 +1,6 @@
 -- The contracts of the three processors, from `EngineReads` and `EngineStops` of their engine: a processor stands where
 -- its engine does. They differ in whether a call may be refused memory.
-use Rattle.vte.proofs.Common.{ℕ, List, length, Result, Ok, Err, arith, Bor, Refused, EngineView, Meaning, State, usual_limit, HasAdvanced, HasParsedAndHolds, HasTaken, IsAt, ReadsInTurns, EngineReads, ProcessorPredicate, EngineHasParsedAndHolds, ◌≡◌, refl, rules, limited_parser_view, engine_view, HasTextMemory, HasParsedAndHoldsWithin, EngineStops, StopsSync, bounded_engine_view, stop, [], ◌+◌, ◌-◌, ◌<◌, ◌++◌, ap, length-append, counts_data, AdvancesLong, HasMemory, HasParsedAndHoldsLong, LacksMemoryLong, drop, length-drop, long_engine_view}
+use Rattle.vte.proofs.Common.{ℕ, List, length, Result, Ok, Err, arith, Bor, Refused, EngineView, Meaning, State, usual_limit, HasAdvanced, HasParsedAndHolds, HasTaken, IsAt, ReadsInTurns, EngineReads, ProcessorPredicate, EngineHasParsedAndHolds, ◌≡◌, refl, rules, limited_parser_view, engine_view, HasTextMemory, BoundedHasParsedAndHolds, EngineStops, StopsSync, bounded_engine_view, stop, [], ◌+◌, ◌-◌, ◌<◌, ◌++◌, ap, length-append, counts_data, AdvancesLong, HasMemory, HasParsedAndHoldsLong, LacksMemoryLong, drop, length-drop, long_engine_view}
 use Rattle.vte_core.specs.declared.parser.Parser.{Parser}
 use Rattle.vte.proofs.replays.WithoutUpdates.{plain_call}
 use Rattle.vte.proofs.turns.EngineTurns.{has_advanced, taken-to}
@@ -57,19 +57,19 @@ refused-never bytes (Err refused) r =
 
 module _ {T A V W : Type 0} {N : ℕ} {timeout_of : T → W} {processor : BoundedProcessor T A N} {value : V}
     (s : State V W) where
-  is_at-bounded_engine : IsAt (HasParsedAndHoldsWithin timeout_of processor) value s
+  is_at-bounded_engine : IsAt (BoundedHasParsedAndHolds timeout_of processor) value s
       → IsAt (EngineHasParsedAndHolds (bounded_engine_view timeout_of) processor.engine) value s
   is_at-bounded_engine at = record { stands = at.stands.stands; handler_is = at.handler_is }
 
   is_at-bounded : HasTextMemory N processor.engine.state.text.size
       → IsAt (EngineHasParsedAndHolds (bounded_engine_view timeout_of) processor.engine) value s
-      → IsAt (HasParsedAndHoldsWithin timeout_of processor) value s
+      → IsAt (BoundedHasParsedAndHolds timeout_of processor) value s
   is_at-bounded memory at = search (rules, arith)
 
 module _ {T A V W : Type 0} {N : ℕ} {timeout_of : T → W} {m : Meaning V W} {old new : BoundedProcessor T A N}
     {before value : V} where
   pub stops_within : EngineStops (bounded_engine_view timeout_of) m old.engine new.engine before value
-      → StopsSync m (HasParsedAndHoldsWithin timeout_of old) (HasParsedAndHoldsWithin timeout_of new) before value
+      → StopsSync m (BoundedHasParsedAndHolds timeout_of old) (BoundedHasParsedAndHolds timeout_of new) before value
   stops_within r = record {
     stops = λ s at.
         is_at-bounded (stop m s) (r.keeps_memory s (is_at-bounded_engine s at) [] 0 at.stands.has_memory)
@@ -80,7 +80,7 @@ module _ {T A V W : Type 0} {N : ℕ} {timeout_of : T → W} {m : Meaning V W} {
 
   pub refused-never-within : (bytes : Bor (List ℕ)) (result : Result (Unit {0}) Refused)
       → EngineReads (bounded_engine_view timeout_of) m old.engine new.engine before value bytes.now result
-      → ReadsInTurns m (HasParsedAndHoldsWithin timeout_of old) (HasParsedAndHoldsWithin timeout_of new) before value
+      → ReadsInTurns m (BoundedHasParsedAndHolds timeout_of old) (BoundedHasParsedAndHolds timeout_of new) before value
       bytes.now
   refused-never-within bytes (Ok all) r =
       reads_in_turns bytes (λ s at.

@@ -76,19 +76,19 @@ module _ {V W : Type 0} (m : Meaning V W) where
     handler_is = e.handler_is;
   }
 
-  pub steps_told : (state next : State V W) (steps : List Step) → TakesSteps m state steps next
+  pub steps_delivered : (state next : State V W) (steps : List Step) → TakesSteps m state steps next
       → HasDelivered m state (given_bytes steps) next
-  steps_told state next steps run =
+  steps_delivered state next steps run =
       let g = replay_grows m state next steps run in
       delivers g.more g.parsed_is (g.each_once ∙ ap (λ held. g.more ++ held) (append-nil next.held))
       (delivers-replay m next state steps run)
 
   -- the last call was refused memory
-  pub refused_told : (state reached next : State V W) (steps : List Step) (bytes : List ℕ) (read : ℕ)
+  pub refused_delivered : (state reached next : State V W) (steps : List Step) (bytes : List ℕ) (read : ℕ)
       → TakesSteps m state steps reached
       → TakesTurnsUntilRefused m reached bytes next (drop read bytes)
       → HasDelivered m state (given_bytes steps ++ take read bytes) next
-  refused_told state reached next steps bytes read run more =
+  refused_delivered state reached next steps bytes read run more =
       let g = grows_on (grows_before (replay_grows m state reached steps run) bytes) (until_refused-grows m more) in
       delivers g.more g.parsed_is
       (append_cancel_right _ _ (drop read bytes)
@@ -105,7 +105,7 @@ module _ {V W : Type 0} (m : Meaning V W) where
   replayed {state} next {steps} run at = record {
     next = next;
     takes = run;
-    delivers = steps_told state next steps run;
+    delivers = steps_delivered state next steps run;
     holds_well = replay_well state next steps run;
     only = λ steady well other r. replay_only_one m steady state next other steps well run r;
     is_at = at;

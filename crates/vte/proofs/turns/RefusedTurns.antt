@@ -1,7 +1,7 @@
 -- Turns of a call, of which the last may be refused memory: what is parsed and held then, and what the unread bytes do
 -- in a further call. The refused turn leaves nothing held and is outside an update, so they do what they would have
 -- done (`until_refused-goes_on`).
-use Rattle.vte.proofs.Common.{◌≡◌, ℕ, ◌<◌, inl, Bool, false, List, [], ◌∷◌, ◌++◌, length, drop, refl, ap, subst, ◌∙◌, arith, length-append, drop-append-add, IsSteady, IsOutsideUpdate, Meaning, HoldsWellAt, HasBeenRefused, TakesAllTurns, ParsingTurn, ParsingTurnIsRefused, State, TakesTurnsUntilRefused, TakesTurns, prefix_to_begin, between_turns, done, kind_of, parsing_turn, turn, turns, inside_turn, rules}
+use Rattle.vte.proofs.Common.{◌≡◌, ℕ, ◌<◌, inl, Bool, false, List, [], ◌∷◌, ◌++◌, length, drop, refl, ap, subst, ◌∙◌, arith, length-append, drop-append-add, IsSteady, IsOutsideUpdate, Meaning, HoldsWellAt, HasBeenRefused, TakesAllTurns, ParsingTurn, ParsingTurnIsRefused, State, TakesTurnsUntilRefused, TakesTurns, prefix_to_begin, between_turns, done, turn_kind_of, parsing_turn, turn, turns, inside_turn, rules}
 use Rattle.vte.proofs.updates.Prefixes.{prefix-after}
 use Rattle.vte.proofs.turns.TurnKinds.{stop_if_due, turn-parses, ParsesUntilRefused, refused-parses}
 use Rattle.vte.proofs.turns.EachOnce.{Progresses, grows_on, stop_if_due_none, stop_if_due_grows, parse_grows, turns_grow}
@@ -108,7 +108,7 @@ module _ {V W : Type 0} (m : Meaning V W) where
       → ParsesUntilRefused m pending state bytes next left
       → turn m false next left ≡ turn m pending state bytes
   refused-goes_on pending state next bytes left (parses, h) =
-      let none : kind_of false (length next.held) (length left) ≡ ParsingTurn =
+      let none : turn_kind_of false (length next.held) (length left) ≡ ParsingTurn =
       rw (refused-held pending state next bytes left (parses, h)) refl in
       rw (none, turn-parses m pending state bytes parses)
       (parsing_turn-goes_on (stop_if_due m pending state) next bytes left h)

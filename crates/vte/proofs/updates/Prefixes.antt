@@ -18,9 +18,9 @@ begin_count-added limit p a r =
     ap begin_count (added-append limit p a r) ∙ begin_count-append (added limit p a) (added limit (p ++ a) r)
 
 -- a broken character begins no update
-pub begin_count-told : (limit : Option ℕ) (p r : List ℕ) (i : ℕ)
+pub begin_count-reported : (limit : Option ℕ) (p r : List ℕ) (i : ℕ)
     → begin_count (reported_before limit p r i) ≡ begin_count (added limit p (take i r))
-begin_count-told limit p r i = search (rules, arith, reported-broken, begin_count-append, reported-settled)
+begin_count-reported limit p r i = search (rules, arith, reported-broken, begin_count-append, reported-settled)
 
 -- ---- the prefix is the shortest that adds a begin (`IsPrefix`)
 

@@ -192,15 +192,18 @@ module _ {held more text : List ℕ} {start : ℕ} (e : IsHeldTail held more tex
   all = held ++ more
 
   whole_size : start + length text ≡ length all
-  whole_size = let from = e.start_is in omega (arith, ap length e.is, length-drop start all, length-append held more)
+  whole_size =
+      let from = e.start_is in
+      omega (arith, ap length e.text_is, length-drop start all, length-append held more)
 
   pub sequence_at : (position : ℕ) → take (length text - position) (drop position text) ≡ drop (start + position) all
   sequence_at position =
-      take_all (length text - position) (drop position text) (rw length-drop (omega arith)) ∙ ap (drop position) e.is
-      ∙ drop-drop position start all
+      take_all (length text - position) (drop position text) (rw length-drop (omega arith))
+      ∙ ap (drop position) e.text_is ∙ drop-drop position start all
 
   byte_at : (unread k : ℕ) → k < unread → get_or (take unread text) k 0 ≡ get_or all (start + k) 0
-  byte_at unread k inside = get_or-take unread text k 0 inside ∙ ap (λ bytes. get_or bytes k 0) e.is ∙ rw get_or-drop
+  byte_at unread k inside =
+      get_or-take unread text k 0 inside ∙ ap (λ bytes. get_or bytes k 0) e.text_is ∙ rw get_or-drop
 
   neither_between : (from low unread : ℕ) → start + from ≡ low → unread ≤ length text
       → Nowhere (Passes (is_byte 0x1b) (take unread text)) from (length (take unread text))
@@ -222,7 +225,7 @@ module _ {held more text : List ℕ} {start : ℕ} (e : IsHeldTail held more tex
       let position : k - start + start ≡ k = omega arith in
       let neither = none (k - start) (omega arith) (omega arith) in
       let tail : drop (k - start) text ≡ drop k all =
-      ap (drop (k - start)) e.is ∙ drop-drop (k - start) start all ∙ ap (λ at. drop at all) (omega arith) in
+      ap (drop (k - start)) e.text_is ∙ drop-drop (k - start) start all ∙ ap (λ at. drop at all) (omega arith) in
       record { no_begin = rw tail at neither.no_begin; no_end = rw tail at neither.no_end })
       seen
 

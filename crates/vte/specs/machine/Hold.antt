@@ -22,7 +22,7 @@ still_held text = kept_part text (after_last_end text)
 -- before them.
 pub record IsHeldTail (held more text : List ℕ) (start : ℕ) : Type 0 where
   pub start_is : start ≡ length held - 7
-  pub is : text ≡ drop start (held ++ more)
+  pub text_is : text ≡ drop start (held ++ more)
 
 -- The result of adding the last `new` of these bytes to the others.
 pub record Adds (bytes : List ℕ) (new : ℕ) (added : Release) : Type 0 where

@@ -71,9 +71,9 @@ abbrev pub FitsText : ℕ → Event → Type 0
 FitsText text_size event = (last : Option ℕ) → calls_made text_size last event ≡ calls_of last event
 
 -- An event that begins an update terminates the performer.
-abbrev pub with_event : {V W : Type 0}
+abbrev pub performer_with_event : {V W : Type 0}
     → (V → Call → V) → TimeoutMeaning W → PerformerValue V W → Event → PerformerValue V W
-with_event step timeout performer event = record {
+performer_with_event step timeout performer event = record {
   handler = after step performer.handler (calls_made performer.text_size performer.last event);
   timeout = set_times timeout (begins_in_event event) performer.timeout;
   last = last_printed_after performer.last event;

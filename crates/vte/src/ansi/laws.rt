@@ -40,8 +40,8 @@ pub fn worked_examples()
 
 /// What becomes of the bytes that a caller passes to a processor in calls of its own, and what its
 /// handler receives of them: as of the calls of [`replay`], with a limit and without.
-pub fn calls_are_told<H: Handler, T: Timeout>()
-    ensures told { (limit : Option ℕ) (state next : State H.Value T.Value) (steps : List Step)
+pub fn calls_are_received<H: Handler, T: Timeout>()
+    ensures calls { (limit : Option ℕ) (state next : State H.Value T.Value) (steps : List Step)
         → let m = meaning_of limit H.step T.set T.clear T.allows in
         TakesSteps m state steps next → HasDelivered m state (given_bytes steps) next }
     // The last call was refused memory when it had read this many of its bytes.

@@ -117,7 +117,7 @@ impl<T: Timeout + Drop, A: Allocator> LongProcessor<T, A> {
     }
 
     /// Stops an update: parses the bytes that are held back, tells the handler that the update has
-    /// ended, and clears the timeout. Without an update too, the handler is told. It needs no
+    /// ended, and clears the timeout. The handler is called without an update, too. It needs no
     /// memory: what is held back has taken it.
     pub fn stop_sync<H: Handler>(&mut self, handler: &mut H)
         ensures { StopsLong T.value_of

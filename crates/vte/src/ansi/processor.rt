@@ -95,7 +95,7 @@ impl<T: Timeout + Drop, A: Allocator> Processor<T, A> {
     }
 
     /// Stops an update: parses the bytes that are held back, tells the handler that the update has
-    /// ended, and clears the timeout. Without an update too, the handler is told.
+    /// ended, and clears the timeout. The handler is called without an update, too.
     pub fn stop_sync<H: Handler>(&mut self, handler: &mut H)
         ensures { StopsSync (meaning_of usual_limit H.step T.set T.clear T.allows)
             (HasParsedAndHolds T.value_of self.old) (HasParsedAndHolds T.value_of self.new)

@@ -2,7 +2,7 @@
 //! caller's area.
 ghost use Rattle.std.specs.Prelude.{◌≡◌, ◌≤◌, ◌++◌, ℕ, List, length, map};
 ghost use Rattle.std.specs.List.{concat, flat_map};
-ghost use Rattle.vte_c.specs.Events.{Holds, Room, room_of};
+ghost use Rattle.vte_c.specs.machine.Events.{Holds, Room, room_of};
 ghost use Rattle.vte_c.specs.Record.{group_bytes, piece_bytes};
 
 use super::{Events, bytes_of_one};

@@ -199,7 +199,7 @@ scans-ascii {bytes} {j} {byte} a is count printed more =
     scans-run a (record {
       low = omega (arith, more.low);
       high = more.high;
-      are = run-ascii _ _ _ _ (each-both IsPrintedAscii _ _ _ _ (each-one IsPrintedAscii bytes j first) more.are);
+      passed = run-ascii _ _ _ _ (each-both IsPrintedAscii _ _ _ _ (each-one IsPrintedAscii bytes j first) more.passed);
       at_least = omega (arith, more.at_least, count);
     })
 
@@ -208,7 +208,7 @@ pub scans-other : {layout : Bool} {bytes : List ℕ} {i j k : ℕ} {s t u : Read
     → Scans (IsRun layout) bytes i j s t → j < k → k ≤ length bytes → IsRun layout bytes j k
     → looked u + j ≡ looked t + k → Scans (IsRun layout) bytes i k s u
 scans-other a low high run count =
-    scans-run a (record { low = omega (arith, low); high = high; are = run; at_least = omega (arith, count) })
+    scans-run a (record { low = omega (arith, low); high = high; passed = run; at_least = omega (arith, count) })
 
 -- over a block, of which the first bytes are such
 pub scans-block : (holds : ℕ → Type 0) (bytes : List ℕ) {block : List ℕ} {i j n : ℕ} (m : ℕ)

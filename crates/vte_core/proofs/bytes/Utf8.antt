@@ -149,11 +149,7 @@ allowed_length-end rows (c ∷ bytes) more =
     allowed_length-more rows c bytes (some_left some_open refl bytes _ more)
     ∙ ap suc (allowed_length-end (rows_after_byte c rows) bytes more)
 
--- ---- a first byte, and short sequences, in numbers
-
--- By the nine rows.
-
--- ---- the range of a second byte, and the first bytes after which no row is left
+-- ---- the range of a second byte, and the first bytes after which no row is left, by the nine rows
 
 pub second_plain : (a : ℕ) → a ≢ 0xe0 → a ≢ 0xed → a ≢ 0xf0 → a ≢ 0xf4 → second_range a ≡ from_to 0x80 0xbf
 unfolding second_range

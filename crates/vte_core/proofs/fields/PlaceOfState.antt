@@ -29,7 +29,7 @@ escape-by_state limit _ parser s = absurd s
 
 pub stands-escape : {B : Type 0} {limit : Option ℕ} (parser : Machine B) → IsAtPlace limit parser AtEscape
     → HoldsIntermediates parser.collected []
-stands-escape {limit} parser s = escape-by_state limit parser.state parser s.by
+stands-escape {limit} parser s = escape-by_state limit parser.state parser s.fields
 
 -- in that state there is one shape of places
 pub record InCommandAt {B : Type 0} (limit : Option ℕ) (parser : Machine B) (place : Place) : Type 0 where
@@ -57,7 +57,7 @@ is_place-by_state limit state parser place s = search (rules, arith)
 pub stands-place : {B : Type 0} {limit : Option ℕ} {parser : Machine B} {place : Place}
     → IsAtPlace limit parser place
     → IsPlace place
-stands-place {limit} {parser} {place} s = is_place-by_state limit parser.state parser place s.by
+stands-place {limit} {parser} {place} s = is_place-by_state limit parser.state parser place s.fields
 
 pub may_continue-truncated : (u : List ℕ) → is_truncated u ≡ true → may_continue u ≡ true
 may_continue-truncated [] more = refl

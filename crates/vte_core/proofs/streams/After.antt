@@ -1,5 +1,5 @@
--- What is known of a place after a stream: further bytes give after both the same (`IsAfter`). `after-reads`: so they
--- do after the bytes that lead from the place to another, whose events are added.
+-- A place is after a stream if any further bytes add the same events to both (`IsAfter`). If bytes lead from it to
+-- another place, that one is after the longer stream, and their events are added (`after-reads`).
 --
 -- `added-X` says what `added` is in the case X, and `after-X` what `IsAfter` says of X.
 use Rattle.vte_core.proofs.Common.{◌≡◌, ℕ, ◌⊎◌, inl, inr, cases_Bool, true, false, eqb, Option, List, [], ◌∷◌, ◌++◌, refl, ap, sym, ◌∙◌, arith, Machine, Event, Print, replacement, report, after, Place, InText, AtEscape, closing_events_at, outcome_from, events, escape, TakesByte, TakesBytes, is_truncated, is_well_formed, Bool, None, SequenceKind, sequence_kind, body_rest, body_outcome, sequence_outcome, class_of, is_cancel, is_key, Outcome, ToClose, CommandToClose, open_bytes, from_first, cut_at_escape, with_bodies, outcome, open_character, system_command_outcome, text_outcome, append_assoc, append-nil, drop_all, drop-append_seam, IsAtPlace, HasReadWithLimit, added, IsAfter, open_at, left_at, events_from, BytesLead, rules}

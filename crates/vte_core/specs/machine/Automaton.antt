@@ -76,13 +76,13 @@ open_count three_back two_back one_back =
     else if nat_le 0xf0 three_back then 3
     else 0
 
--- In a run a byte may stand after these three.
+-- In a run a byte may follow these three.
 pub record Follows (layout : Bool) (three_back two_back one_back byte : ℕ) : Type 0 where
   pub leads : (state : AutomatonState) → Trails state three_back two_back one_back
       → Trails (next_state state byte) two_back one_back byte
   pub above : layout ≡ false → 0x20 ≤ byte
 
--- The k-th byte of the window may stand there.
+-- The k-th byte of the window may be there.
 abbrev pub FollowsAt : Bool → Window → ℕ → Type 0
 FollowsAt layout window k =
     Follows layout (slice_index window.three_back k) (slice_index window.two_back k)

@@ -1,4 +1,4 @@
--- The place at which a parser stands, and what it has read.
+-- The place at which a parser is, and what it has read.
 use Rattle.std.specs.Prelude.{◌≡◌, ℕ, ◌<◌, ◌≤◌, Bool, true, false, List, [], ◌∷◌, ◌++◌, if◌then◌else◌, ◌==◌, Option, length, take, ⊤, ◌||◌, ◌-◌, drop, slice_index, MatchOption}
 use Rattle.vte_core.specs.declared.utf8.Unfinished.{Unfinished}
 use Rattle.vte_core.specs.declared.utf8.Unfinished.TheVariants.{Nothing, One, Two, Three}
@@ -161,10 +161,10 @@ IsPlaceOfState limit _ parser _ = ⊥
 
 pub record IsAtPlace {B : Type 0} (limit : Option ℕ) (parser : Machine B)
     (place : Place) : Type 0 where
-  pub by : IsPlaceOfState limit parser.state parser place
+  pub fields : IsPlaceOfState limit parser.state parser place
 
 -- The parser continues as one that has read the stream: with more bytes, the stream gives its own
--- events and then what those bytes give after a place at which the parser stands.
+-- events and then what those bytes give after a place at which the parser is.
 pub record HasReadWithLimit {B : Type 0} (limit : Option ℕ) (parser : Machine B)
     (stream : List ℕ) : Type 0 where
   pub place : Place

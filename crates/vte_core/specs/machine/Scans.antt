@@ -60,28 +60,28 @@ pub record PrintsRun {V : Type 0} (layout : Bool) (step : V → Event → V) (ol
 
 -- ---- searches
 
--- The positions stand in order, and within the bytes.
+-- The positions are in order, and within the bytes.
 pub record IsRange (bytes : List ℕ) (from to : ℕ) : Type 0 where
   pub in_order : from ≤ to
   pub within : to ≤ length bytes
 
 -- A search from one position ends at another, takes at least one look for each byte between, and
 -- has found out what these are.
-pub record Scans (Are : List ℕ → ℕ → ℕ → Type 0) (bytes : List ℕ) (from to : ℕ)
+pub record Scans (Holds : List ℕ → ℕ → ℕ → Type 0) (bytes : List ℕ) (from to : ℕ)
     (earlier later : Reader) : Type 0 where
   pub low : from ≤ to
   pub high : to ≤ length bytes
-  pub are : Are bytes from to
+  pub passed : Holds bytes from to
   pub at_least : looked earlier + to ≤ looked later + from
 
--- A search from one position ends at another: at the first byte that `Is` doesn't hold of, or with
--- the bytes. It looks once at each byte up to there, and at the byte there.
-pub record FindsEnd (Is : ℕ → Type 0) (bytes : List ℕ) (from to : ℕ)
+-- A search from one position ends at another: at the first byte of which `Holds` isn't true, or at
+-- the end of the bytes. It looks once at each byte up to there, and at the byte there.
+pub record FindsEnd (Holds : ℕ → Type 0) (bytes : List ℕ) (from to : ℕ)
     (earlier later : Reader) : Type 0 where
   pub low : from ≤ to
   pub high : to ≤ length bytes
-  pub are : Each Is bytes from to
-  pub ended : to < length bytes → Is (slice_index bytes to) → ⊥
+  pub passed : Each Holds bytes from to
+  pub ended : to < length bytes → Holds (slice_index bytes to) → ⊥
   pub count : looked later + from ≡ looked earlier + min (to + 1) (length bytes)
 
 -- The count of looks grew by at most `most`.

@@ -1,5 +1,5 @@
 -- What the parser did with a byte, or several: the events that a performer received, with the
--- count of looks, and the place at which the parser then stands.
+-- count of looks, and the place at which the parser then is.
 use Rattle.std.specs.Prelude.{◌≡◌, ℕ, ◌+◌, List, ◌≤◌, Option}
 use Rattle.vte_core.specs.declared.reader.Reader.{Reader}
 use Rattle.vte_core.specs.Event.{Event, after}
@@ -16,13 +16,13 @@ pub record Reports {V : Type 0} (step : V → Event → V) (old new : V) (event 
   pub value : new ≡ step old event
   pub count : looked later ≡ looked earlier + 1
 
--- The performer received the events, which count `many` looks.
+-- The performer received the events, which count `looks` looks.
 pub record ReportsAll {V : Type 0} (step : V → Event → V) (old new : V) (events : List Event)
-    (many : ℕ) (earlier later : Reader) : Type 0 where
+    (looks : ℕ) (earlier later : Reader) : Type 0 where
   pub value : new ≡ after step old events
-  pub count : looked later ≡ looked earlier + many
+  pub count : looked later ≡ looked earlier + looks
 
--- The performer received the events of the byte, and the parser stands at the place to which it
+-- The performer received the events of the byte, and the parser is at the place to which it
 -- leads.
 pub record TakesByte {V B : Type 0} (step : V → Event → V) (old new : V) (limit : Option ℕ)
     (place : Place) (byte : ℕ) (parser : Machine B) : Type 0 where
@@ -32,7 +32,7 @@ pub record TakesByte {V B : Type 0} (step : V → Event → V) (old new : V) (li
   pub stands : IsAtPlace limit parser next
   pub leads : Leads limit place byte reported next
 
--- The performer received a sequence, as one event. The parser stands in a text then, and gave back
+-- The performer received a sequence, as one event. The parser is in a text then, and gave back
 -- no memory.
 pub record Dispatches {V B : Type 0} (step : V → Event → V) (old new : V) (event : Event)
     (parser next : Machine B) (earlier later : Reader) : Type 0 where

@@ -52,7 +52,7 @@ kind_events TextKind bytes = map Print (chars bytes)
 kind_events DataKind bytes = map Put bytes
 kind_events NoKind bytes = []
 
--- Nothing of the kind stands where the run ends. A run isn't empty.
+-- Nothing of the kind is where the run ends. A run isn't empty.
 abbrev pub IsWholeAt : List ℕ → RunRange → RunKind → Type 0
 IsWholeAt bytes range TextKind = (range.start < range.end) × HasNoRunAt false bytes range.end
 IsWholeAt bytes range DataKind =
@@ -60,7 +60,7 @@ IsWholeAt bytes range DataKind =
     → IsDeviceData (slice_index bytes range.end) → ⊥)
 IsWholeAt bytes range NoKind = range.start ≡ range.end
 
--- A run stands there, adds its events to what the parser has read, and leaves the parser as it is.
+-- A run is there, adds its events to what the parser has read, and leaves the parser as it is.
 pub record HasRun {B : Type 0} (limit : Option ℕ) (bytes : List ℕ) (range : RunRange)
     (parser : Machine B) : Type 0 where
   pub is_range : IsRange bytes range.start range.end

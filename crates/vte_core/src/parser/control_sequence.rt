@@ -86,9 +86,9 @@ impl<B: Buffer> Machine<B> {
         self.continue_control_sequence::<P, G, MAY_STOP>(reader, performer, input, reached, from)
     }
 
-    /// Goes on with a control sequence whose head has come so far: by numbers with `;` between
-    /// them, and by a final byte right after them. If calls have one byte each, most bytes of
-    /// sequences come this way.
+    /// Continues a control sequence, whose head was read up to `reached`. Numbers with `;` between
+    /// them, up to a final byte, have a way of their own: it is the usual one where a call has one
+    /// byte.
     #[inline(always)]
     pub(crate) fn continue_control_sequence<
         P: CountedPerform<G>,

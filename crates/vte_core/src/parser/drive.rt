@@ -9,7 +9,7 @@ use crate::reader::{CountedPerform, Granularity, Input, Reader};
 impl<B: Buffer> Machine<B> {
     /// Reads the bytes of a call, as many as there is memory for, and returns how many: all of
     /// them, or up to a stop if `MAY_STOP`.
-    // as a part of a program's own function, its loops would keep their places on the stack
+    // inlined into a program's own function, its loops would keep their variables on the stack
     // cargo: #[inline(never)]
     pub(crate) fn drive<P: CountedPerform<G>, G: Granularity, const MAY_STOP: bool>(
         &mut self,

@@ -35,7 +35,7 @@ use std::alloc::{AllocError, Allocator};
 /// # assert!(read(Performer, b"\x1b]52;c;aGVsbG8=\x07").is_ok());
 /// ```
 ///
-/// The limit of 16 pieces stays. What stands after the sixteenth `;` needs no memory. The memory of
+/// The limit of 16 pieces stays. What follows the sixteenth `;` needs no memory. The memory of
 /// one command serves the next.
 #[derive(Drop)]
 pub struct LongParser<A: Allocator> {

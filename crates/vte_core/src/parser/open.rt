@@ -1,4 +1,4 @@
-//! What is unfinished where a parser stands.
+//! What is unfinished where a parser is.
 ghost use Rattle.std.specs.Prelude.{◌≡◌};
 ghost use Rattle.vte_core.specs.machine.ParserFields.{open_in};
 

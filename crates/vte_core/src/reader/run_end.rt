@@ -38,7 +38,7 @@ impl Reader {
             && matches!(self.get_byte(input, at + 3), Some(fourth) if is_printed_ascii(fourth))
     }
 
-    /// Finds where the run ends that begins with four bytes of ASCII, which were looked at.
+    /// Returns where the run ends that begins with four bytes of ASCII, which were looked at.
     #[inline(never)]
     pub(crate) fn find_ascii_run_end<P: CountedPerform<G>, G: Granularity>(
         &mut self,
@@ -58,8 +58,8 @@ impl Reader {
         self.find_run_end(input, end, performer.keeps_layout())
     }
 
-    /// Finds where the run ends that begins at a position with a character of two or three bytes,
-    /// whose first was looked at; at that position if none does.
+    /// Returns where the run ends that begins at a position with a character of two or three bytes,
+    /// whose first was looked at. It is that position if no run begins there.
     ///
     /// Two bytes are tested before anything else, because malformed text seldom has them: after a
     /// first byte of two, the second and that another character follows; after one of three, the
@@ -101,9 +101,8 @@ impl Reader {
         }
     }
 
-    /// Finds where the run ends that has come to a position after a character that isn't ASCII, for
-    /// a performer.
-    // Its loop is that of `find_run_end_up_to`, but blocks begin later once the run has had ASCII.
+    /// Returns where a run ends that already reaches `from`, by a character that isn't ASCII.
+    // The loop is that of `find_run_end_up_to`, but blocks begin later once the run has had ASCII.
     #[inline(never)]
     pub(crate) fn find_run_end_after_non_ascii<P: CountedPerform<G>, G: Granularity>(
         &mut self,
@@ -136,8 +135,8 @@ impl Reader {
         self.find_run_end_by_blocks(input, end, layout)
     }
 
-    /// Finds where the run ends that has come to a position. With `layout`, HT, LF and CR don't
-    /// end it.
+    /// Returns where a run ends that already reaches `from`. With `layout`, HT, LF and CR don't end
+    /// it.
     #[inline(always)]
     pub(crate) fn find_run_end(&mut self, input: Input<'_>, from: usize, layout: bool) -> usize
         requires { from ≤ length input.bytes.now }
@@ -154,7 +153,8 @@ impl Reader {
         }
     }
 
-    /// Finds where the run ends that has come to a position, or where it comes to or past another.
+    /// Returns where a run ends that already reaches `from`, or the first end of a character in it
+    /// that isn't before `to`.
     #[inline(always)]
     fn find_run_end_up_to(
         &mut self,
@@ -186,7 +186,7 @@ impl Reader {
         end
     }
 
-    /// Finds where a long run ends that has come to a position.
+    /// Returns where a long run ends that already reaches `from`.
     #[inline(never)]
     fn find_run_end_by_blocks(&mut self, input: Input<'_>, from: usize, layout: bool) -> usize
         requires before { 3 ≤ from }
@@ -200,8 +200,8 @@ impl Reader {
         self.find_run_end_up_to(input, end, input.len(), layout)
     }
 
-    /// Finds where the character ends that stands at a position and is no printed ASCII, if a run
-    /// may hold it. Its first byte was looked at.
+    /// Returns where the character at a position ends, which isn't printed ASCII, if a run may hold
+    /// it. Its first byte was looked at.
     #[inline(always)]
     fn find_non_ascii_end(
         &mut self,
@@ -244,8 +244,8 @@ impl Reader {
         None
     }
 
-    /// Finds where the printed ASCII ends that has come to a position by a byte. Two more are read
-    /// alone, then words are taken.
+    /// Returns where printed ASCII ends, of which the byte before `from` is one. Two more bytes are
+    /// read alone, then words.
     #[inline(always)]
     fn find_ascii_end(&mut self, input: Input<'_>, from: usize) -> usize
         requires { from ≤ length input.bytes.now }
@@ -264,8 +264,8 @@ impl Reader {
         }
     }
 
-    /// Finds the first byte from a position on that is no printed ASCII, or where fewer than eight
-    /// bytes are left.
+    /// Returns the position of the first byte from `from` on that isn't printed ASCII, or one after
+    /// which fewer than eight bytes are left.
     #[inline(always)]
     fn find_ascii_end_by_words(&mut self, input: Input<'_>, from: usize) -> usize
         requires { from ≤ length input.bytes.now }

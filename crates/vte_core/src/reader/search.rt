@@ -57,9 +57,9 @@ impl Reader {
         }
     }
 
-    /// Returns up to where a text is read next: to the byte after the next ESC, or to the end of
-    /// what was searched.
-    // it would make the loop over bytes longer
+    /// Returns where the part of a text ends that is read next: after the next ESC, or where the
+    /// search for it ended.
+    // inlined, it would make the loop over bytes longer
     // cargo: #[inline(never)]
     pub(crate) fn search_text<const MAY_STOP: bool>(
         &mut self,

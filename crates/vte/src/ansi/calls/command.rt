@@ -29,11 +29,12 @@ pub(crate) fn perform_system_command<H: Handler, B: TextBuffer>(
     bell_terminated: bool,
 )
     requires { FitsTextSize (B.text_size text.old) (map (λ piece. piece.now) pieces.now) }
-    ensures told { H.value_of handler.new
+    ensures calls { H.value_of handler.new
         ≡ after H.step (H.value_of handler.old)
         (system_command_calls (map (λ piece. piece.now) pieces.now) bell_terminated) }
     ensures same { B.text_size text.new ≡ B.text_size text.old }
 {
+    // proof: a word that is matched is no other word.
     laws::words_differ_from_other_texts();
     if let [first, texts @ ..] = pieces {
         let terminator = if bell_terminated { "\x07" } else { "\x1b\\" };
@@ -60,7 +61,7 @@ pub(crate) fn perform_system_command<H: Handler, B: TextBuffer>(
 #[tactic(auto, using(crate::proofs::calls::JoinedTexts::one_text))]
 fn set_title<H: Handler, B: TextBuffer>(handler: &mut H, text: &mut B, texts: &[&[u8]])
     requires { FitsTextSize (B.text_size text.old) (map (λ piece. piece.now) texts.now) }
-    ensures told { H.value_of handler.new
+    ensures calls { H.value_of handler.new
         ≡ after H.step (H.value_of handler.old) (title_calls (map (λ piece. piece.now) texts.now)) }
     ensures same { B.text_size text.new ≡ B.text_size text.old }
 {
@@ -78,6 +79,7 @@ fn set_title<H: Handler, B: TextBuffer>(handler: &mut H, text: &mut B, texts: &[
 fn is_question(text: &[u8]) -> bool
     ensures { result ≡ bytes_eq text.now (codes "?") }
 {
+    // proof: a word that is matched is no other word.
     laws::words_differ_from_other_texts();
     matches!(text, [b'?'])
 }
@@ -137,7 +139,7 @@ fn set_palette<H: Handler>(handler: &mut H, texts: &[&[u8]], terminator: &str)
 #[tactic(auto, using(crate::proofs::calls::JoinedTexts::one_text))]
 fn set_link<H: Handler, B: TextBuffer>(handler: &mut H, text: &mut B, texts: &[&[u8]])
     requires { FitsTextSize (B.text_size text.old) (map (λ piece. piece.now) texts.now) }
-    ensures told { H.value_of handler.new
+    ensures calls { H.value_of handler.new
         ≡ after H.step (H.value_of handler.old) (link_calls (map (λ piece. piece.now) texts.now)) }
     ensures same { B.text_size text.new ≡ B.text_size text.old }
 {

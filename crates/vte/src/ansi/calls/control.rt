@@ -81,7 +81,7 @@ pub(crate) fn perform_control<H: InputAs<G>, G>(
     }
 }
 
-/// Makes the calls of a control sequence without intermediates, but for DA.
+/// Makes the calls of a control sequence without intermediates, except those of DA.
 #[tactic(auto, unfolding(crate::specs::ControlCalls::rows_without_intermediates))]
 // cargo: #[inline]
 fn perform_plain<H: InputAs<G>, G>(

@@ -40,13 +40,13 @@ pub(crate) struct Performer<'s, 'h, H: Handler, T: Timeout + Drop, B: TextBuffer
 
 impl<'s, 'h, H: InputAs<G>, T: Timeout + Drop, B: TextBuffer + Drop, G> Perform
     for Performer<'s, 'h, H, T, B, G> {
-    ghost use Rattle.vte.specs.machine.Performer.{PerformerValue, with_event};
+    ghost use Rattle.vte.specs.machine.Performer.{PerformerValue, performer_with_event};
 
     ghost Value = { PerformerValue H.Value T.Value };
 
     ghost value_of = { performer_value H.value_of T.value_of B.text_size };
 
-    ghost step = { with_event H.step (timeout_meaning T.set T.clear T.allows) };
+    ghost step = { performer_with_event H.step (timeout_meaning T.set T.clear T.allows) };
 
     ghost is_terminated = { λ performer. performer.terminated };
 

@@ -3,7 +3,7 @@
 ghost use Rattle.std.specs.Prelude.{◌≡◌, ◌≤◌, ◌+◌, ◌++◌, ℕ, List, Option, Some, true, false, length};
 ghost use Rattle.vte.specs.machine.Performing.{AdvancesAll, AdvancesUntilStop, performer_value};
 ghost use Rattle.vte.specs.Processor.{State, meaning_of, parse};
-ghost use Rattle.vte.specs.machine.Performer.{with_event};
+ghost use Rattle.vte.specs.machine.Performer.{performer_with_event};
 ghost use Rattle.vte.specs.machine.Engine.{HasParsedPrefix, ArePartsAtKeepingMemory, ArePartsAtWithMemory};
 ghost use Rattle.vte.specs.Views.{ParserView, engine_view, limited_parser_view};
 ghost use Rattle.vte.specs.Memory.{KeepsMemory};
@@ -70,7 +70,7 @@ pub(crate) trait ParseAs<H: Handler, T: Timeout + Drop, P: EventParser>: Sized {
     )
         ensures { let value = performer_value H.value_of T.value_of B.text_size in
             AdvancesAll P.view P.limit
-            (with_event H.step (timeout_meaning T.set T.clear T.allows))
+            (performer_with_event H.step (timeout_meaning T.set T.clear T.allows))
             parser.old parser.new (value performer.old) (value performer.new) bytes.now };
 
     /// Parses bytes until an update begins, and returns how many it parsed.
@@ -81,7 +81,7 @@ pub(crate) trait ParseAs<H: Handler, T: Timeout + Drop, P: EventParser>: Sized {
     ) -> usize
         ensures { let value = performer_value H.value_of T.value_of B.text_size in
             AdvancesUntilStop P.view P.limit
-            (with_event H.step (timeout_meaning T.set T.clear T.allows))
+            (performer_with_event H.step (timeout_meaning T.set T.clear T.allows))
             parser.old parser.new (value performer.old) (value performer.new)
             bytes.now result };
 }

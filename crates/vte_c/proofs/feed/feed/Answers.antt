@@ -17,13 +17,13 @@ returns c =
     let count : fed_count read.result ≡ read.result =
     counted read.result (omega (arith, within, length-take m bytes, c.min-end.ensures)) in
     let feeds =
-    λ (told : List Event) (stream rest : List ℕ)
-    (h : HasReported c.args.kinds c.args.parser.now told stream (bytes ++ rest)).
-    read.ensures.feeds told stream (drop m bytes ++ rest) (rw (kinds, ← append_assoc (take m bytes), whole) h) in
+    λ (given : List Event) (stream rest : List ℕ)
+    (h : HasReported c.args.kinds c.args.parser.now given stream (bytes ++ rest)).
+    read.ensures.feeds given stream (drop m bytes ++ rest) (rw (kinds, ← append_assoc (take m bytes), whole) h) in
     let are =
-    λ (told : List Event) (stream rest : List ℕ)
-    (h : HasReported c.args.kinds c.args.parser.now told stream (bytes ++ rest)).
-    let fed = feeds told stream rest h in
+    λ (given : List Event) (stream rest : List ℕ)
+    (h : HasReported c.args.kinds c.args.parser.now given stream (bytes ++ rest)).
+    let fed = feeds given stream rest h in
     counts_are room c.min.result c.min-2.result (fed.encodes [])
     (c.events-1.given.1.1 (sym (fed.events_name ∙ c.new-room.ensures.same_events)))
     (c.area-1.given.1.1 (sym (fed.area_name ∙ c.new-room.ensures.same_area)))
@@ -32,16 +32,16 @@ returns c =
     record {
       enough = λ most size. sym count;
       within = omega (arith, count, within, length-take m bytes);
-      exact = λ told stream rest h.
-          let a = are told stream rest h in
-          let reports = rw kinds at ((feeds told stream rest h).reports (drop m bytes)) in
+      exact = λ given stream rest h.
+          let a = are given stream rest h in
+          let reports = rw kinds at ((feeds given stream rest h).reports (drop m bytes)) in
           let unread = drop-append-le read.result (take m bytes) (drop m bytes) within in
           rw (count, a.same_count, a.same_records, a.same_area)
           (rw (← append_assoc (drop read.result (take m bytes)), ← unread, whole) at reports);
-      encoded = λ told stream rest h.
-          let a = are told stream rest h in
+      encoded = λ given stream rest h.
+          let a = are given stream rest h in
           rw (a.same_count, a.same_used, a.same_records, a.same_area)
-          (rw whole at ((feeds told stream rest h).encodes (drop m bytes)));
+          (rw whole at ((feeds given stream rest h).encodes (drop m bytes)));
       room = (omega (arith, c.min.ensures, c.events-1.given.1.0), omega (arith, c.min-2.ensures, c.area-1.given.1.0));
       too_few = λ few. record {
         says = search rules;
@@ -57,13 +57,13 @@ returns c =
         same = search rules;
         unwritten = search rules;
       };
-      progress = λ told stream rest h most size others some.
-          let a = are told stream rest h in
+      progress = λ given stream rest h most size others some.
+          let a = are given stream rest h in
           let there : 0 < length (take m bytes) = omega (arith, c.min-end.ensures, length-take m bytes, some) in
-          (feeds told stream rest h).progress (rw (stops, ← a.same_count, ← a.same_records) others) there;
-      first = λ told stream rest h.
-          let a = are told stream rest h in
-          rw (a.same_count, a.same_records, ← stops) (feeds told stream rest h).first;
+          (feeds given stream rest h).progress (rw (stops, ← a.same_count, ← a.same_records) others) there;
+      first = λ given stream rest h.
+          let a = are given stream rest h in
+          rw (a.same_count, a.same_records, ← stops) (feeds given stream rest h).first;
       until = λ stream reads not_text not_data i earlier.
           let front = take-take i m bytes (omega (arith, count, within, length-take m bytes)) in
           rw (kinds, stops, front) at (read.ensures.stops stream reads

@@ -16,17 +16,17 @@ loop-position-preserved c =
       within = omega (arith, r.within);
       goes = λ since reads.
           let a = v.goes since reads in
-          gone-then a (sym c.is_full.ensures ∙ c.if-not-is_full.true) r.within (r.goes a.next a.reads);
+          gone-then a (sym c.is_full.ensures ∙ c.if-not-is_full.true) r.within (r.reads_on a.next a.reads);
       first = λ at_first. absurd (c.if-read-eq0.false (omega (arith, at_first)));
     }
 
-pub returns-then-read-eq0-clause-goes : goal.returns-then-read-eq0-clause-goes
-returns-then-read-eq0-clause-goes c = λ since reads.
+pub returns-then-read-eq0-clause-reads_on : goal.returns-then-read-eq0-clause-reads_on
+returns-then-read-eq0-clause-reads_on c = λ since reads.
     let a = c.loop-position.invariant.goes since reads in
     let r = c.read_more-read.ensures in
     let place : c.loop-position.position + c.read_more-read.result ≡ c.loop-position.position =
     omega (arith, c.if-read-eq0.true) in
-    rw place at (gone-then a (sym c.is_full.ensures ∙ c.if-not-is_full.true) r.within (r.goes a.next a.reads))
+    rw place at (gone-then a (sym c.is_full.ensures ∙ c.if-not-is_full.true) r.within (r.reads_on a.next a.reads))
 
 pub returns-then-read-eq0-clause-progress : goal.returns-then-read-eq0-clause-progress
 returns-then-read-eq0-clause-progress c = λ since reads others some.

@@ -24,7 +24,7 @@ returns c =
     let written = c.add_run.ensures.written in
     record {
       within = omega (arith, returned.stands.within, c.requires.within);
-      goes = λ since reads. record {
+      reads_on = λ since reads. record {
         next = resumed_stream since rest run.start ++ run_bytes run;
         reads = rw unread at (call.ensures.reads since reads);
         goes =

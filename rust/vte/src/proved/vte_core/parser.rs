@@ -1,5 +1,5 @@
 // Written by tools/erase from crates/vte_core/src/parser.rt: edit that one.
-//! The parser with a limit, as its callers see it, and what it is made of.
+//! The parser with a limit, and what it is made of. The calls that read are in `reader/calls`.
 
 mod character;
 mod control_sequence;
@@ -35,7 +35,7 @@ pub use saved::Saved;
 /// number.
 pub(crate) const MAX_OSC_RAW: usize = 1024;
 
-/// Where in a text or a body the parser stands. The VT500 parser's names are in parentheses; those
+/// Where in a text or a body the parser is. The VT500 parser's names are in parentheses; those
 /// with a star end as `HeadProgress` says: `entry`, `param`, `intermediate` or `ignore`.
 #[derive(Clone, Copy)]
 pub(crate) enum State {

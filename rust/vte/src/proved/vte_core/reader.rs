@@ -46,7 +46,7 @@ pub(crate) fn up_to(input: &[u8], to: usize) -> &[u8] {
 /// # Safety
 ///
 /// The bytes between them must be whole characters. They are if a search for the end of a run,
-/// begun at `from` or after whole characters that stand there, ended at `to`: it passes one
+/// begun at `from` or after whole characters that are there, ended at `to`: it passes one
 /// whole character at a time, a byte of ASCII, or a lead byte with all its continuation bytes,
 /// the first of which `may_begin_three` and `may_begin_four` test. Blocks whose bytes all fit, as
 /// `may_follow` tests, may end inside a character: the search then goes back to where it began.
@@ -65,7 +65,7 @@ fn data_between(bytes: &[u8], from: usize, to: usize) -> &[u8] {
     &bytes[from..to]
 }
 
-/// Returns the run that stands at a position, whose bytes were looked at.
+/// Returns the run that is at a position, whose bytes were looked at.
 ///
 /// # Safety
 ///
@@ -155,7 +155,7 @@ impl Reader {
         }
     }
 
-    /// Reports the data that stand from one position to another.
+    /// Reports the data from one position to another.
     #[inline(always)]
     pub(crate) fn report_data<P: CountedPerform<G> + ?Sized, G: Granularity>(
         self,

@@ -92,7 +92,7 @@ pub(crate) fn is_lead(byte: u8) -> bool {
     matches!(byte, 0xc2..=0xf4)
 }
 
-/// Returns whether `byte` may stand after the second of a sequence.
+/// Returns whether `byte` may follow the second of a sequence.
 pub(crate) fn is_continuation(byte: u8) -> bool {
     matches!(byte, 0x80..=0xbf)
 }

@@ -2,6 +2,7 @@
 //! The performer that writes events into the caller's buffers.
 
 mod data;
+mod pause;
 
 use crate::proved::vte_c::event::{self, has, VteEvent};
 use vte::{Params, Perform, Run, Taken};
@@ -213,37 +214,6 @@ impl<'a> Events<'a> {
         }
     }
 
-    /// Pauses if a command may have lost data, and keeps the place of its record.
-    fn pause_if(&mut self, may_have_lost: bool, command: usize) {
-        if may_have_lost {
-            self.paused = true;
-            self.command = command;
-            self.full_count = 0;
-        }
-    }
-
-    /// Goes on after a pause, and says in the record of the command whether it lost data.
-    fn resume(&mut self, lost_data: bool) {
-        if self.paused {
-            self.paused = false;
-            if !self.met && self.size - self.used >= MAX_ADDED {
-                self.full_count = self.events.len().saturating_sub(1);
-            }
-            if lost_data {
-                self.add_loss();
-            }
-        }
-    }
-
-    /// Says in the record of the last command that it lost data, if it was written.
-    fn add_loss(&mut self) {
-        let place = self.command;
-        if place < self.count && place < self.events.len() && self.events[place].kind == event::OSC
-        {
-            self.events[place] = self.events[place].with_loss();
-        }
-    }
-
     /// Writes an operating system command.
     fn add_command(&mut self, pieces: &[&[u8]], bell_terminated: bool) {
         if self.writes(event::OSC) {
@@ -272,7 +242,7 @@ impl<'a> Events<'a> {
 }
 
 impl Perform for Events<'_> {
-    /// Writes a character that isn't in the input as it stands.
+    /// Writes a character that isn't in the input as it is.
     fn print(&mut self, c: char) {
         // rustc knows the bytes of the one for malformed sequences.
         if c == char::REPLACEMENT_CHARACTER {

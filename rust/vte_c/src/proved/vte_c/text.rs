@@ -47,7 +47,6 @@ impl Perform for Text<'_> {
     fn execute(&mut self, byte: u8) {
         match byte {
             b'\t' | b'\n' | b'\r' => self.add(&[byte]),
-            // What has no text adds an empty one, as `with_text_of` does, so this needs no proof.
             _ => self.add(b""),
         }
     }

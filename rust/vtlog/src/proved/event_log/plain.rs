@@ -43,7 +43,6 @@ impl Perform for Plain {
     fn execute(&mut self, byte: u8) {
         match byte {
             b'\t' | b'\n' | b'\r' => self.texts.append(&[byte]),
-            // What has no text appends an empty one, as `with_event` does: this needs no proof.
             _ => self.texts.append(b""),
         }
     }

@@ -79,7 +79,7 @@ fn log_streams(rt: &HostRuntime) -> io::Result<u8> {
     Ok(status)
 }
 
-/// Returns the first argument that can't stand where it does.
+/// Returns the first argument that can't be where it is.
 fn unexpected<'a>(args: &[&'a str]) -> Option<&'a str> {
     match args {
         [] => None,

@@ -1,5 +1,5 @@
 -- A run that fits is taken at once (`takes_run`). Otherwise its characters are, one by one: the iterator yields all.
-use Rattle.event_log.proofs.Common.{◌∙◌, true, ap, sym, arith, map, after, record_in, plain_text_of, run_event, with_event, with_text}
+use Rattle.event_log.proofs.Common.{◌∙◌, true, ap, sym, arith, map, after, record_in, plain_text_of, run_event, record_with_event, record_with_text}
 use Rattle.std.proofs.lemmas.Iterator.{YieldsList-from_chars}
 use Rattle.std.proofs.lemmas.Iterator.Consumers.{YieldsList-end}
 use Rattle.std.proofs.lemmas.List.{map-id}
@@ -16,8 +16,8 @@ returns-then-text-room c =
 pub loop-c-preserved : goal.loop-c-preserved
 loop-c-preserved c =
     let appended = rw (c.as_bytes-in-loop-c.ensures.value, c.encode_utf8.ensures.value) at c.append-in-loop-c.ensures in
-    appended ∙ ap (with_text (record_in c.loop-c.self-inside.texts)) (sym (text_of_one c.in-Some.c))
-    ∙ after-more (with_event plain_text_of) (run_event true) c.loop-c.yielded c.in-Some.c _ _ c.loop-c.invariant
+    appended ∙ ap (record_with_text (record_in c.loop-c.self-inside.texts)) (sym (text_of_one c.in-Some.c))
+    ∙ after-more (record_with_event plain_text_of) (run_event true) c.loop-c.yielded c.in-Some.c _ _ c.loop-c.invariant
 
 pub returns : goal.returns
 returns c =
@@ -26,5 +26,5 @@ returns c =
     (YieldsList-from_chars c.args.text.now c.utf8.text cc) c.loop-c.yielded _ c.loop-c.yielded_by _ _ c.in-None.is
     c.next.ensures.steps in
     rw (← c.self.view_is) (c.loop-c.invariant
-    ∙ ap (λ cs. after (with_event plain_text_of) (record_in c.self.inside.texts) (map (run_event true) cs))
+    ∙ ap (λ cs. after (record_with_event plain_text_of) (record_in c.self.inside.texts) (map (run_event true) cs))
     (sym (map-id c.loop-c.yielded) ∙ all.0))

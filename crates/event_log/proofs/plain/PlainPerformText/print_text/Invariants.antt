@@ -1,8 +1,8 @@
 -- The characters so far are taken.
-use Rattle.event_log.proofs.Common.{◌≡◌, true, map, after, record_in, with_event, plain_text_of, run_event}
+use Rattle.event_log.proofs.Common.{◌≡◌, true, map, after, record_in, record_with_event, plain_text_of, run_event}
 use Rattle.event_log.proofs.plain.PlainPerformText.print_text.Given as goal
 
 abbrev pub invariant-loop-c : goal.invariant-loop-c
 invariant-loop-c l =
     record_in l.self-inside.texts
-    ≡ after (with_event plain_text_of) (record_in l.initial.self-inside.texts) (map (run_event true) l.yielded)
+    ≡ after (record_with_event plain_text_of) (record_in l.initial.self-inside.texts) (map (run_event true) l.yielded)

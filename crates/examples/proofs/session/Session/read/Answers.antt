@@ -7,6 +7,6 @@ returns c = λ steps had.
     let call = c.advance.ensures.advances had.state had.is_at in
     record {
       state = call.next;
-      takes = c.calls_are_told.ensures.goes_on _ _ _ _ steps _ had.takes (call.next, (call.advances, refl));
+      takes = c.calls_are_received.ensures.goes_on _ _ _ _ steps _ had.takes (call.next, (call.advances, refl));
       is_at = call.is_at;
     }

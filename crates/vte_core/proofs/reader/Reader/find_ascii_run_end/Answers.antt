@@ -9,5 +9,5 @@ returns-clause-run g c =
     let rest = c.find_run_end.ensures in
     run-append g.P.CountedPerform.layout c.args.input.bytes.now c.args.from c.find_ascii_end_by_words-end.result
     c.find_run_end.result (omega (arith, ascii.scans.low)) rest.scans.low
-    (run-ascii g.P.CountedPerform.layout _ _ _ (each-both IsPrintedAscii _ _ _ _ c.requires.printed ascii.scans.are))
-    (rw c.keeps_layout.ensures at rest.scans.are)
+    (run-ascii g.P.CountedPerform.layout _ _ _ (each-both IsPrintedAscii _ _ _ _ c.requires.printed ascii.scans.passed))
+    (rw c.keeps_layout.ensures at rest.scans.passed)

@@ -13,7 +13,7 @@ returns-in-Some c =
     record {
       low = omega arith;
       high = search rules;
-      are = λ k low high is.
+      passed = λ k low high is.
           let no = first.0.before (k - c.args.from) (omega arith) (omega (arith, low, high)) in
           let there = rest-byte c.args.input.bytes.now c.args.from (k - c.args.from) k (omega (arith, low)) ∙ is in
           grind (arith, nat_tests);
@@ -27,7 +27,7 @@ pub returns-in-None : goal.returns-in-None
 returns-in-None c = record {
   low = omega (arith, c.requires);
   high = search rules;
-  are = λ k low high is.
+  passed = λ k low high is.
       let no = c.in-None.ensures (k - c.args.from) (omega arith) (omega (arith, low, high)) in
       let there = rest-byte c.args.input.bytes.now c.args.from (k - c.args.from) k (omega (arith, low)) ∙ is in
       grind (arith, nat_tests);

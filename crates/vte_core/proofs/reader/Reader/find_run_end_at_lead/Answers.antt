@@ -15,7 +15,7 @@ returns-then-is_printed_pair-clause-run g c = λ _.
     (omega arith) rest.scans.low
     (run-two bytes c.args.from
     (omega (arith, second.0)) c.requires.looked_at second.1 c.requires.lead c.if-first-lt224.true
-    (pair.0 refl).0 (pair.0 refl).1) rest.scans.are
+    (pair.0 refl).0 (pair.0 refl).1) rest.scans.passed
 
 -- A character of three.
 pub returns-in-Some-2-clause-run : goal.returns-in-Some-2-clause-run
@@ -31,4 +31,4 @@ returns-in-Some-2-clause-run g c = λ _.
     (omega (arith, third.0)) c.requires.looked_at second.1 third.1
     (omega (arith, c.if-first-lt224.false)) c.if-first-lt240.true
     (sym c.may_begin_three.ensures ∙ c.if-may_begin_three.true)
-    (sym c.is_continuation-then-first-lt240.ensures ∙ c.if-is_continuation-2.true)) rest.scans.are
+    (sym c.is_continuation-then-first-lt240.ensures ∙ c.if-is_continuation-2.true)) rest.scans.passed

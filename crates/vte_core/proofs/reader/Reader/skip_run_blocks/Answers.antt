@@ -100,7 +100,7 @@ returns-then-at-from-clause-scans c =
     record {
       low = omega arith;
       high = c.requires.within;
-      are = run-none c.args.layout c.args.input.bytes.now c.args.from;
+      passed = run-none c.args.layout c.args.input.bytes.now c.args.from;
       at_least =
           omega (
             arith,
@@ -129,7 +129,7 @@ returns-clause-scans c =
     record {
       low = omega (arith, whole, last.0);
       high = omega (arith, v.high);
-      are =
+      passed =
           run-kept c.args.layout text (at - c.args.from) (at - c.count_open_bytes-2.result - c.args.from) kept
           (omega (arith, whole, last.0)) last.1;
       at_least = omega (

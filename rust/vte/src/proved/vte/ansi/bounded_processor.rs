@@ -49,7 +49,7 @@ impl<T: Timeout, const N: usize> BoundedProcessor<T, N> {
     }
 
     /// Stops an update: parses the bytes that are held back, tells the handler that the update has
-    /// ended, and clears the timeout. Without an update too, the handler is told.
+    /// ended, and clears the timeout. The handler is called without an update, too.
     pub fn stop_sync<H: Handler + ?Sized>(&mut self, handler: &mut H) {
         self.engine.stop::<H, ByCharacter>(handler);
     }

@@ -65,7 +65,7 @@ impl<T: Timeout> LongProcessor<T> {
     }
 
     /// Stops an update: parses the bytes that are held back, tells the handler that the update has
-    /// ended, and clears the timeout. Without an update too, the handler is told. It needs no
+    /// ended, and clears the timeout. The handler is called without an update, too. It needs no
     /// memory: what is held back has taken it.
     pub fn stop_sync<H: Handler + ?Sized>(&mut self, handler: &mut H) {
         self.engine.stop::<H, ByCharacter>(handler);

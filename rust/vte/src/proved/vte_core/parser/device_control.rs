@@ -11,7 +11,7 @@ use crate::proved::vte_core::reader::{CountedPerform, Granularity, Reader};
 const STRING_TERMINATOR: u8 = 0x9c;
 
 impl<B: Buffer> Machine<B> {
-    /// Reads the head of a device control string, which has come so far, and its final byte.
+    /// Reads the rest of the head of a device control string, and its final byte.
     /// Controls in it are dropped.
     #[inline(never)]
     pub(crate) fn read_device_control<
@@ -58,9 +58,9 @@ impl<B: Buffer> Machine<B> {
         self.state = State::DeviceData;
     }
 
-    /// Reads the data of a device control string, and the byte that ends them. For a performer that
-    /// takes slices and is never asked, it reads either data up to a byte that isn't put, or such a
-    /// byte.
+    /// Reads the data of a device control string, and the byte that ends them. If data come as
+    /// slices and the call can't stop, it reads either a slice, up to the next byte that isn't
+    /// data, or that byte.
     pub(crate) fn read_device_data<
         P: CountedPerform<G> + ?Sized,
         G: Granularity,

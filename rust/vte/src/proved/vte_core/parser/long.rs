@@ -28,7 +28,7 @@ use crate::proved::vte_core::reader::{ByCharacter, CountedPerform, Granularity, 
 /// # assert!(read(Performer, b"\x1b]52;c;aGVsbG8=\x07").is_ok());
 /// ```
 ///
-/// The limit of 16 pieces stays. What stands after the sixteenth `;` needs no memory. The memory of
+/// The limit of 16 pieces stays. What follows the sixteenth `;` needs no memory. The memory of
 /// one command serves the next.
 #[derive(Clone)]
 pub struct LongParser {

@@ -18,7 +18,7 @@ pub struct Saved {
     lengths: [u8; 32],
     number_count: usize,
     numbers: [u16; 32],
-    // the number that is being read, whether it stands after a colon, and whether there were more
+    // the number that is being read, whether it follows a colon, and whether there were more
     // intermediates
     number: u16,
     joined: u8,

@@ -18,7 +18,7 @@ struct AsciiRun {
     next: Option<u8>,
 }
 
-/// Prints the run of ASCII that stands at a position, whose first byte was looked at. If it is
+/// Prints the run of ASCII that is at a position, whose first byte was looked at. If it is
 /// short, that is the first byte alone.
 #[inline(always)]
 #[allow(unsafe_code)]
@@ -32,7 +32,7 @@ fn print_ascii<P: CountedPerform<G> + ?Sized, G: Granularity>(
     let next = reader.get_byte(input, from + 1);
     if reader.begins_ascii_run(input, from, next) {
         let end = reader.find_ascii_run_end(performer, input, from);
-        // SAFETY: ASCII stands at `from`, and the search passes whole characters.
+        // SAFETY: ASCII is at `from`, and the search passes whole characters.
         performer.print_text(reader, unsafe { text_between(input, from, end) });
         return AsciiRun { end, next: None };
     }

@@ -57,7 +57,7 @@ impl<const OSC_RAW_BUF_SIZE: usize> Parser<OSC_RAW_BUF_SIZE> {
     ///
     /// A caller can take text from its own input in this way, with its position and without a copy.
     ///
-    /// A run begins where nothing is open and a character stands in the bytes that is printed as it
+    /// A run begins where nothing is open and a character is in the bytes that is printed as it
     /// is, or at a data byte that is put. It ends before the first control, malformed sequence,
     /// unfinished character or byte that isn't put. What an earlier call began is performed.
     /// Without a run the call ends with the bytes, or if the performer is terminated, which is

@@ -24,7 +24,7 @@ pub enum Taken<'a> {
     Nothing,
 }
 
-/// What stands at the position of a run.
+/// What is at the position of a run.
 #[derive(Clone, Copy)]
 pub(crate) enum RunKind {
     /// Text to print.

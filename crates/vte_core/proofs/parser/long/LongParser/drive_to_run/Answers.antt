@@ -1,5 +1,5 @@
 -- As for `drive`.
-use Rattle.vte_core.proofs.calls.Contracts.{costs-added}
+use Rattle.vte_core.proofs.positions.Contracts.{costs-added}
 use Rattle.vte_core.proofs.parser.long.LongParser.drive_to_run.Goals as goal
 
 pub returns : goal.returns

@@ -3,8 +3,8 @@
 use Rattle.vte_core.proofs.Common.{refl, ◌∙◌, arith, sequence_kind, rules}
 use Rattle.vte_core.specs.SequenceKind.{DeviceControl, IgnoredString, SystemCommand}
 use Rattle.vte_core.proofs.bytes.Classes.{class-final, other_key}
-use Rattle.vte_core.proofs.calls.Stretches.{takes-byte}
-use Rattle.vte_core.proofs.calls.Progress.{settled-same_state}
+use Rattle.vte_core.proofs.positions.Stretches.{takes-byte}
+use Rattle.vte_core.proofs.positions.Progress.{settled-same_state}
 use Rattle.vte_core.proofs.fields.PlaceOfState.{stands-escape, stands-text_begun}
 use Rattle.vte_core.proofs.places.PlaceLeads.{escape-key, escape-end}
 use Rattle.vte_core.proofs.parser.machine.Machine.begin_or_dispatch.Goals as goal
@@ -13,14 +13,14 @@ use Rattle.vte_core.proofs.parser.machine.Machine.begin_or_dispatch.Goals as goa
 pub returns-then-byte-eq80-clause-takes : goal.returns-then-byte-eq80-clause-takes
 unfolding sequence_kind
 returns-then-byte-eq80-clause-takes g c = λ s.
-    takes-byte refl (record { by = c.begin_head.ensures.head (stands-escape _ s) })
+    takes-byte refl (record { fields = c.begin_head.ensures.head (stands-escape _ s) })
     (escape-key DeviceControl (class-final _ c.requires.ends) (rw c.if-byte-eq80.true refl) refl)
 
 -- `]`: a command.
 pub returns-then-byte-eq93-clause-takes : goal.returns-then-byte-eq93-clause-takes
 unfolding sequence_kind
 returns-then-byte-eq93-clause-takes g c = λ s.
-    takes-byte refl (record { by = c.clear.ensures.holds })
+    takes-byte refl (record { fields = c.clear.ensures.holds })
     (escape-key SystemCommand (class-final _ c.requires.ends) (rw c.if-byte-eq93.true refl) refl)
 
 -- `X`, `^` and `_`: an ignored string.
@@ -29,7 +29,7 @@ returns-then-begins_ignored_string-clause-takes g c = λ s.
     let key =
     other_key c.args.byte c.requires.other c.if-byte-eq80.false c.if-byte-eq93.false
     ∙ rw (← c.begins_ignored_string.ensures, c.if-begins_ignored_string.true) refl in
-    takes-byte refl (record { by = tt })
+    takes-byte refl (record { fields = tt })
     (escape-key IgnoredString (class-final _ c.requires.ends) key refl)
 
 -- Any other key is the final byte of an escape sequence.

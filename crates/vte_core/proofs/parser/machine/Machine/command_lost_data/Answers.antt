@@ -15,7 +15,7 @@ by_place : {B : Type 0} (limit : Option ℕ) (parser : Machine B) (place : Place
 by_place limit parser (InText []) s = tt
 by_place limit parser (InText (a ∷ u)) s = tt
 by_place limit parser (InSystemCommand items) s =
-    sym (loses_held (by_state limit parser.state parser items s.by))
+    sym (loses_held (by_state limit parser.state parser items s.fields))
 by_place limit parser _ s = tt
 
 pub returns-clause-open : goal.returns-clause-open

@@ -4,10 +4,10 @@
 use Rattle.vte_core.proofs.Common.{◌≡◌, ℕ, ◌+◌, ◌<◌, ◌≤◌, length, ap, subst, sym, ◌∙◌, arith, false≢true, slice_index, IsRun}
 use Rattle.vte_core.proofs.bytes.Scalars.{second-broken, third-broken, fourth-broken, spells-four}
 use Rattle.vte_core.proofs.bytes.Runs.{run-append}
-use Rattle.vte_core.proofs.calls.Characters.{completes-broken, completes-then, completes-whole, goes-nowhere, goes-second, goes-third, unfinished-some}
-use Rattle.vte_core.proofs.calls.BetweenCharacters.{advances-first}
-use Rattle.vte_core.proofs.calls.Stretches.{advances-weaker}
-use Rattle.vte_core.proofs.calls.TextRuns.{advances-text}
+use Rattle.vte_core.proofs.positions.Characters.{completes-broken, completes-then, completes-whole, goes-nowhere, goes-second, goes-third, unfinished-some}
+use Rattle.vte_core.proofs.positions.BetweenCharacters.{advances-first}
+use Rattle.vte_core.proofs.positions.Stretches.{advances-weaker}
+use Rattle.vte_core.proofs.positions.TextRuns.{advances-text}
 use Rattle.vte_core.proofs.dividing.Utf8Agrees.{run-four}
 use Rattle.vte_core.proofs.parser.machine.Machine.complete_four.Goals as goal
 
@@ -91,7 +91,7 @@ report_text-requires-clause-run g c =
     (sym c.is_continuation.ensures ∙ c.if-not-is_continuation.false)
     (sym c.is_continuation-2.ensures ∙ c.if-not-is_continuation-2.false))
     (subst (λ position. IsRun g.P.CountedPerform.layout bytes position c.find_run_end_after_non_ascii-end.result) past
-    rest.scans.are)
+    rest.scans.passed)
 
 -- In runs, it is reported with the run that it begins.
 pub returns-then-IN_RUNS-clause-advances : goal.returns-then-IN_RUNS-clause-advances

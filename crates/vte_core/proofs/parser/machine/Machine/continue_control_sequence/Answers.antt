@@ -1,7 +1,7 @@
 -- Numbers first, then a final byte at once, nothing, or the rest of the head.
 use Rattle.vte_core.proofs.Common.{refl, sym, ◌∙◌, rules}
-use Rattle.vte_core.proofs.calls.HeadStretches.{advances-control_sequence, ControlHead, advances-head}
-use Rattle.vte_core.proofs.calls.Stretches.{advances-then}
+use Rattle.vte_core.proofs.positions.HeadStretches.{advances-control_sequence, ControlHead, advances-head}
+use Rattle.vte_core.proofs.positions.Stretches.{advances-then}
 use Rattle.vte_core.proofs.parser.machine.Machine.continue_control_sequence.Goals as goal
 
 -- Numbers and a final byte.

@@ -1,8 +1,8 @@
 -- As for `drive`, a stretch at a time. A run is found in a text or in data, and is returned unread: the bytes before it
 -- have reported nothing of a run (`reports-more`).
 use Rattle.vte_core.proofs.Common.{Err, ap, sym, ◌∙◌, arith, rules, err_from_is_err_and}
-use Rattle.vte_core.proofs.calls.ToRun.{comes-nowhere, comes-to_run, has-data, has-text, outside-text_and_data, settled-text}
-use Rattle.vte_core.proofs.calls.AddedEvents.{reports-more}
+use Rattle.vte_core.proofs.positions.ToRun.{comes-nowhere, comes-to_run, has-data, has-text, outside-text_and_data, settled-text}
+use Rattle.vte_core.proofs.positions.AddedEvents.{reports-more}
 use Rattle.vte_core.proofs.parser.machine.Machine.drive_to_run.Goals.{then-loop-position-test+else-not-terminated, else-loop-position-test}
 use Rattle.vte_core.proofs.parser.machine.Machine.drive_to_run.Goals as goal
 
@@ -16,7 +16,7 @@ returns-then-end-position-clause-comes g c =
     let v = c.loop-position.invariant in
     let found = c.find_run_end-end.ensures in
     let settled = settled-text c.in-Text.is (v.settled (omega arith)) in
-    comes-to_run (has-text settled (omega arith) found.scans.high found.scans.are found.ended) (omega arith)
+    comes-to_run (has-text settled (omega arith) found.scans.high found.scans.passed found.ended) (omega arith)
     (sym c.terminated.ensures ∙ c.if-not-terminated.true) v.stands_at
 
 -- In data: what it has found is put.
@@ -24,7 +24,7 @@ pub returns-then-end-position-2-clause-comes : goal.returns-then-end-position-2-
 returns-then-end-position-2-clause-comes g c =
     let v = c.loop-position.invariant in
     let found = c.find_device_data_end-end.ensures in
-    comes-to_run (has-data c.in-DeviceData.is (omega arith) found.high found.are found.ended) (omega arith)
+    comes-to_run (has-data c.in-DeviceData.is (omega arith) found.high found.passed found.ended) (omega arith)
     (sym c.terminated.ensures ∙ c.if-not-terminated.true) v.stands_at
 
 -- In a text that begins with no run: what is read there is reported by none.

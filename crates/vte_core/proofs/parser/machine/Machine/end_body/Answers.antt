@@ -1,7 +1,7 @@
 -- What is open is reported first. Then ESC leads to after ESC, and CAN or SUB is executed and leads to a text.
 use Rattle.vte_core.proofs.Common.{[], ◌∷◌, refl, sym, ap, ◌∙◌, rules, Execute, closing_events_at, arith}
 use Rattle.vte_core.proofs.bytes.Classes.{ends_by_cancel}
-use Rattle.vte_core.proofs.calls.Stretches.{takes_bytes-escape, takes-byte}
+use Rattle.vte_core.proofs.positions.Stretches.{takes_bytes-escape, takes-byte}
 use Rattle.vte_core.proofs.fields.PlaceOfState.{stands-place}
 use Rattle.vte_core.proofs.streams.After.{after_events-append, takes_bytes-one}
 use Rattle.vte_core.proofs.places.PartsToStream.{cancel_is_no_escape}
@@ -22,7 +22,7 @@ returns-clause-takes g c = λ place s b.
     ∙ sym
     (after_events-append step (g.P.CountedPerform.value_of c.args.performer.now) (closing_events_at limit place)
     (Execute c.args.byte ∷ [])))
-    (record { by = (refl, refl) })
+    (record { fields = (refl, refl) })
     (byte-cancels (stands-place s) e))
 
 pub returns-clause-handles : goal.returns-clause-handles

@@ -1,7 +1,7 @@
 -- An ill-shaped head reports nothing. Any other is whole once the last number is settled, and is dispatched.
 use Rattle.vte_core.proofs.Common.{[], ◌∷◌, refl, ap, ◌∙◌, arith, CsiDispatch, head_of, sequence_event, InText, rules}
 use Rattle.vte_core.proofs.bytes.Classes.{class-final}
-use Rattle.vte_core.proofs.calls.Progress.{settled-same_state}
+use Rattle.vte_core.proofs.positions.Progress.{settled-same_state}
 use Rattle.vte_core.proofs.fields.Heads.{dispatched-ready, head-holds, ill_shaped-now}
 use Rattle.vte_core.proofs.places.PlaceLeads.{control-dispatched, control-silent}
 use Rattle.vte_core.proofs.fields.PlaceOfState.{stands-text_begun}
@@ -15,7 +15,7 @@ returns-in-IllShaped-clause-takes g c = λ head s.
       reported = [];
       next = InText [];
       performed = refl;
-      stands = record { by = (refl, refl) };
+      stands = record { fields = (refl, refl) };
       leads = control-silent (class-final _ c.requires.final_byte) ill;
     }
 

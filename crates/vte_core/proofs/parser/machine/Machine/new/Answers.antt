@@ -4,4 +4,4 @@ use Rattle.vte_core.proofs.streams.After.{has_read-nothing}
 use Rattle.vte_core.proofs.parser.machine.Machine.new.Goals as goal
 
 pub returns-clause-reads : goal.returns-clause-reads
-returns-clause-reads g c = has_read-nothing (record { by = (refl, refl) })
+returns-clause-reads g c = has_read-nothing (record { fields = (refl, refl) })

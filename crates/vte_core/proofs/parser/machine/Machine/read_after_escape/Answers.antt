@@ -2,8 +2,8 @@
 -- dropped. In each case the state is that of the place to which the byte leads.
 use Rattle.vte_core.proofs.Common.{[], refl, sym, ◌∙◌, arith, rules, class_of}
 use Rattle.vte_core.proofs.bytes.Classes.{class-control, final_ends_nothing, class-intermediate, other_dispatches, head_ends_nothing, below_final, below_finals}
-use Rattle.vte_core.proofs.calls.Stretches.{takes_bytes-in, takes-at_escape, takes-byte, takes_bytes-dropped}
-use Rattle.vte_core.proofs.calls.Progress.{settled-same_state}
+use Rattle.vte_core.proofs.positions.Stretches.{takes_bytes-in, takes-at_escape, takes-byte, takes_bytes-dropped}
+use Rattle.vte_core.proofs.positions.Progress.{settled-same_state}
 use Rattle.vte_core.proofs.fields.PlaceOfState.{stands-by, stands-text_begun}
 use Rattle.vte_core.proofs.places.PlaceLeads.{byte-executed, escape-intermediate, escape-end}
 use Rattle.vte_core.proofs.parser.machine.Machine.read_after_escape.Goals as goal
@@ -21,7 +21,7 @@ returns-then-is_intermediate-clause-takes g c =
     let is = class-intermediate _ (sym c.is_intermediate.ensures ∙ c.if-is_intermediate.true) in
     takes_bytes-in c.requires.begun (rw is refl)
     (takes-at_escape c.args.self.now (λ holds. takes-byte refl
-    (record { by = c.collect.ensures.holds [] holds }) (escape-intermediate is)))
+    (record { fields = c.collect.ensures.holds [] holds }) (escape-intermediate is)))
 
 -- Digits, `:`, `;` and markers dispatch: keys begin at `@`, which is later.
 pub returns-then-is_head_byte-clause-takes : goal.returns-then-is_head_byte-clause-takes

@@ -1,10 +1,7 @@
 -- A call that asks goes on by one data byte; one that does not takes all up to the next byte that is not put.
 use Rattle.vte_core.proofs.Common.{refl, sym, ◌∙◌, arith, rules}
-use Rattle.vte_core.proofs.bytes.Classes.{data_ends_nothing}
-use Rattle.vte_core.proofs.calls.Stretches.{advances-in, takes-in_data, takes-byte, advances-data, first-put, advances-to_same, advances-nothing, advances-without_promise, advances-then}
-use Rattle.vte_core.proofs.fields.PlaceOfState.{stands-by}
-use Rattle.vte_core.proofs.calls.Progress.{may_stop-none, settled-same_state}
-use Rattle.vte_core.proofs.places.PlaceLeads.{data-put}
+use Rattle.vte_core.proofs.positions.Stretches.{advances-data, advances-put, first-put, advances-to_same, advances-nothing, advances-without_promise, advances-then}
+use Rattle.vte_core.proofs.positions.Progress.{may_stop-none, settled-same_state}
 use Rattle.vte_core.proofs.parser.machine.Machine.read_device_data.Goals.{else-this-ne0-via-then-this-ne0+else-terminated, else-this-ne0-via-else-this-ne0}
 use Rattle.vte_core.proofs.parser.machine.Machine.read_device_data.Goals as goal
 
@@ -18,11 +15,7 @@ loop-position-preserved g c =
     let is = sym c.is_device_data.ensures ∙ c.if-not-is_device_data.false in
     record {
       advances = advances-then v.advances
-          (advances-without_promise (advances-in v.begun (omega arith) c.byte_at-byte.ensures.value v.may_go_on
-          (data_ends_nothing _ is)
-          (takes-in_data c.loop-position.self
-          (takes-byte c.put_byte.ensures.value (stands-by v.begun tt)
-          (data-put is))) (settled-same_state v.begun tt)));
+          (advances-put v.begun (omega arith) c.byte_at-byte.ensures.value v.may_go_on is c.put_byte.ensures.value);
       may_go_on = (λ does. elim c.else-this-ne0.branch [
         | else-this-ne0-via-then-this-ne0+else-terminated w ↦ sym w.terminated.ensures ∙ w.if-terminated.false
         | else-this-ne0-via-else-this-ne0 w ↦ absurd (may_stop-none w.if-this-ne0.false does)
@@ -37,11 +30,7 @@ returns-then-terminated-clause-advances g c =
     let v = c.loop-position.invariant in
     let is = sym c.is_device_data.ensures ∙ c.if-not-is_device_data.false in
     advances-then v.advances
-    (advances-without_promise
-    (advances-in v.begun (omega arith) c.byte_at-byte.ensures.value v.may_go_on (data_ends_nothing _ is)
-    (takes-in_data c.loop-position.self
-    (takes-byte c.put_byte.ensures.value (stands-by v.begun tt)
-    (data-put is))) (settled-same_state v.begun tt)))
+    (advances-put v.begun (omega arith) c.byte_at-byte.ensures.value v.may_go_on is c.put_byte.ensures.value)
 
 -- A call that does not ask: all data up to the byte that is not put.
 pub returns-then-not-this-clause-advances : goal.returns-then-not-this-clause-advances
@@ -50,7 +39,7 @@ returns-then-not-this-clause-advances g c =
     let found = c.find_device_data_end-end.ensures in
     let are =
     first-put c.args.input.bytes.now c.byte_at-byte.ensures.value
-    (sym c.is_device_data.ensures ∙ c.if-not-is_device_data.false) found.are in
+    (sym c.is_device_data.ensures ∙ c.if-not-is_device_data.false) found.passed in
     advances-then v.advances
     (advances-data v.begun (omega (arith, found.low)) found.high are
     (rw c.if-not-this.true refl) c.report_data.ensures.put)

@@ -1,8 +1,8 @@
 -- Bytes of an ignored string lead back to it, one by one (`advances-by`); then it ends, or the bytes do.
 use Rattle.vte_core.proofs.Common.{◌≡◌, ℕ, zero, suc, ◌+◌, ◌-◌, ◌≤◌, length, refl, arith, Machine, IgnoredString, Advances, MayGoOn, AreIgnored, ChunkCall, rules}
 use Rattle.vte_core.proofs.bytes.Classes.{ends_not_cancel}
-use Rattle.vte_core.proofs.calls.Stretches.{advances-in, takes-in_ignored, takes-byte, advances-to_same, advances-nothing, advances-given, advances-then}
-use Rattle.vte_core.proofs.calls.Progress.{settled-same_state}
+use Rattle.vte_core.proofs.positions.Stretches.{advances-in, takes-in_ignored, takes-byte, advances-to_same, advances-nothing, advances-given, advances-then}
+use Rattle.vte_core.proofs.positions.Progress.{settled-same_state}
 use Rattle.vte_core.proofs.fields.PlaceOfState.{stands-by}
 use Rattle.vte_core.proofs.places.PlaceLeads.{ignored-more}
 use Rattle.vte_core.proofs.parser.machine.Machine.read_ignored_string.Goals as goal

@@ -2,8 +2,8 @@
 -- a control, or one that is dropped. In each case the machine is at the place to which the byte leads.
 use Rattle.vte_core.proofs.Common.{refl, sym, ◌∙◌, arith, rules, class_of}
 use Rattle.vte_core.proofs.bytes.Classes.{class-control, dispatch_ends_nothing, class-intermediate, other_than_intermediate}
-use Rattle.vte_core.proofs.calls.Stretches.{advances-in, takes-in_escape, takes-byte, advances-byte, advances-nothing, advances-given, advances-then}
-use Rattle.vte_core.proofs.calls.Progress.{settled-same_state}
+use Rattle.vte_core.proofs.positions.Stretches.{advances-in, takes-in_escape, takes-byte, advances-byte, advances-nothing, advances-given, advances-then}
+use Rattle.vte_core.proofs.positions.Progress.{settled-same_state}
 use Rattle.vte_core.proofs.fields.PlaceOfState.{stands-by, stands-text_begun}
 use Rattle.vte_core.proofs.places.PlaceLeads.{byte-dropped, byte-executed, intermediate-end, intermediate-more}
 use Rattle.vte_core.proofs.parser.machine.Machine.read_intermediates.Goals.{then-is_intermediate, else-is_intermediate+else-dispatches_escape+else-ends_body+else-is_plain_control}

@@ -2,8 +2,8 @@
 -- dropped, by its class.
 use Rattle.vte_core.proofs.Common.{refl, sym, ◌∙◌, rules, class_of}
 use Rattle.vte_core.proofs.bytes.Classes.{class-control, other_is_dropped}
-use Rattle.vte_core.proofs.calls.Stretches.{takes-byte}
-use Rattle.vte_core.proofs.calls.HeadStretches.{advances-control_sequence, ControlHead, advances-head, advances-past_head, takes_bytes-head}
+use Rattle.vte_core.proofs.positions.Stretches.{takes-byte}
+use Rattle.vte_core.proofs.positions.HeadStretches.{advances-control_sequence, ControlHead, advances-head, advances-past_head, takes_bytes-head}
 use Rattle.vte_core.proofs.fields.PlaceOfState.{stands-by}
 use Rattle.vte_core.proofs.places.PlaceLeads.{byte-dropped, byte-executed}
 use Rattle.vte_core.proofs.parser.machine.Machine.read_rest_of_head.Goals.{then-ends_body, else-ends_body+then-is_plain_control, else-ends_body+else-is_plain_control}

@@ -1,7 +1,7 @@
 -- A number first, then a final byte at once, `;` and more numbers, or the rest of the head.
 use Rattle.vte_core.proofs.Common.{◌≡◌, refl, sym, ◌∙◌, rules, class_of}
-use Rattle.vte_core.proofs.calls.HeadStretches.{advances-control_sequence, ControlHead, advances-head, reads_head-byte, reads_head-then}
-use Rattle.vte_core.proofs.calls.Stretches.{advances-then}
+use Rattle.vte_core.proofs.positions.HeadStretches.{advances-control_sequence, ControlHead, advances-head, reads_head-byte, reads_head-then}
+use Rattle.vte_core.proofs.positions.Stretches.{advances-then}
 use Rattle.vte_core.proofs.fields.Heads.{holds-parameter}
 use Rattle.vte_core.proofs.parser.machine.Machine.read_short_head.Goals as goal
 

@@ -2,10 +2,10 @@
 -- would have been read.
 use Rattle.vte_core.proofs.Common.{◌≡◌, ◌<◌, length, [], ◌∷◌, ◌++◌, refl, sym, subst, ◌∙◌, arith, ne_eqb, Machine, HoldsItems, IsCommandData, rules}
 use Rattle.vte_core.proofs.bytes.Classes.{other_is_control}
-use Rattle.vte_core.proofs.calls.Stretches.{advances-in, takes-in_system_command, takes-byte, advances-items, advances-given, advances-then}
+use Rattle.vte_core.proofs.positions.Stretches.{advances-in, takes-in_system_command, takes-byte, advances-items, advances-given, advances-then}
 use Rattle.vte_core.proofs.fields.PlaceOfState.{stands-by}
 use Rattle.vte_core.proofs.fields.Stores.{pieces_held}
-use Rattle.vte_core.proofs.calls.Progress.{settled-same_state}
+use Rattle.vte_core.proofs.positions.Progress.{settled-same_state}
 use Rattle.vte_core.proofs.places.PlaceLeads.{command-item, command-control, command-bell}
 use Rattle.vte_core.proofs.parser.machine.Machine.read_system_command.Goals.{then-byte-eq59, else-byte-eq59+then-byte-eq-BELL, else-byte-eq59+else-byte-eq-BELL}
 use Rattle.vte_core.proofs.parser.machine.Machine.read_system_command.Goals as goal
@@ -51,7 +51,7 @@ returns-clause-advances g c =
           (advances-given tt (advances-in begun within here.1 r.may_go_on ordinary
           (takes-in_system_command after_data
           (λ items keeps. takes-byte
-          (rw (pieces_held keeps) w.dispatch.ensures.value) (record { by = (refl, refl) })
+          (rw (pieces_held keeps) w.dispatch.ensures.value) (record { fields = (refl, refl) })
           (command-bell (other_is_control byte ordinary no_data w.if-byte-eq59.false)
           (rw w.if-byte-eq-BELL.true refl)))) tt))
       -- Another control is dropped.

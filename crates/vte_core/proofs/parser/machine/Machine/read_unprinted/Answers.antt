@@ -1,9 +1,9 @@
 -- A longer character is read as one. Otherwise each byte is single (`advances-single`), up to ESC, the end, a stop or a
 -- byte that may begin a run.
 use Rattle.vte_core.proofs.Common.{refl, sym, ◌∙◌, arith, rules}
-use Rattle.vte_core.proofs.calls.Progress.{settled-same_state}
-use Rattle.vte_core.proofs.calls.Stretches.{advances-nothing, advances-then, advances-given}
-use Rattle.vte_core.proofs.calls.BetweenCharacters.{advances-single}
+use Rattle.vte_core.proofs.positions.Progress.{settled-same_state}
+use Rattle.vte_core.proofs.positions.Stretches.{advances-nothing, advances-then, advances-given}
+use Rattle.vte_core.proofs.positions.BetweenCharacters.{advances-single}
 use Rattle.vte_core.proofs.bytes.Runs.{no_run-unprinted}
 use Rattle.vte_core.proofs.parser.machine.Machine.read_unprinted.Goals as goal
 

@@ -70,7 +70,7 @@ pub(crate) fn perform_control<H: InputAs<G> + ?Sized, G>(
     }
 }
 
-/// Makes the calls of a control sequence without intermediates, but for DA.
+/// Makes the calls of a control sequence without intermediates, except those of DA.
 #[inline]
 fn perform_plain<H: InputAs<G> + ?Sized, G>(
     handler: &mut H,

@@ -9,7 +9,8 @@ is_end : {bytes old more : List ℕ} {start len : ℕ} → bytes ≡ old ++ more
 is_end {bytes} {start} is from position =
     record {
       start_is = position ∙ ap (λ n. n - 7) from;
-      is = take_all (length bytes - start) (drop start bytes) (rw length-drop (omega arith)) ∙ ap (drop start) is;
+      text_is =
+          take_all (length bytes - start) (drop start bytes) (rw length-drop (omega arith)) ∙ ap (drop start) is;
     }
 
 pub invariant_of-self : goal.invariant_of-self

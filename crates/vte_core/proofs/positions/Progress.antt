@@ -1,5 +1,5 @@
 -- How a call comes from one position to the next, to its end, or to a stop. A stretch of bytes that leads to a place
--- adds its events to those reported so far; at starts among them a call that may stop may stop.
+-- adds its events to those reported so far. A call that may stop does so only at the start of a character or sequence.
 --
 -- `progress-nothing`: the start of a call
 -- `progress-byte`: past a byte before which the call may stop; `progress-carried`: past one inside a character
@@ -36,7 +36,7 @@ settled-by_place limit state parser place settled s = search (rules, arith)
 
 settled-place : {B : Type 0} {limit : Option ℕ} (parser : Machine B) → IsSettled parser.state → (place : Place)
     → IsAtPlace limit parser place → IsSettledPlace place
-settled-place {limit} parser settled place s = settled-by_place limit parser.state parser place settled s.by
+settled-place {limit} parser settled place s = settled-by_place limit parser.state parser place settled s.fields
 
 pub settled-same_state : {state other : State} → state ≡ other → IsSettled other → IsSettled state
 settled-same_state e settled = subst IsSettled (sym e) settled

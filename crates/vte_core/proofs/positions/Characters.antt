@@ -6,12 +6,12 @@ use Rattle.vte_core.proofs.fields.PlaceOfState.{may_continue-truncated, stands-b
 use Rattle.vte_core.proofs.places.PlaceLeads.{text-unfinished, text-whole}
 use Rattle.vte_core.proofs.streams.After.{carried_is_no_escape, after-open_character}
 use Rattle.vte_core.proofs.Shapes.{breaks-broken, breaks-unfinished, breaks-whole}
-use Rattle.vte_core.proofs.calls.Progress.{progress-settled, progress-broken, progress-carried, inside-all, inside-moved}
+use Rattle.vte_core.proofs.positions.Progress.{progress-settled, progress-broken, progress-carried, inside-all, inside-moved}
 use Rattle.vte_core.proofs.places.PartsToStream.{bytes_lead-byte}
 use Rattle.vte_core.proofs.bytes.Scalars.{second-open, third-open}
 use Rattle.vte_core.specs.machine.Progress.{Completes}
 use Rattle.vte_core.proofs.streams.StreamSteps.{length-longer}
-use Rattle.vte_core.proofs.calls.AddedEvents.{added-inside, recorded-inside, reported-at, keeping}
+use Rattle.vte_core.proofs.positions.AddedEvents.{added-inside, recorded-inside, reported-at, keeping}
 use Rattle.std.proofs.lemmas.List.{drop-drop}
 
 -- ---- a byte
@@ -208,10 +208,11 @@ module _ {V B : Type 0} {call : ChunkCall V} {value : V} {i : ℕ} {begun : Unfi
               (goes.kept stream parser e (recorded-inside s)) within is later));
           events_are = inr (record {
             n = goes.n + 1;
-            far = omega (arith, goes.far, within);
-            well = subst (λ (x : List ℕ). is_well_formed x ≡ true) same whole.0;
-            long = subst (λ (x : List ℕ). 1 < length x) same (length-longer _ _ (truncated-some (bytes_of u) more));
-            same = ap (λ n. character_event n ∷ []) (whole.1 ∙ ap scalar_of same);
+            in_bytes = omega (arith, goes.far, within);
+            well_formed = subst (λ (x : List ℕ). is_well_formed x ≡ true) same whole.0;
+            several_bytes =
+                subst (λ (x : List ℕ). 1 < length x) same (length-longer _ _ (truncated-some (bytes_of u) more));
+            event_is = ap (λ n. character_event n ∷ []) (whole.1 ∙ ap scalar_of same);
           });
         };
   }
@@ -260,10 +261,10 @@ module _ {V B : Type 0} {call : ChunkCall V} {value : V} {i : ℕ} {begun : Unfi
                 character-bytes call.bytes i j goes.n whole.n (bytes_of begun) goes.far (goes.bytes_are opened) in
                 inr (record {
                   n = goes.n + whole.n;
-                  far = omega (arith, goes.far, whole.far);
-                  well = subst (λ (x : List ℕ). is_well_formed x ≡ true) same whole.well;
-                  long = subst (λ (x : List ℕ). 1 < length x) same whole.long;
-                  same = whole.same ∙ ap (λ (x : List ℕ). character_event (scalar_of x) ∷ []) same;
+                  in_bytes = omega (arith, goes.far, whole.in_bytes);
+                  well_formed = subst (λ (x : List ℕ). is_well_formed x ≡ true) same whole.well_formed;
+                  several_bytes = subst (λ (x : List ℕ). 1 < length x) same whole.several_bytes;
+                  event_is = whole.event_is ∙ ap (λ (x : List ℕ). character_event (scalar_of x) ∷ []) same;
                 })
           ];
         };

@@ -7,8 +7,8 @@ use Rattle.vte_core.proofs.places.PlaceLeads.{escape-end, intermediate-end, cont
 use Rattle.vte_core.proofs.Shapes.{text_outcome-broken}
 use Rattle.vte_core.proofs.streams.After.{added-after, added-reads, after-events, after-left, after-nothing, events-empty, open_at_end-any, after-reads}
 use Rattle.vte_core.proofs.places.PartsToStream.{bytes_lead-byte, waits-byte}
-use Rattle.vte_core.proofs.calls.Progress.{place-settled_text, bytes_lead-item, progress-command}
-use Rattle.vte_core.proofs.calls.ToRun.{reads-anew}
+use Rattle.vte_core.proofs.positions.Progress.{place-settled_text, bytes_lead-item, progress-command}
+use Rattle.vte_core.proofs.positions.ToRun.{reads-anew}
 use Rattle.vte_core.specs.Open.{kind_to_close, open_at_end}
 use Rattle.vte_core.specs.Stream.{IsFinished, IsUnfinished}
 use Rattle.vte_core.specs.declared.parser.open.Open.TheVariants as kind

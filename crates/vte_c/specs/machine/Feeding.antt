@@ -6,9 +6,9 @@ use Rattle.vte_core.specs.Parser.{HasRead}
 use Rattle.vte_core.specs.Stream.{added, usual_limit}
 use Rattle.vte_core.specs.declared.parser.Parser.{Parser}
 use Rattle.vte_core.specs.declared.parser.saved.Saved.{Saved}
-use Rattle.vte_c.specs.Events.{Room, room_of}
+use Rattle.vte_c.specs.machine.Events.{Room, room_of}
 use Rattle.vte_c.specs.Record.{Entry, data_kind, events_in, has, entry_data, entry_events, kinds_in, records_from, reported, text_kind}
-use Rattle.vte_c.specs.Reported.{AreEncoded, AreOthers, AreReadable, HasReported, HaveOtherKinds, StopsAtKind, is_stop}
+use Rattle.vte_c.specs.Reported.{AreEncoded, NoEventStops, AreReadable, HasReported, NoKindStops, StopsAtKind, is_stop}
 use Rattle.vte_c.specs.declared.event.VteEvent.{VteEvent}
 use Rattle.vte_c.specs.declared.events.Events.{Events}
 
@@ -19,14 +19,14 @@ pub record AreFirst (events all : List Event) : Type 0 where
 
 -- After n of the bytes these events were reported, and a parser that had read one stream continues
 -- as one that has read another.
-pub record Continues (since next bytes : List ℕ) (n : ℕ) (told : List Event) : Type 0 where
+pub record Continues (since next bytes : List ℕ) (n : ℕ) (given : List Event) : Type 0 where
   pub goes_on : (more : List ℕ) →
       added usual_limit since (bytes ++ more)
-      ≡ told ++ added usual_limit next (drop n bytes ++ more)
+      ≡ given ++ added usual_limit next (drop n bytes ++ more)
   -- what a prefix of the bytes adds, beyond the first n
   pub prefixes : (k : ℕ) → n + k ≤ length bytes →
       AreFirst (added usual_limit since (take (n + k) bytes))
-      (told ++ added usual_limit next (take k (drop n bytes)))
+      (given ++ added usual_limit next (take k (drop n bytes)))
 
 -- Whether a record is of the kinds.
 abbrev pub has_kind : ℕ → List VteEvent → Bool
@@ -36,12 +36,12 @@ abbrev pub kinds_of : List VteEvent → List ℕ
 kinds_of records = map (λ event. event.kind) records
 
 -- No record is of the kinds.
-abbrev pub HaveOtherRecords : ℕ → List VteEvent → Type 0
-HaveOtherRecords stops records = HaveOtherKinds stops (kinds_of records)
+abbrev pub NoRecordStops : ℕ → List VteEvent → Type 0
+NoRecordStops stops records = NoKindStops stops (kinds_of records)
 
 -- No event stops a call into this room.
-abbrev pub AreOthersIn : Room → List Event → Type 0
-AreOthersIn room events = AreOthers (is_stop room.kinds room.stops) events
+abbrev pub NoEventStopsIn : Room → List Event → Type 0
+NoEventStopsIn room events = NoEventStops (is_stop room.kinds room.stops) events
 
 -- Neither text nor data stop a call into this room.
 abbrev pub StopsAtNone : Room → Type 0
@@ -69,13 +69,13 @@ pub record HasEntries (old new : Room) (input : List ℕ) (entries : List Entry)
 -- After bytes up to a place n more were read: their events of the kinds are those of entries, which
 -- were written, and the parser goes on as if it had read `next`.
 pub record ReadsOn (old new : Room) (since next bytes : List ℕ) (from n : ℕ) : Type 0 where
-  pub told : List Event
+  pub given : List Event
   pub entries : List Entry
-  pub continues : Continues since next (drop from bytes) n told
-  pub shows : flat_map (entry_events bytes) entries ≡ reported old.kinds told
+  pub continues : Continues since next (drop from bytes) n given
+  pub shows : flat_map (entry_events bytes) entries ≡ reported old.kinds given
   pub holds : HasEntries old new bytes entries
   pub before : StopsAtNone old → (i : ℕ) → i < n →
-      AreOthersIn old (added usual_limit since (take i (drop from bytes)))
+      NoEventStopsIn old (added usual_limit since (take i (drop from bytes)))
 
 -- A call that had read bytes up to a place has read n more.
 pub record HasReadOn (old new : Room) (parser : Parser 1024) (since bytes : List ℕ)
@@ -86,11 +86,11 @@ pub record HasReadOn (old new : Room) (parser : Parser 1024) (since bytes : List
 
 -- A call read the first n bytes and wrote their events into the caller's buffers, where they are
 -- found whatever follows the bytes.
-pub record HasFed (old new : Events) (parser : Saved) (told : List Event)
+pub record HasFed (old new : Events) (parser : Saved) (given : List Event)
     (stream bytes rest : List ℕ) (n : ℕ) : Type 0 where
   pub events_name : new.events.ghost_name ≡ old.events.ghost_name
   pub area_name : new.area.ghost_name ≡ old.area.ghost_name
-  pub progress : HaveOtherKinds (room_of old).stops (kinds_in new.count new.events.now) →
+  pub progress : NoKindStops (room_of old).stops (kinds_in new.count new.events.now) →
       0 < length bytes → 0 < n
   pub first : StopsAtKind (room_of old).stops (kinds_in new.count new.events.now)
   pub encodes : (more : List ℕ) →
@@ -98,5 +98,5 @@ pub record HasFed (old new : Events) (parser : Saved) (told : List Event)
       new.count new.used new.events.now (bytes ++ more) new.area.now
   pub reports : (more : List ℕ) →
       HasReported (room_of old).kinds parser
-      (told ++ events_in new.count new.events.now (bytes ++ more) new.area.now)
+      (given ++ events_in new.count new.events.now (bytes ++ more) new.area.now)
       stream (drop n bytes ++ rest)

@@ -2,7 +2,7 @@
 -- unread (`Joining`).
 use Rattle.vte_c.proofs.Common.{refl, sym, ◌∙◌, usual_limit}
 use Rattle.vte_c.proofs.ReadBack.{all_reported, given_all, given_before, given_first}
-use Rattle.vte_c.proofs.laws.events_are_told.Goals as goal
+use Rattle.vte_c.proofs.laws.events_are_reported.Goals as goal
 
 pub returns-clause-starts : goal.returns-clause-starts
 returns-clause-starts c =
@@ -13,7 +13,7 @@ pub returns-clause-more : goal.returns-clause-more
 returns-clause-more c = λ kinds. given_before
 
 pub returns-clause-all : goal.returns-clause-all
-returns-clause-all c = λ kinds parser told stream h. given_all refl parser told stream h
+returns-clause-all c = λ kinds parser given stream h. given_all refl parser given stream h
 
 pub returns-clause-every : goal.returns-clause-every
 returns-clause-every c = all_reported

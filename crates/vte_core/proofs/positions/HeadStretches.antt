@@ -4,12 +4,12 @@
 use Rattle.vte_core.specs.machine.ToRun.{IsOutsideRunsInState}
 use Rattle.vte_core.proofs.Common.{◌≡◌, ℕ, zero, suc, ◌+◌, ◌-◌, ◌<◌, ◌≤◌, ◌⊎◌, Option, List, [], ◌∷◌, ◌++◌, true, false, length, take, drop, refl, sym, subst, append_assoc, arith, append-nil, drop-drop, drop_more, take-add, slice_index, MatchOption, class_of, is_final, is_head_byte, is_parameter_text, AreInClass, Collected, HeadProgress, Entry, Parameters, Machine, State, ControlSequence, DeviceControl, Event, ChunkCall, Leads, CountsNumbers, SameIntermediates, IsAtPlace, IsPlaceOfState, HasReadHead, Place, InControlSequence, InDeviceControl, IsSettledPlace, Advances, ProgressAt, IsAtPosition, IsSettled, MayGoOn, TakesBytes, TakesByte, ends_body, progress_after, ReadsHead, Some, None, false≢true, rules}
 use Rattle.vte_core.proofs.bytes.Classes.{head_ends_nothing, AreInClass-append, final_ends_nothing, parameter_is_head}
-use Rattle.vte_core.proofs.calls.Progress.{progress-settled, progress-byte, settled-same_state}
-use Rattle.vte_core.proofs.calls.Stretches.{takes_bytes-in, advances-byte, advances-to_same, advances-given, advances-then}
+use Rattle.vte_core.proofs.positions.Progress.{progress-settled, progress-byte, settled-same_state}
+use Rattle.vte_core.proofs.positions.Stretches.{takes_bytes-in, advances-byte, advances-to_same, advances-given, advances-then}
 use Rattle.vte_core.proofs.fields.Heads.{holds-parameter}
 use Rattle.vte_core.proofs.fields.PlaceOfState.{IsPlace, stands-in}
 use Rattle.vte_core.proofs.places.PlaceLeads.{control-head, device-head}
-use Rattle.vte_core.proofs.calls.AddedEvents.{adds-same, recorded-at, reported-at}
+use Rattle.vte_core.proofs.positions.AddedEvents.{adds-same, recorded-at, reported-at}
 use Rattle.vte_core.proofs.bytes.Runs.{one_byte}
 use Rattle.vte_core.proofs.places.PartsToStream.{no_escape, bytes_lead-byte}
 

@@ -7,7 +7,7 @@ use Rattle.vte_core.specs.declared.reader.run.Taken.{Taken}
 use Rattle.vte_core.specs.declared.reader.run.Taken.TheVariants.{Text, Data, Nothing}
 use Rattle.vte_c.specs.declared.event.VteEvent.{VteEvent}
 use Rattle.vte_c.specs.declared.events.Events.{Events}
-use Rattle.vte_c.specs.Record.{data_kind, data_of, has, kind_of, least_data, least_events, may_have_lost, most_added, record_of, run_record, text_kind, without_loss}
+use Rattle.vte_c.specs.Record.{data_kind, data_of, has, event_kind, least_data, least_events, may_have_lost, most_added, record_of, run_record, text_kind, without_loss}
 
 -- What was written, how much that is, how much there is room for, which kinds to write and after
 -- which to stop. It is paused after a command that may have lost data. The names identify the
@@ -75,9 +75,9 @@ paused_if pauses room = record room { paused = pauses || room.paused }
 abbrev pub resumed : Room → Room
 resumed room = record room { paused = false }
 
-abbrev pub with_event : Room → Event → Room
-with_event room event =
-    if has room.kinds (kind_of event)
+abbrev pub room_with_event : Room → Event → Room
+room_with_event room event =
+    if has room.kinds (event_kind event)
     then paused_if (may_have_lost event) (with_record room (record_of event) (data_of event))
     else room
 

@@ -1,12 +1,12 @@
 -- Each law is a lemma on lists of calls.
-use Rattle.vte.proofs.replays.ReplayedSteps.{refused_told, replay_append, replay_only_one, replay_well, steps_told}
-use Rattle.vte.proofs.ansi.laws.calls_are_told.Goals as goal
+use Rattle.vte.proofs.replays.ReplayedSteps.{refused_delivered, replay_append, replay_only_one, replay_well, steps_delivered}
+use Rattle.vte.proofs.ansi.laws.calls_are_received.Goals as goal
 
-pub returns-clause-told : goal.returns-clause-told
-returns-clause-told g c = λ limit. steps_told _
+pub returns-clause-calls : goal.returns-clause-calls
+returns-clause-calls g c = λ limit. steps_delivered _
 
 pub returns-clause-refused : goal.returns-clause-refused
-returns-clause-refused g c = refused_told _
+returns-clause-refused g c = refused_delivered _
 
 pub returns-clause-goes_on : goal.returns-clause-goes_on
 returns-clause-goes_on g c = λ limit. replay_append _

@@ -26,14 +26,14 @@ text_room_of text = record {
 }
 
 -- A text is written if there is room for it, and was for all before; otherwise nothing is kept.
-unfoldable pub with_text : TextRoom → List ℕ → TextRoom
-with_text room text =
+unfoldable pub text_room_with : TextRoom → List ℕ → TextRoom
+text_room_with room text =
     if room.fits && nat_le (room.used + length text) room.size
     then record room { text = room.text ++ text; used = room.used + length text }
     else record room { text = []; used = 0; fits = false }
 
-abbrev pub with_text_of : TextRoom → Event → TextRoom
-with_text_of room event = with_text room (plain_text_of event)
+abbrev pub text_room_with_event : TextRoom → Event → TextRoom
+text_room_with_event room event = text_room_with room (plain_text_of event)
 
 -- An empty room that has at least the least size.
 pub record StartsText (room : TextRoom) : Type 0 where

@@ -6,14 +6,14 @@ use Rattle.vte_core.specs.declared.utf8.Carried.TheVariants.{Unfinished as Still
 use Rattle.vte_core.proofs.bytes.Scalars.{begins_none, first_truncated}
 use Rattle.vte_core.proofs.bytes.Utf8.{ascii-alone}
 use Rattle.vte_core.proofs.fields.PlaceOfState.{stands-by}
-use Rattle.vte_core.proofs.calls.Progress.{settled-same_state, place-settled_text}
-use Rattle.vte_core.proofs.calls.Stretches.{advances-byte, advances-reporting, advances-then, not_escape, takes_bytes-begun, reads-byte_at}
+use Rattle.vte_core.proofs.positions.Progress.{settled-same_state, place-settled_text}
+use Rattle.vte_core.proofs.positions.Stretches.{advances-byte, advances-reporting, advances-then, not_escape, takes_bytes-begun, reads-byte_at}
 use Rattle.vte_core.specs.machine.Prelude.{MayReadByte, Completes}
 use Rattle.vte_core.proofs.places.PlaceLeads.{text-lone, text-unfinished, text-whole}
 use Rattle.vte_core.proofs.streams.StreamSteps.{outside_runs-control}
-use Rattle.vte_core.proofs.calls.AddedEvents.{adds-reads, added-inside, adds-character, keep, recorded-at, keeping}
+use Rattle.vte_core.proofs.positions.AddedEvents.{adds-reads, added-inside, adds-character, keep, recorded-at, keeping}
 use Rattle.vte_core.proofs.places.PartsToStream.{bytes_lead-byte}
-use Rattle.vte_core.proofs.calls.Characters.{in_text}
+use Rattle.vte_core.proofs.positions.Characters.{in_text}
 
 character_event-printed : (b : ℕ) → is_in (from_to 0x20 0x7f) b ≡ true → character_event b ≡ Print b
 unfolding character_event
@@ -180,7 +180,8 @@ advances-first {call} {i} {first} {parser} r lead fits completes = record {
             ap (λ n. take n (drop i call.bytes)) (let e : whole.n + 1 ≡ suc whole.n = omega arith in e)
             ∙ ap (take (suc whole.n)) (drop_more call.bytes i 0 r.within)
             ∙ ap (λ x. x ∷ take whole.n (drop (i + 1) call.bytes)) (sym r.looked_at) in
-            let control = rw cut at (given.1 (whole.n + 1) (omega (arith, whole.far)) (rw cut whole.well)) in
-            subst (All IsOutsideRuns) (sym whole.same) (outside_runs-control _ control)
+            let control =
+            rw cut at (given.1 (whole.n + 1) (omega (arith, whole.in_bytes)) (rw cut whole.well_formed)) in
+            subst (All IsOutsideRuns) (sym whole.event_is) (outside_runs-control _ control)
       ]);
 }

@@ -33,5 +33,5 @@ pub record HasWritten (text_of : Event → List ℕ) (whole : List ℕ → List 
     (parser : Parser 1024) (unread : List ℕ)
     : Type 0 where
   pub written : List ℕ
-  pub told : taken ≡ Some written
+  pub taken_is : taken ≡ Some written
   pub adds_up : AddsUpTo text_of whole written parser unread

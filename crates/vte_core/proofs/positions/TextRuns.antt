@@ -5,7 +5,7 @@ use Rattle.std.proofs.lemmas.List.{take-take}
 use Rattle.std.proofs.lemmas.Str.{encodes-chars, scalars-chars}
 use Rattle.vte_core.proofs.bytes.Runs.{each-one, chars-one, layout-is_control_character, run_event-no_control, run_event-printed, run-ascii}
 use Rattle.vte_core.proofs.dividing.Utf8Agrees.{cut-text, text_outcome-encodes}
-use Rattle.vte_core.proofs.calls.Progress.{progress-further, stretch-added, place-settled_text, settled-same_state, settles}
+use Rattle.vte_core.proofs.positions.Progress.{progress-further, stretch-added, place-settled_text, settled-same_state, settles}
 use Rattle.vte_core.proofs.streams.After.{added-reads, after_events-append}
 use Rattle.vte_core.proofs.Shapes.{reported-settled, reported-broken, with_bodies-report}
 use Rattle.vte_core.proofs.EarlyStops.{added-append}

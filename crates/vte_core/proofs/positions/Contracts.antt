@@ -8,13 +8,13 @@ use Rattle.vte_core.specs.AdvanceToRun.{ReadsToRun}
 use Rattle.vte_core.specs.EarlyStop.{NeverStopsBefore}
 use Rattle.vte_core.specs.LongParserCalls.{IsRefusedMemory, ReadsLong}
 use Rattle.vte_core.specs.machine.ToRun.{ComesToRun, IsTaken, bytes_at}
-use Rattle.vte_core.proofs.calls.ToRun.{reads-run, returns-run}
+use Rattle.vte_core.proofs.positions.ToRun.{reads-run, returns-run}
 use Rattle.vte_core.specs.declared.parser.long.LongParser.{LongParser}
 use Rattle.vte_core.specs.LongParser.{HasReadLong}
 use Rattle.vte_core.specs.Looks.{counted}
 use Rattle.vte_core.specs.Parser.{reading}
-use Rattle.vte_core.proofs.calls.Open.{inside-reads, lacks_all, meets_data, refuses-inside, stores_pieces}
-use Rattle.vte_core.proofs.calls.Progress.{call_ends-performs, call_ends-reads, call_ends-reads_all, call_ends-stops, all_read-unless_asked}
+use Rattle.vte_core.proofs.positions.Open.{inside-reads, lacks_all, meets_data, refuses-inside, stores_pieces}
+use Rattle.vte_core.proofs.positions.Progress.{call_ends-performs, call_ends-reads, call_ends-reads_all, call_ends-stops, all_read-unless_asked}
 
 -- ---- looks
 

@@ -3,7 +3,7 @@
 use Rattle.vte_core.proofs.Common.{◌≡◌, ℕ, ◌+◌, ◌<◌, inl, inr, false, Option, List, [], ◌∷◌, ◌++◌, length, take, refl, ap, sym, ◌∙◌, append_assoc, append-nil, arith, cases_Bool, slice_index, false≢true, All, All-append, All-cons, All-nil, Event, Print, replacement, after, added, reported_before, resumed_stream, breaks_at, State, Machine, IsPlaceOfState, IsAtPosition, IsInsidePosition, BytesLead, ChunkCall, chunk_call, Place, IsAfter, AddsOutsideRuns, IsOutsideRuns, drop, subst, All-drop, HasReadWithLimit, IsSettled, open_character, ReportsOutsideRuns, PrintsNoAscii, rules}
 use Rattle.vte_core.specs.machine.Progress.{AddsCharacter, HasProgress}
 use Rattle.vte_core.specs.machine.ToRun.{IsOutsideRunsInState}
-use Rattle.vte_core.proofs.calls.Progress.{stretch-added, starts-at}
+use Rattle.vte_core.proofs.positions.Progress.{stretch-added, starts-at}
 use Rattle.vte_core.proofs.fields.PlaceOfState.{IsPlace}
 use Rattle.vte_core.proofs.places.PlaceSteps.{steps}
 use Rattle.vte_core.proofs.places.Steps.{AreOutsideRuns, IsOutsideRunsAtPlace}
@@ -166,13 +166,13 @@ reports-open {limit} {stream} {bytes} {j} a opened =
       outside_runs = λ none. absurd (opened none);
       after_first = subst AllAfterFirst (sym all) (elim a.events_are [
         | inl others ↦ All-drop IsOutsideRuns 1 a.events others
-        | inr whole ↦ subst AllAfterFirst (sym whole.same) (All-nil IsOutsideRuns)
+        | inr whole ↦ subst AllAfterFirst (sym whole.event_is) (All-nil IsOutsideRuns)
       ]);
       no_ascii = subst (All PrintsNoAscii) (sym all) (elim a.events_are [
         | inl others ↦ prints_no_ascii-all a.events others
         | inr whole ↦
-            subst (All PrintsNoAscii) (sym whole.same)
-            (prints_no_ascii-character _ (prints_no_ascii _ whole.well whole.long))
+            subst (All PrintsNoAscii) (sym whole.event_is)
+            (prints_no_ascii-character _ (prints_no_ascii _ whole.well_formed whole.several_bytes))
       ]);
     }
 

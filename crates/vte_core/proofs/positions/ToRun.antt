@@ -10,8 +10,8 @@ use Rattle.vte_core.specs.declared.reader.run.RunKind.TheVariants.{Text as TextK
 use Rattle.vte_core.specs.declared.reader.run.RunRange.{RunRange}
 use Rattle.vte_core.specs.declared.reader.run.Taken.{Taken}
 use Rattle.vte_core.proofs.bytes.Classes.{data_ends_nothing}
-use Rattle.vte_core.proofs.calls.Progress.{call_ends-comes, call_ends-reads, place-settled_text}
-use Rattle.vte_core.proofs.calls.TextRuns.{bytes_lead-text}
+use Rattle.vte_core.proofs.positions.Progress.{call_ends-comes, call_ends-reads, place-settled_text}
+use Rattle.vte_core.proofs.positions.TextRuns.{bytes_lead-text}
 use Rattle.vte_core.proofs.fields.PlaceOfState.{IsPlace, stands-in}
 use Rattle.vte_core.proofs.places.PlaceLeads.{data-put}
 use Rattle.vte_core.proofs.streams.After.{added-nothing, added-reads, after-nothing, after-reads}

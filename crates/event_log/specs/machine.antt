@@ -1,0 +1,2 @@
+-- What private functions promise each other. Callers need none of it.
+pub mod Progress

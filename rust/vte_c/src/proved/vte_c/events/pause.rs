@@ -1,0 +1,38 @@
+// Written by tools/erase from crates/vte_c/src/events/pause.rt: edit that one.
+//! The pause after a command that may have lost data, in which the parser is asked.
+
+use super::{Events, MAX_ADDED};
+use crate::proved::vte_c::event;
+
+impl Events<'_> {
+    /// Pauses if a command may have lost data, and keeps the place of its record.
+    pub(super) fn pause_if(&mut self, may_have_lost: bool, command: usize) {
+        if may_have_lost {
+            self.paused = true;
+            self.command = command;
+            self.full_count = 0;
+        }
+    }
+
+    /// Goes on after a pause, and says in the record of the command whether it lost data.
+    pub(super) fn resume(&mut self, lost_data: bool) {
+        if self.paused {
+            self.paused = false;
+            if !self.met && self.size - self.used >= MAX_ADDED {
+                self.full_count = self.events.len().saturating_sub(1);
+            }
+            if lost_data {
+                self.add_loss();
+            }
+        }
+    }
+
+    /// Says in the record of the last command that it lost data, if it was written.
+    fn add_loss(&mut self) {
+        let place = self.command;
+        if place < self.count && place < self.events.len() && self.events[place].kind == event::OSC
+        {
+            self.events[place] = self.events[place].with_loss();
+        }
+    }
+}

@@ -4,7 +4,7 @@ ghost use Rattle.event_log.specs.Lines.{line_feed, line_of, sequence_fields};
 ghost use Rattle.event_log.specs.Record.{Record, empty_record, record_in, is_to_be_written, record_with_event, record_with_text};
 
 use crate::collector::{Collector, RunParser};
-use crate::lines::{Lines, execute_line, put_line};
+use crate::lines::{Lines, line_of_execute, line_of_put};
 use std::marker::Model;
 use vte_core::{Params, Perform, laws};
 
@@ -96,7 +96,7 @@ impl Perform for Recorder {
     }
 
     fn execute(&mut self, byte: u8) {
-        self.lines.append(&execute_line(byte));
+        self.lines.append(&line_of_execute(byte));
     }
 
     #[tactic(auto, unfolding(crate::specs::Lines::line_of))]
@@ -105,7 +105,7 @@ impl Perform for Recorder {
     }
 
     fn put(&mut self, byte: u8) {
-        self.lines.append(&put_line(byte));
+        self.lines.append(&line_of_put(byte));
     }
 
     #[tactic(auto, unfolding(crate::specs::Lines::line_of))]

@@ -41,7 +41,7 @@ pub use Rattle.vte.specs.machine.Performer.{first_component, FitsText, Performer
 pub use Rattle.vte.specs.machine.Hold.{Adds, IsAdded, IsHeldTail, released_of, still_held}
 pub use Rattle.vte.specs.ProcessorCalls.{StopsSync, HasAdvanced, HasParsedAll, HasParsedAndHolds, IsAt, ReadsInTurns, HasReplayed, HasDelivered, Replays, ProcessorPredicate, held_of}
 pub use Rattle.vte.specs.machine.Performing.{AdvancesAll, AdvancesUntilStop, performer_value, with_private_mode, with_private_modes}
-pub use Rattle.vte.specs.BoundedProcessor.{BoundedHasParsedAndHolds}
+pub use Rattle.vte.specs.BoundedProcessor.{HasParsedAndHoldsBounded}
 pub use Rattle.vte.specs.LongProcessor.{EngineReads, EngineStops, HasParsedAndHoldsLong, LacksMemoryForSome, LacksMemoryLong, AdvancesLong, Reserves}
 pub use Rattle.vte.specs.Memory.{HasMemory, HasTextMemory, ParserHasMemory, KeepsMemory}
 pub use Rattle.vte.specs.Numbers.{decimal_number, first_number, first_numbers}

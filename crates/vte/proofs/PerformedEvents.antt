@@ -42,7 +42,7 @@ performed-events m performer (event ∷ events) fit =
 
 -- ---- the performer gives back what it was lent
 
--- What comes back has the value of `with_events`, so the parts stand at the state after `parse`.
+-- What comes back has the value of `with_events`, so the parts are at the state after `parse`.
 
 module _ {H T B G V W : Type 0} (handler_of : H → V) (timeout_of : T → W) (text_size_of : B → ℕ) (m : Meaning V W)
     (s : State V W) (f : List ℕ)

@@ -23,18 +23,18 @@ pub record ParserHasMemory {A : Type 0} (parser : LongParser A) (size : ℕ) (st
   -- The size of the text is a number of 64 bits.
   pub counted : open_command_size stream + count + SEPARATORS < 2 ^ 64
 
-abbrev pub held_long : {T A : Type 0} → LongProcessor T A → List ℕ
-held_long processor = held_of processor.engine.hold
+abbrev pub held_in_long : {T A : Type 0} → LongProcessor T A → List ℕ
+held_in_long processor = held_of processor.engine.hold
 
-abbrev pub timeout_long : {T A : Type 0} → LongProcessor T A → T
-timeout_long processor = processor.engine.state.timeout
+abbrev pub timeout_in_long : {T A : Type 0} → LongProcessor T A → T
+timeout_in_long processor = processor.engine.state.timeout
 
-abbrev pub parser_long : {T A : Type 0} → LongProcessor T A → LongParser A
-parser_long processor = processor.engine.parser
+abbrev pub parser_in_long : {T A : Type 0} → LongProcessor T A → LongParser A
+parser_in_long processor = processor.engine.parser
 
 -- After the stream, the processor can parse `count` more bytes and is refused no memory.
 abbrev pub HasMemory : {T A : Type 0} → LongProcessor T A → (stream : List ℕ) → (count : ℕ) → Type 0
-HasMemory processor = ParserHasMemory (parser_long processor) processor.engine.state.text.size
+HasMemory processor = ParserHasMemory (parser_in_long processor) processor.engine.state.text.size
 
 -- Memory that was there (`had`) is still there (`has`), so that later calls can use what was
 -- reserved.
@@ -44,4 +44,5 @@ KeepsMemory had has = (stream : List ℕ) (count : ℕ) → had stream count →
 -- The processor has given back its memory: that for data of a command, and that to join a text.
 abbrev pub HasFreedMemory : {T A : Type 0} → LongProcessor T A → Type 0
 HasFreedMemory processor =
-    (memory_of (parser_long processor) ≡ 0) × (string_capacity processor.engine.state.text.text ≡ 0)
+    (memory_of (parser_in_long processor) ≡ 0)
+    × (string_capacity processor.engine.state.text.text ≡ 0)

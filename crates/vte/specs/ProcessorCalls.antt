@@ -68,9 +68,9 @@ abbrev pub ProcessorPredicate : Type 0 → Type 1
 ProcessorPredicate W = (parsed held : List ℕ) → (timeout : W) → Type 0
 
 -- Where the processor is, and the handler's value, are as the state says.
-pub record IsAt {V W : Type 0} (Stands : ProcessorPredicate W) (value : V)
+pub record IsAt {V W : Type 0} (Agrees : ProcessorPredicate W) (value : V)
     (state : State V W) : Type 0 where
-  pub stands : Stands state.parsed state.held state.timeout
+  pub agrees : Agrees state.parsed state.held state.timeout
   pub handler_is : value ≡ state.handler
 
 -- ---- what is true after calls
@@ -114,10 +114,10 @@ abbrev pub IsNeverPending : {W : Type 0} → (W → Bool → Type 0) → Type 0
 IsNeverPending {W} allows = (value : W) (pending : Bool) → allows value pending → pending ≡ false
 
 -- The whole stream was parsed, and nothing is held.
-pub record HasParsedAll {W : Type 0} (Stands : ProcessorPredicate W) (stream : List ℕ)
+pub record HasParsedAll {W : Type 0} (Agrees : ProcessorPredicate W) (stream : List ℕ)
     : Type 0 where
   pub timeout : W
-  pub stands : Stands stream [] timeout
+  pub agrees : Agrees stream [] timeout
 
 -- All steps are calls of `advance`.
 abbrev pub AreAdvances : List Step → Type 0
@@ -141,24 +141,24 @@ pub record ParsesAll {V W : Type 0} (meaning : Meaning V W) (Before After : Proc
 
 -- `new`: a processor that has read nothing, or the timeout if memory runs out
 pub record Creates {P T W : Type 0} (limit : Option ℕ) (meaning : TimeoutMeaning W)
-    (timeout_of : T → W) (timeout_in : P → T) (Stands : P → ProcessorPredicate W) (given : T)
+    (timeout_of : T → W) (timeout_in : P → T) (Agrees : P → ProcessorPredicate W) (given : T)
     (result : Result P T) : Type 0 where
-  pub stands : MatchResult result (λ processor. Stands processor [] [] (timeout_of given))
+  pub agrees : MatchResult result (λ processor. Agrees processor [] [] (timeout_of given))
       (λ back. back ≡ given)
   pub holds_well : (IsSteady meaning → AllowsOnly meaning (timeout_of given) false)
       → HoldsWell limit meaning [] [] (timeout_of given)
   pub timeout : IfOk result (λ processor. timeout_in processor ≡ given)
-  pub parses_all : IfOk result (λ processor. HasParsedAll (Stands processor) [])
+  pub parses_all : IfOk result (λ processor. HasParsedAll (Agrees processor) [])
 
 -- `clone`: the copy is where the processor is, if the copy of the timeout has its value. Of
 -- each two parameters the second is the copy's.
 pub record IsCopyOfProcessor {T W : Type 0} (is_clone : T → T → Type 0) (timeout_of : T → W)
-    (first second : T) (Stands CopyStands : ProcessorPredicate W) (parser copy : Reading)
+    (first second : T) (Agrees CopyAgrees : ProcessorPredicate W) (parser copy : Reading)
     : Type 0 where
   pub timeout : is_clone first second
-  pub stands : timeout_of second ≡ timeout_of first
-      → (parsed held : List ℕ) (timeout : W) → Stands parsed held timeout
-      → CopyStands parsed held timeout
+  pub agrees : timeout_of second ≡ timeout_of first
+      → (parsed held : List ℕ) (timeout : W) → Agrees parsed held timeout
+      → CopyAgrees parsed held timeout
   -- It says the same of the last command's data.
   pub lost : copy.lost ≡ parser.lost
 
@@ -170,8 +170,8 @@ pub record CountsHeld (held : List ℕ) (result : ℕ) : Type 0 where
 
 -- `command_lost_data`: of the command that is open after the parsed bytes
 abbrev pub SaysParsedLoss : {W : Type 0} → Option ℕ → ProcessorPredicate W → Bool → Type 0
-SaysParsedLoss {W} limit Stands answer = (parsed held : List ℕ) (timeout : W)
-    → Stands parsed held timeout → SaysLoss (outcome limit parsed).left answer
+SaysParsedLoss {W} limit Agrees answer = (parsed held : List ℕ) (timeout : W)
+    → Agrees parsed held timeout → SaysLoss (outcome limit parsed).left answer
 
 -- `stop_sync` and `stop_sync_text`
 pub record StopsSync {V W : Type 0} (meaning : Meaning V W) (Before After : ProcessorPredicate W)

@@ -33,7 +33,7 @@ goes-run : {old new : Room} {since bytes : List ℕ} (run : Run) {from size : �
     → new ≡ with_wanted old (run_record (run_kind run) from size) → IsRunAt bytes run from size
     → added usual_limit since (take size (drop from bytes)) ≡ events_of_run run (take size (drop from bytes))
     → ReadsOn old new since (since ++ take size (drop from bytes)) bytes from size
-goes-run {old} {new} {since} {bytes} run {from} {size} free is stands adds =
+goes-run {old} {new} {since} {bytes} run {from} {size} free is is_run adds =
     let part : List ℕ = take size (drop from bytes) in
     let goes_on = rw adds at (continues-added since (drop from bytes) size) in
     let before = λ (none : StopsAtNone old) (i : ℕ) (earlier : i < size).
@@ -45,7 +45,7 @@ goes-run {old} {new} {since} {bytes} run {from} {size} free is stands adds =
         entries = InInput run from size ∷ [];
         continues = goes_on;
         shows = rw (append-nil (events_of_run run part)) (sym (run_reported old.kinds true run part wanted));
-        holds = entries-run bytes run from size free stands (rw wanted at is);
+        holds = entries-run bytes run from size free is_run (rw wanted at is);
         before = before;
       }
       | inr other ↦ record {
@@ -216,15 +216,15 @@ module _ (old mid new : Room) (since bytes : List ℕ) (from : ℕ) (run : Retur
       → ReadsOn old new since (after_call ++ run_bytes run) bytes from run.end
   goes-some kind some is plain same =
       let here : take (length (run_bytes run)) (drop (from + run.start) bytes) ≡ run_bytes run =
-      ap (take (length (run_bytes run))) (sym (drop-drop run.start from bytes)) ∙ sym r.stands.bytes_are in
+      ap (take (length (run_bytes run))) (sym (drop-drop run.start from bytes)) ∙ sym r.is_run.bytes_are in
       let within : from + run.start + length (run_bytes run) ≤ length bytes =
-      omega (arith, begins, r.stands.end, r.stands.within, length-drop from bytes) in
-      let open_room = r.may_go_on (omega (arith, r.stands.end)) in
+      omega (arith, begins, r.is_run.end, r.is_run.within, length-drop from bytes) in
+      let open_room = r.may_go_on (omega (arith, r.is_run.end)) in
       let same_room : resumed mid ≡ mid = resumed_same mid (unpaused mid open_room) in
       let more =
       goes-run {since = after_call} kind open_room is
       (record { within = within; some = some; is = rw here plain }) (rw here (r.adds since before ∙ same)) in
-      rw r.stands.end (goes-then (rw same_room at call) open_room within (rw here at more))
+      rw r.is_run.end (goes-then (rw same_room at call) open_room within (rw here at more))
 
   goes-taken : (taken : Taken) → run.taken ≡ taken → AreCharacters taken → IsLongestRun (drop from bytes) run.end taken
       → new ≡ with_taken mid (from + run.start) taken
@@ -237,12 +237,12 @@ module _ (old mid new : Room) (since bytes : List ℕ) (from : ℕ) (run : Retur
       goes-some DataRun (rw bytes_are whole.0) (rw bytes_are written) tt (rw is refl)
   goes-taken Nothing is utf8 whole written =
       let none : run_bytes run ≡ [] = ap taken_bytes is in
-      let end : run.end ≡ run.start = omega (arith, r.stands.end, ap length none) in
+      let end : run.end ≡ run.start = omega (arith, r.is_run.end, ap length none) in
       rw (none, append-nil after_call, end, written) call
 
   pub goes-to-run : AreCharacters run.taken → new ≡ with_run mid from run
       → ReadsOn old new since (after_call ++ run_bytes run) bytes from run.end
-  goes-to-run utf8 is = goes-taken run.taken refl utf8 r.stands.whole is
+  goes-to-run utf8 is = goes-taken run.taken refl utf8 r.is_run.whole is
 
   -- With room for what two bytes add, a call reads one, unless a record that stops was written.
   pub further : Starts old → from < length bytes → new ≡ with_run mid from run
@@ -252,10 +252,10 @@ module _ (old mid new : Room) (since bytes : List ℕ) (from : ℕ) (run : Retur
     | inl more ↦ more
     | inr none ↦
         let unread : List ℕ = drop from bytes in
-        let start : run.start ≡ 0 = omega (arith, none, r.stands.end) in
-        let empty : length (run_bytes run) ≡ 0 = omega (arith, none, r.stands.end) in
+        let start : run.start ≡ 0 = omega (arith, none, r.is_run.end) in
+        let empty : length (run_bytes run) ≡ 0 = omega (arith, none, r.is_run.end) in
         let same : new ≡ resumed mid =
-        is ∙ no_run unread run.end run.taken r.stands.whole empty mid (from + run.start) in
+        is ∙ no_run unread run.end run.taken r.is_run.whole empty mid (from + run.start) in
         let performed = rw (start, added-nothing usual_limit since) at (r.comes since before).performed in
         let goes_on = goes_on_at_first old (breaks_at since unread 0) starts (rw (same, performed) at others) in
         absurd

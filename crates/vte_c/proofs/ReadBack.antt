@@ -234,12 +234,12 @@ same_run input more start size within =
 
 run_later : (input more : List ℕ) (run : Run) (start size : ℕ) → IsRunAt input run start size
     → IsRunAt (input ++ more) run start size
-run_later input more run start size stands =
-    let same = same_run input more start size stands.within in
+run_later input more run start size is_run =
+    let same = same_run input more start size is_run.within in
     record {
-      within = omega (arith, stands.within, length-append input more);
-      some = stands.some;
-      is = rw same stands.is;
+      within = omega (arith, is_run.within, length-append input more);
+      some = is_run.some;
+      is = rw same is_run.is;
     }
 
 readable_later : (input more : List ℕ) (entries : List Entry) → AreReadable input entries

@@ -183,10 +183,10 @@ pub entries-run : {old new : Room} (input : List ℕ) (run : Run) (start size : 
     → new ≡ with_one old (run_record (run_kind run) start size)
     → HasEntries old new input (InInput run start size ∷ [])
 unfolding with_one
-entries-run {old} {new} input run start size free stands is =
+entries-run {old} {new} input run start size free is_run is =
     let some : nat_lt old.count old.most ≡ true = grind (arith, nat_tests) in
     record {
-      readable = (stands, tt);
+      readable = (is_run, tt);
       room = rw (is, some, run_plain run start size) (simp (append-nil, add-zero, or-false));
       first = stops_soon old.stops old.used (InInput run start size ∷ []) (omega arith);
     }

@@ -97,8 +97,7 @@ pub extern "C" fn vte_is_open(parser: &Saved) -> u8
     restored.open() as u8
 }
 
-/// Returns the version of this interface. It grows when programs compiled for an earlier version no
-/// longer work.
+/// Returns the version of this interface, which increases with each incompatible change.
 #[unsafe(no_mangle)]
 pub extern "C" fn vte_version() -> u32
     ensures { result ≡ 6 }

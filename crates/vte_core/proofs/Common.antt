@@ -1,5 +1,5 @@
 -- Words from std and specs/ for the files of proofs, so that a file imports one list from here instead of one line for
--- each module. Words that only proofs use stand at the end.
+-- each module. Words that only proofs use are at the end.
 pub use Rattle.std.proofs.Common.{Bool, Bor, Err, IfErr, IfOk, IsOk, List, None, Ok, Option, Result, Some, [], add-one, ap, append_assoc, arith, cond, drop, eqb, false, get_or, if◌then◌else◌, inl, inr, length, length-append, length-drop, length-take, length-take-le, lit<, map, min, nat_le, not, refl, rules, set, subst, suc, sum, sym, take, take_at, true, zero, ℕ, ◌%◌, ◌&&◌, ◌*◌, ◌++◌, ◌+◌, ◌-◌, ◌/◌, ◌<◌, ◌==◌, ◌||◌, ◌∙◌, ◌∷◌, ◌≡◌, ◌≢◌, ◌≤◌, ◌⊎◌}
 pub use Rattle.std.proofs.Math.Seq.{drop-append_seam, take-add, take-append_seam, take-nil}
 pub use Rattle.std.proofs.Math.Utf8.{encodes, low_scalar, scalar, scalar_cases, scalars}
@@ -84,6 +84,6 @@ open_at _ = []
 abbrev pub events_from : Option ℕ → Place → List ℕ → List Event
 events_from limit place more = (outcome_from limit place more).reported
 
--- How far a head has been read after numbers that stand from one position to another.
+-- How far a head has been read after the numbers from one position to another.
 abbrev pub progress_after : HeadProgress → ℕ → ℕ → HeadProgress
 progress_after reached from to = if from == to then reached else Parameters

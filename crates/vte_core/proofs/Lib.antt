@@ -8,7 +8,7 @@ pub mod bytes
 pub mod Shapes
 -- From a text to its division, which is std's too.
 pub mod dividing
--- From the parser's fields to its place (`stands-by`, `stands-in`), and how a byte changes them.
+-- From the parser's fields to its place (`is_at-by`, `is_at-in`), and how a byte changes them.
 pub mod fields
 -- From a byte at a place to its events and the next place: `PlaceLeads` by cases, `steps` for all bytes.
 pub mod places

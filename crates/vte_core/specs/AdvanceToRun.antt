@@ -50,7 +50,7 @@ pub record IsRunIn (bytes : List ℕ) (run : Run) : Type 0 where
 pub record ReturnsRun {V : Type 0} (step : V → Event → V) (is_terminated : V → Bool) (old new : V)
     (limit : Option ℕ) (HasReadBefore : List ℕ → Type 0)
     (bytes : List ℕ) (run : Run) : Type 0 where
-  pub stands : IsRunIn bytes run
+  pub is_run : IsRunIn bytes run
   -- The performer takes what is reported before the run, and nothing of the run.
   pub comes : (stream : List ℕ) → HasReadBefore stream
       → ComesTo step is_terminated old limit stream bytes new run.start

@@ -189,10 +189,11 @@ impl Collected {
         from: usize,
     ) -> HeadEnd
         requires in_order { from ≤ length input.bytes.now }
-        requires may { reached ≡ HeadProgress.Entry ⊎ reached ≡ HeadProgress.Parameters }
+        requires may_have_parameters { reached ≡ HeadProgress.Entry
+            ⊎ reached ≡ HeadProgress.Parameters }
         requires alone { several ≡ true → self.old.joined ≡ false }
         ensures reads { ReadsHeadUpTo input.entry.bytes.now from reached result self.old self.new }
-        ensures may { result.progress ≡ HeadProgress.Entry
+        ensures may_have_parameters { result.progress ≡ HeadProgress.Entry
             ⊎ result.progress ≡ HeadProgress.Parameters }
         ensures joined { self.new.joined ≡ self.old.joined }
         ensures count { looked reader.new + from

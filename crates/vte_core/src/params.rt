@@ -120,7 +120,7 @@ impl Params {
         }
     }
 
-    /// Returns the number of all numbers, including those joined by `:`.
+    /// Returns how many numbers there are, including those joined by `:`.
     pub fn len(&self) -> usize
         ensures value { result ≡ count_of self.now }
         ensures groups { AreGroups self.now }

@@ -175,7 +175,7 @@ fn take_run(bytes: &[u8], range: RunRange) -> Run<'_>
 }
 
 impl Reader {
-    /// Only Rattle's contracts count.
+    /// Adds to the count, which only contracts read.
     fn count_looks(&mut self, count: usize)
         ensures { looked self.new ≡ looked self.old + count }
     {

@@ -114,7 +114,7 @@ pub(crate) fn is_lead(byte: u8) -> bool
     matches!(byte, 0xc2..=0xf4)
 }
 
-/// Returns whether `byte` may follow the second of a sequence.
+/// Returns whether `byte` is 80..BF, as is each byte of a sequence after the second.
 pub(crate) fn is_continuation(byte: u8) -> bool
     ensures { result ≡ is_in (from_to 0x80 0xbf) byte }
 {

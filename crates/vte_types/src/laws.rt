@@ -30,7 +30,7 @@ pub fn shades_undo_each_other()
 {}
 
 /// No two named colours have the same number, so their order agrees with equality.
-pub fn named_colors_have_numbers_of_their_own()
+pub fn named_color_numbers_are_distinct()
     ensures { (a b : NamedColor) → number_of_color a ≡ number_of_color b → a ≡ b }
 {}
 
@@ -40,8 +40,8 @@ pub fn modes_keep_their_numbers()
     ensures private_mode { (number : ℕ) → number_of_private_mode (private_mode_of number) ≡ number }
 {}
 
-/// What follows a word at the start of a text, and that nothing does if the text starts otherwise.
-pub fn words_stand_in_front()
+/// Stripping a word from a text that begins with it gives the rest, and any other text nothing.
+pub fn words_are_prefixes()
     ensures front { (word rest : List ℕ) → after_word word (word ++ rest) ≡ Some rest }
     ensures other { (word text : List ℕ) → ((rest : List ℕ) → text ≢ word ++ rest)
         → after_word word text ≡ None }

@@ -26,7 +26,7 @@ impl Lines {
     {
         let number = c as u32;
         match number {
-            0..0x100 => self.append(&print_line(number as u8)),
+            0..0x100 => self.append(&line_of_print(number as u8)),
             0x100..0x10000 => {
                 let [third, fourth] = hex_pair((number / 0x100) as u8);
                 let [fifth, sixth] = hex_pair((number % 0x100) as u8);
@@ -59,7 +59,7 @@ impl Lines {
 }
 
 /// The line of a character below U+0100.
-pub(super) fn print_line(byte: u8) -> [u8; 11]
+pub(super) fn line_of_print(byte: u8) -> [u8; 11]
     ensures { result ≡ line_of (Print byte) }
 {
     let [high, low] = hex_pair(byte);
@@ -70,7 +70,7 @@ pub(super) fn print_line(byte: u8) -> [u8; 11]
 
 /// The line of an executed byte.
 #[tactic(auto, unfolding(crate::specs::Lines::line_of, crate::specs::Lines::hex_byte))]
-pub(crate) fn execute_line(byte: u8) -> [u8; 11]
+pub(crate) fn line_of_execute(byte: u8) -> [u8; 11]
     ensures { result ≡ line_of (Execute byte) }
 {
     let [high, low] = hex_pair(byte);
@@ -81,7 +81,7 @@ pub(crate) fn execute_line(byte: u8) -> [u8; 11]
 
 /// The line of a data byte.
 #[tactic(auto, unfolding(crate::specs::Lines::line_of, crate::specs::Lines::hex_byte))]
-pub(crate) fn put_line(byte: u8) -> [u8; 7]
+pub(crate) fn line_of_put(byte: u8) -> [u8; 7]
     ensures { result ≡ line_of (Put byte) }
 {
     let [high, low] = hex_pair(byte);

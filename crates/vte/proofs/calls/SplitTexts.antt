@@ -2,7 +2,7 @@
 use Rattle.vte.proofs.Common.{◌≡◌, ◌<◌, ◌+◌, ℕ, List, [], ◌∷◌, length, Option, None, Some, arith, take, drop, Bor, Bool, sym, slice_split_first, slice_split_none, fails_before_first}
 use Rattle.std.specs.List.{position_or_len, slice_split}
 
--- where no separator stands, the text is one part
+-- without a separator the text is one part
 pub whole_part : (p : ℕ → Bool) (text : List ℕ) → position_or_len p text ≡ length text → slice_split p text ≡ text ∷ []
 whole_part p text none = slice_split_none p text (λ k d inside. fails_before_first p text k d (omega (arith, none)))
 

@@ -1,6 +1,6 @@
--- The contracts of the three processors, from `EngineReads` and `EngineStops` of their engine: a processor stands where
+-- The contracts of the three processors, from `EngineReads` and `EngineStops` of their engine: a processor agrees where
 -- its engine does. They differ in whether a call may be refused memory.
-use Rattle.vte.proofs.Common.{ℕ, List, length, Result, Ok, Err, arith, Bor, Refused, EngineView, Meaning, State, usual_limit, HasAdvanced, HasParsedAndHolds, HasTaken, IsAt, ReadsInTurns, EngineReads, ProcessorPredicate, EngineHasParsedAndHolds, ◌≡◌, refl, rules, limited_parser_view, engine_view, HasTextMemory, BoundedHasParsedAndHolds, EngineStops, StopsSync, bounded_engine_view, stop, [], ◌+◌, ◌-◌, ◌<◌, ◌++◌, ap, length-append, counts_data, AdvancesLong, HasMemory, HasParsedAndHoldsLong, LacksMemoryLong, drop, length-drop, long_engine_view}
+use Rattle.vte.proofs.Common.{ℕ, List, length, Result, Ok, Err, arith, Bor, Refused, EngineView, Meaning, State, usual_limit, HasAdvanced, HasParsedAndHolds, HasTaken, IsAt, ReadsInTurns, EngineReads, ProcessorPredicate, EngineHasParsedAndHolds, ◌≡◌, refl, rules, limited_parser_view, engine_view, HasTextMemory, HasParsedAndHoldsBounded, EngineStops, StopsSync, bounded_engine_view, stop, [], ◌+◌, ◌-◌, ◌<◌, ◌++◌, ap, length-append, counts_data, AdvancesLong, HasMemory, HasParsedAndHoldsLong, LacksMemoryLong, drop, length-drop, long_engine_view}
 use Rattle.vte_core.specs.declared.parser.Parser.{Parser}
 use Rattle.vte.proofs.replays.WithoutUpdates.{plain_call}
 use Rattle.vte.proofs.turns.EngineTurns.{has_advanced, taken-to}
@@ -25,7 +25,7 @@ module _ {T A V W : Type 0} {timeout_of : T → W} {processor : Processor T A} {
   is_at-processor : IsAt (EngineHasParsedAndHolds (limited timeout_of) processor.engine) value s
       → IsAt (HasParsedAndHolds timeout_of processor) value s
   is_at-processor at = record {
-    stands = search rules;
+    agrees = search rules;
     handler_is = at.handler_is;
   }
 
@@ -49,7 +49,7 @@ refused-never bytes (Ok all) r =
 refused-never bytes (Err refused) r =
     reads_in_turns bytes {read = length bytes.now} (λ s at. absurd (
     let t = r.takes s (is_at-engine s at) in
-    r.lacks.lacks t.next.parsed t.is_at.stands.has_read (omega arith))) refl
+    r.lacks.lacks t.next.parsed t.is_at.agrees.has_read (omega arith))) refl
 
 -- ---- with a limit of its own
 
@@ -57,22 +57,22 @@ refused-never bytes (Err refused) r =
 
 module _ {T A V W : Type 0} {N : ℕ} {timeout_of : T → W} {processor : BoundedProcessor T A N} {value : V}
     (s : State V W) where
-  is_at-bounded_engine : IsAt (BoundedHasParsedAndHolds timeout_of processor) value s
+  is_at-bounded_engine : IsAt (HasParsedAndHoldsBounded timeout_of processor) value s
       → IsAt (EngineHasParsedAndHolds (bounded_engine_view timeout_of) processor.engine) value s
-  is_at-bounded_engine at = record { stands = at.stands.stands; handler_is = at.handler_is }
+  is_at-bounded_engine at = record { agrees = at.agrees.agrees; handler_is = at.handler_is }
 
   is_at-bounded : HasTextMemory N processor.engine.state.text.size
       → IsAt (EngineHasParsedAndHolds (bounded_engine_view timeout_of) processor.engine) value s
-      → IsAt (BoundedHasParsedAndHolds timeout_of processor) value s
+      → IsAt (HasParsedAndHoldsBounded timeout_of processor) value s
   is_at-bounded memory at = search (rules, arith)
 
 module _ {T A V W : Type 0} {N : ℕ} {timeout_of : T → W} {m : Meaning V W} {old new : BoundedProcessor T A N}
     {before value : V} where
   pub stops_within : EngineStops (bounded_engine_view timeout_of) m old.engine new.engine before value
-      → StopsSync m (BoundedHasParsedAndHolds timeout_of old) (BoundedHasParsedAndHolds timeout_of new) before value
+      → StopsSync m (HasParsedAndHoldsBounded timeout_of old) (HasParsedAndHoldsBounded timeout_of new) before value
   stops_within r = record {
     stops = λ s at.
-        is_at-bounded (stop m s) (r.keeps_memory s (is_at-bounded_engine s at) [] 0 at.stands.has_memory)
+        is_at-bounded (stop m s) (r.keeps_memory s (is_at-bounded_engine s at) [] 0 at.agrees.has_memory)
         (r.stops.stops s (is_at-bounded_engine s at));
     each_once = r.stops.each_once;
     holds_well = r.stops.holds_well;
@@ -80,17 +80,17 @@ module _ {T A V W : Type 0} {N : ℕ} {timeout_of : T → W} {m : Meaning V W} {
 
   pub refused-never-within : (bytes : Bor (List ℕ)) (result : Result (Unit {0}) Refused)
       → EngineReads (bounded_engine_view timeout_of) m old.engine new.engine before value bytes.now result
-      → ReadsInTurns m (BoundedHasParsedAndHolds timeout_of old) (BoundedHasParsedAndHolds timeout_of new) before value
+      → ReadsInTurns m (HasParsedAndHoldsBounded timeout_of old) (HasParsedAndHoldsBounded timeout_of new) before value
       bytes.now
   refused-never-within bytes (Ok all) r =
       reads_in_turns bytes (λ s at.
-      taken-to (λ t. is_at-bounded t (r.keeps_memory s (is_at-bounded_engine s at) [] 0 at.stands.has_memory))
+      taken-to (λ t. is_at-bounded t (r.keeps_memory s (is_at-bounded_engine s at) [] 0 at.agrees.has_memory))
       (r.takes s (is_at-bounded_engine s at))) refl
   refused-never-within bytes (Err refused) r =
       reads_in_turns bytes {read = length bytes.now} (λ s at. absurd (
       let t = r.takes s (is_at-bounded_engine s at) in
-      r.lacks.lacks t.next.parsed t.is_at.stands.has_read
-      (r.keeps_memory s (is_at-bounded_engine s at) [] 0 at.stands.has_memory))) refl
+      r.lacks.lacks t.next.parsed t.is_at.agrees.has_read
+      (r.keeps_memory s (is_at-bounded_engine s at) [] 0 at.agrees.has_memory))) refl
 
 -- ---- without a limit
 
@@ -119,8 +119,8 @@ module _ {T A V W : Type 0} {timeout_of : T → W} {m : Meaning V W} {new : Long
         length-append t.held (drop read bytes),
         length-drop read bytes,
       ) in
-      let held = ap length taken.is_at.stands.holds in
-      lacks.lacks t.parsed taken.is_at.stands.has_read (record {
+      let held = ap length taken.is_at.agrees.holds in
+      lacks.lacks t.parsed taken.is_at.agrees.has_read (record {
         kept = omega (arith, left, had.kept, lacks.within, less, sum, held);
         joined = omega (arith, left, had.joined, lacks.within, less, sum, held);
         counted = omega (arith, left, had.counted, lacks.within, less, sum, held);

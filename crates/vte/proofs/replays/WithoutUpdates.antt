@@ -41,7 +41,7 @@ module _ {V W : Type 0} {Before : ProcessorPredicate W} (old : V) {stream : List
   here = record { parsed = stream; stops = []; held = []; timeout = all.timeout; handler = old }
 
   is_here : IsAt Before old here
-  is_here = record { stands = all.stands; handler_is = refl }
+  is_here = record { agrees = all.agrees; handler_is = refl }
 
   module _ (m : Meaning V W) (never : IsNeverPending m.timeout.allows) {After : ProcessorPredicate W} {new : V}
       (steps : List Step) (only : AreAdvances steps)
@@ -77,7 +77,7 @@ module _ {V W : Type 0} {Before : ProcessorPredicate W} (old : V) {stream : List
     plain_parses : HasParsedAll After (stream ++ given_bytes steps)
     plain_parses = record {
       timeout = replayed.next.timeout;
-      stands = rw (parsed_all, plain.none_held) at replayed.is_at.stands;
+      agrees = rw (parsed_all, plain.none_held) at replayed.is_at.agrees;
     }
 
 -- ---- the clauses of a list of calls, and of one call

@@ -6,7 +6,7 @@ use Rattle.vte.proofs.turns.EachOnce.{grown_bytes}
 use Rattle.vte.proofs.turns.Slices.{parsing-refused}
 use Rattle.vte.proofs.turns.RefusedTurns.{until_refused-all, takes-one, until_refused-grows, until_refused-on, until_refused-well, taken_on}
 
--- an engine stands where its parts do
+-- an engine is where its parts are
 module _ {P B T A V W : Type 0} {view : EngineView P B T W} {engine : Engine P B T A} {value : V} {s : State V W}
   where
     pub parts-at : EngineIsAt view engine value s → ArePartsAt view engine.parser engine.state value s
@@ -16,7 +16,7 @@ module _ {P B T A V W : Type 0} {view : EngineView P B T W} {engine : Engine P B
     pub at-parts : ArePartsAt view engine.parser engine.state value s → held_of engine.hold ≡ s.held → s.held ≡ []
         → EngineIsAt view engine value s
     at-parts parsed holds none = record {
-      stands =
+      agrees =
           record {
             has_read = parsed.has_read;
             last = parsed.last;
@@ -37,12 +37,12 @@ module _ {P B T A V W : Type 0} {view : EngineView P B T W} {value : V} {s : Sta
       → EngineIsAtKeepingMemory view mid new value s → EngineIsAtKeepingMemory view old new value s
   after-next keeps next = search (rules, arith)
 
-  -- they stand where they stood, and the handler is the same
+  -- they are where they were, and the handler is the same
   pub kept-next : {old mid new : Engine P B T A} {more : ℕ} {result : Bool} → Reserves view mid new more result
       → EngineIsAtKeepingMemory view old mid value s → EngineIsAtKeepingMemory view old new value s
   kept-next r at = record {
     engine_at = record
-        { stands = r.same s.parsed s.held s.timeout at.engine_at.stands; handler_is = at.engine_at.handler_is };
+        { agrees = r.same s.parsed s.held s.timeout at.engine_at.agrees; handler_is = at.engine_at.handler_is };
     keeps_memory = λ stream count had. r.keeps_memory stream count (at.keeps_memory stream count had);
   }
 
@@ -65,14 +65,14 @@ module _ {P B T A V W : Type 0} {view : EngineView P B T W} {m : Meaning V W} {s
       parses (parse m s (take read bytes)) 0
       (record {
         parts_at = parts-at here.engine_at;
-        memory = rw all (reserved.memory refl _ _ _ here.engine_at.stands);
+        memory = rw all (reserved.memory refl _ _ _ here.engine_at.agrees);
       }) in
       record {
         count = p.count;
         begins_is = p.begins_is;
         is_at = record {
           engine_at = at-parts
-              {engine = record taken { parser = parser; state = state }} p.is_at.parts_at here.engine_at.stands.holds
+              {engine = record taken { parser = parser; state = state }} p.is_at.parts_at here.engine_at.agrees.holds
               none;
           keeps_memory = λ stream more had. p.is_at.keeps_memory stream more (here.keeps_memory stream more had);
         };

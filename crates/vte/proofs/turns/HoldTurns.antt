@@ -51,9 +51,9 @@ module _ {P B T A V W : Type 0} {view : EngineView P B T W} (m : Meaning V W) {s
 
   extended : ArePartsAt view set.parser set.state value (extend m s more)
   extended = record {
-    has_read = at.stands.has_read;
-    last = at.stands.last;
-    timeout_is = is_set ∙ rw (at.stands.timeout_is, added.begins_are);
+    has_read = at.agrees.has_read;
+    last = at.agrees.last;
+    timeout_is = is_set ∙ rw (at.agrees.timeout_is, added.begins_are);
     handler_is = at.handler_is;
   }
 
@@ -89,7 +89,7 @@ module _ {P B T A V W : Type 0} {view : EngineView P B T W} (m : Meaning V W) {s
       rw added.released_is at there.parts_at in
       rw (holds-some m s more (rw added.held_is at some)) (record {
         engine_at = record {
-          stands = record {
+          agrees = record {
             has_read = parsed.has_read;
             last = parsed.last;
             timeout_is = parsed.timeout_is;

@@ -80,7 +80,7 @@ after_last_end-drop zero text e = e
 after_last_end-drop (suc n) [] e = e
 after_last_end-drop (suc n) (b ∷ text) e = grind (arith, after_last_end-drop n text)
 
--- what stands after the last end-update has none
+-- what is after the last end-update has none
 pub record FollowsLastEnd (rest text : List ℕ) : Type 0 where
   pub suffix : IsSuffix rest text
   pub no_end : after_last_end rest ≡ None

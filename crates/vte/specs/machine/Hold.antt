@@ -47,6 +47,6 @@ abbrev pub NoneBetween : List ℕ → ℕ → ℕ → Type 0
 NoneBetween text from before = (k : ℕ) → from ≤ k → k < before → IsNeither text k
 
 -- None of the first bytes of a block is an ESC that a `?` follows after one byte.
-abbrev pub IsPlainBlock : List ℕ → ℕ → Type 0
-IsPlainBlock block count = (k : ℕ) → k < count
+abbrev pub BeginsNoUpdate : List ℕ → ℕ → Type 0
+BeginsNoUpdate block count = (k : ℕ) → k < count
     → (eqb (slice_index block k) 0x1b && eqb (slice_index block (k + 2)) 0x3f) ≡ false

@@ -2,7 +2,7 @@
 ghost use Rattle.std.specs.Prelude.{◌≡◌, [], IfOk, MatchResult, Some, false};
 ghost use Rattle.vte_core.specs.Parser.{lost_data};
 ghost use Rattle.vte_handler.specs.Timeout.{timeout_meaning};
-ghost use Rattle.vte.specs.BoundedProcessor.{BoundedHasParsedAndHolds, bounded_held, bounded_parser, bounded_timeout};
+ghost use Rattle.vte.specs.BoundedProcessor.{HasParsedAndHoldsBounded, held_in_bounded, parser_in_bounded, timeout_in_bounded};
 ghost use Rattle.vte.specs.Processor.{meaning_of};
 ghost use Rattle.vte.specs.ProcessorCalls.{CountsHeld, Creates, ReadsInTurns, SaysParsedLoss, StopsSync};
 
@@ -28,7 +28,7 @@ impl<T: Timeout + Drop, A: Allocator + Copy, const N: usize> BoundedProcessor<T,
     /// Returns the timeout if memory runs out.
     pub fn new(alloc: A, timeout: T) -> Result<Self, T>
         ensures { Creates (Some N) (timeout_meaning T.set T.clear T.allows) T.value_of
-            bounded_timeout (BoundedHasParsedAndHolds T.value_of) timeout result }
+            timeout_in_bounded (HasParsedAndHoldsBounded T.value_of) timeout result }
     {
         let mut parser = Parser::<N>::new_with_size();
         let mut text = GrowingText::new(alloc);
@@ -43,14 +43,14 @@ impl<T: Timeout + Drop, A: Allocator + Copy, const N: usize> BoundedProcessor<T,
 impl<T: Timeout + Drop, A: Allocator, const N: usize> BoundedProcessor<T, A, N> {
     /// Returns the timeout.
     pub fn sync_timeout(&self) -> &T
-        ensures { result.now ≡ bounded_timeout self.now }
+        ensures { result.now ≡ timeout_in_bounded self.now }
     {
         &self.engine.state.timeout
     }
 
     /// Returns the number of bytes that are held back, at most 2,097,150.
     pub fn sync_bytes_count(&self) -> usize
-        ensures { CountsHeld (bounded_held self.now) result }
+        ensures { CountsHeld (held_in_bounded self.now) result }
     {
         self.engine.hold.len()
     }
@@ -59,9 +59,9 @@ impl<T: Timeout + Drop, A: Allocator, const N: usize> BoundedProcessor<T, A, N> 
     /// open, the last one: those after the first `N`, and those after the 16th piece. Bytes that
     /// are held back don't count.
     pub fn command_lost_data(&self) -> bool
-        ensures lost { result ≡ lost_data (bounded_parser self.now) }
+        ensures lost { result ≡ lost_data (parser_in_bounded self.now) }
         ensures open { SaysParsedLoss (Some N)
-            (BoundedHasParsedAndHolds T.value_of self.now) result }
+            (HasParsedAndHoldsBounded T.value_of self.now) result }
     {
         self.engine.parser.command_lost_data()
     }
@@ -70,8 +70,8 @@ impl<T: Timeout + Drop, A: Allocator, const N: usize> BoundedProcessor<T, A, N> 
     /// ended, and clears the timeout. The handler is called without an update, too.
     pub fn stop_sync<H: Handler>(&mut self, handler: &mut H)
         ensures { StopsSync (meaning_of (Some N) H.step T.set T.clear T.allows)
-            (BoundedHasParsedAndHolds T.value_of self.old)
-            (BoundedHasParsedAndHolds T.value_of self.new)
+            (HasParsedAndHoldsBounded T.value_of self.old)
+            (HasParsedAndHoldsBounded T.value_of self.new)
             (H.value_of handler.old) (H.value_of handler.new) }
     {
         self.engine.stop::<H, ByCharacter>(handler);
@@ -80,8 +80,8 @@ impl<T: Timeout + Drop, A: Allocator, const N: usize> BoundedProcessor<T, A, N> 
     /// Stops an update as [`stop_sync`](Self::stop_sync) does. The handler receives text in runs.
     pub fn stop_sync_text<H: HandlerText>(&mut self, handler: &mut H)
         ensures { StopsSync (meaning_of (Some N) H.step T.set T.clear T.allows)
-            (BoundedHasParsedAndHolds T.value_of self.old)
-            (BoundedHasParsedAndHolds T.value_of self.new)
+            (HasParsedAndHoldsBounded T.value_of self.old)
+            (HasParsedAndHoldsBounded T.value_of self.new)
             (H.value_of handler.old) (H.value_of handler.new) }
     {
         self.engine.stop::<H, InRuns>(handler);
@@ -93,8 +93,8 @@ impl<T: Timeout + Drop, A: Allocator, const N: usize> BoundedProcessor<T, A, N> 
     /// receives the calls of the whole stream, however it is split.
     pub fn advance<H: Handler>(&mut self, handler: &mut H, bytes: &[u8])
         ensures { ReadsInTurns (meaning_of (Some N) H.step T.set T.clear T.allows)
-            (BoundedHasParsedAndHolds T.value_of self.old)
-            (BoundedHasParsedAndHolds T.value_of self.new)
+            (HasParsedAndHoldsBounded T.value_of self.old)
+            (HasParsedAndHoldsBounded T.value_of self.new)
             (H.value_of handler.old) (H.value_of handler.new) bytes.now }
     {
         // The memory is there, so all bytes are read.
@@ -104,8 +104,8 @@ impl<T: Timeout + Drop, A: Allocator, const N: usize> BoundedProcessor<T, A, N> 
     /// Reads bytes as [`advance`](Self::advance) does. The handler receives text in runs.
     pub fn advance_text<H: HandlerText>(&mut self, handler: &mut H, bytes: &[u8])
         ensures { ReadsInTurns (meaning_of (Some N) H.step T.set T.clear T.allows)
-            (BoundedHasParsedAndHolds T.value_of self.old)
-            (BoundedHasParsedAndHolds T.value_of self.new)
+            (HasParsedAndHoldsBounded T.value_of self.old)
+            (HasParsedAndHoldsBounded T.value_of self.new)
             (H.value_of handler.old) (H.value_of handler.new) bytes.now }
     {
         // The memory is there, so all bytes are read.

@@ -15,8 +15,8 @@ pub use replays::{RefusedStep, Step, replay, replay_long};
 use vte_handler::{Handler, Timeout};
 pub use vte_types::laws::{
     defaults, equal_values_hash_equally, keywords_are_text, modes_keep_their_numbers,
-    named_colors_have_numbers_of_their_own, shades_undo_each_other, shown_colors_are_read_back,
-    words_differ_from_other_texts, words_stand_in_front,
+    named_color_numbers_are_distinct, shades_undo_each_other, shown_colors_are_read_back,
+    words_are_prefixes, words_differ_from_other_texts,
 };
 
 /// The definitions give the calls that were worked out by hand for streams of every shape.

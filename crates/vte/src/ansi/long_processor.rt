@@ -4,7 +4,7 @@ ghost use Rattle.vte_core.specs.LongParser.{lost_data_long, open_command_size, r
 ghost use Rattle.vte_handler.specs.Timeout.{timeout_meaning};
 ghost use Rattle.vte.specs.Processor.{meaning_of};
 ghost use Rattle.vte.specs.LongProcessor.{AdvancesLong, HasParsedAndHoldsLong, ReservesLong, StopsLong};
-ghost use Rattle.vte.specs.Memory.{HasFreedMemory, HasMemory, KeepsMemory, held_long, parser_long, timeout_long};
+ghost use Rattle.vte.specs.Memory.{HasFreedMemory, HasMemory, KeepsMemory, held_in_long, parser_in_long, timeout_in_long};
 ghost use Rattle.vte.specs.ProcessorCalls.{CountsHeld, Creates, IsCopyOfProcessor, SaysParsedLoss};
 
 use crate::ansi::calls::growing_text::GrowingText;
@@ -32,12 +32,13 @@ pub struct LongProcessor<T: Timeout + Drop, A: Allocator> {
     engine: Engine<LongParser<A>, GrowingText<A>, T, A>,
 }
 
-/// A clone goes on as the processor would, if so does that of its timeout.
+/// A clone goes on as the original would, if the clone of its timeout does.
 impl<T: Timeout + Clone + Drop, A: Allocator + Clone> Clone for LongProcessor<T, A> {
     ghost is_clone = { λ processor copy. IsCopyOfProcessor T.is_clone T.value_of
-        (timeout_long processor) (timeout_long copy) (HasParsedAndHoldsLong T.value_of processor)
-        (HasParsedAndHoldsLong T.value_of copy) (reading_of_long (parser_long processor))
-        (reading_of_long (parser_long copy))
+        (timeout_in_long processor) (timeout_in_long copy)
+        (HasParsedAndHoldsLong T.value_of processor) (HasParsedAndHoldsLong T.value_of copy)
+        (reading_of_long (parser_in_long processor))
+        (reading_of_long (parser_in_long copy))
         × KeepsMemory (HasMemory processor) (HasMemory copy) };
 
     fn clone(&self) -> Result<Self, AllocError> {
@@ -52,7 +53,7 @@ impl<T: Timeout + Drop, A: Allocator + Copy> LongProcessor<T, A> {
     ///
     /// Returns the timeout if memory runs out.
     pub fn new(alloc: A, timeout: T) -> Result<Self, T>
-        ensures { Creates None (timeout_meaning T.set T.clear T.allows) T.value_of timeout_long
+        ensures { Creates None (timeout_meaning T.set T.clear T.allows) T.value_of timeout_in_long
             (HasParsedAndHoldsLong T.value_of) timeout result }
     {
         let parser = LongParser::new(alloc);
@@ -65,14 +66,14 @@ impl<T: Timeout + Drop, A: Allocator + Copy> LongProcessor<T, A> {
 impl<T: Timeout + Drop, A: Allocator> LongProcessor<T, A> {
     /// Returns the timeout.
     pub fn sync_timeout(&self) -> &T
-        ensures { result.now ≡ timeout_long self.now }
+        ensures { result.now ≡ timeout_in_long self.now }
     {
         &self.engine.state.timeout
     }
 
     /// Returns the number of bytes that are held back, at most 2,097,150.
     pub fn sync_bytes_count(&self) -> usize
-        ensures { CountsHeld (held_long self.now) result }
+        ensures { CountsHeld (held_in_long self.now) result }
     {
         self.engine.hold.len()
     }
@@ -80,7 +81,7 @@ impl<T: Timeout + Drop, A: Allocator> LongProcessor<T, A> {
     /// Returns whether data bytes are in no piece of the operating system command that is open, or
     /// else ended last: those after the 16th piece. Bytes that are held back don't count.
     pub fn command_lost_data(&self) -> bool
-        ensures lost { result ≡ lost_data_long (parser_long self.now) }
+        ensures lost { result ≡ lost_data_long (parser_in_long self.now) }
         ensures open { SaysParsedLoss None (HasParsedAndHoldsLong T.value_of self.now) result }
     {
         self.engine.parser.command_lost_data()
@@ -107,8 +108,8 @@ impl<T: Timeout + Drop, A: Allocator> LongProcessor<T, A> {
             → open_command_size parsed ≡ 0
             → HasFreedMemory self.new }
         // It says the same of the last command's data.
-        ensures lost { lost_data_long (parser_long self.new)
-            ≡ lost_data_long (parser_long self.old) }
+        ensures lost { lost_data_long (parser_in_long self.new)
+            ≡ lost_data_long (parser_in_long self.old) }
     {
         if self.engine.hold.len() == 0 {
             self.engine.parser.shrink();

@@ -44,7 +44,7 @@ pub struct Processor<T: Timeout + Drop, A: Allocator> {
     engine: Engine<ProcessorParser, ProcessorText, T, A>,
 }
 
-/// A clone goes on as the processor would, if so does that of its timeout.
+/// A clone goes on as the original would, if the clone of its timeout does.
 impl<T: Timeout + Clone + Drop, A: Allocator + Clone> Clone for Processor<T, A> {
     ghost is_clone = { λ processor copy. IsCopyOfProcessor T.is_clone T.value_of
         (timeout_in processor) (timeout_in copy) (HasParsedAndHolds T.value_of processor)

@@ -11,7 +11,7 @@ use vte_types::laws;
 pub(crate) fn strip_word<'a>(text: &'a [u8], word: &[u8]) -> Option<&'a [u8]>
     ensures { option_map (λ rest. rest.now) result ≡ after_word word.now text.now }
 {
-    laws::words_stand_in_front();
+    laws::words_are_prefixes();
     text.strip_prefix(word)
 }
 

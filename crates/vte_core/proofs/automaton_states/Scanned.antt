@@ -149,7 +149,7 @@ begins b =
 
 -- ---- what has been read
 
--- Up to `end` stand characters; the bytes from there up to `at` are those of one that has begun.
+-- Up to `end` are characters; the bytes from there up to `at` are those of one that has begun.
 pub record ReadSoFar (text : List ℕ) (at : ℕ) (s : AutomatonState) : Type 0 where
   pub end : ℕ
   pub before : end ≤ at

@@ -179,7 +179,7 @@ not_yet_failed text m n low going failed =
     ∙ ap (λ s. state_after s (take (n - m) (drop m text))) failed
     ∙ failed-for_good (take (n - m) (drop m text)))
 
--- a byte that begins a character stands between two
+-- a byte that begins a character is between two
 only-between : (s : AutomatonState) (b : ℕ) → 0xc0 ≤ b → next_state s b ≢ Failed → s ≡ Between
 only-between s b high going = elim (phase s) [
   | phase-between same ↦ same

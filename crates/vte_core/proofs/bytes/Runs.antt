@@ -39,7 +39,7 @@ pub each-next : (holds : ℕ → Type 0) (bytes : List ℕ) (from end b : ℕ) �
     → b ≡ slice_index bytes end → holds b → Each holds bytes from (end + 1)
 each-next holds bytes from end b all is one = search (rules, arith)
 
--- the first bytes of what stands at a position
+-- the first bytes of what is at a position
 pub prefix-block : (bytes block : List ℕ) (from n : ℕ) → from ≤ length bytes
     → IsFirstChunk (take (length bytes - from) (drop from bytes)) block n
     → (from + n ≤ length bytes) × (block ≡ take n (drop from bytes))

@@ -164,7 +164,7 @@ pub second-broken : (a b : ℕ) → is_truncated (a ∷ []) ≡ true → is_in (
 unfolding is_well_formed is_truncated utf8_rows second_range
 second-broken a b more misfits = (grind (arith, nat_tests), grind (arith, nat_tests))
 
--- a byte that may stand after no first byte
+-- a byte that may follow no first byte
 pub second-lone : (a b : ℕ) → is_in continuation b ≡ false → is_in (second_range a) b ≡ false
 unfolding second_range
 second-lone a b misfits = grind (arith, nat_tests)

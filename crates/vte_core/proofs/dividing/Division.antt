@@ -22,19 +22,19 @@ allowed_length-le rows [] = omega arith
 allowed_length-le rows (b ∷ bytes) =
     search (rules, arith, (allowed_length-le (rows_after_byte b rows) bytes), allowed, unwanted, wanted)
 
--- some row still stands after what the rows allow
-allowed_length-stands : (rows : List (List Range)) (bytes : List ℕ) → rows ≢ []
+-- some row still is_kept after what the rows allow
+allowed_length-is_kept : (rows : List (List Range)) (bytes : List ℕ) → rows ≢ []
     → rows_after_bytes (take (allowed_length rows bytes) bytes) rows ≢ []
-allowed_length-stands rows [] some none = some none
-allowed_length-stands rows (b ∷ bytes) some none = elim (allowed rows b bytes) [
-  | unwanted _ is ↦ some (stands is)
-  | wanted left is ↦ allowed_length-stands (rows_after_byte b rows) bytes left (stands is)
+allowed_length-is_kept rows [] some none = some none
+allowed_length-is_kept rows (b ∷ bytes) some none = elim (allowed rows b bytes) [
+  | unwanted _ is ↦ some (is_kept is)
+  | wanted left is ↦ allowed_length-is_kept (rows_after_byte b rows) bytes left (is_kept is)
 ]
   where
-    stands : {n : ℕ} → allowed_length rows (b ∷ bytes) ≡ n → rows_after_bytes (take n (b ∷ bytes)) rows ≡ []
-    stands is = subst (λ n. rows_after_bytes (take n (b ∷ bytes)) rows ≡ []) is none
+    is_kept : {n : ℕ} → allowed_length rows (b ∷ bytes) ≡ n → rows_after_bytes (take n (b ∷ bytes)) rows ≡ []
+    is_kept is = subst (λ n. rows_after_bytes (take n (b ∷ bytes)) rows ≡ []) is none
 
--- no row still stands after more bytes than the rows allow
+-- no row still is_kept after more bytes than the rows allow
 allowed_length-longest : (rows : List (List Range)) (bytes : List ℕ) (n : ℕ) → allowed_length rows bytes < n
     → n ≤ length bytes
     → rows_after_bytes (take n bytes) rows ≡ []
@@ -57,12 +57,12 @@ is_segment b bytes = by_rows (rows_after_byte b utf8_rows) refl
         → some_whole (rows_after_bytes (segment rows) rows) ≡ whole
         → some_open (rows_after_bytes (segment rows) rows) ≡ more
         → (rows_after_bytes (segment rows) rows ≡ [] → ⊥) → IsSegment (b ∷ segment (rows_after_byte b utf8_rows))
-    by_tests {rows} same true more is_whole is_open stands =
+    by_tests {rows} same true more is_whole is_open is_kept =
         inl (ap (λ (rows : List (List Range)). some_whole (rows_after_bytes (segment rows) rows)) same ∙ is_whole)
-    by_tests {rows} same false true is_whole is_open stands =
+    by_tests {rows} same false true is_whole is_open is_kept =
         inr (inl (ap (λ (rows : List (List Range)). some_open (rows_after_bytes (segment rows) rows)) same ∙ is_open))
-    by_tests same false false is_whole is_open stands =
-        absurd (stands (neither_whole_nor_open _ is_whole is_open))
+    by_tests same false false is_whole is_open is_kept =
+        absurd (is_kept (neither_whole_nor_open _ is_whole is_open))
 
     by_rows : (rows : List (List Range)) → rows_after_byte b utf8_rows ≡ rows
         → IsSegment (b ∷ segment (rows_after_byte b utf8_rows))
@@ -70,7 +70,7 @@ is_segment b bytes = by_rows (rows_after_byte b utf8_rows) refl
         ap (λ (rows : List (List Range)). length (b ∷ segment rows)) same
         ∙ ap (λ (n : ℕ). length (b ∷ take n bytes)) (allowed_length-none bytes)))
     by_rows (row ∷ more) same =
-        by_tests same _ _ refl refl (allowed_length-stands (row ∷ more) bytes (λ e. cc))
+        by_tests same _ _ refl refl (allowed_length-is_kept (row ∷ more) bytes (λ e. cc))
 
 divided_right : (b : ℕ) (bytes : List ℕ) → IsDividedRight b bytes
 unfolding is_truncated trailing_count
@@ -100,7 +100,7 @@ all_divided text = concat-segments_after 0 text
 
 -- ---- the right segments
 
--- The segments are the right ones, each where it stands, and no other division has only right ones: of two right
+-- The segments are the right ones, each where it is_kept, and no other division has only right ones: of two right
 -- segments before one text neither is longer. By induction over the segments.
 
 segments_after-drop : (skip : ℕ) (bytes : List ℕ) → segments_after skip bytes ≡ segments (drop skip bytes)
@@ -119,8 +119,8 @@ whole_is_segment b bytes d (a ∷ u) rest same well =
     let first : a ≡ b = cc in
     let later : u ++ rest ≡ bytes = cc in
     let prefix = prefix_of u rest bytes later in
-    let stands : is_well_formed (b ∷ take (length u) bytes) ≡ true = rw (← prefix.0, ← first) well in
-    let far : trailing_count b bytes ≡ length u = d.whole (length u) prefix.1 stands in
+    let is_kept : is_well_formed (b ∷ take (length u) bytes) ≡ true = rw (← prefix.0, ← first) well in
+    let far : trailing_count b bytes ≡ length u = d.whole (length u) prefix.1 is_kept in
     rw (far, ← prefix.0, first) refl
 
 truncated_is_shorter : (b : ℕ) (bytes : List ℕ) → IsDividedRight b bytes → (prefix rest : List ℕ)
@@ -131,8 +131,8 @@ truncated_is_shorter b bytes d (a ∷ u) rest same more =
     let first : a ≡ b = cc in
     let later : u ++ rest ≡ bytes = cc in
     let prefix = prefix_of u rest bytes later in
-    let stands : is_truncated (b ∷ take (length u) bytes) ≡ true = rw (← prefix.0, ← first) more in
-    let far : length u ≤ trailing_count b bytes = d.longest (length u) prefix.1 stands in
+    let is_kept : is_truncated (b ∷ take (length u) bytes) ≡ true = rw (← prefix.0, ← first) more in
+    let far : length u ≤ trailing_count b bytes = d.longest (length u) prefix.1 is_kept in
     omega (arith, length-take (trailing_count b bytes) bytes)
 
 right_segment : (b : ℕ) (bytes : List ℕ)

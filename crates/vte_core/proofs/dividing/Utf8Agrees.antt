@@ -154,7 +154,7 @@ utf8_run-character {b} {u} low plain whole =
 
 -- ---- the same among other bytes
 
--- They stand at `from`, past k others.
+-- They are at `from`, past k others.
 abbrev AreBytesFrom : List ℕ → ℕ → ℕ → List ℕ → Type 0
 AreBytesFrom bytes from k [] = Unit {0}
 AreBytesFrom bytes from k (b ∷ u) =

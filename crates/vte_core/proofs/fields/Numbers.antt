@@ -133,7 +133,7 @@ cut_by_lengths-last rest numbers more n m whole size =
     (sym (length-take-le at numbers (omega arith)))
     (omega (arith, length-append (drop at numbers) more, length-drop at numbers))
 
--- what stands there with the number
+-- what is there with the number
 pub record IsPushed (joined : Bool) (lengths rest numbers : List ℕ) (last : Option ℕ) (value : ℕ) : Type 0 where
   pub room : unwrap_or last 0 + length rest ≤ length numbers
   pub groups : cut_by_lengths (rest ++ (unwrap_or last 0 + 1) ∷ []) (numbers ++ value ∷ [])

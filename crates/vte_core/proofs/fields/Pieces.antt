@@ -124,13 +124,13 @@ pieces_push items item =
 
 -- ---- the slices of a dispatch
 
--- They are the pieces that the ends cut: with fewer than 16 ends one more piece stands after the last.
+-- They are the pieces that the ends cut: with fewer than 16 ends one more piece is after the last.
 
 -- what slices show
 abbrev pub contents : List (Bor (List ℕ)) → List (List ℕ)
 contents slices = map (λ slice. slice.now) slices
 
--- after the last of fewer than 16 ends stands one more piece
+-- After the last of fewer than 16 ends there is one more piece.
 pub contents_last : (slices later : List (Bor (List ℕ))) (slice : Bor (List ℕ)) (bytes ends : List ℕ)
     (start index : ℕ) →
     index ≡ length ends → length ends < most_pieces → length slices ≡ most_pieces →
@@ -144,7 +144,7 @@ contents_last slices later slice bytes ends start index at_end at_most all writt
     let whole = take_all most_pieces (cut_data 0 bytes ends) (omega (arith, length_cut_data 0 bytes ends)) in
     rw (written, taken, pushed, is, whole) (rw (left, at_end) at cut)
 
--- 16 ends leave no place for what stands after them
+-- 16 ends leave no place for what is after them
 pub contents_all : (slices : List (Bor (List ℕ))) (bytes ends : List ℕ) (start index : ℕ) →
     index ≡ length ends → length ends ≡ most_pieces → length slices ≡ most_pieces →
     contents (take index slices) ++ cut_data start bytes (drop index ends) ≡ cut_data 0 bytes ends →

@@ -10,16 +10,16 @@ use Rattle.vte_core.specs.machine.Store.{AreParts, ArePieceEnds}
 use Rattle.vte_core.specs.Saved.{HasReadSaved}
 
 -- what a state says of the place, if the parser is in it
-pub stands-in : {B : Type 0} {limit : Option ℕ} {state : State} {parser : Machine B} {place : Place}
+pub is_at-in : {B : Type 0} {limit : Option ℕ} {state : State} {parser : Machine B} {place : Place}
     → parser.state ≡ state → IsAtPlace limit parser place
     → IsPlaceOfState limit state parser place
-stands-in {limit} {parser} {place} e s = search (rules, arith)
+is_at-in {limit} {parser} {place} e s = search (rules, arith)
 
--- a parser in a state stands at the place of which that state says so
-pub stands-by : {B : Type 0} {limit : Option ℕ} {state : State} {parser : Machine B} {place : Place}
+-- A parser in a state is at the place that the state says.
+pub is_at-by : {B : Type 0} {limit : Option ℕ} {state : State} {parser : Machine B} {place : Place}
     → parser.state ≡ state → IsPlaceOfState limit state parser place
     → IsAtPlace limit parser place
-stands-by {limit} {parser} {place} e by = search (rules, arith)
+is_at-by {limit} {parser} {place} e by = search (rules, arith)
 
 escape-by_state : {B : Type 0} (limit : Option ℕ) (state : State) (parser : Machine B)
     → IsPlaceOfState limit state parser AtEscape
@@ -27,9 +27,9 @@ escape-by_state : {B : Type 0} (limit : Option ℕ) (state : State) (parser : Ma
 escape-by_state limit Escape parser s = s
 escape-by_state limit _ parser s = absurd s
 
-pub stands-escape : {B : Type 0} {limit : Option ℕ} (parser : Machine B) → IsAtPlace limit parser AtEscape
+pub is_at-escape : {B : Type 0} {limit : Option ℕ} (parser : Machine B) → IsAtPlace limit parser AtEscape
     → HoldsIntermediates parser.collected []
-stands-escape {limit} parser s = escape-by_state limit parser.state parser s.fields
+is_at-escape {limit} parser s = escape-by_state limit parser.state parser s.fields
 
 -- in that state there is one shape of places
 pub record InCommandAt {B : Type 0} (limit : Option ℕ) (parser : Machine B) (place : Place) : Type 0 where
@@ -43,9 +43,9 @@ command-by_place s = search (rules, arith)
 
 pub in_command : {B : Type 0} {limit : Option ℕ} {parser : Machine B} {place : Place} → parser.state ≡ SystemCommand
     → IsAtPlace limit parser place → InCommandAt limit parser place
-in_command {limit} e s = command-by_place (stands-in e s)
+in_command {limit} e s = command-by_place (is_at-in e s)
 
--- what is true of a place where some parser stands
+-- This is true of a place where some parser is.
 abbrev pub IsPlace : Place → Type 0
 IsPlace (InText u) = may_continue u ≡ true
 IsPlace _ = Unit {0}
@@ -54,10 +54,10 @@ is_place-by_state : {B : Type 0} (limit : Option ℕ) (state : State) (parser : 
     → IsPlaceOfState limit state parser place → IsPlace place
 is_place-by_state limit state parser place s = search (rules, arith)
 
-pub stands-place : {B : Type 0} {limit : Option ℕ} {parser : Machine B} {place : Place}
+pub is_at-place : {B : Type 0} {limit : Option ℕ} {parser : Machine B} {place : Place}
     → IsAtPlace limit parser place
     → IsPlace place
-stands-place {limit} {parser} {place} s = is_place-by_state limit parser.state parser place s.fields
+is_at-place {limit} {parser} {place} s = is_place-by_state limit parser.state parser place s.fields
 
 pub may_continue-truncated : (u : List ℕ) → is_truncated u ≡ true → may_continue u ≡ true
 may_continue-truncated [] more = refl
@@ -93,9 +93,9 @@ open_at-settled (InText u) none = none
 open_at-settled _ none = refl
 
 -- between characters
-pub stands-text_begun : {B : Type 0} {limit : Option ℕ} {parser : Machine B} → parser.state ≡ Text Nothing
+pub is_at-text_begun : {B : Type 0} {limit : Option ℕ} {parser : Machine B} → parser.state ≡ Text Nothing
     → IsAtPlace limit parser (InText [])
-stands-text_begun e = stands-by e (refl, refl)
+is_at-text_begun e = is_at-by e (refl, refl)
 
 pub keeps-same : {limit : Option ℕ} {old new : Stored} {items : List ℕ} → SameItems old new → HoldsItems limit old items
     → HoldsItems limit new items
@@ -170,4 +170,4 @@ items-saved h r old_is new_is = search (rules, arith)
 pub reads_saved : {B : Type 0} {saved : Saved} {machine : Machine B} → HasSaved saved machine
     → (stream : List ℕ) → HasReadWithLimit usual_limit machine stream → HasReadSaved saved stream
 reads_saved {machine} h stream has_read =
-    search (rules, arith, stands-by, place_of_state-same, holds-saved, collected-saved, items-saved)
+    search (rules, arith, is_at-by, place_of_state-same, holds-saved, collected-saved, items-saved)

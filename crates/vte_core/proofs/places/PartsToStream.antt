@@ -34,7 +34,7 @@ pub waits-byte : (limit : Option ℕ) (place next : Place) (b : ℕ) (reported :
     → outcome_from limit place (b ∷ more) ≡ report reported (outcome_from limit next (b ∷ more))
 waits-byte limit place next b reported more e l = search (rules, arith, outcome_from-byte, with_bodies-report)
 
--- ESC closes what stands before it
+-- ESC closes what is before it
 pub outcome_from-escape : (limit : Option ℕ) (place : Place) (more : List ℕ) → IsPlace place
     → outcome_from limit place (escape ∷ more)
     ≡ report (closing_events_at limit place) (outcome_from limit AtEscape more)

@@ -14,7 +14,7 @@ use Rattle.vte_core.proofs.streams.StreamSteps.{prints_no_ascii, prints_no_ascii
 
 -- ---- a performer that keeps all events
 
--- It stands where any performer does (`recorded-at`), and its value is what was reported (`reported-at`).
+-- It is_at where any performer does (`recorded-at`), and its value is what was reported (`reported-at`).
 
 abbrev pub keep : List Event → Event → List Event
 keep events event = events ++ event ∷ []
@@ -40,12 +40,12 @@ module _ {V B : Type 0} {call : ChunkCall V} {old value : V} {stream : List ℕ}
   pub recorded-at : IsAtPosition call old value stream i parser
       → IsAtPosition (keeping call.limit call.bytes) [] (reported_before call.limit stream call.bytes i) stream i parser
   recorded-at s =
-      record { place = s.place; stands = s.stands; settled = s.settled; progress = progress-recorded s.progress }
+      record { place = s.place; is_at = s.is_at; settled = s.settled; progress = progress-recorded s.progress }
 
   pub recorded-inside : IsInsidePosition call old value stream i parser
       → IsInsidePosition (keeping call.limit call.bytes) []
       (added call.limit stream (take i call.bytes)) stream i parser
-  recorded-inside s = record { place = s.place; stands = s.stands; progress = progress-recorded s.progress }
+  recorded-inside s = record { place = s.place; is_at = s.is_at; progress = progress-recorded s.progress }
 
 pub reported-at : {B : Type 0} {value : List Event} {limit : Option ℕ} {stream bytes : List ℕ} {i : ℕ}
     {parser : Machine B} → IsAtPosition (keeping limit bytes) [] value stream i parser

@@ -5,7 +5,7 @@ use Rattle.vte_core.proofs.Common.{◌≡◌, ◌≢◌, ℕ, ◌+◌, ◌<◌, 
 use Rattle.vte_core.specs.declared.utf8.Carried.TheVariants.{Unfinished as StillUnfinished}
 use Rattle.vte_core.proofs.bytes.Scalars.{begins_none, first_truncated}
 use Rattle.vte_core.proofs.bytes.Utf8.{ascii-alone}
-use Rattle.vte_core.proofs.fields.PlaceOfState.{stands-by}
+use Rattle.vte_core.proofs.fields.PlaceOfState.{is_at-by}
 use Rattle.vte_core.proofs.positions.Progress.{settled-same_state, place-settled_text}
 use Rattle.vte_core.proofs.positions.Stretches.{advances-byte, advances-reporting, advances-then, not_escape, takes_bytes-begun, reads-byte_at}
 use Rattle.vte_core.specs.machine.Prelude.{MayReadByte, Completes}
@@ -30,7 +30,7 @@ module _ {V B : Type 0} {step : V → Event → V} {old new : V} {limit : Option
         reported = character_event b ∷ [];
         next = InText [];
         performed = performed;
-        stands = s;
+        is_at = s;
         leads = text-whole whole;
       })
 
@@ -45,7 +45,7 @@ module _ {V B : Type 0} {step : V → Event → V} {old new : V} {limit : Option
         reported = malformed_event (b ∷ []) ∷ [];
         next = InText [];
         performed = performed;
-        stands = s;
+        is_at = s;
         leads = text-lone whole more;
       })
 
@@ -84,7 +84,7 @@ takes_bytes-opened {limit} {b} {v} {next} e n carries state =
       reported = [];
       next = InText (b ∷ []);
       performed = refl;
-      stands = stands-by state (carries.0, more);
+      is_at = is_at-by state (carries.0, more);
       leads = text-unfinished;
     })
 
@@ -159,7 +159,7 @@ pub advances-first : {V B given : Type 0} {call : ChunkCall V} {old new : V} {i 
     → Advances (given × HasNoRunAt false call.bytes i) call old new i j parser next
 advances-first {call} {i} {first} {parser} r lead fits completes = record {
   goes_on = λ value stream s.
-      completes.stands_at value stream (in_text parser (One first)) refl
+      completes.is_at_position value stream (in_text parser (One first)) refl
       (reads-byte_at r.within r.looked_at r.may_go_on
       (takes_bytes-opened r.begun (λ e. omega (arith, e, lead)) (refl, first_truncated first lead fits) refl) s);
   settled = λ within. settled-same_state (completes.text within) tt;

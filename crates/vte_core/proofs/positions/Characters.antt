@@ -2,7 +2,7 @@
 -- and then completes it (`completes-all`, `completes-whole`, `completes-broken`), a byte at a time.
 use Rattle.vte_core.proofs.Common.{◌≡◌, ◌≢◌, ℕ, ◌+◌, ◌<◌, inl, inr, true, Option, List, [], ◌∷◌, ◌++◌, length, refl, ap, sym, subst, ◌∙◌, slice_index, Machine, Text, Nothing, Print, replacement, ProgressInside, IsAtPosition, IsInsidePosition, IsAtPlace, IsPlaceOfState, Place, InText, bytes_of, may_continue, Carries, character_event, is_truncated, scalar_of, Unfinished, HasReadWithLimit, open_character, ChunkCall, ◌≤◌, arith, One, Two, Three, Event, second_range, from_to, is_in, is_well_formed, added, All-cons, All-nil, IsOutsideRuns, append-nil, append_assoc, drop, drop_more, take, take-add, rules}
 use Rattle.vte_core.specs.declared.utf8.Carried.TheVariants.{Unfinished as StillUnfinished, Whole, Broken}
-use Rattle.vte_core.proofs.fields.PlaceOfState.{may_continue-truncated, stands-by, stands-in, stands-place}
+use Rattle.vte_core.proofs.fields.PlaceOfState.{may_continue-truncated, is_at-by, is_at-in, is_at-place}
 use Rattle.vte_core.proofs.places.PlaceLeads.{text-unfinished, text-whole}
 use Rattle.vte_core.proofs.streams.After.{carried_is_no_escape, after-open_character}
 use Rattle.vte_core.proofs.Shapes.{breaks-broken, breaks-unfinished, breaks-whole}
@@ -19,10 +19,10 @@ use Rattle.std.proofs.lemmas.List.{drop-drop}
 -- The character goes on with it, is whole, or is broken before it (`carried-more`, `carried-whole`, `carried-broken`).
 -- The place is a text with these bytes open, so `places/PlaceLeads` and `Shapes` say what the byte reports.
 
-stands-in_text : {B : Type 0} {limit : Option ℕ} {parser : Machine B} {v : Unfinished} {u : List ℕ}
+is_at-in_text : {B : Type 0} {limit : Option ℕ} {parser : Machine B} {v : Unfinished} {u : List ℕ}
     → parser.state ≡ Text v → bytes_of v ≡ u
     → may_continue u ≡ true → IsAtPlace limit parser (InText u)
-stands-in_text e same more = stands-by e (same, more)
+is_at-in_text e same more = is_at-by e (same, more)
 
 -- the parser, inside a character of these bytes
 abbrev pub in_text : {B : Type 0} → Machine B → Unfinished → Machine B
@@ -48,7 +48,7 @@ truncated-some (x ∷ u) more none = cc
 module _ {V B : Type 0} {call : ChunkCall V} {old mid : V} {stream : List ℕ} where
   inside-open : {i : ℕ} {u : Unfinished} {parser : Machine B} → parser.state ≡ Text u
       → IsInsidePosition call old mid stream i parser → may_continue (bytes_of u) ≡ true
-  inside-open {u} {parser} e s = (text-by_place call.limit parser (stands-in e s.stands)).begun
+  inside-open {u} {parser} e s = (text-by_place call.limit parser (is_at-in e s.is_at)).begun
 
   -- a byte that the character goes on with
   carried-more : {i b : ℕ} {u v : Unfinished} {parser next : Machine B} → parser.state ≡ Text u
@@ -56,12 +56,12 @@ module _ {V B : Type 0} {call : ChunkCall V} {old mid : V} {stream : List ℕ} w
       → IsInsidePosition call old mid stream i parser → i < length call.bytes → b ≡ slice_index call.bytes i
       → IsInsidePosition call old mid stream (i + 1) next
   carried-more {i} {b} {u} {v} {parser} {next} e opened carries state s within is =
-      let t = text-by_place call.limit parser (stands-in e s.stands) in
+      let t = text-by_place call.limit parser (is_at-in e s.is_at) in
       let more : is_truncated (bytes_of u ++ b ∷ []) ≡ true = subst (λ x. is_truncated x ≡ true) carries.0 carries.1 in
       record {
         place = InText (bytes_of u ++ b ∷ []);
-        stands =
-            stands-in_text state carries.0
+        is_at =
+            is_at-in_text state carries.0
             (may_continue-truncated (bytes_of u ++ b ∷ []) more);
         progress =
             progress-carried {these = []} t.begun within is (truncated-some (bytes_of u) opened)
@@ -79,7 +79,7 @@ module _ {V B : Type 0} {call : ChunkCall V} {old mid : V} {stream : List ℕ} w
       → b ≡ slice_index call.bytes i → j ≡ i + 1 → IsAtPosition call old new stream j next
   carried-whole {new} {i} {b} {u} {parser}
       {next} e opened carries state performed s within is later =
-      let t = text-by_place call.limit parser (stands-in e s.stands) in
+      let t = text-by_place call.limit parser (is_at-in e s.is_at) in
       let c =
       progress-carried {new = new} {next = InText []}
       {these = character_event (scalar_of (bytes_of u ++ b ∷ [])) ∷ []} t.begun within is
@@ -92,7 +92,7 @@ module _ {V B : Type 0} {call : ChunkCall V} {old mid : V} {stream : List ℕ} w
       subst (λ n. IsAtPosition call old new stream n next) (sym later)
       (record {
         place = InText [];
-        stands = stands-in_text state refl refl;
+        is_at = is_at-in_text state refl refl;
         settled = λ _. refl;
         progress = progress-settled refl refl c;
       })
@@ -103,10 +103,10 @@ module _ {V B : Type 0} {call : ChunkCall V} {old mid : V} {stream : List ℕ} w
       → new ≡ call.step mid (Print replacement) → IsInsidePosition call old mid stream i parser → i < length call.bytes
       → b ≡ slice_index call.bytes i → IsAtPosition call old new stream i next
   carried-broken {i} {b} {u} {parser} {next} e opened carries state performed s within is =
-      let t = text-by_place call.limit parser (stands-in e s.stands) in
+      let t = text-by_place call.limit parser (is_at-in e s.is_at) in
       record {
         place = InText [];
-        stands = stands-in_text state refl refl;
+        is_at = is_at-in_text state refl refl;
         settled = λ _. refl;
         progress = progress-broken t.begun within is (breaks-broken (bytes_of u) b opened carries.0 carries.1) performed
             (subst (ProgressInside call old mid stream i) t.same s.progress);
@@ -117,7 +117,7 @@ pub opens-text : {B : Type 0} {limit : Option ℕ} {stream : List ℕ} {u : Unfi
     → parser.state ≡ Text u → bytes_of u ≢ [] → HasReadWithLimit limit parser stream
     → open_character stream ≡ [] → ⊥
 opens-text {limit} {stream} {u} parser e some h none =
-    search (rules, arith, text-by_place, stands-in, after-open_character, stands-place)
+    search (rules, arith, text-by_place, is_at-in, after-open_character, is_at-place)
 
 -- ---- any number of bytes
 
@@ -175,7 +175,7 @@ module _ {V B : Type 0} {call : ChunkCall V} {value : V} {i : ℕ} {begun : Unfi
   pub completes-all : {j k : ℕ} {u : Unfinished} {next : Machine B} → GoesOn call value i j begun u next → j ≡ k
       → length call.bytes ≤ k → Completes call value value i k begun (in_text next u)
   completes-all goes end all = record {
-    stands_at = λ old stream parser e s. inside-all (inside-moved end (goes.inside old stream parser e s)) all;
+    is_at_position = λ old stream parser e s. inside-all (inside-moved end (goes.inside old stream parser e s)) all;
     text = λ within. absurd (omega arith);
     adds = λ old stream parser e s. record {
       events = [];
@@ -192,7 +192,7 @@ module _ {V B : Type 0} {call : ChunkCall V} {value : V} {i : ℕ} {begun : Unfi
       → next.state ≡ Text Nothing → new ≡ call.step value (character_event c) → j < length call.bytes
       → b ≡ slice_index call.bytes j → k ≡ j + 1 → Completes call value new i k begun next
   completes-whole {c} {u} {next} goes carries state performed within is later = record {
-    stands_at = λ old stream parser e s. let more = goes.more (inside-open e s) in
+    is_at_position = λ old stream parser e s. let more = goes.more (inside-open e s) in
         carried-whole refl more (carries more) state performed (goes.inside old stream parser e s) within is later;
     text = λ _. state;
     adds = λ old stream parser e s.
@@ -223,7 +223,7 @@ module _ {V B : Type 0} {call : ChunkCall V} {value : V} {i : ℕ} {begun : Unfi
       → next.state ≡ Text Nothing → new ≡ call.step value (Print replacement) → j < length call.bytes
       → b ≡ slice_index call.bytes j → Completes call value new i j begun next
   completes-broken {next} goes carries state performed within is = record {
-    stands_at = λ old stream parser e s. let more = goes.more (inside-open e s) in
+    is_at_position = λ old stream parser e s. let more = goes.more (inside-open e s) in
         carried-broken refl more (carries more) state performed (goes.inside old stream parser e s) within is;
     text = λ _. state;
     adds = λ old stream parser e s.
@@ -243,8 +243,8 @@ module _ {V B : Type 0} {call : ChunkCall V} {value : V} {i : ℕ} {begun : Unfi
       → GoesOn call value i j begun u parser → Completes call value new j k u next
       → Completes call value new i k begun next
   completes-then {j} {u} {parser} goes c = record {
-    stands_at =
-        λ old stream begun e s. c.stands_at old stream (in_text parser u) refl (goes.inside old stream begun e s);
+    is_at_position =
+        λ old stream begun e s. c.is_at_position old stream (in_text parser u) refl (goes.inside old stream begun e s);
     text = c.text;
     adds = λ old stream begun_parser e s.
         let opened = inside-open e s in

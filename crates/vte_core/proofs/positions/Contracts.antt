@@ -32,8 +32,8 @@ module _ {V B : Type 0} {call : ChunkCall V} {old new : V} {before parser : Mach
       → Costs 5 call.bytes (Ok read) read before parser start end
       → ReadsBytes call.step old new call.bytes (reading call.limit before start) (reading call.limit parser end)
   reads-bytes all reads costs = record {
-    performs = λ stream h. call_ends-performs all (reads.stands_at stream h);
-    reads = λ stream h. call_ends-reads_all all (reads.stands_at stream h);
+    performs = λ stream h. call_ends-performs all (reads.is_at_position stream h);
+    reads = λ stream h. call_ends-reads_all all (reads.is_at_position stream h);
     count = costs.count;
     at_least = omega (arith, all, costs.at_least);
   }
@@ -44,8 +44,8 @@ module _ {V B : Type 0} {call : ChunkCall V} {old new : V} {before parser : Mach
       (reading call.limit parser end)
   reads-until does reads costs = record {
     within = reads.within;
-    stops = λ stream h. call_ends-stops does reads.within reads.stops (reads.stands_at stream h);
-    reads = λ stream h. call_ends-reads (reads.stands_at stream h);
+    stops = λ stream h. call_ends-stops does reads.within reads.stops (reads.is_at_position stream h);
+    reads = λ stream h. call_ends-reads (reads.is_at_position stream h);
     count = costs.count_if_ok;
     at_least = costs.at_least;
   }

@@ -7,7 +7,7 @@ use Rattle.vte_core.proofs.bytes.Classes.{head_ends_nothing, AreInClass-append, 
 use Rattle.vte_core.proofs.positions.Progress.{progress-settled, progress-byte, settled-same_state}
 use Rattle.vte_core.proofs.positions.Stretches.{takes_bytes-in, advances-byte, advances-to_same, advances-given, advances-then}
 use Rattle.vte_core.proofs.fields.Heads.{holds-parameter}
-use Rattle.vte_core.proofs.fields.PlaceOfState.{IsPlace, stands-in}
+use Rattle.vte_core.proofs.fields.PlaceOfState.{IsPlace, is_at-in}
 use Rattle.vte_core.proofs.places.PlaceLeads.{control-head, device-head}
 use Rattle.vte_core.proofs.positions.AddedEvents.{adds-same, recorded-at, reported-at}
 use Rattle.vte_core.proofs.bytes.Runs.{one_byte}
@@ -35,16 +35,16 @@ reads_head-then {bytes} {i} {j} {k} a b =
       low = omega (arith, a.low, b.low);
       high = b.high;
       head_bytes = rw whole (AreInClass-append is_head_byte _ _ a.head_bytes b.head_bytes);
-      stands =
+      is_at =
           λ head s. rw (whole, ← append_assoc head (take (j - i) (drop i bytes)) (take (k - j) (drop j bytes)))
-          (b.stands _ (a.stands head s));
+          (b.is_at _ (a.is_at head s));
     }
 
 pub reads_head-byte : {bytes : List ℕ} {i b : ℕ} {progress next : HeadProgress} {old new : Collected} → i < length bytes
     → b ≡ slice_index bytes i → is_head_byte (class_of b) ≡ true
     → ((head : List ℕ) → HasReadHead old progress head → HasReadHead new next (head ++ b ∷ []))
     → ReadsHead bytes i (i + 1) progress next old new
-reads_head-byte {bytes} {i} {b} within at is stands = search (rules, arith, one_byte)
+reads_head-byte {bytes} {i} {b} within at is is_at = search (rules, arith, one_byte)
 
 -- no byte follows
 pub match-none : {A : Type 0} (B : ℕ → Type 0) (next : Option ℕ) → ((b : ℕ) → next ≡ Some b → ⊥) → MatchOption next A B
@@ -98,7 +98,7 @@ in_head DeviceHead head = InDeviceControl head
 record InHeadAt (shape : Shape) (held : Collected) (progress : HeadProgress) (place : Place) : Type 0 where
   head : List ℕ
   same : place ≡ in_head shape head
-  stands : HasReadHead held progress head
+  is_at : HasReadHead held progress head
 
 head-place : {B : Type 0} (shape : Shape) (limit : Option ℕ) (progress : HeadProgress) (parser : Machine B)
     (place : Place)
@@ -106,11 +106,11 @@ head-place : {B : Type 0} (shape : Shape) (limit : Option ℕ) (progress : HeadP
     → InHeadAt shape parser.collected progress place
 head-place shape limit progress parser place s = search (rules, arith)
 
-head-stands : {B : Type 0} (shape : Shape) {limit : Option ℕ} (progress : HeadProgress) {parser : Machine B}
+head-is_at : {B : Type 0} (shape : Shape) {limit : Option ℕ} (progress : HeadProgress) {parser : Machine B}
     (head : List ℕ)
     → parser.state ≡ state_of shape progress
     → HasReadHead parser.collected progress head → IsAtPlace limit parser (in_head shape head)
-head-stands shape progress head e s = search (rules, arith)
+head-is_at shape progress head e s = search (rules, arith)
 
 head-leads : (shape : Shape) {limit : Option ℕ} (head : List ℕ) {b : ℕ} → is_head_byte (class_of b) ≡ true
     → Leads limit (in_head shape head) b [] (in_head shape (head ++ b ∷ []))
@@ -158,21 +158,21 @@ module _ {V : Type 0} {call : ChunkCall V} where
       rw (far, cut) (rw (append_assoc head (b ∷ []) (take n (drop (i + 1) call.bytes))) at rest)
 
   -- the bytes of a part of a head
-  stands-head : {B : Type 0} {old value : V} {stream : List ℕ} {i j : ℕ} {reached progress : HeadProgress}
+  is_at-head : {B : Type 0} {old value : V} {stream : List ℕ} {i j : ℕ} {reached progress : HeadProgress}
       {parser next : Machine B} (shape : Shape) → parser.state ≡ state_of shape reached
       → ReadsHead call.bytes i j reached progress parser.collected next.collected → MayGoOn call value
       → next.state ≡ state_of shape progress → IsAtPosition call old value stream i parser
       → IsAtPosition call old value stream j next
-  stands-head {old} {value} {stream} {i} {j} {reached} {progress}
+  is_at-head {old} {value} {stream} {i} {j} {reached} {progress}
       {parser} {next} shape begun reads may_go_on state s =
-      let k = head-place shape call.limit reached parser s.place (stands-in begun s.stands) in
+      let k = head-place shape call.limit reached parser s.place (is_at-in begun s.is_at) in
       let here : ProgressAt call old value stream i (in_head shape k.head) =
       subst (ProgressAt call old value stream i) k.same s.progress in
       let end : i + (j - i) ≡ j = omega (arith, reads.low) in
       let run : List ℕ = take (j - i) (drop i call.bytes) in
       record {
         place = in_head shape (k.head ++ run);
-        stands = head-stands shape progress (k.head ++ run) state (reads.stands k.head k.stands);
+        is_at = head-is_at shape progress (k.head ++ run) state (reads.leads k.head k.is_at);
         settled = λ _. head-settled_place shape (k.head ++ run);
         progress = rw end at
             (progress-head shape (j - i) k.head (omega (arith, reads.high, end)) reads.head_bytes may_go_on here);
@@ -185,11 +185,11 @@ module _ {V : Type 0} {call : ChunkCall V} where
       → ReadsHead call.bytes i j reached progress parser.collected next.collected → MayGoOn call value
       → next.state ≡ state_of shape progress → Advances outside call value value i j parser next
   advances-head {progress} {next} shape begun reads may_go_on state = record {
-    goes_on = λ old stream s. stands-head shape begun reads may_go_on state s;
+    goes_on = λ old stream s. is_at-head shape begun reads may_go_on state s;
     settled = λ _. settled-same_state state (head-settled shape progress);
     outside_runs = λ _ old stream s.
         adds-same (reported-at
-        (stands-head {next = next} shape begun reads (λ does. absurd (false≢true does)) state (recorded-at s)));
+        (is_at-head {next = next} shape begun reads (λ does. absurd (false≢true does)) state (recorded-at s)));
   }
 
   -- a part of a head and a byte after it, of which the caller says what it does there
@@ -219,7 +219,7 @@ pub takes_bytes-head : {V B : Type 0} {step : V → Event → V} {old new : V} {
 takes_bytes-head {step} {old} {new} {limit} {b} {parser}
     {next} shape progress e ordinary takes = takes_bytes-in e ordinary (λ place s.
     let k = head-place shape limit progress parser place s in
-    subst (λ p. TakesByte step old new limit p b next) (sym k.same) (takes k.head k.stands))
+    subst (λ p. TakesByte step old new limit p b next) (sym k.same) (takes k.head k.is_at))
 
 -- a head and the final byte of a control sequence
 pub advances-control_sequence : {V B outside : Type 0} {call : ChunkCall V} {old new : V} {i j k b : ℕ}

@@ -1,8 +1,8 @@
--- What is open where a parser stands, and what is stored of it where memory may be refused: both are said of the place,
+-- What is open where a parser is, and what is stored of it where memory may be refused: both are said of the place,
 -- so they hold of every parser that is at one.
 use Rattle.vte_core.proofs.Common.{◌≡◌, ◌≢◌, ℕ, Option, List, [], ◌∷◌, ◌++◌, refl, ap, sym, subst, ◌∙◌, arith, Digit, Machine, State, Text, IsAtPlace, IsPlaceOfState, HasReadWithLimit, Event, Print, replacement, Place, InText, AtEscape, InEscape, InControlSequence, InDeviceControl, InDeviceData, InSystemCommand, InIgnoredString, IsAfter, Leads, left_at, ◌≤◌, ◌<◌, true, false, eqb, EscapeSequence, class_of, escape, is_truncated, sequence_kind, added, events_from, ◌+◌, Bool, None, length, take, length-take, concat, slice_index, MeetsData, open_data_count, open_command_size, SystemCommand, ProgressAt, IsRefusedInCommand, ReadsUntilRefused, IsInsidePosition, ChunkCall, ToClose, CommandToClose, loses_data, outcome, rules}
 use Rattle.vte_core.proofs.bytes.Utf8.{ascii-breaks}
-use Rattle.vte_core.proofs.fields.PlaceOfState.{IsPlace, stands-place, in_command, stands-by}
+use Rattle.vte_core.proofs.fields.PlaceOfState.{IsPlace, is_at-place, in_command, is_at-by}
 use Rattle.vte_core.proofs.places.PlaceLeads.{escape-end, intermediate-end, control-head, device-head, data-put, command-item, ignored-more}
 use Rattle.vte_core.proofs.Shapes.{text_outcome-broken}
 use Rattle.vte_core.proofs.streams.After.{added-after, added-reads, after-events, after-left, after-nothing, events-empty, open_at_end-any, after-reads}
@@ -81,7 +81,7 @@ open_in-place limit state parser place s = search (rules, arith)
 pub which_is_open : {B : Type 0} {limit : Option ℕ} {stream : List ℕ} {parser : Machine B}
     → HasReadWithLimit limit parser stream → open_in parser.state ≡ open_at_end stream
 which_is_open {limit} {stream} {parser} h =
-    search (rules, arith, open_in-place, after-left, stands-place, open_at_end-any)
+    search (rules, arith, open_in-place, after-left, is_at-place, open_at_end-any)
 
 -- nothing is open only between characters
 
@@ -109,7 +109,7 @@ closed_is_finished {limit} {stream} parser nothing h =
 pub open_is_unfinished : {B : Type 0} {limit : Option ℕ} {stream : List ℕ} {parser : Machine B}
     → open_in parser.state ≢ kind.Nothing → HasReadWithLimit limit parser stream → IsUnfinished limit stream
 open_is_unfinished {limit} {parser} some h =
-    search (rules, arith, probe-not_alone, probe-zero, stands-place, state-settled)
+    search (rules, arith, probe-not_alone, probe-zero, is_at-place, state-settled)
 
 -- ---- memory is refused only at a data byte of an open command
 
@@ -120,7 +120,7 @@ inside-reads s = search (rules, arith)
 -- what a stream leaves is what its place leaves
 left-at_place : {B : Type 0} (parser : Machine B) (stream : List ℕ) (h : HasReadWithLimit None parser stream)
     → (outcome None stream).left ≡ left_at None h.place
-left-at_place parser stream h = after-left h.is_after (stands-place h.stands)
+left-at_place parser stream h = after-left h.is_after (is_at-place h.is_at)
 
 -- a byte that is refused is a data byte of an open command
 pub meets_data : {B : Type 0} {parser : Machine B} {stream bytes : List ℕ} {from : ℕ}
@@ -128,7 +128,7 @@ pub meets_data : {B : Type 0} {parser : Machine B} {stream bytes : List ℕ} {fr
     → HasReadWithLimit None parser stream → MeetsData stream (slice_index bytes from)
 meets_data {parser} {stream} {bytes} {from} refused h =
     let byte : ℕ = slice_index bytes from in
-    let k = in_command refused.inside h.stands in
+    let k = in_command refused.inside h.is_at in
     let o = open_for k.keeps refused.at_most refused.is_data.1 in
     let last : Place = InSystemCommand (k.items ++ byte ∷ []) in
     let joined : IsAfter None (stream ++ byte ∷ []) last =
@@ -148,18 +148,18 @@ meets_data {parser} {stream} {bytes} {from} refused h =
           ∙ ap (λ d. CommandToClose (o.pieces ++ (o.last ++ byte ∷ []) ∷ []) d) o.lost;
     }
 
--- ---- a call stands where it was refused memory
+-- ---- a call is where it was refused memory
 
 -- in a command no character is open
 pub refuses-inside : {V B : Type 0} {call : ChunkCall V} {old new : V} {n : ℕ} {before parser : Machine B}
     → ReadsUntilRefused call old new n before parser → (stream : List ℕ) → HasReadWithLimit call.limit before stream
     → IsInsidePosition call old new stream n parser
 refuses-inside {call} {old} {new} {n} {parser} r stream h =
-    let s = r.stands_at stream h in
-    let k = in_command r.refused.inside s.stands in
+    let s = r.is_at_position stream h in
+    let k = in_command r.refused.inside s.is_at in
     record {
       place = InSystemCommand k.items;
-      stands = stands-by r.refused.inside k.keeps;
+      is_at = is_at-by r.refused.inside k.keeps;
       progress = progress-command (subst (ProgressAt call old new stream n) k.same s.progress);
     }
 
@@ -170,7 +170,7 @@ pub stored_is_open : {B : Type 0} {parser : Machine B} {stream : List ℕ} → p
     → HasReadWithLimit None parser stream
     → length parser.command.bytes ≡ open_command_size stream
 stored_is_open {parser} {stream} e h =
-    let k = in_command e h.stands in
+    let k = in_command e h.is_at in
     pieces_stored k.keeps
     ∙ sym (ap open_data_count (left-at_place parser stream h ∙ ap (left_at None) k.same))
 
@@ -184,7 +184,7 @@ state-in_command : {B : Type 0} (parser : Machine B) (stream : List ℕ) → Has
     → (pieces : List (List ℕ)) (lost : Bool) → (outcome None stream).left ≡ CommandToClose pieces lost
     → parser.state ≡ SystemCommand
 state-in_command parser stream h pieces lost open_command =
-    state-by_command h.stands (sym (left-at_place parser stream h) ∙ open_command)
+    state-by_command h.is_at (sym (left-at_place parser stream h) ∙ open_command)
 
 -- of an open command the bytes of its pieces
 pub stores_pieces : {B : Type 0} (parser : Machine B) (stream : List ℕ) → HasReadWithLimit None parser stream

@@ -10,7 +10,7 @@
 -- `progress-comes`, `progress-all_read`: the public clauses of a call that stops, and of one that reads all
 -- `starts-X`, `call_ends-X`, `settles`: where a call starts, where it stops or ends, and where no character is open
 use Rattle.vte_core.proofs.Common.{◌≡◌, ℕ, ◌<◌, ◌≤◌, inl, inr, true, false, not, eqb, Option, List, [], ◌∷◌, ◌++◌, ap, sym, arith, cases_lt, nat_tests, Machine, Text, Nothing, IsAtPlace, IsPlaceOfState, Place, InText, InSystemCommand, escape, BytesLead, zero, suc, ◌+◌, ◌-◌, length, take, drop, refl, subst, ◌∙◌, append_assoc, slice_index, cases_Bool, append-nil, drop_more, take-add, breaks, breaks_at, IsStart, reported_before, resumed_stream, Event, Print, replacement, after, added, open_character, ProgressAt, ProgressInside, MayGoOn, ChunkCall, IsAfter, IsSettledPlace, open_at, ComesTo, State, StopsExactly, IsSettled, ReadsUpTo, IsAtPosition, IsInsidePosition, HasReadWithLimit, bytes_of, Unfinished, rules}
-use Rattle.vte_core.proofs.fields.PlaceOfState.{stands-in, IsPlace, open_at-settled, stands-place}
+use Rattle.vte_core.proofs.fields.PlaceOfState.{is_at-in, IsPlace, open_at-settled, is_at-place}
 use Rattle.vte_core.proofs.places.PlaceLeads.{command-item}
 use Rattle.vte_core.proofs.places.PartsToStream.{bytes_lead-byte}
 use Rattle.vte_core.proofs.streams.After.{after-left, after-nothing, after-open_character, after-reads, added-reads, added-nothing, after_events-append}
@@ -27,7 +27,7 @@ text-by_place limit parser place s = search (rules, arith)
 -- between characters of a text there is one place
 pub place-settled_text : {B : Type 0} {limit : Option ℕ} {parser : Machine B} {place : Place}
     → parser.state ≡ Text Nothing → IsAtPlace limit parser place → place ≡ InText []
-place-settled_text {limit} {parser} {place} e s = text-by_place limit parser place (stands-in e s)
+place-settled_text {limit} {parser} {place} e s = text-by_place limit parser place (is_at-in e s)
 
 -- no character is open there
 settled-by_place : {B : Type 0} (limit : Option ℕ) (state : State) (parser : Machine B) (place : Place)
@@ -134,7 +134,7 @@ module _ {V : Type 0} {call : ChunkCall V} {old : V} {stream : List ℕ} where
       → ProgressInside call old value stream i place → ProgressAt call old value stream i place
   progress-all {i} all c = progress-whole (breaks_at-all stream call.bytes i all) c
 
-  -- U+FFFD is reported for a character that the next byte breaks, and the parser stands as at first
+  -- U+FFFD is reported for a character that the next byte breaks, and the parser is as at first
   pub progress-broken : {value new : V} {i b : ℕ} {place : Place} → IsPlace place → i < length call.bytes
       → b ≡ slice_index call.bytes i → breaks (open_at place) (b ∷ []) ≡ true
       → new ≡ call.step value (Print replacement) → ProgressInside call old value stream i place
@@ -308,7 +308,7 @@ module _ {V : Type 0} {call : ChunkCall V} {old : V} {stream : List ℕ} where
       → ProgressAt call old value stream n place → value ≡ after call.step old (added call.limit stream call.bytes)
   progress-all_read {n} all c = c.performed ∙ ap (after call.step old) (reported-all call.limit stream call.bytes n all)
 
--- ---- the same of a parser that stands there
+-- ---- the same of a parser that is there
 
 -- A settled state has a settled place, so `progress-X` applies.
 
@@ -318,12 +318,12 @@ module _ {V B : Type 0} {call : ChunkCall V} where
   pub settles : {old value : V} {stream : List ℕ} {i : ℕ} {parser : Machine B} → IsSettled parser.state
       → IsInsidePosition call old value stream i parser → IsAtPosition call old value stream i parser
   settles {parser} settled s =
-      let place_is = settled-place parser settled s.place s.stands in
+      let place_is = settled-place parser settled s.place s.is_at in
       record {
         place = s.place;
-        stands = s.stands;
+        is_at = s.is_at;
         settled = λ _. place_is;
-        progress = progress-settled (stands-place s.stands) place_is s.progress;
+        progress = progress-settled (is_at-place s.is_at) place_is s.progress;
       }
 
   pub inside-all : {old value : V} {stream : List ℕ} {i : ℕ} {parser : Machine B}
@@ -332,7 +332,7 @@ module _ {V B : Type 0} {call : ChunkCall V} where
   inside-all s all =
       record {
         place = s.place;
-        stands = s.stands;
+        is_at = s.is_at;
         settled = λ within. absurd (omega arith);
         progress = progress-all all s.progress;
       }
@@ -345,7 +345,7 @@ module _ {V B : Type 0} {call : ChunkCall V} where
 
   pub starts-inside : {old : V} {stream : List ℕ} {parser : Machine B} → HasReadWithLimit call.limit parser stream
       → IsInsidePosition call old old stream 0 parser
-  starts-inside h = record { place = h.place; stands = h.stands; progress = progress-nothing h.is_after }
+  starts-inside h = record { place = h.place; is_at = h.is_at; progress = progress-nothing h.is_after }
 
   pub starts-at : {old : V} {stream : List ℕ} {parser : Machine B} → IsSettled parser.state
       → HasReadWithLimit call.limit parser stream → IsAtPosition call old old stream 0 parser
@@ -356,7 +356,7 @@ module _ {V B : Type 0} {call : ChunkCall V} where
       → ComesTo call.step call.is_terminated old call.limit stream call.bytes value n
   call_ends-comes {parser} does within s =
       progress-comes does within
-      (λ left. progress-starts (stands-place s.stands) (s.settled left) left s.progress) s.progress
+      (λ left. progress-starts (is_at-place s.is_at) (s.settled left) left s.progress) s.progress
 
   pub call_ends-stops : {old value : V} {stream : List ℕ} {n : ℕ} {parser : Machine B} → call.may_stop ≡ true
       → n ≤ length call.bytes → (n < length call.bytes → call.is_terminated value ≡ true)
@@ -368,7 +368,7 @@ module _ {V B : Type 0} {call : ChunkCall V} where
   pub call_ends-reads : {old value : V} {stream : List ℕ} {n : ℕ} {parser : Machine B}
       → IsAtPosition call old value stream n parser
       → HasReadWithLimit call.limit parser (resumed_stream stream call.bytes n)
-  call_ends-reads s = record { place = s.place; stands = s.stands; is_after = s.progress.is_after }
+  call_ends-reads s = record { place = s.place; is_at = s.is_at; is_after = s.progress.is_after }
 
   -- of a call that reads all bytes
   pub call_ends-performs : {old value : V} {stream : List ℕ} {n : ℕ} {parser : Machine B} → n ≡ length call.bytes
@@ -386,9 +386,9 @@ module _ {V B : Type 0} {call : ChunkCall V} where
       → call.is_terminated value ≡ true → n ≤ length call.bytes
       → ((stream : List ℕ) → HasReadWithLimit call.limit before stream → IsAtPosition call old value stream n parser)
       → ReadsUpTo call old value n before parser
-  call_ends-at_stop does stopped within stands = search (rules, arith)
+  call_ends-at_stop does stopped within is_at = search (rules, arith)
 
   pub call_ends-with_all : {old value : V} {n : ℕ} {before parser : Machine B} → n ≡ length call.bytes
       → ((stream : List ℕ) → HasReadWithLimit call.limit before stream → IsAtPosition call old value stream n parser)
       → ReadsUpTo call old value n before parser
-  call_ends-with_all all stands = search (rules, arith)
+  call_ends-with_all all is_at = search (rules, arith)

@@ -177,12 +177,12 @@ advances-text {V} {call} {layout} {old} {new} {i} {j} {parser}
     inside-next : (value : V) (stream : List ℕ) → IsAtPosition call value old stream i parser
         → IsInsidePosition call value new stream j parser
     inside-next value stream s =
-        let here : s.place ≡ InText [] = place-settled_text e s.stands in
+        let here : s.place ≡ InText [] = place-settled_text e s.is_at in
         let c : ProgressAt call value old stream i (InText []) =
         subst (ProgressAt call value old stream i) here s.progress in
         record {
           place = InText [];
-          stands = subst (IsAtPlace call.limit parser) here s.stands;
+          is_at = subst (IsAtPlace call.limit parser) here s.is_at;
           progress =
               progress-further in_order high (λ does _. may_go_on does) (inside value stream c)
               (bytes_lead-text prints.run) prints.printed refl c;

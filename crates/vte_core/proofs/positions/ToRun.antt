@@ -12,7 +12,7 @@ use Rattle.vte_core.specs.declared.reader.run.Taken.{Taken}
 use Rattle.vte_core.proofs.bytes.Classes.{data_ends_nothing}
 use Rattle.vte_core.proofs.positions.Progress.{call_ends-comes, call_ends-reads, place-settled_text}
 use Rattle.vte_core.proofs.positions.TextRuns.{bytes_lead-text}
-use Rattle.vte_core.proofs.fields.PlaceOfState.{IsPlace, stands-in}
+use Rattle.vte_core.proofs.fields.PlaceOfState.{IsPlace, is_at-in}
 use Rattle.vte_core.proofs.places.PlaceLeads.{data-put}
 use Rattle.vte_core.proofs.streams.After.{added-nothing, added-reads, after-nothing, after-reads}
 use Rattle.vte_core.proofs.places.PartsToStream.{no_escape, bytes_lead-append, bytes_lead-byte, bytes_lead-nothing}
@@ -47,7 +47,7 @@ has-run : {B : Type 0} {limit : Option ℕ} {bytes : List ℕ} {place : RunRange
 has-run {limit} {bytes} {place} {parser} {here} is only reads range kind whole =
     search (rules, arith, added-reads, after-reads)
 
--- the text that stands from one position to another
+-- the text that is from one position to another
 pub has-text : {B : Type 0} {limit : Option ℕ} {bytes : List ℕ} {from end : ℕ} {parser : Machine B}
     → parser.state ≡ Text Nothing → from < end → end ≤ length bytes
     → IsRun false bytes from end → HasNoRunAt false bytes end
@@ -85,7 +85,7 @@ pub has-data : {B : Type 0} {limit : Option ℕ} {bytes : List ℕ} {from end : 
     → ArePut bytes from end → (end < length bytes → IsDeviceData (slice_index bytes end) → ⊥)
     → HasRun limit bytes (record { start = from; end = end; kind = DataKind }) parser
 has-data {limit} {bytes} {from} {end} {parser} begun low high are ended =
-    has-run tt (λ place s. data-by_place limit parser place (stands-in begun s))
+    has-run tt (λ place s. data-by_place limit parser place (is_at-in begun s))
     (bytes_lead-data bytes (end - from) from (omega (arith, low, high))
     (λ k above below. are k above (omega (arith, low, below))))
     (record { in_order = omega (arith, low); within = high }) tt (low, ended)
@@ -106,25 +106,25 @@ module _ {V B : Type 0} {call : ChunkCall V} {old new : V} {place : RunRange} {b
       → ((stream : List ℕ) → HasReadWithLimit call.limit before stream
       → IsAtPosition call old new stream place.start parser)
       → ComesToRun call old new place before parser
-  comes-to_run has some goes stands = search (rules, arith)
+  comes-to_run has some goes is_at = search (rules, arith)
 
   -- the call ends without a run
   pub comes-nowhere : {from : ℕ} → from ≤ length call.bytes → place.start ≡ from → place.end ≡ from
       → place.kind ≡ NoKind
       → ((stream : List ℕ) → HasReadWithLimit call.limit before stream → IsAtPosition call old new stream from parser)
       → (from < length call.bytes → call.is_terminated new ≡ true) → ComesToRun call old new place before parser
-  comes-nowhere within starts ends kind stands stops = record {
+  comes-nowhere within starts ends kind is_at stops = record {
     has = has-nowhere within starts ends kind;
-    stands_at =
+    is_at_position =
         λ stream h. subst (λ n. IsAtPosition call old new stream n parser) (sym starts)
-        (stands stream h);
+        (is_at stream h);
     may_go_on = λ some. absurd (omega (arith, some, starts, ends));
     stops = λ _ left. stops (omega (arith, starts, left));
   }
 
 -- ---- the run that is taken there
 
--- what is taken is what stands there
+-- what is taken is what is there
 record TakesRun (bytes : List ℕ) (end : ℕ) (these : List ℕ) (kind : RunKind) (taken : Taken) : Type 0 where
   are : taken_bytes taken ≡ these
   events : taken_events taken ≡ kind_events kind these
@@ -147,10 +147,10 @@ takes-run : {B : Type 0} {limit : Option ℕ} {bytes : List ℕ} {place : RunRan
 takes-run {bytes} {place} taken h is =
     takes-by_kind bytes place place.kind taken is h.kind (run-size bytes place h.is_range) h.whole
 
-stands-run : {B : Type 0} {limit : Option ℕ} {bytes : List ℕ} {run : Run} {place : RunRange} {parser : Machine B}
+is_run-in : {B : Type 0} {limit : Option ℕ} {bytes : List ℕ} {run : Run} {place : RunRange} {parser : Machine B}
     → HasRun limit bytes place parser → run.start ≡ place.start
     → run.end ≡ place.end → IsTaken place.kind (bytes_at bytes place) run.taken → IsRunIn bytes run
-stands-run {bytes} {run} {place} h starts ends taken = search (rules, arith, takes-run, run-size)
+is_run-in {bytes} {run} {place} h starts ends taken = search (rules, arith, takes-run, run-size)
 
 -- a call that comes to a run, as its callers see it
 module _ {V B : Type 0} {call : ChunkCall V} {old new : V} (run : Run) {place : RunRange} {before parser : Machine B}
@@ -161,13 +161,15 @@ module _ {V B : Type 0} {call : ChunkCall V} {old new : V} (run : Run) {place : 
   returns-run does =
       let these = takes-run run.taken c.has taken in
       record {
-        stands = stands-run c.has starts ends taken;
+        is_run = is_run-in c.has starts ends taken;
         comes =
             λ stream h.
             rw starts
             (call_ends-comes does (omega (arith, c.has.is_range.in_order, c.has.is_range.within))
-            (c.stands_at stream h));
-        adds = λ stream h. rw (starts, these.are, these.events) (c.has.adds _ (call_ends-reads (c.stands_at stream h)));
+            (c.is_at_position stream h));
+        adds =
+            λ stream h.
+            rw (starts, these.are, these.events) (c.has.adds _ (call_ends-reads (c.is_at_position stream h)));
         may_go_on = λ some. c.may_go_on (omega (arith, some, starts, ends));
         stops = λ none left. c.stops (omega (arith, none, starts, ends)) (omega (arith, left, starts));
       }
@@ -175,4 +177,4 @@ module _ {V B : Type 0} {call : ChunkCall V} {old new : V} (run : Run) {place : 
   pub reads-run : (stream : List ℕ) → HasReadWithLimit call.limit before stream
       → HasReadWithLimit call.limit parser (resumed_stream stream call.bytes run.start ++ run_bytes run)
   reads-run stream h =
-      rw (starts, (takes-run run.taken c.has taken).are) (c.has.reads _ (call_ends-reads (c.stands_at stream h)))
+      rw (starts, (takes-run run.taken c.has taken).are) (c.has.reads _ (call_ends-reads (c.is_at_position stream h)))

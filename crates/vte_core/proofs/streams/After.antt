@@ -27,7 +27,7 @@ takes_bytes-one e t = record {
   reported = t.reported;
   next = t.next;
   performed = t.performed;
-  stands = t.stands;
+  is_at = t.is_at;
   reads = bytes_lead-byte e t.leads;
 }
 
@@ -197,4 +197,4 @@ added-reads {limit} {bytes} {place} {next} {these} a r is =
 -- a parser between characters of a text has read nothing
 pub has_read-nothing : {B : Type 0} {limit : Option ℕ} {parser : Machine B} → IsAtPlace limit parser (InText [])
     → HasReadWithLimit limit parser []
-has_read-nothing s = record { place = InText []; stands = s; is_after = after-nothing }
+has_read-nothing s = record { place = InText []; is_at = s; is_after = after-nothing }

@@ -168,7 +168,7 @@ pub record IsAtPlace {B : Type 0} (limit : Option ℕ) (parser : Machine B)
 pub record HasReadWithLimit {B : Type 0} (limit : Option ℕ) (parser : Machine B)
     (stream : List ℕ) : Type 0 where
   pub place : Place
-  pub stands : IsAtPlace limit parser place
+  pub is_at : IsAtPlace limit parser place
   pub is_after : IsAfter limit stream place
 
 -- ---- a complete head
@@ -201,7 +201,7 @@ pub record ReadsHead (bytes : List ℕ) (i j : ℕ) (reached progress : HeadProg
   pub low : i ≤ j
   pub high : j ≤ length bytes
   pub head_bytes : AreInClass is_head_byte (take (j - i) (drop i bytes))
-  pub stands : (head : List ℕ) → HasReadHead old reached head
+  pub leads : (head : List ℕ) → HasReadHead old reached head
       → HasReadHead new progress (head ++ take (j - i) (drop i bytes))
 
 -- A head is read from position i up to `end`, and the byte there, if there is one, was looked at.

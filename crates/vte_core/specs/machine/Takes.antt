@@ -29,7 +29,7 @@ pub record TakesByte {V B : Type 0} (step : V → Event → V) (old new : V) (li
   pub reported : List Event
   pub next : Place
   pub performed : new ≡ after step old reported
-  pub stands : IsAtPlace limit parser next
+  pub is_at : IsAtPlace limit parser next
   pub leads : Leads limit place byte reported next
 
 -- The performer received a sequence, as one event. The parser is in a text then, and gave back
@@ -46,5 +46,5 @@ pub record TakesBytes {V B : Type 0} (step : V → Event → V) (old new : V) (l
   pub reported : List Event
   pub next : Place
   pub performed : new ≡ after step old reported
-  pub stands : IsAtPlace limit parser next
+  pub is_at : IsAtPlace limit parser next
   pub reads : BytesLead limit place bytes reported next

@@ -75,7 +75,7 @@ pub record HasRun {B : Type 0} (limit : Option ℕ) (bytes : List ℕ) (range : 
 pub record ComesToRun {V B : Type 0} (call : ChunkCall V) (old new : V) (range : RunRange)
     (parser next : Machine B) : Type 0 where
   pub has : HasRun call.limit call.bytes range next
-  pub stands_at : (stream : List ℕ) → HasReadWithLimit call.limit parser stream
+  pub is_at_position : (stream : List ℕ) → HasReadWithLimit call.limit parser stream
       → IsAtPosition call old new stream range.start next
   pub may_go_on : range.start < range.end → call.is_terminated new ≡ false
   pub stops : range.end ≡ range.start → range.start < length call.bytes

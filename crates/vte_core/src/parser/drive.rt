@@ -48,7 +48,7 @@ impl<B: Buffer> Machine<B> {
         performer: &mut P,
         input: Input<'_>,
     ) -> usize
-        ensures stands_at { (stream : List ℕ) → HasReadWithLimit B.limit self.old stream →
+        ensures is_at_position { (stream : List ℕ) → HasReadWithLimit B.limit self.old stream →
             IsAtPosition (chunk_call MAY_STOP P.step P.is_terminated B.limit input.entry.bytes.now)
             (P.value_of performer.old) (P.value_of performer.new) stream result self.new }
         ensures settled { result < length input.entry.bytes.now → IsSettled self.new.state }

@@ -13,7 +13,7 @@ use crate::utf8::{is_continuation, is_printed_ascii};
 
 /// After so many blocks of ASCII one after another, larger ones are tried: in text with a few other
 /// characters they would mostly be wasted. Without line ends, ASCII is read by words before.
-const PLAIN_BLOCKS: usize = 4;
+const ASCII_BLOCKS: usize = 4;
 
 impl Reader {
     /// Skips blocks of a run, and returns where the last character ended. With `layout`, the run
@@ -31,8 +31,8 @@ impl Reader {
         }
         let mut at = from;
         // Two are enough at first, since most runs are of ASCII.
-        let mut plain = PLAIN_BLOCKS / 2;
-        let most = if layout { PLAIN_BLOCKS } else { usize::MAX };
+        let mut plain = ASCII_BLOCKS / 2;
+        let most = if layout { ASCII_BLOCKS } else { usize::MAX };
         while let Some(window) = self.get_window(input, at - 3) {
             if !continues_run(&window, layout) {
                 break;
@@ -74,7 +74,7 @@ impl Reader {
         }
         let mut at = from;
         while let Some(block) = self.get_block::<32>(input, at) {
-            if !is_plain(&block) {
+            if !are_printed_or_layout(&block) {
                 break;
             }
             at += 32;
@@ -118,7 +118,7 @@ fn is_ascii(block: &[u8; 16]) -> bool {
 
 /// Returns whether 32 bytes are printed ASCII, HT, LF or CR.
 #[inline(always)]
-fn is_plain(block: &[u8; 32]) -> bool
+fn are_printed_or_layout(block: &[u8; 32]) -> bool
     ensures { result ≡ true → Each StaysBetween block.now 0 32 }
 {
     let mut all = true;

@@ -37,7 +37,7 @@ fn attribute(group: &[u16], groups: &mut ParamsIter<'_>) -> Option<Attr>
             colored_by(*number, read_color(kind, groups)?)
         }
         [number @ (38 | 48 | 58), numbers @ ..] => colored_by(*number, read_joined(numbers)?),
-        [number] => plain_attribute(*number),
+        [number] => attribute_of_one(*number),
         [4, numbers @ ..] => Some(underline(numbers)),
         _ => None,
     }
@@ -56,7 +56,7 @@ fn colored_by(number: u16, color: Color) -> Option<Attr>
 }
 
 /// Returns the attribute of a group of one number.
-fn plain_attribute(number: u16) -> Option<Attr>
+fn attribute_of_one(number: u16) -> Option<Attr>
     ensures { result ≡ entry_of attribute_rows number }
 {
     let attribute = match number {

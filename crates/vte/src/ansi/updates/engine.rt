@@ -43,7 +43,7 @@ impl<P: EventParser + Drop, B: TextBuffer + Drop, T: Timeout + Drop, A: Allocato
     /// timeout if memory runs out.
     pub(crate) fn new(alloc: A, parser: P, text: B, timeout: T) -> Result<Self, T>
         requires reads { P.view.has_read parser [] }
-        ensures stands { MatchResult result
+        ensures agrees { MatchResult result
             (λ engine. EngineHasParsedAndHolds
             (engine_view P.limit P.view B.text_size T.value_of) engine
             [] [] (T.value_of timeout)) (λ back. back ≡ timeout) }

@@ -23,7 +23,7 @@ returns c =
     } in
     let written = c.add_run.ensures.written in
     record {
-      within = omega (arith, returned.stands.within, c.requires.within);
+      within = omega (arith, returned.is_run.within, c.requires.within);
       reads_on = λ since reads. record {
         next = resumed_stream since rest run.start ++ run_bytes run;
         reads = rw unread at (call.ensures.reads since reads);

@@ -73,7 +73,7 @@ impl Params {
         }
     }
 
-    /// Returns the number of all numbers, including those joined by `:`.
+    /// Returns how many numbers there are, including those joined by `:`.
     pub fn len(&self) -> usize {
         self.numbers.len()
     }

@@ -86,7 +86,7 @@ unsafe fn take_run(bytes: &[u8], range: RunRange) -> Run<'_> {
 }
 
 impl Reader {
-    /// Only Rattle's contracts count.
+    /// Adds to the count, which only contracts read.
     fn count_looks(self, count: usize) {
         let _ = count;
     }

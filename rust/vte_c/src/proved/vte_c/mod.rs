@@ -61,8 +61,7 @@ pub fn vte_is_open(parser: &Saved) -> u8 {
     restored.open() as u8
 }
 
-/// Returns the version of this interface. It grows when programs compiled for an earlier version no
-/// longer work.
+/// Returns the version of this interface, which increases with each incompatible change.
 pub fn vte_version() -> u32 {
     VERSION
 }

@@ -5,7 +5,7 @@ mod fields;
 mod short;
 
 use crate::array_vec::ArrayVec;
-pub(crate) use short::{execute_line, put_line};
+pub(crate) use short::{line_of_execute, line_of_put};
 
 /// The size of a buffer for lines.
 const ROOM: usize = 8192;

@@ -2,7 +2,7 @@
 //! The performer that writes lines.
 
 use crate::proved::event_log::collector::{Collector, RunParser};
-use crate::proved::event_log::lines::{execute_line, put_line, Lines};
+use crate::proved::event_log::lines::{line_of_execute, line_of_put, Lines};
 use vte::{Params, Perform};
 
 /// Collects one line per event in a buffer of 8,192 bytes.
@@ -58,7 +58,7 @@ impl Perform for Recorder {
     }
 
     fn execute(&mut self, byte: u8) {
-        self.lines.append(&execute_line(byte));
+        self.lines.append(&line_of_execute(byte));
     }
 
     fn hook(&mut self, params: &Params, intermediates: &[u8], ignore: bool, action: char) {
@@ -66,7 +66,7 @@ impl Perform for Recorder {
     }
 
     fn put(&mut self, byte: u8) {
-        self.lines.append(&put_line(byte));
+        self.lines.append(&line_of_put(byte));
     }
 
     fn unhook(&mut self) {

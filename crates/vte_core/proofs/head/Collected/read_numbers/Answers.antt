@@ -22,7 +22,7 @@ loop-position-preserved c =
         | in-Some w ↦
             let is = rw w.in-Some.is at c.digit_of.ensures in
             rw (w.self-is, w.number-is)
-            (reads_head-parameter c.requires.may (omega arith) c.byte_at-byte.ensures.value is.3
+            (reads_head-parameter c.requires.may_have_parameters (omega arith) c.byte_at-byte.ensures.value is.3
             (record { intermediates = refl; too_many_intermediates = refl })
             (λ text k.
             counts-digit c.byte_at-byte.result k is.0 is.1 refl refl
@@ -33,7 +33,7 @@ loop-position-preserved c =
             let is : c.byte_at-byte.result ≡ 59 = w.if-byte-eq59.true in
             let alone = settled.joined ∙ v.joined ∙ c.requires.alone w.if-several.true in
             rw (w.self-is, w.number-is)
-            (reads_head-parameter c.requires.may (omega arith) c.byte_at-byte.ensures.value (rw is refl)
+            (reads_head-parameter c.requires.may_have_parameters (omega arith) c.byte_at-byte.ensures.value (rw is refl)
             (record {
               intermediates = settled.same.intermediates;
               too_many_intermediates =

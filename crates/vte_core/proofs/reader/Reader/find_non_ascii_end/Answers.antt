@@ -1,6 +1,6 @@
 -- At a byte that is not printed ASCII, a run goes on by a kept control or by one character, of two, three or four bytes
 -- (`run-*`), or it ends. It ends (`ends-*`) if the byte is single, the bytes end too soon, or a byte does not fit: each
--- test that fails excludes the character that would stand there.
+-- test that fails excludes the character that would be there.
 use Rattle.vte_core.proofs.Common.{refl, sym, ap, ◌∙◌, arith, false≢true, is_in, from_to, rules}
 use Rattle.vte_core.proofs.bytes.Runs.{no_run-single, no_run-long, no_run-two, no_run-three, no_run-four, run-layout}
 use Rattle.vte_core.proofs.bytes.Scalars.{in_range-bounds}

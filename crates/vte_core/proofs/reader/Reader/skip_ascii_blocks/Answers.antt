@@ -15,6 +15,6 @@ loop-block-preserved c =
       plain =
           each-both StaysBetween bytes c.args.from c.loop-block.at _ v.plain
           (each-block StaysBetween bytes c.in-Some.block c.loop-block.at 32 32 block.1 (omega arith)
-          (c.is_plain.ensures c.if-not-is_plain.false));
+          (c.are_printed_or_layout.ensures c.if-not-are_printed_or_layout.false));
       count = omega (arith, v.count, block.2);
     }

@@ -71,9 +71,9 @@ impl<B: Buffer> Machine<B> {
         self.continue_control_sequence::<P, G, MAY_STOP>(reader, performer, input, reached, from)
     }
 
-    /// Continues a control sequence, whose head was read up to `reached`. Numbers with `;` between
-    /// them, up to a final byte, have a way of their own: it is the usual one where a call has one
-    /// byte.
+    /// Continues a control sequence, whose head was read up to `reached`. There is a short way for
+    /// numbers with `;` between them and a final byte after them, which most bytes take if each
+    /// call has one byte.
     #[inline(always)]
     pub(crate) fn continue_control_sequence<
         P: CountedPerform<G> + ?Sized,

@@ -11,7 +11,7 @@ use crate::proved::vte_core::utf8::{is_continuation, is_printed_ascii};
 
 /// After so many blocks of ASCII one after another, larger ones are tried: in text with a few other
 /// characters they would mostly be wasted. Without line ends, ASCII is read by words before.
-const PLAIN_BLOCKS: usize = 4;
+const ASCII_BLOCKS: usize = 4;
 
 impl Reader {
     /// Skips blocks of a run, and returns where the last character ended. With `layout`, the run
@@ -24,8 +24,8 @@ impl Reader {
         }
         let mut at = from;
         // Two are enough at first, since most runs are of ASCII.
-        let mut plain = PLAIN_BLOCKS / 2;
-        let most = if layout { PLAIN_BLOCKS } else { usize::MAX };
+        let mut plain = ASCII_BLOCKS / 2;
+        let most = if layout { ASCII_BLOCKS } else { usize::MAX };
         while let Some(window) = self.get_window(input, at - 3) {
             if !continues_run(&window, layout) {
                 break;
@@ -55,7 +55,7 @@ impl Reader {
         }
         let mut at = from;
         while let Some(block) = self.get_block::<32>(input, at) {
-            if !is_plain(&block) {
+            if !are_printed_or_layout(&block) {
                 break;
             }
             at += 32;
@@ -91,7 +91,7 @@ fn is_ascii(block: &[u8; 16]) -> bool {
 
 /// Returns whether 32 bytes are printed ASCII, HT, LF or CR.
 #[inline(always)]
-fn is_plain(block: &[u8; 32]) -> bool {
+fn are_printed_or_layout(block: &[u8; 32]) -> bool {
     let mut all = true;
     for byte in block {
         all &= is_printed_ascii(*byte) | is_layout(*byte);

@@ -21,7 +21,7 @@ impl Lines {
     pub(crate) fn append_print(&mut self, c: char) {
         let number = c as u32;
         match number {
-            0..=0xff => self.append(&print_line(number as u8)),
+            0..=0xff => self.append(&line_of_print(number as u8)),
             0x100..=0xffff => {
                 let [third, fourth] = hex_pair((number / 0x100) as u8);
                 let [fifth, sixth] = hex_pair((number % 0x100) as u8);
@@ -50,7 +50,7 @@ impl Lines {
 }
 
 /// The line of a character below U+0100.
-pub(super) fn print_line(byte: u8) -> [u8; 11] {
+pub(super) fn line_of_print(byte: u8) -> [u8; 11] {
     let [high, low] = hex_pair(byte);
     [
         b'p', b'r', b'i', b'n', b't', b' ', b'0', b'0', high, low, b'\n',
@@ -58,7 +58,7 @@ pub(super) fn print_line(byte: u8) -> [u8; 11] {
 }
 
 /// The line of an executed byte.
-pub(crate) fn execute_line(byte: u8) -> [u8; 11] {
+pub(crate) fn line_of_execute(byte: u8) -> [u8; 11] {
     let [high, low] = hex_pair(byte);
     [
         b'e', b'x', b'e', b'c', b'u', b't', b'e', b' ', high, low, b'\n',
@@ -66,7 +66,7 @@ pub(crate) fn execute_line(byte: u8) -> [u8; 11] {
 }
 
 /// The line of a data byte.
-pub(crate) fn put_line(byte: u8) -> [u8; 7] {
+pub(crate) fn line_of_put(byte: u8) -> [u8; 7] {
     let [high, low] = hex_pair(byte);
     [b'p', b'u', b't', b' ', high, low, b'\n']
 }

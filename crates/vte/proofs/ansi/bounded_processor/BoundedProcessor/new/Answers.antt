@@ -12,12 +12,12 @@ returns g c =
     let memory = c.reserve.ensures.memory c.if-not-reserve.false [] reads in
     let has_memory = subst (λ text. HasTextMemory g.row.N text.size) (sym c.in_ok-engine.ensures.text) memory in
     record {
-      stands = record { stands = c.in_ok-engine.ensures.stands; has_memory = has_memory };
+      agrees = record { agrees = c.in_ok-engine.ensures.agrees; has_memory = has_memory };
       holds_well = search rules;
       timeout = search rules;
       parses_all = record {
         timeout = _;
-        stands = record { stands = c.in_ok-engine.ensures.stands; has_memory = has_memory };
+        agrees = record { agrees = c.in_ok-engine.ensures.agrees; has_memory = has_memory };
       };
     }
 
@@ -25,7 +25,7 @@ pub returns-in_err-engine : goal.returns-in_err-engine
 returns-in_err-engine g c =
     let e = err_from_is_err_and c.from_residual.result c.from_residual.ensures.1 in
     rw (e.1 ∙ ap Err e.2) (record {
-      stands = search rules;
+      agrees = search rules;
       holds_well = search rules;
       timeout = tt;
       parses_all = tt;

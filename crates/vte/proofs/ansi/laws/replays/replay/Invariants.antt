@@ -1,4 +1,4 @@
--- After some of the steps, these lead to where the processor stands.
+-- After some of the steps, these lead to where the processor is.
 use Rattle.vte.proofs.Common.{take, meaning_of, HasParsedAndHolds, IsAt, HasReplayed, State, usual_limit}
 use Rattle.vte.proofs.ansi.laws.replays.replay.Given as goal
 

@@ -5,7 +5,7 @@ use Rattle.vte_core.specs.SequenceKind.{DeviceControl, IgnoredString, SystemComm
 use Rattle.vte_core.proofs.bytes.Classes.{class-final, other_key}
 use Rattle.vte_core.proofs.positions.Stretches.{takes-byte}
 use Rattle.vte_core.proofs.positions.Progress.{settled-same_state}
-use Rattle.vte_core.proofs.fields.PlaceOfState.{stands-escape, stands-text_begun}
+use Rattle.vte_core.proofs.fields.PlaceOfState.{is_at-escape, is_at-text_begun}
 use Rattle.vte_core.proofs.places.PlaceLeads.{escape-key, escape-end}
 use Rattle.vte_core.proofs.parser.machine.Machine.begin_or_dispatch.Goals as goal
 
@@ -13,7 +13,7 @@ use Rattle.vte_core.proofs.parser.machine.Machine.begin_or_dispatch.Goals as goa
 pub returns-then-byte-eq80-clause-takes : goal.returns-then-byte-eq80-clause-takes
 unfolding sequence_kind
 returns-then-byte-eq80-clause-takes g c = λ s.
-    takes-byte refl (record { fields = c.begin_head.ensures.head (stands-escape _ s) })
+    takes-byte refl (record { fields = c.begin_head.ensures.head (is_at-escape _ s) })
     (escape-key DeviceControl (class-final _ c.requires.ends) (rw c.if-byte-eq80.true refl) refl)
 
 -- `]`: a command.
@@ -39,10 +39,10 @@ returns-else-begins_ignored_string-clause-takes g c = λ s.
     other_key c.args.byte c.requires.other c.if-byte-eq80.false c.if-byte-eq93.false
     ∙ rw (← c.begins_ignored_string.ensures, c.if-begins_ignored_string.false) refl in
     let d = c.dispatch_escape.ensures in
-    let holds = stands-escape _ s in
+    let holds = is_at-escape _ s in
     takes-byte
     (rw (holds.kept, holds.too_many_intermediates) at d.reports.value)
-    (stands-text_begun d.text)
+    (is_at-text_begun d.text)
     (escape-end (class-final _ c.requires.ends) refl key)
 
 pub returns-else-begins_ignored_string-clause-handles : goal.returns-else-begins_ignored_string-clause-handles

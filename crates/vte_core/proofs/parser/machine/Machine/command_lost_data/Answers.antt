@@ -1,6 +1,6 @@
 -- Data of a command were dropped if the store says so: by the state, and so the place, of the parser.
 use Rattle.vte_core.proofs.Common.{ℕ, Option, List, [], ◌∷◌, sym, Machine, State, SystemCommand, IsAtPlace, IsPlaceOfState, Place, InText, InSystemCommand, HoldsItems, SaysLoss, left_at, arith, rules}
-use Rattle.vte_core.proofs.fields.PlaceOfState.{stands-place}
+use Rattle.vte_core.proofs.fields.PlaceOfState.{is_at-place}
 use Rattle.vte_core.proofs.fields.Stores.{loses_held}
 use Rattle.vte_core.proofs.streams.After.{after-left}
 use Rattle.vte_core.proofs.parser.machine.Machine.command_lost_data.Goals as goal
@@ -19,4 +19,4 @@ by_place limit parser (InSystemCommand items) s =
 by_place limit parser _ s = tt
 
 pub returns-clause-open : goal.returns-clause-open
-returns-clause-open g c = search (rules, arith, after-left, stands-place, by_place)
+returns-clause-open g c = search (rules, arith, after-left, is_at-place, by_place)

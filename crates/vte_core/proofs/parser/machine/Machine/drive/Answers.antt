@@ -8,7 +8,7 @@ use Rattle.vte_core.proofs.parser.machine.Machine.drive.Goals as goal
 pub loop-position-init : goal.loop-position-init
 loop-position-init g c =
     let f = c.finish_character-position.ensures in
-    record { stands_at = f.stands_at; settled = f.settled; spends = search rules }
+    record { is_at_position = f.is_at_position; settled = f.settled; spends = search rules }
 
 -- The bytes that the state's function reads lead from there to where it ends.
 pub loop-position-preserved : goal.loop-position-preserved
@@ -20,7 +20,7 @@ returns-then-terminated-clause-reads g c = search (rules, arith, call_ends-at_st
 
 -- All bytes are read.
 pub returns-clause-reads : goal.returns-clause-reads
-returns-clause-reads g c = call_ends-with_all (omega arith) c.loop-position.invariant.stands_at
+returns-clause-reads g c = call_ends-with_all (omega arith) c.loop-position.invariant.is_at_position
 
 -- Memory was refused: what was read before adds up, and the refused byte is at that position.
 pub returns-in_err-position-clause-refuses : goal.returns-in_err-position-clause-refuses
@@ -29,7 +29,7 @@ returns-in_err-position-clause-refuses g c =
     let r = c.in_err-position.ensures in
     rw (e.1 ∙ ap Err e.2) (record {
       within = omega (arith, c.loop-position-test.true, c.len.ensures, r.refuses.stays);
-      stands_at = λ stream h. r.advances.goes_on _ stream (c.loop-position.invariant.stands_at stream h);
+      is_at_position = λ stream h. r.advances.goes_on _ stream (c.loop-position.invariant.is_at_position stream h);
       may_go_on = r.refuses.may_go_on;
       refused = r.refuses.refused;
     })

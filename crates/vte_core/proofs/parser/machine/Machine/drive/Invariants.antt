@@ -1,10 +1,10 @@
--- The call stands at this position, and no character is open there.
+-- The call is at this position, and no character is open there.
 use Rattle.vte_core.proofs.Common.{ℕ, ◌-◌, ◌<◌, not, eqb, List, length, SpendsWithin, HasReadWithLimit, IsSettled, IsAtPosition, chunk_call}
 use Rattle.vte_core.proofs.parser.machine.Machine.drive.Given as goal
 
 abbrev pub invariant-loop-position : goal.invariant-loop-position
 invariant-loop-position g l = record {
-  stands_at : (stream : List ℕ) → HasReadWithLimit g.B.Buffer.limit l.fn.self stream
+  is_at_position : (stream : List ℕ) → HasReadWithLimit g.B.Buffer.limit l.fn.self stream
       → IsAtPosition (chunk_call (not (eqb g.row.MAY_STOP 0)) g.P.CountedPerform.step g.P.CountedPerform.is_terminated
       g.B.Buffer.limit l.input.bytes.now) (g.P.CountedPerform.value_of l.fn.performer)
       (g.P.CountedPerform.value_of l.performer) stream l.position l.self;

@@ -17,7 +17,7 @@ returns-then-end-position-clause-comes g c =
     let found = c.find_run_end-end.ensures in
     let settled = settled-text c.in-Text.is (v.settled (omega arith)) in
     comes-to_run (has-text settled (omega arith) found.scans.high found.scans.passed found.ended) (omega arith)
-    (sym c.terminated.ensures ∙ c.if-not-terminated.true) v.stands_at
+    (sym c.terminated.ensures ∙ c.if-not-terminated.true) v.is_at_position
 
 -- In data: what it has found is put.
 pub returns-then-end-position-2-clause-comes : goal.returns-then-end-position-2-clause-comes
@@ -25,7 +25,7 @@ returns-then-end-position-2-clause-comes g c =
     let v = c.loop-position.invariant in
     let found = c.find_device_data_end-end.ensures in
     comes-to_run (has-data c.in-DeviceData.is (omega arith) found.high found.passed found.ended) (omega arith)
-    (sym c.terminated.ensures ∙ c.if-not-terminated.true) v.stands_at
+    (sym c.terminated.ensures ∙ c.if-not-terminated.true) v.is_at_position
 
 -- In a text that begins with no run: what is read there is reported by none.
 pub loop-position-preserved-else-end-position : goal.loop-position-preserved-else-end-position
@@ -33,10 +33,10 @@ loop-position-preserved-else-end-position g c =
     let v = c.loop-position.invariant in
     let read = c.read_unprinted-position.ensures.advances in
     record {
-      stands_at = λ stream h. read.goes_on _ stream (v.stands_at stream h);
+      is_at_position = λ stream h. read.goes_on _ stream (v.is_at_position stream h);
       settled = read.settled;
       outside_runs = λ stream h. reports-more (v.outside_runs stream h)
-          (read.outside_runs tt _ stream (v.stands_at stream h));
+          (read.outside_runs tt _ stream (v.is_at_position stream h));
       spends = search rules;
     }
 
@@ -46,30 +46,30 @@ loop-position-preserved-else-end-position-2 g c =
     let v = c.loop-position.invariant in
     let read = c.read_other_in_data-position.ensures.advances in
     record {
-      stands_at = λ stream h. read.goes_on _ stream (v.stands_at stream h);
+      is_at_position = λ stream h. read.goes_on _ stream (v.is_at_position stream h);
       settled = read.settled;
       outside_runs = λ stream h. reports-more (v.outside_runs stream h)
-          (read.outside_runs tt _ stream (v.stands_at stream h));
+          (read.outside_runs tt _ stream (v.is_at_position stream h));
       spends = search rules;
     }
 
--- In any other state no run can stand.
+-- In any other state there can't be a run.
 pub loop-position-preserved : goal.loop-position-preserved
 loop-position-preserved g c =
     let v = c.loop-position.invariant in
     let read = c.in_ok-position-in_default.ensures.advances in
     record {
-      stands_at = λ stream h. read.goes_on _ stream (v.stands_at stream h);
+      is_at_position = λ stream h. read.goes_on _ stream (v.is_at_position stream h);
       settled = read.settled;
       outside_runs =
           λ stream h.
           reports-more (v.outside_runs stream h)
           (read.outside_runs (outside-text_and_data _ c.in_default.not-Text c.in_default.not-DeviceData) _ stream
-          (v.stands_at stream h));
+          (v.is_at_position stream h));
       spends = search rules;
     }
 
--- Memory was refused: the call stands where the refused byte is.
+-- Memory was refused: the call is where the refused byte is.
 pub returns-in_err-position-in_default : goal.returns-in_err-position-in_default
 returns-in_err-position-in_default g c =
     let v = c.loop-position.invariant in
@@ -79,7 +79,7 @@ returns-in_err-position-in_default g c =
       comes = search rules;
       refuses = rw (e.1 ∙ ap Err e.2) (record {
         within = omega (arith, c.loop-position-test.true, c.len.ensures, r.refuses.stays);
-        stands_at = λ stream h. r.advances.goes_on _ stream (v.stands_at stream h);
+        is_at_position = λ stream h. r.advances.goes_on _ stream (v.is_at_position stream h);
         may_go_on = r.refuses.may_go_on;
         refused = r.refuses.refused;
       });
@@ -89,7 +89,7 @@ returns-in_err-position-in_default g c =
           rw (e.1 ∙ ap Err e.2)
           (reports-more (v.outside_runs stream h)
           (r.advances.outside_runs (outside-text_and_data _ c.in_default.not-Text c.in_default.not-DeviceData) _ stream
-          (v.stands_at stream h)));
+          (v.is_at_position stream h)));
     }
 
 -- No run: the performer was terminated, or all bytes are read.
@@ -97,7 +97,8 @@ pub returns-clause-comes : goal.returns-clause-comes
 returns-clause-comes g c =
     let v = c.loop-position.invariant in
     let empty = c.empty.ensures in
-    comes-nowhere v.spends.high empty.start empty.end empty.kind v.stands_at (λ left. elim c.loop-position-test.branch [
+    comes-nowhere v.spends.high empty.start empty.end empty.kind v.is_at_position
+    (λ left. elim c.loop-position-test.branch [
       | then-loop-position-test+else-not-terminated w ↦ sym w.terminated.ensures ∙ w.if-not-terminated.false
       | else-loop-position-test w ↦ absurd (omega (arith, left, w.loop-position-test.false, c.len.ensures))
     ])

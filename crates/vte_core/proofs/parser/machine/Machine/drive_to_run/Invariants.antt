@@ -4,7 +4,7 @@ use Rattle.vte_core.proofs.parser.machine.Machine.drive_to_run.Given as goal
 
 abbrev pub invariant-loop-position : goal.invariant-loop-position
 invariant-loop-position g l = record {
-  stands_at : (stream : List ℕ) → HasReadWithLimit g.B.Buffer.limit l.fn.self stream
+  is_at_position : (stream : List ℕ) → HasReadWithLimit g.B.Buffer.limit l.fn.self stream
       → IsAtPosition
       (chunk_call true g.P.CountedPerform.step g.P.CountedPerform.is_terminated g.B.Buffer.limit l.input.bytes.now)
       (g.P.CountedPerform.value_of l.fn.performer) (g.P.CountedPerform.value_of l.performer) stream l.position l.self;

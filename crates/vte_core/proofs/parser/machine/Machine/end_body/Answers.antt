@@ -2,7 +2,7 @@
 use Rattle.vte_core.proofs.Common.{[], ◌∷◌, refl, sym, ap, ◌∙◌, rules, Execute, closing_events_at, arith}
 use Rattle.vte_core.proofs.bytes.Classes.{ends_by_cancel}
 use Rattle.vte_core.proofs.positions.Stretches.{takes_bytes-escape, takes-byte}
-use Rattle.vte_core.proofs.fields.PlaceOfState.{stands-place}
+use Rattle.vte_core.proofs.fields.PlaceOfState.{is_at-place}
 use Rattle.vte_core.proofs.streams.After.{after_events-append, takes_bytes-one}
 use Rattle.vte_core.proofs.places.PartsToStream.{cancel_is_no_escape}
 use Rattle.vte_core.proofs.places.TextSteps.{byte-cancels}
@@ -23,7 +23,7 @@ returns-clause-takes g c = λ place s b.
     (after_events-append step (g.P.CountedPerform.value_of c.args.performer.now) (closing_events_at limit place)
     (Execute c.args.byte ∷ [])))
     (record { fields = (refl, refl) })
-    (byte-cancels (stands-place s) e))
+    (byte-cancels (is_at-place s) e))
 
 pub returns-clause-handles : goal.returns-clause-handles
 returns-clause-handles g c = search rules

@@ -4,7 +4,7 @@ use Rattle.vte_core.proofs.bytes.Classes.{class-final}
 use Rattle.vte_core.proofs.positions.Progress.{settled-same_state}
 use Rattle.vte_core.proofs.fields.Heads.{dispatched-ready, head-holds, ill_shaped-now}
 use Rattle.vte_core.proofs.places.PlaceLeads.{control-dispatched, control-silent}
-use Rattle.vte_core.proofs.fields.PlaceOfState.{stands-text_begun}
+use Rattle.vte_core.proofs.fields.PlaceOfState.{is_at-text_begun}
 use Rattle.vte_core.proofs.parser.machine.Machine.end_control_sequence.Goals as goal
 
 -- An ill-shaped head.
@@ -15,7 +15,7 @@ returns-in-IllShaped-clause-takes g c = λ head s.
       reported = [];
       next = InText [];
       performed = refl;
-      stands = record { fields = (refl, refl) };
+      is_at = record { fields = (refl, refl) };
       leads = control-silent (class-final _ c.requires.final_byte) ill;
     }
 
@@ -30,7 +30,7 @@ returns-clause-takes g c = λ head s.
       performed = d.reports.value
           ∙ ap (g.P.CountedPerform.step (g.P.CountedPerform.value_of c.args.performer.now))
           (dispatched-ready CsiDispatch c.args.byte ready);
-      stands = stands-text_begun d.text;
+      is_at = is_at-text_begun d.text;
       leads = control-dispatched (class-final _ c.requires.final_byte) ready.well_shaped;
     }
 

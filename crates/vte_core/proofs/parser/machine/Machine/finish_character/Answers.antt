@@ -1,4 +1,4 @@
--- Without an open character the call stands at its start. With one it stands where that is completed.
+-- Without an open character the call is at its start. With one it is where that is completed.
 use Rattle.vte_core.proofs.Common.{sym, ◌∙◌, false≢true, arith, rules}
 use Rattle.vte_core.proofs.positions.Characters.{opens-text}
 use Rattle.vte_core.proofs.positions.AddedEvents.{reports-nothing, reports-open}
@@ -12,7 +12,8 @@ returns-then-is_nothing-clause-stands_at g c = search (rules, arith, starts-at, 
 -- An open character: what completes it begins inside it.
 pub returns-else-is_nothing-clause-stands_at : goal.returns-else-is_nothing-clause-stands_at
 returns-else-is_nothing-clause-stands_at g c =
-    λ stream h. c.continue_character.ensures.completes.stands_at _ stream c.args.self.now c.in-Text.is (starts-inside h)
+    λ stream h.
+    c.continue_character.ensures.completes.is_at_position _ stream c.args.self.now c.in-Text.is (starts-inside h)
 
 -- Outside a text.
 pub returns-in_default-clause-stands_at : goal.returns-in_default-clause-stands_at

@@ -13,7 +13,7 @@ returns-in-IllShaped-clause-takes g c = λ head s.
       reported = [];
       next = InIgnoredString;
       performed = refl;
-      stands = record { fields = tt };
+      is_at = record { fields = tt };
       leads = device-ill_shaped (class-final _ c.requires) ill;
     }
 
@@ -28,7 +28,7 @@ returns-clause-takes g c = λ head s.
           c.hook.ensures.value
           ∙ ap (g.P.CountedPerform.step (g.P.CountedPerform.value_of c.args.performer.now))
           (dispatched-ready Hook c.args.byte f);
-      stands = record { fields = tt };
+      is_at = record { fields = tt };
       leads = device-well_shaped (class-final _ c.requires) f.well_shaped;
     }
 

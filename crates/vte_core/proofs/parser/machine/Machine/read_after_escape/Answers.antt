@@ -4,7 +4,7 @@ use Rattle.vte_core.proofs.Common.{[], refl, sym, ◌∙◌, arith, rules, class
 use Rattle.vte_core.proofs.bytes.Classes.{class-control, final_ends_nothing, class-intermediate, other_dispatches, head_ends_nothing, below_final, below_finals}
 use Rattle.vte_core.proofs.positions.Stretches.{takes_bytes-in, takes-at_escape, takes-byte, takes_bytes-dropped}
 use Rattle.vte_core.proofs.positions.Progress.{settled-same_state}
-use Rattle.vte_core.proofs.fields.PlaceOfState.{stands-by, stands-text_begun}
+use Rattle.vte_core.proofs.fields.PlaceOfState.{is_at-by, is_at-text_begun}
 use Rattle.vte_core.proofs.places.PlaceLeads.{byte-executed, escape-intermediate, escape-end}
 use Rattle.vte_core.proofs.parser.machine.Machine.read_after_escape.Goals as goal
 
@@ -13,7 +13,7 @@ pub returns-then-is_final-clause-takes : goal.returns-then-is_final-clause-takes
 returns-then-is_final-clause-takes g c =
     let is = sym c.is_final.ensures ∙ c.if-is_final.true in
     takes_bytes-in c.requires.begun (final_ends_nothing (class_of c.args.byte) is)
-    (takes-at_escape c.args.self.now (λ holds. c.begin_or_dispatch.ensures.takes (stands-by c.requires.begun holds)))
+    (takes-at_escape c.args.self.now (λ holds. c.begin_or_dispatch.ensures.takes (is_at-by c.requires.begun holds)))
 
 -- An intermediate is the first of the sequence.
 pub returns-then-is_intermediate-clause-takes : goal.returns-then-is_intermediate-clause-takes
@@ -34,7 +34,7 @@ returns-then-is_head_byte-clause-takes g c =
     (takes-at_escape c.args.self.now
     (λ holds. takes-byte
     (rw (holds.kept, holds.too_many_intermediates) at d.reports.value)
-    (stands-text_begun d.text)
+    (is_at-text_begun d.text)
     (escape-end refl ends (below_finals b (below_final b head)))))
 
 -- A control is executed; the place stays after ESC.
@@ -44,7 +44,7 @@ returns-then-is_plain_control-clause-takes g c =
     let is = class-control _ (sym c.is_plain_control.ensures ∙ c.if-is_plain_control.true) in
     takes_bytes-in c.requires.begun (rw is refl)
     (takes-at_escape c.args.self.now
-    (λ holds. takes-byte c.execute_control.ensures.value (stands-by c.requires.begun holds)
+    (λ holds. takes-byte c.execute_control.ensures.value (is_at-by c.requires.begun holds)
     (byte-executed refl is)))
 
 -- What is left is DEL and 80 to FF, which is dropped.

@@ -3,7 +3,7 @@ use Rattle.vte_core.proofs.Common.{refl, sym, ◌∙◌, rules, class_of}
 use Rattle.vte_core.proofs.bytes.Classes.{final_ends_nothing, other_in_head}
 use Rattle.vte_core.proofs.positions.Stretches.{takes-byte}
 use Rattle.vte_core.proofs.positions.HeadStretches.{DeviceHead, advances-head, advances-past_head, match-none, takes_bytes-head}
-use Rattle.vte_core.proofs.fields.PlaceOfState.{stands-by}
+use Rattle.vte_core.proofs.fields.PlaceOfState.{is_at-by}
 use Rattle.vte_core.proofs.places.PlaceLeads.{device-dropped}
 use Rattle.vte_core.proofs.parser.machine.Machine.read_device_control.Goals.{then-is_final, else-is_final+then-ends_body, else-is_final+else-ends_body}
 use Rattle.vte_core.proofs.parser.machine.Machine.read_device_control.Goals as goal
@@ -37,8 +37,8 @@ returns-in-Some g c =
             (sym c.is_final.ensures ∙ w.if-is_final.false) ordinary in
             rw (w.self-is, w.performer-is)
             (advances-past_head DeviceHead c.requires.begun read.reads.head next c.requires.may_go_on
-            (takes_bytes-head DeviceHead progress refl ordinary (λ bytes stands.
-            takes-byte refl (stands-by refl stands)
+            (takes_bytes-head DeviceHead progress refl ordinary (λ bytes is_at.
+            takes-byte refl (is_at-by refl is_at)
             (device-dropped refl dropped))) tt)
       ];
       moves = search rules;

@@ -1,4 +1,4 @@
--- The call stands at this position, in the data.
+-- The call is at this position, in the data.
 use Rattle.vte_core.proofs.Common.{◌≡◌, not, eqb, DeviceData, SpendsWithin, Advances, MayGoOn, chunk_call}
 use Rattle.vte_core.proofs.parser.machine.Machine.read_device_data.Given as goal
 

@@ -1,4 +1,4 @@
--- The call stands at this position, after ESC.
+-- The call is at this position, after ESC.
 use Rattle.vte_core.proofs.Common.{◌≡◌, not, eqb, Escape, SpendsWithin, Advances, MayGoOn, chunk_call}
 use Rattle.vte_core.proofs.parser.machine.Machine.read_escape.Given as goal
 

@@ -3,7 +3,7 @@ use Rattle.vte_core.proofs.Common.{◌≡◌, ℕ, zero, suc, ◌+◌, ◌-◌, 
 use Rattle.vte_core.proofs.bytes.Classes.{ends_not_cancel}
 use Rattle.vte_core.proofs.positions.Stretches.{advances-in, takes-in_ignored, takes-byte, advances-to_same, advances-nothing, advances-given, advances-then}
 use Rattle.vte_core.proofs.positions.Progress.{settled-same_state}
-use Rattle.vte_core.proofs.fields.PlaceOfState.{stands-by}
+use Rattle.vte_core.proofs.fields.PlaceOfState.{is_at-by}
 use Rattle.vte_core.proofs.places.PlaceLeads.{ignored-more}
 use Rattle.vte_core.proofs.parser.machine.Machine.read_ignored_string.Goals as goal
 
@@ -18,7 +18,7 @@ advances-by {call} {parser} (suc n) i begun within are may_go_on =
     advances-to_same (omega arith) (advances-then
     (advances-given tt (advances-in begun (omega (arith, within)) refl may_go_on ordinary
     (takes-in_ignored parser
-    (takes-byte refl (stands-by begun tt)
+    (takes-byte refl (is_at-by begun tt)
     (ignored-more (ends_not_cancel _ ordinary)))) (settled-same_state begun tt)))
     (advances-by n (i + 1) begun (omega (arith, within))
     (λ k low high. are k (omega (arith, low)) (omega (arith, high))) may_go_on))

@@ -4,7 +4,7 @@ use Rattle.vte_core.proofs.Common.{refl, sym, ◌∙◌, arith, rules, class_of}
 use Rattle.vte_core.proofs.bytes.Classes.{class-control, dispatch_ends_nothing, class-intermediate, other_than_intermediate}
 use Rattle.vte_core.proofs.positions.Stretches.{advances-in, takes-in_escape, takes-byte, advances-byte, advances-nothing, advances-given, advances-then}
 use Rattle.vte_core.proofs.positions.Progress.{settled-same_state}
-use Rattle.vte_core.proofs.fields.PlaceOfState.{stands-by, stands-text_begun}
+use Rattle.vte_core.proofs.fields.PlaceOfState.{is_at-by, is_at-text_begun}
 use Rattle.vte_core.proofs.places.PlaceLeads.{byte-dropped, byte-executed, intermediate-end, intermediate-more}
 use Rattle.vte_core.proofs.parser.machine.Machine.read_intermediates.Goals.{then-is_intermediate, else-is_intermediate+else-dispatches_escape+else-ends_body+else-is_plain_control}
 use Rattle.vte_core.proofs.parser.machine.Machine.read_intermediates.Goals as goal
@@ -27,7 +27,7 @@ loop-position-preserved g c =
             rw w.self-is
             (advances-given tt (advances-in v.begun (omega arith) c.byte_at-byte.ensures.value v.may_go_on (rw is refl)
             (takes-in_escape parser (λ ints holds. takes-byte refl
-            (stands-by v.begun (w.collect.ensures.holds ints holds)) (intermediate-more is)))
+            (is_at-by v.begun (w.collect.ensures.holds ints holds)) (intermediate-more is)))
             (settled-same_state v.begun tt)))
         -- A byte that is dropped.
         | else-is_intermediate+else-dispatches_escape+else-ends_body+else-is_plain_control w ↦
@@ -40,7 +40,7 @@ loop-position-preserved g c =
             (advances-given tt (advances-in v.begun (omega arith) c.byte_at-byte.ensures.value v.may_go_on ordinary
             (takes-in_escape parser
             (λ ints holds.
-            takes-byte refl (stands-by v.begun holds)
+            takes-byte refl (is_at-by v.begun holds)
             (byte-dropped refl refl dropped))) (settled-same_state v.begun tt)))
       ]);
       may_go_on = v.may_go_on;
@@ -64,7 +64,7 @@ returns-then-dispatches_escape-clause-advances g c =
     (dispatch_ends_nothing (class_of b) ends)
     (takes-in_escape c.loop-position.self
     (λ ints holds. takes-byte
-    (rw (holds.kept, holds.too_many_intermediates) at d.reports.value) (stands-text_begun d.text)
+    (rw (holds.kept, holds.too_many_intermediates) at d.reports.value) (is_at-text_begun d.text)
     (intermediate-end refl ends))) (settled-same_state d.text tt)))
 
 -- CAN, SUB or ESC: the sequence is left without being reported.
@@ -85,5 +85,5 @@ returns-then-is_plain_control-clause-advances g c =
     advances-then v.advances
     (advances-given tt (advances-in v.begun (omega arith) c.byte_at-byte.ensures.value v.may_go_on (rw is refl)
     (takes-in_escape c.loop-position.self
-    (λ ints holds. takes-byte c.execute_control.ensures.value (stands-by v.begun holds)
+    (λ ints holds. takes-byte c.execute_control.ensures.value (is_at-by v.begun holds)
     (byte-executed refl is))) (settled-same_state v.begun tt)))

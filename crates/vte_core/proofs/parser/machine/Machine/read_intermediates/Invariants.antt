@@ -1,4 +1,4 @@
--- The call stands at this position, after intermediates.
+-- The call is at this position, after intermediates.
 use Rattle.vte_core.proofs.Common.{◌≡◌, not, eqb, EscapeIntermediate, SpendsWithin, Advances, MayGoOn, chunk_call}
 use Rattle.vte_core.proofs.parser.machine.Machine.read_intermediates.Given as goal
 

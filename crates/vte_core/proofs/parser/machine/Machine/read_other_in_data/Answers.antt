@@ -2,7 +2,7 @@
 use Rattle.vte_core.proofs.Common.{refl, sym, ◌∙◌}
 use Rattle.vte_core.proofs.bytes.Classes.{ends_no_data, terminator_is_high}
 use Rattle.vte_core.proofs.positions.Stretches.{advances-in, takes-in_data, takes-byte, advances-given}
-use Rattle.vte_core.proofs.fields.PlaceOfState.{stands-by}
+use Rattle.vte_core.proofs.fields.PlaceOfState.{is_at-by}
 use Rattle.vte_core.proofs.positions.Progress.{settled-same_state}
 use Rattle.vte_core.proofs.places.PlaceLeads.{data-dropped, data-terminator}
 use Rattle.vte_core.proofs.parser.machine.Machine.read_other_in_data.Goals.{then-byte-eq-STRING_TERMINATOR, else-byte-eq-STRING_TERMINATOR}
@@ -29,6 +29,6 @@ returns-clause-advances g c =
           (ends_no_data c.args.byte ordinary w.if-byte-eq-STRING_TERMINATOR.false) c.requires.other in
           rw (w.self-is, w.performer-is)
           (advances-given c.requires.other (advances-in r.begun r.within r.looked_at r.may_go_on ordinary
-          (takes-in_data parser (takes-byte refl (stands-by r.begun tt) dropped))
+          (takes-in_data parser (takes-byte refl (is_at-by r.begun tt) dropped))
           (settled-same_state r.begun tt)))
     ]

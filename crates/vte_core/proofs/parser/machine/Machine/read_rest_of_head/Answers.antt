@@ -4,7 +4,7 @@ use Rattle.vte_core.proofs.Common.{refl, sym, ◌∙◌, rules, class_of}
 use Rattle.vte_core.proofs.bytes.Classes.{class-control, other_is_dropped}
 use Rattle.vte_core.proofs.positions.Stretches.{takes-byte}
 use Rattle.vte_core.proofs.positions.HeadStretches.{advances-control_sequence, ControlHead, advances-head, advances-past_head, takes_bytes-head}
-use Rattle.vte_core.proofs.fields.PlaceOfState.{stands-by}
+use Rattle.vte_core.proofs.fields.PlaceOfState.{is_at-by}
 use Rattle.vte_core.proofs.places.PlaceLeads.{byte-dropped, byte-executed}
 use Rattle.vte_core.proofs.parser.machine.Machine.read_rest_of_head.Goals.{then-ends_body, else-ends_body+then-is_plain_control, else-ends_body+else-is_plain_control}
 use Rattle.vte_core.proofs.parser.machine.Machine.read_rest_of_head.Goals as goal
@@ -44,8 +44,8 @@ returns-in-Some-clause-advances g c =
           let is = class-control _ (sym w.is_plain_control.ensures ∙ w.if-is_plain_control.true) in
           rw (w.self-is, w.performer-is)
           (advances-past_head ControlHead c.requires.begun read.reads.head next c.requires.may_go_on
-          (takes_bytes-head ControlHead progress refl (rw is refl) (λ bytes stands.
-          takes-byte w.execute_control.ensures.value (stands-by refl stands)
+          (takes_bytes-head ControlHead progress refl (rw is refl) (λ bytes is_at.
+          takes-byte w.execute_control.ensures.value (is_at-by refl is_at)
           (byte-executed refl is))) tt)
       -- A byte that is dropped.
       | else-ends_body+else-is_plain_control w ↦
@@ -56,8 +56,8 @@ returns-in-Some-clause-advances g c =
           (sym w.is_plain_control.ensures ∙ w.if-is_plain_control.false) in
           rw (w.self-is, w.performer-is)
           (advances-past_head ControlHead c.requires.begun read.reads.head next c.requires.may_go_on
-          (takes_bytes-head ControlHead progress refl ordinary (λ bytes stands.
-          takes-byte refl (stands-by refl stands)
+          (takes_bytes-head ControlHead progress refl ordinary (λ bytes is_at.
+          takes-byte refl (is_at-by refl is_at)
           (byte-dropped refl refl dropped))) tt)
     ]
 

@@ -1,4 +1,4 @@
--- In a round the call may first print a run of ASCII (`reached`), and then stands before a byte (`at`), which it reads
+-- In a round the call may first print a run of ASCII (`reached`), and then is_at before a byte (`at`), which it reads
 -- by one of three branches, of which two join (`read`).
 use Rattle.vte_core.proofs.Common.{◌<◌, length, sym, ◌∙◌, arith, rules, Advances, Text, Nothing}
 use Rattle.vte_core.specs.machine.Prelude.{MayReadByte}
@@ -27,7 +27,7 @@ reached g c =
       | else-is_printed_ascii w ↦ rw (w.performer-is, w.position-is) v.advances
     ]
 
--- the byte before which it stands then
+-- the byte before which it is then
 at : (g : Over) (c : Joined-is_printed_ascii g) → MayReadByte (call_at g c.args.input.bytes.now)
     (g.P.CountedPerform.value_of c.if-is_printed_ascii.performer) (Text Nothing) c.loop-position.self
     c.if-is_printed_ascii.position c.if-is_printed_ascii.byte
@@ -73,7 +73,7 @@ loop-position-preserved-in-None g c =
       progress = search rules;
     }
 
--- The two functions that read on begin where the call stands.
+-- The two functions that read on begin where the call is.
 pub read_run_at_lead-position-requires-clause-may_read : goal.read_run_at_lead-position-requires-clause-may_read
 read_run_at_lead-position-requires-clause-may_read g c = at g
     (goal.at.read_run_at_lead-position-requires-clause-may_read g c).Joined-is_printed_ascii

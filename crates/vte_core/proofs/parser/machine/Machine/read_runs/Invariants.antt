@@ -1,4 +1,4 @@
--- The call stands at this position, between characters if bytes are left. A byte has five looks at most.
+-- The call is at this position, between characters if bytes are left. A byte has five looks at most.
 use Rattle.vte_core.proofs.Common.{◌≡◌, ◌+◌, ◌-◌, ◌*◌, ◌<◌, ◌≤◌, not, eqb, List, ℕ, length, Text, Nothing, looked, Advances, MayGoOn, ChunkCall, chunk_call}
 use Rattle.vte_core.proofs.parser.machine.Machine.read_runs.Given as goal
 

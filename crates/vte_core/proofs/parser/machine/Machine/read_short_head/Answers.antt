@@ -32,7 +32,9 @@ returns-then-byte-eq59-clause-advances g c =
     advances-then
     (advances-head ControlHead c.requires.may_read.begun
     (reads_head-then numbers.reads.head (reads_head-byte next.0 next.1 (rw is refl) (λ head s.
-    rw is (holds-parameter head 59 numbers.may s refl c.end_number.ensures.same c.end_number.ensures.counts))))
+    rw is
+    (holds-parameter head 59 numbers.may_have_parameters s refl c.end_number.ensures.same
+    c.end_number.ensures.counts))))
     c.requires.may_read.may_go_on refl)
     c.read_more_numbers.ensures.advances
 

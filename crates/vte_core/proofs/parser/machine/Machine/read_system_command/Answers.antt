@@ -3,7 +3,7 @@
 use Rattle.vte_core.proofs.Common.{◌≡◌, ◌<◌, length, [], ◌∷◌, ◌++◌, refl, sym, subst, ◌∙◌, arith, ne_eqb, Machine, HoldsItems, IsCommandData, rules}
 use Rattle.vte_core.proofs.bytes.Classes.{other_is_control}
 use Rattle.vte_core.proofs.positions.Stretches.{advances-in, takes-in_system_command, takes-byte, advances-items, advances-given, advances-then}
-use Rattle.vte_core.proofs.fields.PlaceOfState.{stands-by}
+use Rattle.vte_core.proofs.fields.PlaceOfState.{is_at-by}
 use Rattle.vte_core.proofs.fields.Stores.{pieces_held}
 use Rattle.vte_core.proofs.positions.Progress.{settled-same_state}
 use Rattle.vte_core.proofs.places.PlaceLeads.{command-item, command-control, command-bell}
@@ -41,7 +41,7 @@ returns-clause-advances g c =
           rw (w.self-is, w.performer-is)
           (advances-given tt (advances-in begun within here.1 r.may_go_on ordinary
           (takes-in_system_command after_data (λ items keeps. takes-byte refl
-          (stands-by begun
+          (is_at-by begun
           (subst (λ b. HoldsItems limit w.end_piece.new.self (items ++ b ∷ [])) (sym is)
           (w.end_piece.ensures.holds items keeps)))
           (command-item (omega (arith, is))))) (settled-same_state begun tt)))
@@ -59,7 +59,7 @@ returns-clause-advances g c =
           rw (w.self-is, w.performer-is)
           (advances-given tt (advances-in begun within here.1 r.may_go_on ordinary
           (takes-in_system_command after_data
-          (λ items keeps. takes-byte refl (stands-by begun keeps)
+          (λ items keeps. takes-byte refl (is_at-by begun keeps)
           (command-control (other_is_control byte ordinary no_data w.if-byte-eq59.false)
           (ne_eqb _ _ w.if-byte-eq-BELL.false)))) (settled-same_state begun tt)))
     ])

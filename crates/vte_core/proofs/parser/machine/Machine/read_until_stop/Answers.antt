@@ -1,4 +1,4 @@
--- A round reads the byte before which the call stands: what begins with a lead byte by a branch of its own, and a
+-- A round reads the byte before which the call is: what begins with a lead byte by a branch of its own, and a
 -- character, a control or malformed byte alone by two that join.
 use Rattle.vte_core.proofs.Common.{◌≡◌, ◌+◌, ◌<◌, length, slice_index, sym, ◌∙◌, arith, rules, Advances}
 use Rattle.vte_core.proofs.positions.Progress.{settled-same_state}
@@ -14,7 +14,7 @@ read_alone : (g : Over) (c : Joined-is_printed_ascii g)
     (g.P.CountedPerform.value_of c.if-is_printed_ascii.performer) c.args.from (c.loop-position-2.position + 1)
     c.args.self.now c.loop-position-2.self
 read_alone g c =
-    let v = c.loop-position-2.invariant.stands in
+    let v = c.loop-position-2.invariant.is_at in
     let within : c.loop-position-2.position < length c.args.input.bytes.now =
     omega (arith, c.loop-position.invariant.prefix, c.loop-position-2-test.true) in
     let looked_at : c.byte_at-byte.result ≡ slice_index c.args.input.bytes.now c.loop-position-2.position =
@@ -36,7 +36,7 @@ read_alone g c =
 -- A stop, after what begins with a lead byte and after any other byte.
 pub returns-then-terminated-clause-advances : goal.returns-then-terminated-clause-advances
 returns-then-terminated-clause-advances g c =
-    advances-then c.loop-position-2.invariant.stands.advances
+    advances-then c.loop-position-2.invariant.is_at.advances
     (advances-without_promise c.read_character-position.ensures.advances)
 
 pub returns-then-terminated-2-clause-advances : goal.returns-then-terminated-2-clause-advances
@@ -48,8 +48,8 @@ pub loop-position-2-preserved-then-is_lead : goal.loop-position-2-preserved-then
 loop-position-2-preserved-then-is_lead g c =
     let read = c.read_character-position.ensures in
     record {
-      stands = record {
-        advances = advances-then c.loop-position-2.invariant.stands.advances (advances-without_promise read.advances);
+      is_at = record {
+        advances = advances-then c.loop-position-2.invariant.is_at.advances (advances-without_promise read.advances);
         may_go_on = search rules;
         settled = λ inside. read.text inside;
         low = search rules;
@@ -65,11 +65,11 @@ loop-position-2-preserved-then-is_lead g c =
 
 pub loop-position-2-preserved : goal.loop-position-2-preserved
 loop-position-2-preserved g c =
-    let v = c.loop-position-2.invariant.stands in
+    let v = c.loop-position-2.invariant.is_at in
     let within : c.loop-position-2.position < length c.args.input.bytes.now =
     omega (arith, c.loop-position.invariant.prefix, c.loop-position-2-test.true) in
     record {
-      stands = record {
+      is_at = record {
         advances = read_alone g (goal.at.loop-position-2-preserved g c).Joined-is_printed_ascii;
         may_go_on = search rules;
         settled = λ _. v.settled within;

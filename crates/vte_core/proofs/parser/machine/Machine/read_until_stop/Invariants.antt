@@ -1,4 +1,4 @@
--- The call stands at this position, between characters if bytes are left. A byte of the text has three looks at most,
+-- The call is at this position, between characters if bytes are left. A byte of the text has three looks at most,
 -- and one more if it is searched: a call that may stop searches no further than it has read. Both loops keep that.
 use Rattle.vte_core.proofs.Common.{◌≡◌, ◌+◌, ◌-◌, ◌*◌, ◌<◌, ◌≤◌, ℕ, true, List, Machine, length, slice_index, Text, Nothing, looked, Advances, MayGoOn, ChunkCall, chunk_call}
 use Rattle.vte_core.proofs.parser.machine.Machine.read_until_stop.Given as goal
@@ -8,7 +8,7 @@ abbrev pub call_at : (g : goal.Over) → List ℕ → ChunkCall g.P.CountedPerfo
 call_at g bytes =
     chunk_call true g.P.CountedPerform.step g.P.CountedPerform.is_terminated g.B.Buffer.limit bytes
 
--- where the call stands, and what it has cost: `prefix` is what may be read before the next search
+-- where the call is_at, and what it has cost: `prefix` is what may be read before the next search
 pub record IsInText {B : Type 0} (g : goal.Over) (bytes prefix : List ℕ) (old value : g.P.CountedPerform.Value)
     (from position : ℕ) (before parser : Machine B) (start looks : ℕ) : Type 0 where
   pub advances : Advances ⊥ (call_at g bytes) old value from position before parser
@@ -23,7 +23,7 @@ pub record IsInText {B : Type 0} (g : goal.Over) (bytes prefix : List ℕ) (old 
 
 abbrev pub invariant-loop-position-2 : goal.invariant-loop-position-2
 invariant-loop-position-2 g l = record {
-  stands : IsInText g l.input.bytes.now l.prefix.bytes.now (g.P.CountedPerform.value_of l.fn.performer)
+  is_at : IsInText g l.input.bytes.now l.prefix.bytes.now (g.P.CountedPerform.value_of l.fn.performer)
       (g.P.CountedPerform.value_of l.performer) l.from l.position l.fn.self l.self (looked l.fn.reader)
       (looked l.reader);
   moves : l.initial.position ≤ l.position;
@@ -35,7 +35,7 @@ decreases-loop-position-2 g l = length l.prefix.bytes.now - l.position
 
 abbrev pub invariant-loop-position : goal.invariant-loop-position
 invariant-loop-position g l = record {
-  stands : IsInText g l.input.bytes.now l.prefix.bytes.now (g.P.CountedPerform.value_of l.fn.performer)
+  is_at : IsInText g l.input.bytes.now l.prefix.bytes.now (g.P.CountedPerform.value_of l.fn.performer)
       (g.P.CountedPerform.value_of l.performer) l.from l.position l.fn.self l.self (looked l.fn.reader)
       (looked l.reader);
   prefix : length l.prefix.bytes.now ≤ length l.input.bytes.now;

@@ -32,7 +32,7 @@ pub(crate) fn perform_control<H: InputAs<G> + ?Sized, G>(
                 handler.identify_terminal(intermediates.first().map(|byte| char::from(*byte)));
             }
         }
-        ([], _) => perform_plain::<H, G>(handler, last, params, action),
+        ([], _) => perform_without_intermediates::<H, G>(handler, last, params, action),
         ([b'?'], 'W') => {
             if numbers.next_or(0) == 5 {
                 handler.set_tabs(8);
@@ -72,7 +72,7 @@ pub(crate) fn perform_control<H: InputAs<G> + ?Sized, G>(
 
 /// Makes the calls of a control sequence without intermediates, except those of DA.
 #[inline]
-fn perform_plain<H: InputAs<G> + ?Sized, G>(
+fn perform_without_intermediates<H: InputAs<G> + ?Sized, G>(
     handler: &mut H,
     last: Option<char>,
     params: &Params,

@@ -6,5 +6,5 @@ use Rattle.vte.proofs.ansi.updates.engine.Engine.stop.Goals as goal
 pub returns-clause-stopped : goal.returns-clause-stopped
 returns-clause-stopped g c = stops_update (λ stream count had. had) (λ s at.
     c.end_update.ensures.stops s 0 (parts-at at)
-    (c.release_all.ensures.released ∙ at.stands.holds) c.release_all.ensures.held
-    (λ some. rw add-zero (at.stands.has_memory some)))
+    (c.release_all.ensures.released ∙ at.agrees.holds) c.release_all.ensures.held
+    (λ some. rw add-zero (at.agrees.has_memory some)))

@@ -15,7 +15,7 @@ loop-slice-init g c =
       reaches = λ s at. (omega arith, parsing-nothing _ s c.args.bytes.now (next-at at));
     }
 
--- Memory was refused for a slice: the processor stands before it.
+-- Memory was refused for a slice: the processor is before it.
 pub returns-then-not-reserve-clause-parsed : goal.returns-then-not-reserve-clause-parsed
 returns-then-not-reserve-clause-parsed g c = λ s at.
     let o = (c.loop-slice.invariant.reaches s at).1 in
@@ -31,7 +31,7 @@ returns-then-begins-clause-parsed g c = λ s at.
     let slice =
     slice_size c.args.bytes.now c.loop-slice.read c.loop-slice.invariant.within
     (omega (arith, c.min-count.ensures)) in
-    let e = slice_parsed o c.if-not-reserve.ensures.reserved slice (sym at.stands.holds ∙ c.requires.none)
+    let e = slice_parsed o c.if-not-reserve.ensures.reserved slice (sym at.agrees.holds ∙ c.requires.none)
     c.parse_until_begin-parsed.ensures.stops in
     elim c.then-begins.branch [
       -- An update begins.
@@ -71,7 +71,7 @@ loop-slice-preserved g c =
           );
       reaches = λ s at.
           let o = before.reaches s at in
-          let e = slice_parsed o.1 c.if-not-reserve.ensures.reserved slice (sym at.stands.holds ∙ c.requires.none)
+          let e = slice_parsed o.1 c.if-not-reserve.ensures.reserved slice (sym at.agrees.holds ∙ c.requires.none)
           c.parse_until_begin-parsed.ensures.stops in (
             omega (
               arith,

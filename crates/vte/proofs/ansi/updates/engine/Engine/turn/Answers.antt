@@ -15,7 +15,7 @@ returns-clause-turned g c = λ s at.
       -- The bytes don't fit the hold.
       | else-pending-via-then-pending+else-has_room w ↦
           let full : nat_le (length s.held + length c.args.bytes.now) most_held ≡ false =
-          rw (← at.stands.holds) (sym w.has_room.ensures ∙ w.if-has_room.false) in
+          rw (← at.agrees.holds) (sym w.has_room.ensures ∙ w.if-has_room.false) in
           rw (full, and-false) refl
       -- No update is pending.
       | else-pending-via-else-pending w ↦ rw w.if-pending.false refl
@@ -31,19 +31,19 @@ returns-clause-turned g c = λ s at.
             | then-pending-2-via-then-pending-2 v ↦ rw v.if-pending-2.true refl
             | then-pending-2-via-else-pending-2+then-len-gt0 v ↦
                 let some : 0 < length s.held =
-                rw (← at.stands.holds) (omega (arith, v.len.ensures.count, v.if-len-gt0.true)) in
+                rw (← at.agrees.holds) (omega (arith, v.len.ensures.count, v.if-len-gt0.true)) in
                 grind (arith, nat_tests)
           ] in
           rw (w.self-is, w.handler-is, stopped) (stops-next w.stop.ensures.stopped at)
       -- Nothing is held.
       | else-pending-2+else-len-gt0 w ↦
           let none : length s.held ≡ 0 =
-          rw (← at.stands.holds) (omega (arith, w.len.ensures.count, w.if-len-gt0.false)) in
+          rw (← at.agrees.holds) (omega (arith, w.len.ensures.count, w.if-len-gt0.false)) in
           let free : is_stopped pending s ≡ false = rw (w.if-pending-2.false, none) refl in
           rw (w.self-is, w.handler-is, free) (next-at at)
     ] in
     ends_turn pending
-    (rw at.stands.timeout_is at c.pending_timeout-pending.ensures) parses here.keeps_memory _
+    (rw at.agrees.timeout_is at c.pending_timeout-pending.ensures) parses here.keeps_memory _
     c.take_parsing_turn.ensures.within
     (c.take_parsing_turn.ensures.parsed _ here.engine_at)
 
@@ -52,13 +52,13 @@ pub returns-then-has_room-clause-turned : goal.returns-then-has_room-clause-turn
 returns-then-has_room-clause-turned g c = λ s at.
     let here = kept-next c.reserve.ensures.reserved (next-at at) in
     let fits : nat_le (length s.held + length c.args.bytes.now) most_held ≡ true =
-    rw (← at.stands.holds) (sym c.has_room.ensures ∙ c.if-has_room.true) in
+    rw (← at.agrees.holds) (sym c.has_room.ensures ∙ c.if-has_room.true) in
     let held : is_held c.pending_timeout-pending.result s c.args.bytes.now ≡ true = rw (c.if-pending.true, fits) refl in
     record {
-      turned = turned_hold _ (rw at.stands.timeout_is at c.pending_timeout-pending.ensures) held refl
+      turned = turned_hold _ (rw at.agrees.timeout_is at c.pending_timeout-pending.ensures) held refl
           (after-next here.keeps_memory
           (c.hold_bytes.ensures s here.engine_at
-          (c.if-not-reserve.ensures.reserved.memory refl _ _ _ here.engine_at.stands)));
+          (c.if-not-reserve.ensures.reserved.memory refl _ _ _ here.engine_at.agrees)));
       refused = tt;
     }
 

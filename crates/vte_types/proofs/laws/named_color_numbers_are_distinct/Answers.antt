@@ -1,6 +1,6 @@
 -- A table reads the colour back from its number (`Shades`).
 use Rattle.vte_types.proofs.Colors.{number_decides}
-use Rattle.vte_types.proofs.laws.named_colors_have_numbers_of_their_own.Goals as goal
+use Rattle.vte_types.proofs.laws.named_color_numbers_are_distinct.Goals as goal
 
 pub returns : goal.returns
 returns c = number_decides

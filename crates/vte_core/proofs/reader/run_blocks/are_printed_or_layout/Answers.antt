@@ -2,7 +2,7 @@
 use Rattle.vte_core.proofs.Common.{ℕ, arith, nat_tests, and_parts, refl, slice_index, ◌||◌}
 use Rattle.vte_core.specs.machine.Automaton.{StaysBetween}
 use Rattle.vte_core.proofs.bytes.Runs.{each-next}
-use Rattle.vte_core.proofs.reader.run_blocks.is_plain.Goals as goal
+use Rattle.vte_core.proofs.reader.run_blocks.are_printed_or_layout.Goals as goal
 
 pub loop-byte-preserved : goal.loop-byte-preserved
 loop-byte-preserved c = λ all.

@@ -2,7 +2,7 @@
 use Rattle.std.proofs.Common.{◌≡◌, true}
 use Rattle.vte_core.specs.machine.Automaton.{StaysBetween}
 use Rattle.vte_core.specs.machine.Scans.{Each}
-use Rattle.vte_core.proofs.reader.run_blocks.is_plain.Given as goal
+use Rattle.vte_core.proofs.reader.run_blocks.are_printed_or_layout.Given as goal
 
 abbrev pub invariant-loop-byte : goal.invariant-loop-byte
 invariant-loop-byte l = l.all ≡ true → Each StaysBetween l.block 0 l.byte-index

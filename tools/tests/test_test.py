@@ -11,13 +11,13 @@ from tests.support import TOOLS, write
 
 # runs tools/test with parts in the place of its own: those at once, and those after them
 RUN = """import runpy, sys
-Part, main = map(runpy.run_path("tools/test").get, ["Part", "main"])
+test = runpy.run_path("tools/test"); Part = test["Part"]
 first = [Part("first", "bash", ["try first", "try again"]),
          Part("lacking", "bash no-such-command", ["try lacking"]),
          Part("far", "rust=1.0 no-such-program", ["try far"])]
 later = [Part("second", "bash crates rust-1.2", ["try second 'missing: a thing: not tried'"],
               "no-such-tool"), Part("proofs", "rt", ["rt ci"])]
-sys.exit(main(sys.argv[1:], (first, later, [])))"""
+sys.exit(test["main"](sys.argv[1:], (first, later, [])))"""
 PROGRAMS = {
     "bin/try": '#!/bin/sh\necho $1 >>asked\necho said by $1\necho $2\n'
                '[ $1 != "$FAILS" ] && [ "$CARGO_HOME" = next ]\n',

@@ -144,10 +144,10 @@ def compare_checksums(name, sides, place):
     """Stops if the sides' checksums of a stream differ. They get it in one call, because the
     crate's events can be wrong in chunks."""
     size = str(place.stat().st_size)
-    told = {side: run([*commands[0], size, "1"], place)[0] for side, commands in sides.items()
-            if side not in REFERENCES}
-    if len(set(told.values())) > 1:
-        builder.stop(f"the checksums of {name} differ: {told}")
+    checksums = {side: run([*commands[0], size, "1"], place)[0] for side, commands in sides.items()
+                 if side not in REFERENCES}
+    if len(set(checksums.values())) > 1:
+        builder.stop(f"the checksums of {name} differ: {checksums}")
 
 
 def rows(kind, programs, given):

@@ -135,10 +135,10 @@ class Reader:
         is_cut_short = begun and self.at(end) in ("", ESC, *ENDS)
         lines = {"subparts": ["print fffd"], "bytes": ["print fffd"] * len(segment), "drop": []}
         # at the end of the stream it is open
-        is_told = end < len(self.text) or not begun
+        is_reported = end < len(self.text) or not begun
         self.add(["unfinished" if is_cut_short else "malformed",
                   *["surrogate" if segment[0] == "\xed" else "overlong"] * bool(is_formed)],
-                 start, end, *lines[self.house.malformed] * is_told)
+                 start, end, *lines[self.house.malformed] * is_reported)
 
     # ---- sequences
 
@@ -238,7 +238,7 @@ class Reader:
         self.dropped_string(escape, key + 1, "ignored-string")
 
     def dropped_string(self, escape, start, rule):
-        """A string of which nothing is told, up to ESC, CAN or SUB."""
+        """A string of which nothing is reported, up to ESC, CAN or SUB."""
         stop = self.first(ST * (self.house.ignored_9c == "ends"), start)
         last, text = self.at(stop), self.text[start:stop]
         has_other = rule == "ignored-string" and re.search("[^\x08-\x0d -~]", text)
@@ -259,12 +259,17 @@ class Reader:
         kept, pieces = command_pieces(items, house)
         is_cut_short = self.at(stop + 1) != "\\" if last == ESC else last in ENDS
         data = len(items) - items.count(";")
-        rules = {"limit": kept < len(items) or data > 1024,
-                 "pieces": len(pieces) > (16 if house.pieces is None else min(house.pieces, 16)),
-                 NEAR + "limit": data > 16, NEAR + "pieces": len(pieces) > 4,
-                 "byte-9c": ST in items + last, "command-bytes": re.search("[\x7f-\xff]", items),
-                 "command-bell": last == BEL, "empty-command": not items,
-                 "command-cut-short": is_cut_short}
+        most_pieces = 16 if house.pieces is None else min(house.pieces, 16)
+        rules = {
+            "limit": kept < len(items) or data > 1024,
+            "pieces": len(pieces) > most_pieces,
+            NEAR + "limit": data > 16,
+            NEAR + "pieces": len(pieces) > 4,
+            "byte-9c": ST in items + last,
+            "command-bytes": re.search("[\x7f-\xff]", items),
+            "command-bell": last == BEL,
+            "empty-command": not items,
+            "command-cut-short": is_cut_short}
         if not last:
             rules = {name: rules[name] for name in ("byte-9c", "command-bytes")}
         is_dropped = not last or house.empty_commands == "drop" and not items or (

@@ -95,10 +95,14 @@ def slower(rows, build):
 def by_run(rows):
     """Text in runs: the nanoseconds per byte of each side, and the ratio."""
     sides = list(rows[0]["nanoseconds"])
-    return table(["stream", "`advance_text`", *sides[1:], *comparisons(rows[0])], [
-        [f"`{row['stream']}`",
-         *(f"{Comparison(row, side).median:.2f}" if side in row["nanoseconds"] else ""
-           for side in sides), *map(str, comparisons(row).values())] for row in rows])
+
+    def cells(row):
+        for side in sides:
+            yield f"{Comparison(row, side).median:.2f}" if side in row["nanoseconds"] else ""
+        yield from map(str, comparisons(row).values())
+
+    return table(["stream", "`advance_text`", *sides[1:], *comparisons(rows[0])],
+                 [[f"`{row['stream']}`", *cells(row)] for row in rows])
 
 
 def by_call(rows):

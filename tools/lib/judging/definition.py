@@ -86,9 +86,12 @@ class Reader:
         """The steps of what stands at the place; none at the end."""
         self.steps = []
         if self.place < len(self.text):
-            is_body = self.text[self.place] == ESC
-            (self.device_byte if self.is_hooked else self.body if is_body else self.character)(
-                self.place)
+            if self.is_hooked:
+                self.device_byte(self.place)
+            elif self.text[self.place] == ESC:
+                self.body(self.place)
+            else:
+                self.character(self.place)
         return self.steps
 
     def add(self, rules, start, end, *lines):
@@ -150,9 +153,10 @@ class Reader:
             return self.add(["escape-sequence", "terminator"], escape, escape + 2, *lines)
         key = self.final(escape, escape + 1, " -~")
         if key:
-            {"[": self.control_sequence, "P": self.device_control, "]": self.system_command,
-             **dict.fromkeys("X^_", self.ignored_string),
-             }.get(self.text[key], self.escape_sequence)(escape, key)
+            by_key = {"[": self.control_sequence, "P": self.device_control,
+                      "]": self.system_command, **dict.fromkeys("X^_", self.ignored_string)}
+            read = by_key.get(self.text[key], self.escape_sequence)
+            read(escape, key)
 
     def final(self, escape, start, wanted, dropped="dropped-in-sequence"):
         """The place of a final byte, or None if the sequence ends without one: by the next ESC, or

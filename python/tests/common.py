@@ -94,7 +94,6 @@ STREAMS = {
                               for begin in (b"a\x1b]52;c;", b"b\x1bP1$q", b"c\x1b_", b"d\x1b[1;")),
     "characters cut by ESC": b"".join("😀€ü".encode()[:end] + b"\x1b[m" for end in range(9)) * 3,
     "controls": b"a\x1b\x1b\x18\x1b\x1a\x1b[\x18\x1b\x7f\x1b\x80[1\x1b\x1b[m\x9b\x1b1\x85\x1b",
-    "without ESC": "plain \u00fc\ufffd\t".encode() * 200 + b"\xff\xe2\x82\x18\xc3",
-    "empty": b""}
+    "without ESC": "plain \u00fc\ufffd\t".encode() * 200 + b"\xff\xe2\x82\x18\xc3", "empty": b""}
 if FOLDER.is_dir():
     STREAMS["vectors"] = b"".join(map(stream_of, vectors("events.json") + vectors("calls.json")))

@@ -26,8 +26,7 @@ def make(request):
 
 
 @pytest.mark.parametrize("stream, wanted", [
-    (b"x" * 100_000, [Text("x" * 100_000)]),
-    (b"\xff" * 100_000, [Text("\ufffd" * 100_000)]),
+    (b"x" * 100_000, [Text("x" * 100_000)]), (b"\xff" * 100_000, [Text("\ufffd" * 100_000)]),
     (b"\x1b[m" * 20_000 + b"\xc3\xbc", [Csi(((0,),), b"", False, "m")] * 20_000 + [Text("ü")]),
     (TITLE * 500 + b"a\r", [Osc((b"0", b"t" * 1000), True)] * 500 + [Text("a"), Execute(13)]),
     (b"\xff" * 6000 + b"\r" * 6000, [Text("\ufffd" * 6000)] + [Execute(13)] * 6000),

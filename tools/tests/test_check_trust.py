@@ -12,31 +12,28 @@ MADE, USED, UNCOUNTED = (f":1: {it}" for it in (
     "other modules can make this", "the bytes of a call are used", "bytes are read uncounted"))
 
 
-def stands(told, allowed="0"):
-    return f": `unsafe` stands here {told}; allowed is {allowed}"
+def stands(fault, allowed="0"):
+    return f": `unsafe` stands here {fault}; allowed is {allowed}"
 
 
-# what is shown: a file, its text, and what is told of it
+# what is shown: a file, its text, and its fault
 CASES = {
     "unsafe in another file": ("a.rt", f"{TEXT} // unsafe, as unsafe_code is", stands(ONE)),
     "unsafe in a file of the same name": (f"old/{READER}", TEXT, stands(ONE)),
-    "unsafe where it may be": (READER, TEXT, ""),
-    "unsafe in another function":
+    "unsafe where it may be": (READER, TEXT, ""), "unsafe in another function":
         (READER, "fn text_between() {} fn g() { unsafe { h() } }", stands("1 g", ONE)),
     "unsafe twice": (READER, TEXT.replace("g()", "unsafe"), stands("2 text_between", ONE)),
     "unsafe not even once": (READER, "", stands("0", ONE)),
     # a call of `text_between` says why it is right, so that one isn't safe to call
     "a function that became safe to call":
         (f"{CARGO}reader.rs", f"{TEXT} unsafe fn take_run() {{ unsafe {{ f() }} }}",
-         stands("3 text_between take_run", "4 text_between take_run")),
-    "a call without unsafe":
+         stands("3 text_between take_run", "4 text_between take_run")), "a call without unsafe":
         (f"{CARGO}reader/calls.rs", "fn advance_to_run() { take_run(bytes, range) }",
          stands("0", "1 advance_to_run")),
     "unsafe of attributes, functions, traits, types and macros":
         ("a.rs", "unsafe #[unsafe(no_mangle)]\npub extern \"C\" fn f() {} unsafe impl T for U {} "
          "\npub unsafe extern \"C\" fn g(h: unsafe fn()) { unsafe {} } macro_rules! m { unsafe }",
-         stands("7 - f T g m")),
-    "unsafe in strings, and after one that looks like a comment":
+         stands("7 - f T g m")), "unsafe in strings, and after one that looks like a comment":
         ("a.rs", 'fn f() { g("//"); unsafe { h("unsafe", r#"unsafe"#) } }', stands("1 f")),
     "unsafe after '\"'": ("a.rs", "fn f() { g('\"'); unsafe {} } // \" unsafe", stands("1 f")),
     "unsafe in an unclosed string": ("a.rs", '\nfn f() { unsafe { " } }', ":2: unclosed quote: \""),
@@ -49,7 +46,7 @@ CASES = {
     "others make a reader": (READER, f"pub(crate) fn new(bytes: &'a [u8]) {TEXT}", MADE),
     "others set the tally of a reader": (READER, f"pub tally: Snapshot<Tally>, {TEXT}", MADE),
     "others make a parser": (f"{CORE}parser.rt", "pub(crate) fn new(bytes: B) -> Self", ""),
-    **{what: (f"{CORE}reader/{name}.rt", line, told) for what, name, line, told in (
+    **{what: (f"{CORE}reader/{name}.rt", line, fault) for what, name, line, fault in (
         ("others set the looks of a parser", "looks", "pub tally: Snapshot<Tally>,", MADE),
         ("a call passes its bytes on", "calls",
          "self.drive::<P, InRuns, true>(performer, Chunk::new(bytes)) // bytes", ""),
@@ -66,13 +63,13 @@ CASES = {
         ("a contract names bytes", "run_end", "requires in { to ≤ length input.bytes.now }", ""))}}
 
 
-@pytest.mark.parametrize("place, text, told", CASES.values(), ids=CASES)
-def test_what_is_refused_in_a_file(place, text, told):
+@pytest.mark.parametrize("place, text, fault", CASES.values(), ids=CASES)
+def test_what_is_refused_in_a_file(place, text, fault):
     write(place, text)
     write("HANDLES", "Handles allowed: none.\n")
     status, output = Tool("check_trust", listed=lambda _: [place], unused=lambda _: []).run()
-    wanted = [*[place + told] * bool(told), f"1 files, {told > '':d} places that are refused"]
-    assert (status, output.splitlines()) == (bool(told), wanted)
+    wanted = [*[place + fault] * bool(fault), f"1 files, {fault > '':d} places that are refused"]
+    assert (status, output.splitlines()) == (bool(fault), wanted)
 
 
 def test_all_files_and_handles():
@@ -86,13 +83,13 @@ def test_all_files_and_handles():
         "2 files, 3 places that are refused", "HANDLES", "bench/b.rs", "c/d.rt"]
 
 
-# a word that is replaced in a file of the reader, and what is told
-@pytest.mark.parametrize("place, word, told", [
+# a word that is replaced in a file of the reader, and the fault
+@pytest.mark.parametrize("place, word, fault", [
     ("reader", "tally", r"nothing there is \btally:"),
     ("reader", "count_looks", r"nothing there is \bfn count_looks\("),
     ("reader/calls", "take_run", r"nothing there is ^ *take_run\(bytes, range\)$"),
     ("reader/run_end", "", "it isn't there"), ("reader", "no word of it", None)])
-def test_a_name_that_nothing_has_any_more(place, word, told):
+def test_a_name_that_nothing_has_any_more(place, word, fault):
     tool = Tool("check_trust", PLACES={}, ROOTS=())
     files = {*tool.parts["MAKERS"], *tool.parts["CALLS"], *tool.parts["RUNS"]}
     changed = f"{CORE}{place}.rt"
@@ -100,4 +97,4 @@ def test_a_name_that_nothing_has_any_more(place, word, told):
         text = (TOOLS.parent / file).read_text()
         write(file, text.replace(word, "other") if file == changed else text)
     output = [*tool.parts["unused"](files if word else files - {changed})]
-    assert [line.endswith(told) for line in output] == [True] * bool(told)
+    assert [line.endswith(fault) for line in output] == [True] * bool(fault)

@@ -9,12 +9,13 @@ from tests.support import TOOLS, Tool, write
 
 # ---- check_erased
 
-def differences(source, written, place="c/mod.rs"):
-    """What differs in a file, in whose place something else is written."""
+def differences(source, written, place="c/mod.rs", adapter=""):
+    """What differs in a file, in whose place something else is written, and in an adapter."""
+    write("a.rs", adapter)
     write("crates/c/src/lib.rt", source)
     write(f"w/{place}", written)
     plan = Plan(folder="w", modules={"c": "crate::c"})
-    status, output = Tool("check_erased", PLANS=(plan,)).run()
+    status, output = Tool("check_erased", PLANS=(plan,), REPEATED={"a.rs": "w"}).run()
     *found, last = output.splitlines()
     assert status == (1 if found else 0)
     assert last == f"{len(found)} differences between the proved sources and rust/"
@@ -60,6 +61,15 @@ def test_what_differs_is_reported(source, written, wanted):
 @pytest.mark.parametrize("example", [it[2] for it in Tool("check_erased").parts["PATTERNS"]])
 def test_what_may_differ(example):
     assert differences(*(f"fn f() {{ {text} }}" for text in example.split(" -> "))) == []
+
+
+def test_documentation_is_repeated():
+    text = "/// F\n/// [`crate::G`].\npub fn f() {}\n"
+    same = ("/// F [`G`]:\n/// ```\n/// g();\n/// ```\n#[inline]\npub const fn f() {}\n"
+            "/// More.\npub fn shrink() {}\n")
+    assert differences(text, text, adapter=same) == []
+    found = differences(text, text, adapter="/// F [`H`].\npub const fn f() {}\n")
+    assert found == ["a.rs fn f: the source has other documentation"]
 
 
 def test_all_files_are_compared():
@@ -111,6 +121,6 @@ def test_layout():
 @pytest.mark.parametrize("words", [[], ["--check"]])
 def test_what_the_eraser_refuses_is_told(words, folder):
     write("crates/c/src/lib.rt", "\n#[test]\nfn f() {}\n")
-    told = "tools/erase: crates/c/src/lib.rt:2: unknown attribute: test"
-    assert erase(*words) == (told, "")
+    reported = "tools/erase: crates/c/src/lib.rt:2: unknown attribute: test"
+    assert erase(*words) == (reported, "")
     assert not (folder / "w").exists()

@@ -166,7 +166,7 @@ def test_texts(given, marked):
     assert words(erase(before, "a", "a/x", of_test)[0]) == words(after)
     write("crates/a/src/x.rt", before)
     write("o/a/x.rs", after)
-    status, output = Tool("check_erased", PLANS=(of_test,)).run()
+    status, output = Tool("check_erased", PLANS=(of_test,), REPEATED={}).run()
     assert status == ("rules" in given), output
 
 

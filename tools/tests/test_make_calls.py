@@ -13,14 +13,12 @@ ENDS = {
     "crates/test_lines/src/visitor.rt": [
         "RingBells(top, text): ring_bells visit_number(top as u64) visit_text(text);\n    }"],
     "rust/vte/tests/vectors/call_lines.rs": ["ring_bells(top: u16, text: &str),\n        }"],
-    "rust/vte/examples/unknown.rs": ["ring_bells(u16, &str)\n}"],
-    "rust/vte_c/src/processor.rs": [
+    "rust/vte/examples/unknown.rs": ["ring_bells(u16, &str)\n}"], "rust/vte_c/src/processor.rs": [
         "(top: u16, text: &str) => u16 = top, *const u8 = text.as_ptr(), usize = text.len();\n}"],
     HEADER: ["ring_bells)(void *user, uint16_t top, const uint8_t *text, size_t text_length);\n}"],
     "rust/vte_c/include/vte.hpp": [
         "virtual void ring_bells(uint16_t, std::string_view) {}\n}", "&Handler::ring_bells>,\n}"],
-    "python/rust/calls.rs": ["RingBells(top, text)\n}"],
-    "python/src/vte/calls.py": [
+    "python/rust/calls.rs": ["RingBells(top, text)\n}"], "python/src/vte/calls.py": [
         'class RingBells(NamedTuple):\n    """Rings. Twice."""\n    top: int\n    text: str\n\n\n',
         "RingBells,\n]"]}
 
@@ -37,7 +35,7 @@ def calls():
 
 
 def update(tool, *files):
-    """Sees that files are told as out of date, and then written."""
+    """Sees that files are reported as out of date, and then written."""
     stale = "".join(f"\n  {file}" for file in sorted(files))
     wanted = f"these files aren't up to date; run tools/make_calls:{stale}"
     assert tool.run("--check") == (wanted, "")

@@ -56,8 +56,7 @@ CASES = {
     "first and proofs, strictly": Case("--strict first proofs", ran="first proofs", untested=(),
                                        packages="", counts=[(2, 0), (7, 0)]),
     "second": Case("second", **SECOND),
-    "second, strictly": Case("--strict second", **SECOND, status=1),
-    "second without crates": Case(
+    "second, strictly": Case("--strict second", **SECOND, status=1), "second without crates": Case(
         "second", fails="crates", ran="", packages="", status=1, counts=[(0, 0)],
         untested=["second: it needs what cargo gets from a network"]),
     "first and lacking": Case("first lacking", ran="first", untested=[LACKING],

@@ -188,8 +188,7 @@ def test_what_is_freed(chunks, rule, left):
     (b"ab", [1], [None]), (b"\xc3\xa9", [1], [0]), (b"\xc3\xa9a", [1, 2], [0, None]),
     # what is malformed is found to be so after its end
     (b"a\xc3b", [1, 2], [None, 1]), (b"\x1b[\n1m", [1, 2, 3, 4], [1, 1, 1, 1]),
-    (b"\xc3\x1b7", [1], [0]),
-    (b"\x1b]a\x07\xff\x1b", [3, 4, 5], [0, None, 1])])
+    (b"\xc3\x1b7", [1], [0]), (b"\x1b]a\x07\xff\x1b", [3, 4, 5], [0, None, 1])])
 def test_what_a_cut_divides(stream, cuts, found):
     assert [*classes.steps_at_cuts(definition.steps_of(stream), cuts).values()] == found
 

@@ -92,8 +92,8 @@ def test_commands_that_lack_something_are_missing(needs, crates, lacking, monkey
     monkeypatch.setenv("HAS_CRATES", crates)
     found = failures(f"```sh run {needs}\nfalse\n```")
     assert found == ([] if lacking else ["these commands failed with status 1"])
-    told = f"missing: commands of page.md:2 need {lacking}\n" * bool(lacking)
-    assert capsys.readouterr().out == told
+    reported = f"missing: commands of page.md:2 need {lacking}\n" * bool(lacking)
+    assert capsys.readouterr().out == reported
 
 
 @pytest.mark.parametrize("status, output, wanted", [
@@ -103,20 +103,20 @@ def test_the_history(status, output, wanted):
     assert tool.parts["is_in_history"]("abc1234") == wanted
 
 
-# words, the pages that have a fault, and what is told: whether commands are run
-@pytest.mark.parametrize("words, faulty, status, told", [
+# words, the pages that have a fault, and what is reported: whether commands are run
+@pytest.mark.parametrize("words, faulty, status, reported", [
     ("", "", 0, ["3 pages, 0 failures"]), ("docs/B.md", "", 2, []),
     ("", "A.md", 1, ["docs/A.md:5: False", "3 pages, 1 failures"]),
     ("docs/A.md", "A.md README.md", 1, ["docs/A.md:5: False", "1 pages, 1 failures"]),
     ("--run", "A.md README.md", 1, ["README.md:5: True", "docs/A.md:5: True",
                                     "tools/README.md:5: True", "3 pages, 3 failures"])])
-def test_which_pages_are_checked(words, faulty, status, told):
+def test_which_pages_are_checked(words, faulty, status, reported):
     subprocess.run(["git", "init", "-q"], check=True)
     write(".gitignore", "out/\n")
     for place in "README.md", "docs/A.md", "tools/README.md", "out/README.md", "a.py":
         write(place, "")
     tool = Tool("check_docs", failures=lambda page, run: [(5, run)] * (page.path.name in faulty))
-    assert tool.run(*words.split()) == (status, "".join(f"{line}\n" for line in told))
+    assert tool.run(*words.split()) == (status, "".join(f"{line}\n" for line in reported))
 
 
 def test_documents_are_no_sources():

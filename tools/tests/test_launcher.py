@@ -156,7 +156,7 @@ def test_where_cargo_puts_what_it_makes(checkout, monkeypatch, place, variables)
 
 def test_builds():
     """It is built once after each of these, and not again. However long it takes, no progress is
-    told: `sleep` fails."""
+    shown: `sleep` fails."""
     write("bin/sleep", "#!/bin/sh\nexit 1\n", 0o755)
     for change in ("true", "touch crates/vte_core/src/lib.rt", "touch crates/vte_core/specs/A.antt",
                    "touch crates/event_log/src/lib.rt", "touch crates/vtlog/proofs/Lib.antt",

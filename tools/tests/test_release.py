@@ -1,4 +1,4 @@
-"""Tests of what tools/release checks, and of the contents that it tells."""
+"""Tests of what tools/release checks, and of the contents that it writes."""
 import json
 from pathlib import Path
 
@@ -20,8 +20,8 @@ RELEASE = {
                     "`VTE_VERSION`, 7 |\n## 1.2.3, unreleased\n## 1.2.2, 2026-01-01"}
 
 
-# what stands in a file instead, and what is told
-@pytest.mark.parametrize("place, old, new, told", [
+# what stands in a file instead, and what is reported
+@pytest.mark.parametrize("place, old, new, reported", [
     ("CHANGELOG.md", "unreleased", "2026-01-02", None),
     *((it, "1.2.3", "1.2.4", f"{it} has 1.2.4") for it in MANIFESTS),
     *((it, old, new, f"{it} begins with {shown}")
@@ -34,11 +34,11 @@ RELEASE = {
     ("CHANGELOG.md", "| 1.2.3", "| 1.2.4", 'CHANGELOG.md has no "| 1.2.3 | the crate"'),
     ("CHANGELOG.md", "+naqshuve", "", 'CHANGELOG.md has no "| 0.15.0+naqshuve.1.2.3 | the same"'),
     ("CHANGELOG.md", ", 7", ", 6", 'CHANGELOG.md has no "`VTE_VERSION`, 7 |"')])
-def test_versions_of_a_release(place, old, new, told):
+def test_versions_of_a_release(place, old, new, reported):
     for name, text in RELEASE.items():
         write(name, (text.replace(old, new) if name == place else text) + "\n")
     # with all versions right, the release would be made
-    wanted = f"versions: {told}" if told else "release: it was not made"
+    wanted = f"versions: {reported}" if reported else "release: it was not made"
     assert run_here("release", "--check", git="exit 1") == (1, [wanted, "1 faults"])
 
 
@@ -57,15 +57,15 @@ def test_contents_of_a_release(monkeypatch):
         write(f"out/{name}", "")
     assert run_here("lib/releasing/contents", "out", "1.2.3", "manifest", cargo="cat described",
                     rustc="echo rustc 1.99.0; echo host: here") == (0, [])
-    told = json.loads(Path("out/naqshuve-1.2.3.spdx.json").read_text())
-    assert told["creationInfo"]["created"] == "1970-01-02T00:00:00Z"
+    read = json.loads(Path("out/naqshuve-1.2.3.spdx.json").read_text())
+    assert read["creationInfo"]["created"] == "1970-01-02T00:00:00Z"
     ours = "Apache-2.0 OR MIT"
     assert [(it["name"], it["versionInfo"], it["licenseDeclared"], it.get("packageFileName"))
-            for it in told["packages"]] == [
+            for it in read["packages"]] == [
         ("naqshuve-vte", "1.2.3", ours, None),
         ("rust-standard-library", "1.99.0", "MIT OR Apache-2.0", None),
         ("both", "1.0", "MIT OR X", None), ("in_both", "1.0", "MIT OR X", None),
         *((f"file-{at}", "1.2.3", ours, it) for at, it in enumerate(("a.crate", "b.deb", "c.whl")))]
-    held = [it["spdxElementId"][-1] + it["relatedSpdxElement"][7:] for it in told["relationships"]]
+    held = [it["spdxElementId"][-1] + it["relatedSpdxElement"][7:] for it in read["relationships"]]
     assert held == ["0-naqshuve-vte", "1-naqshuve-vte", "1-rust-standard-library", "2-naqshuve-vte",
                     "2-rust-standard-library", "2-both", "2-in-both"]

@@ -31,7 +31,7 @@ fn copies_read_on() {
 
 #[cfg(feature = "std")]
 #[test]
-fn the_default_timeout_is_pending_until_it_is_told() {
+fn the_default_timeout_is_pending_until_it_is_stopped() {
     use std::time::{Duration, Instant};
     let (mut processor, mut lines) = (<Processor>::new(), CallLines::default());
     processor.advance(&mut lines, b"a");
@@ -54,7 +54,7 @@ fn the_default_timeout_is_pending_until_it_is_told() {
     processor.advance(&mut lines, b"\x1b[?2026h");
     let second = processor.sync_timeout().sync_timeout().unwrap();
     assert!(second - first >= Duration::from_millis(151));
-    // once it is told, the next bytes are passed on at once
+    // once it is stopped, the next bytes are passed on at once
     processor.stop_sync(&mut lines);
     assert_eq!(processor.sync_timeout().sync_timeout(), None);
     processor.advance(&mut lines, b"d");

@@ -1,5 +1,5 @@
-//! What parsers tell performers and ask of them: each method, of a performer and of an object of a
-//! trait.
+//! What parsers report to performers and ask of them: each method, of a performer and of an object
+//! of a trait.
 
 use vte::{BoundedParser, Parser, Perform, PerformText};
 
@@ -25,10 +25,10 @@ fn up_to(stop: usize, events: &str) -> String {
     events.split_inclusive('\n').take_while(is_before).collect()
 }
 
-/// Reads in these ways, with a performer and with an object of it: both are told these events, up
+/// Reads in these ways, with a performer and with an object of it: both receive these events, up
 /// to a stop if that is asked for, with this text and these data in one run and one slice if there
 /// are any; and asked nothing but whether they keep the layout and whether they are terminated.
-macro_rules! assert_tells {
+macro_rules! assert_reports {
     ($($trait:ident, $keeps:literal: |$it:ident| $read:expr
         => $events:expr, $run:expr, $slice:expr, $asked:expr;)*) => {$({
         fn read<P: $trait + ?Sized>($it: &mut P) {
@@ -54,8 +54,8 @@ macro_rules! assert_tells {
 }
 
 #[test]
-fn performers_and_objects_are_told_and_asked_the_same() {
-    assert_tells! {
+fn performers_and_objects_receive_and_are_asked_the_same() {
+    assert_reports! {
         Perform, false: |it| Parser::new().advance(it, STREAM) => EVENTS, "", b"", (false, false);
         PerformText, true: |it| Parser::new().advance(it, STREAM)
             => EVENTS, "", b"", (false, false);
@@ -73,7 +73,7 @@ fn performers_and_objects_are_told_and_asked_the_same() {
             => UP_TO_RUN, "", b"", (false, true);
     }
     #[cfg(any(feature = "std", feature = "ansi"))]
-    assert_tells! {
+    assert_reports! {
         Perform, false: |it| vte::LongParser::new().advance(it, STREAM)
             => EVENTS, "", b"", (false, false);
         PerformText, true: |it| vte::LongParser::new().advance_text(it, STREAM)

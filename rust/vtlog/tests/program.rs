@@ -71,8 +71,8 @@ fn vectors_give_their_lines() {
             _ => continue,
         };
         let output = run(arguments, &vector.chunks().concat());
-        let (name, is_told) = (vector.text("name"), !output.stderr.is_empty());
-        assert!(output.status.success() && !is_told, "{name}");
+        let (name, is_reported) = (vector.text("name"), !output.stderr.is_empty());
+        assert!(output.status.success() && !is_reported, "{name}");
         assert!(output.stdout == wanted, "{name}");
         count += 1;
     }
@@ -158,8 +158,8 @@ fn left_terminal(written: &[u8]) -> File {
     let terminal = options.read(true).write(true).open("/dev/ptmx").unwrap();
     let file = std::os::unix::io::AsRawFd::as_raw_fd(&terminal);
     assert_eq!(unsafe { unlockpt(file) }, 0);
-    let told = std::fs::read_to_string(format!("/proc/self/fdinfo/{file}")).unwrap();
-    let mut lines = told.lines();
+    let text = std::fs::read_to_string(format!("/proc/self/fdinfo/{file}")).unwrap();
+    let mut lines = text.lines();
     let number = lines.find_map(|line| line.strip_prefix("tty-index:"));
     let place = format!("/dev/pts/{}", number.unwrap().trim());
     let mut program = File::options().write(true).open(place).unwrap();

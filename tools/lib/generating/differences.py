@@ -1,5 +1,5 @@
 """The differences of tools/stand_ins/vte, which the targets of rust/vte/fuzz must find: for each
-the words with which the target tells of it, and an input from which it does."""
+the words with which the target reports it, and an input with which it does."""
 
 BEGIN, END = b"\x1b[?2026h", b"\x1b[?2026l"
 # the first bytes of an input: chunks of 0 and 1 bytes, and of up to 4, 8 (5 among them) and 128

@@ -92,7 +92,7 @@ def test_long_batches_are_followed_by_smaller_ones(monkeypatch, seconds, sizes, 
 
 
 # a stream, of which a program that takes so many seconds for a byte forgets all lines but 27, how
-# often it comes, and the class that is told of it when the time is over
+# often it comes, and the class that is reported for it when the time is over
 @pytest.mark.parametrize("stream, seconds, count, name", [
     (b"a" * 40, 0.3, 40, "text/hang"), (b"\x1b[" + b"1;" * 20 + b"m", 0.3, 40, "numbers/hang"),
     (b"a" * 30, 0.3, 40, "text/missing"), (b"b" * 30, 0.05, 1, "text/missing")])
@@ -104,8 +104,8 @@ def test_a_slow_program_has_an_example(monkeypatch, stream, seconds, count, name
     assert end <= side.now <= end + budget.GRACE + side.timeout
     assert "not shrunk to the end" in report.shown_finding(result.findings[name], str)
     junit = formats.as_junit(result, "1", str)
-    told = f'name="all streams are judged"><failure message="{result.streams} were"'
-    assert (told in junit) == (count > 1)
+    reported = f'name="all streams are judged"><failure message="{result.streams} were"'
+    assert (reported in junit) == (count > 1)
 
 
 # ---- programs

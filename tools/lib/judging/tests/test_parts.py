@@ -143,13 +143,13 @@ def test_the_reference_and_the_definition_must_agree(tmp_path):
 
 
 # what is given, what $VTLOG names, and why it is none
-@pytest.mark.parametrize("given, named, told", [
+@pytest.mark.parametrize("given, named, reported", [
     ("./right", "failing", None), ("./failing", "right", "failed with status 3: why"),
     (None, "right", None), (None, "failing", "failed with status 3: why"),
     *((None, name, "not a program: ./") for name in ("no", "folder", "text")),
     (None, "other", "other isn't vtlog: it prints other lines"),
     (None, "empty", "empty can't be run: Exec format error")])
-def test_which_program_is_the_reference(tmp_path, monkeypatch, given, named, told):
+def test_which_program_is_the_reference(tmp_path, monkeypatch, given, named, reported):
     monkeypatch.chdir(tmp_path)
     monkeypatch.setenv("VTLOG", f"./{named}")
     for name, line in {"right": "echo print 0061; echo 'csi [0] - false 6d'; echo print fffd",
@@ -157,7 +157,7 @@ def test_which_program_is_the_reference(tmp_path, monkeypatch, given, named, tol
         write(name, f"#!/bin/sh\n{line}\n", 0o755)
     write("empty", "\n", 0o755), write("folder/file", "")
     write("text", "", 0o644)
-    with pytest.raises(reference.NoReference, match=told) if told else nullcontext():
+    with pytest.raises(reference.NoReference, match=reported) if reported else nullcontext():
         reference.Reference(reference.find_vtlog(given)).check()
 
 
@@ -198,7 +198,7 @@ LINES = ["print 0061", "execute 07", "csi [1:2;3] 3f true 6d", "osc true 2 - 61"
 
 
 # words, and the lines that aren't there then, or are others
-@pytest.mark.parametrize("untold, changed", [
+@pytest.mark.parametrize("unreported, changed", [
     ("", {}), ("print", {0: ""}), ("execute", {1: ""}), ("csi", {2: ""}), ("osc", {3: "", 4: ""}),
     ("dcs", {5: "", 6: "", 7: ""}), ("esc", {8: ""}), ("pieces", {3: "osc true 1 3b61"}),
     ("bell", {3: "osc - 2 - 61", 4: "osc - 1 61"}),
@@ -206,9 +206,9 @@ LINES = ["print 0061", "execute 07", "csi [1:2;3] 3f true 6d", "osc true 2 - 61"
     ("groups", {2: "csi [1;2;3] 3f true 6d", 5: "hook [0;1] - false 71"}),
     ("ignore groups bell pieces dcs", {2: "csi [1;2;3] 3f - 6d", 3: "osc - 1 3b61", 4: "osc - 1 61",
                                        5: "", 6: "", 7: "", 8: "esc 28 - 41"})])
-def test_untold_fields_are_left_out(untold, changed):
+def test_unreported_fields_are_left_out(unreported, changed):
     lines = [changed.get(at, line) for at, line in enumerate(LINES)]
-    assert views.View(untold.split()).of(LINES) == [line for line in lines if line]
+    assert views.View(unreported.split()).of(LINES) == [line for line in lines if line]
 
 
 DIGITS = "".join(f"{number:04}" for number in range(75))
@@ -222,8 +222,7 @@ DIGITS = "".join(f"{number:04}" for number in range(75))
     # from the first difference on, if there are more than six lines, or a line is long
     (list("abcdefg"), ["a", "c"], ["b / c / d / e / f / g", "c"]),
     (list("abcdefghi"), ["a", "(hang: x)"],
-     ["b / c / d / e / f / g / .. (8 lines)", "(hang: x)"]),
-    (["a"], [*"abcdefgh", "(hang: x)"],
+     ["b / c / d / e / f / g / .. (8 lines)", "(hang: x)"]), (["a"], [*"abcdefgh", "(hang: x)"],
      ["(no event)", "b / c / d / e / f / g / .. (8 lines) / (hang: x)"]),
     (["a", DIGITS[:200] + "x"], ["a", DIGITS[:200] + "y", "z" * 121],
      [f".. {DIGITS[81:200]}x", f".. {DIGITS[81:200]}y / " + "z" * 120 + " .."]),
@@ -273,9 +272,9 @@ def test_lines_of_events(output):
     b"csi [1] - maybe 6d", b"esc - false 4", b"print \0", b"(hang: x)", b"a\x1c", b"esc 2 - 41",
     b"csi [1] - false", b"csi [a] - - 6d", b"print 1234567", b"put 1", b"unhook -"])
 def test_lines_that_are_none(wrong):
-    told = candidate.answer_of(b"print 0061\n" + wrong + b"\nunhook\n")
-    assert [told[0], candidate.mark_of(told)] == ["print 0061", "protocol"]
-    assert len(told) == 2 and re.fullmatch("[ -~]*", "".join(told))
+    answer = candidate.answer_of(b"print 0061\n" + wrong + b"\nunhook\n")
+    assert [answer[0], candidate.mark_of(answer)] == ["print 0061", "protocol"]
+    assert len(answer) == 2 and re.fullmatch("[ -~]*", "".join(answer))
 
 
 # ---- results
@@ -335,9 +334,9 @@ def test_junit_is_read_by_its_library(given, others):
 
 
 def test_json():
-    told = json.loads(formatted("json", different=4, ended_early="x"))
-    findings, rule = told.pop("findings"), RULES["text"]
-    assert told == {"version": 2, "seed": "# \x1b]]>&", "streams": 9, "different": 4,
+    reported = json.loads(formatted("json", different=4, ended_early="x"))
+    findings, rule = reported.pop("findings"), RULES["text"]
+    assert reported == {"version": 2, "seed": "# \x1b]]>&", "streams": 9, "different": 4,
                     "unassigned": 1, "ended_early": "x", "new": 1}
     assert [it["new"] for it in findings] == [False, False, True]
     assert findings[0] == {

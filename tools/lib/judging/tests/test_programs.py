@@ -31,8 +31,8 @@ def judge_toy(judge):
 
 def processes(word):
     """The processes that have a word among their arguments, without tools/judge."""
-    _, told = run("ps", "-ww", "-eo", "args")
-    return [line for line in told.splitlines() if line.endswith(word)
+    _, shown = run("ps", "-ww", "-eo", "args")
+    return [line for line in shown.splitlines() if line.endswith(word)
             and "tools/judge " not in line]
 
 
@@ -48,14 +48,14 @@ def test_a_finding_can_be_shown_again(judge, judge_toy, words, fault):
     assert f"NEW   {name}:" in judge(1, *again)
 
 
-@pytest.mark.parametrize("status, words, how, told", [
+@pytest.mark.parametrize("status, words, how, reported", [
     *((0, "", how, "40 streams, 0 differ; 0 classes")
       for how in ({}, {"once": True}, {"chunks": False})),
     (1, "--count 0", {}, "0 streams"), (0, "--house delete=drop --house bell=drop", {}, ""),
     (0, "--leave-out delete", {"fault": "delete=drop"}, "0 differ"),
     (0, "--leave-out delete --case '61 7f'", {"fault": "delete=drop"}, "no difference: print 0061"),
-    *((status, "--case '1b 5b 39 31*4 61'", {"fault": fault, "chunks": False}, told)
-      for status, fault, told in ((0, None, "csi [65535]"), (1, "largest=9999", "csi [9999]"))),
+    *((status, "--case '1b 5b 39 31*4 61'", {"fault": fault, "chunks": False}, reported)
+      for status, fault, reported in ((0, None, "csi [65535]"), (1, "largest=9999", "csi [9999]"))),
     (1, "--case 'c3 | a9'", {"fault": "divided"}, "NEW   cut:text/"),
     (1, "--case '62 / 0e / 61'", {"fault": "stateful"}, "NEW   kept-state"),
     (0, "--format json --case 61", {}, '"different": 0'),
@@ -65,14 +65,14 @@ def test_a_finding_can_be_shown_again(judge, judge_toy, words, fault):
     (0, "--timeout 99.5", {}, "0 differ"), (1, "--timeout 0 --case 61", {}, "/hang:"),
     (1, "--memory 0 --case 61", {}, "(memory: more than 0 MiB)"),
     (0, "--case 61", {"fault": "stateful"}, "no difference")])
-def test_statuses(judge_toy, status, words, how, told):
-    assert told in judge_toy(status, *shlex.split(words), **how)
+def test_statuses(judge_toy, status, words, how, reported):
+    assert reported in judge_toy(status, *shlex.split(words), **how)
 
 
 def test_nothing_but_json_is_printed(judge_toy):
     words = ["--format", "json", "--case", "1b 5b 39 31*4 61"]
-    told = json.loads(judge_toy(1, *words, fault="largest=9999"))
-    assert [finding["class"] for finding in told["findings"]] == ["largest/numbers"]
+    reported = json.loads(judge_toy(1, *words, fault="largest=9999"))
+    assert [finding["class"] for finding in reported["findings"]] == ["largest/numbers"]
 
 
 # a command of the shell, whether it reads framed chunks, what it may take, and how its answer ends
@@ -114,7 +114,7 @@ def test_a_program_that_does_not_answer_at_all(judge):
 
 def test_nothing_survives_the_judge(vtlog):
     mark = f"sleep 7532.{os.getpid()}"
-    # it hangs once most of what it prints was read, so that the guard was told of it
+    # it hangs once most of what it prints was read, so that the guard knows of it
     words = ["--vtlog", vtlog, "--timeout", "600", "sh", "-c", "yes | head -c 200000; exec $MARK"]
     running = subprocess.Popen([sys.executable, TOOLS / "judge", *words],
                                stdout=subprocess.DEVNULL, env={**os.environ, "MARK": mark})

@@ -35,16 +35,16 @@ reads_head-then {bytes} {i} {j} {k} a b =
       low = omega (arith, a.low, b.low);
       high = b.high;
       head_bytes = rw whole (AreInClass-append is_head_byte _ _ a.head_bytes b.head_bytes);
-      is_at =
+      leads =
           λ head s. rw (whole, ← append_assoc head (take (j - i) (drop i bytes)) (take (k - j) (drop j bytes)))
-          (b.is_at _ (a.is_at head s));
+          (b.leads _ (a.leads head s));
     }
 
 pub reads_head-byte : {bytes : List ℕ} {i b : ℕ} {progress next : HeadProgress} {old new : Collected} → i < length bytes
     → b ≡ slice_index bytes i → is_head_byte (class_of b) ≡ true
     → ((head : List ℕ) → HasReadHead old progress head → HasReadHead new next (head ++ b ∷ []))
     → ReadsHead bytes i (i + 1) progress next old new
-reads_head-byte {bytes} {i} {b} within at is is_at = search (rules, arith, one_byte)
+reads_head-byte {bytes} {i} {b} within at is leads = search (rules, arith, one_byte)
 
 -- no byte follows
 pub match-none : {A : Type 0} (B : ℕ → Type 0) (next : Option ℕ) → ((b : ℕ) → next ≡ Some b → ⊥) → MatchOption next A B

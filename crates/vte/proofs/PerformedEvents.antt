@@ -8,12 +8,12 @@ use Rattle.vte.proofs.EventCalls.{after_calls-append, last_printed-append, added
 
 -- ---- the value after events
 
--- One by one, events make of it what `with_events` says of all, if they fit the text.
+-- One by one, events make of a value what `with_events` says of all of them, if they fit the text.
 
 any-sum : (b : Bool) (m n : ℕ) → ((b || nat_lt 0 m) || nat_lt 0 n) ≡ (b || nat_lt 0 (m + n))
 any-sum b m n = grind (arith, nat_tests)
 
--- what all events together make of a performer's value
+-- What all events together make of a performer's value.
 abbrev with_events : {V W : Type 0} → Meaning V W → PerformerValue V W → List Event → PerformerValue V W
 with_events m performer events = record {
   handler = after m.step performer.handler (calls_from performer.last events);
@@ -57,7 +57,7 @@ module _ {H T B G V W : Type 0} (handler_of : H → V) (timeout_of : T → W) (t
   state-is : state ≡ new.state.now
   state-is = back_state (sym (ap (λ performer. performer.state_name) all_made))
 
-  -- the text has the same size
+  -- The text has the same size as before.
   pub text_size_back : text_size_of state.text ≡ old.text_size
   text_size_back = rw state-is (ap (λ performer. performer.text_size) all_made)
 

@@ -10,7 +10,7 @@ use Rattle.vte_c.proofs.Continuations.{no_kind_stops-append, no_kind_stops-none}
 
 -- ---- how long the data of an event are
 
--- At most 1,088 bytes, and those of the second one that a byte adds at most four: by cases of the event.
+-- Each event has at most 1,088 bytes, and the second one that a byte adds at most four, by cases of the event.
 
 pub length_numbers : (numbers : List ℕ) → length (flat_map two_bytes numbers) ≡ 2 * length numbers
 length_numbers [] = refl

@@ -15,7 +15,7 @@ module _ {V W : Type 0} (m : Meaning V W) where
   release-some t [] some = absurd (omega arith)
   release-some t (b ∷ kept) some = refl
 
-  -- some bytes stay held, or none
+  -- If some bytes stay held, a turn cuts off those before them; if none do, it stops the update.
   holds-some : (s : State V W) (r : List ℕ) → 0 < length (still_held (s.held ++ r))
       → hold_turn m s r ≡ cut (extend m s r) (still_held (s.held ++ r))
   holds-some s r some = elim (cases_Option (after_last_end (s.held ++ r))) [
@@ -35,7 +35,7 @@ module _ {V W : Type 0} (m : Meaning V W) where
       → hold_turn m s r ≡ stop m (extend m s r)
   holds-none s r some none = search (rules, arith)
 
--- the hold has the new bytes, and the timeout was set as often as they begin updates
+-- The hold has the new bytes, and the timeout was set as often as they begin updates.
 module _ {P B T A V W : Type 0} {view : EngineView P B T W} (m : Meaning V W) {s : State V W} {more : List ℕ}
     {old : Engine P B T A} {hold : SyncState A} {timeout : T} {begins : ℕ} {value : V}
     (at : EngineIsAt view old value s) (added : IsAdded s.held more hold begins)
@@ -45,7 +45,7 @@ module _ {P B T A V W : Type 0} {view : EngineView P B T W} (m : Meaning V W) {s
   abbrev set : Engine P B T A
   set = record old { hold = hold; state = record old.state { timeout = timeout } }
 
-  -- there is memory to parse so many more bytes
+  -- There is memory to parse so many more bytes.
   abbrev HasMemoryFor : List ℕ → ℕ → Type 0
   HasMemoryFor = view.parser.has_memory old.parser (view.text_size_of old.state.text)
 
@@ -57,7 +57,7 @@ module _ {P B T A V W : Type 0} {view : EngineView P B T W} (m : Meaning V W) {s
     handler_is = at.handler_is;
   }
 
-  -- the released bytes are parsed, and the others stay held, with memory to parse them
+  -- If some bytes stay held, the released ones are parsed, with memory to parse the others later.
   pub turned_cut : {last : Engine P B T A} {next : V} → 0 < length (held_of hold)
       → ((t : State V W) (n : ℕ) → ArePartsAt view set.parser set.state value t
       → (0 < length (released_of hold)
@@ -104,7 +104,7 @@ module _ {P B T A V W : Type 0} {view : EngineView P B T W} (m : Meaning V W) {s
         keeps_memory = there.keeps_memory;
       })
 
-  -- the update is stopped
+  -- If no bytes stay held, the update is stopped.
   pub turned_stop : {last : Engine P B T A} {next : V} → 0 < length more → length (held_of hold) ≡ 0
       → ((t : State V W) (n : ℕ) → ArePartsAt view set.parser set.state value t → released_of hold ≡ t.held
       → held_of hold ≡ []

@@ -18,7 +18,7 @@ module _ {V W : Type 0} (m : Meaning V W) where
   parse-append s a b =
       search (rules, arith, begin_count-added, set_times-add, added_calls-append, after_calls-append, append_assoc)
 
--- where no update begins in bytes, they are their own prefix
+-- If no update begins in bytes, they are their own prefix.
 module _ {V W : Type 0} {m : Meaning V W} {s : State V W} {bytes : List ℕ} {n : ℕ} {b : Bool} {IsNowAt : State V W
     → Type 0} (at : HasParsedPrefix m s bytes n b IsNowAt) (whole : b ≡ false) where
   begins-none : begin_count (added m.limit s.parsed (prefix_to_begin m.limit s.parsed bytes)) ≡ 0
@@ -49,7 +49,7 @@ module _ {V W : Type 0} (m : Meaning V W) (s : State V W) (bytes : List ℕ) whe
         is_at = rw is (rw whole at o.is_at);
       }
 
-  -- a slice in which no update begins is parsed whole
+  -- A slice in which no update begins is parsed whole.
   pub parsing-more : {slice : List ℕ} {read n : ℕ} {b : Bool} {old new : State V W → Type 0} (k : ℕ)
       → HasParsedWithoutBegin m s bytes read old → slice ≡ take k (drop read bytes)
       → HasParsedPrefix m (parse m s (take read bytes)) slice n b new → b ≡ false
@@ -69,7 +69,7 @@ module _ {V W : Type 0} (m : Meaning V W) (s : State V W) (bytes : List ℕ) whe
         is_at = rw (more, ← parse-append m s (take read bytes) slice) (rw all at at.is_at);
       }
 
-  -- an update begins in the slice
+  -- If an update begins in the slice, the parsing turn ends with the prefix.
   pub parsing-ends : {slice : List ℕ} {read n : ℕ} {b : Bool} {old new : State V W → Type 0} (k : ℕ)
       → HasParsedWithoutBegin m s bytes read old → read ≤ length bytes
       → slice ≡ take k (drop read bytes) → HasParsedPrefix m (parse m s (take read bytes)) slice n b new → b ≡ true

@@ -7,7 +7,7 @@ use Rattle.memchr.specs.Find.{NoneAfter, Nowhere, Passes, is_byte}
 use Rattle.vte.specs.machine.Hold.{IsNeither, BeginsNoUpdate, NoneBetween}
 use Rattle.vte.proofs.updates.Sequences.{after_word-whole, begins_ending_in_last-tail, begins_with-is, begins_with-length, after_last_end-tail, from_begin-end_skipped, begins_with-further, not_some}
 
--- without ESC, or with fewer than eight bytes
+-- Neither sequence begins at a byte other than ESC, or if fewer than eight bytes are left.
 neither-plain : (text : List ℕ) (position : ℕ) → position < length text → eqb (get_or text position 0) 0x1b ≡ false
     → IsNeither text position
 neither-plain text position l e = grind (arith, nat_tests, drop_more)
@@ -23,7 +23,7 @@ neither-short text position short =
       no_end = begins_with-short end_update (drop position text) at_most;
     }
 
--- without ESC, or without `?` as the third byte
+-- Neither sequence begins without ESC, or without `?` as the third byte.
 neither-pair : (a : ℕ) (rest text : List ℕ) (position : ℕ)
     → (eqb (get_or text position 0) 0x1b && eqb (get_or text (position + 2) 0) 0x3f) ≡ false
     → begins_with (0x1b ∷ a ∷ 0x3f ∷ rest) (drop position text) ≡ false
@@ -57,7 +57,7 @@ neither-block text from n plain k low high =
       no_end = neither-pair 0x5b (drop 3 end_update) text k none;
     }
 
--- with ESC among the seven bytes that follow
+-- Neither sequence begins within the seven bytes before an ESC, as neither has an ESC after its first byte.
 abbrev HasNoEscape : List ℕ → Type 0
 HasNoEscape [] = Unit {0}
 HasNoEscape (b ∷ bytes) = (eqb b 0x1b ≡ false) × HasNoEscape bytes
@@ -91,7 +91,7 @@ neither-before text position escape before near inside here =
 begins-one : (text : List ℕ) → begins_with begin_update text ≡ true → after_word end_update text ≡ None
 begins-one text e = rw (begins_with-is begin_update text e) refl
 
--- what follows the position `unread` of a text, of which the last `new` bytes are new
+-- What was seen after the position `unread` of a text, of which the last `new` bytes are new.
 pub record HasSeen (text : List ℕ) (new unread begin begins : ℕ) : Type 0 where
   pub no_end : after_last_end (drop unread text) ≡ None
   pub begin_is : begin ≡ length text - length (from_begin_update (drop unread text))
@@ -99,7 +99,7 @@ pub record HasSeen (text : List ℕ) (new unread begin begins : ℕ) : Type 0 wh
 
 -- ---- one position more, from the end down
 
--- By what begins there: neither sequence, a begin-update, or an end-update, which ends the search.
+-- At the position, neither sequence begins, or a begin-update does, or an end-update, which ends the search.
 
 module _ {text : List ℕ} {new position begin begins : ℕ} (l : position < length text)
     (seen : HasSeen text new (position + 1) begin begins) where
@@ -109,7 +109,7 @@ module _ {text : List ℕ} {new position begin begins : ℕ} (l : position < len
       let no_end = not_some _ (rw d at n.no_end) in
       grind (arith, d)
 
-  -- with at most seven older bytes from there on, it ends among the new ones
+  -- A begin-update with at most seven older bytes from its start on ends among the new ones, so it is counted.
   seen-begin : length text ≤ position + 7 + new → begins_with begin_update (drop position text) ≡ true
       → HasSeen text new position position (begins + 1)
   seen-begin at_most e =
@@ -154,7 +154,7 @@ seen-further {text} {new} (suc n) {position} {begin} {begins} within neither see
     seen-further n (omega arith) (λ k low high. neither k low (omega arith))
     (seen-other (omega arith) (rw e at seen) (neither (position + n) (omega arith) (omega arith)))
 
--- if no sequence begins in between
+-- What was seen from `unread` on was also seen from an earlier position on, if no sequence begins in between.
 seen-down : {text : List ℕ} {new position unread begin begins : ℕ} → position ≤ unread → unread ≤ length text
     → ((k : ℕ) → position ≤ k → k < unread → IsNeither text k)
     → HasSeen text new unread begin begins → HasSeen text new position begin begins
@@ -164,7 +164,7 @@ seen-down {position} {unread} l within neither seen =
 
 -- ---- the end of a hold
 
--- from ESC on, and from at most seven bytes before it on
+-- There is an ESC at `position`, and everything after it was seen.
 pub record IsLastEscape (all : List ℕ) (new position unread begin begins : ℕ) : Type 0 where
   pub earlier : position < unread
   pub inside : position < length all
@@ -215,7 +215,7 @@ module _ {held more text : List ℕ} {start : ℕ} (e : IsHeldTail held more tex
       neither-plain all k (omega (arith, whole_size))
       (grind (arith, nowhere i (omega arith) (rw length-take-le (omega arith))))
 
-  -- blocks in which neither sequence begins
+  -- Blocks in which neither sequence begins change nothing.
   pub seen-skipped : (unread before : ℕ) {begin begins : ℕ} → unread ≤ before → before ≤ length text
       → NoneBetween text unread before → HasSeen all (length more) (start + before) begin begins
       → HasSeen all (length more) (start + unread) begin begins
@@ -229,7 +229,7 @@ module _ {held more text : List ℕ} {start : ℕ} (e : IsHeldTail held more tex
       record { no_begin = rw tail at neither.no_begin; no_end = rw tail at neither.no_end })
       seen
 
-  -- the last seven bytes are too few for a sequence
+  -- The last seven bytes are too few for a sequence.
   pub seen-nothing : (unread : ℕ) → unread ≡ length text - 7
       → HasSeen all (length more) (start + unread) (start + length text) 0
   seen-nothing unread is =
@@ -254,7 +254,7 @@ module _ {held more text : List ℕ} {start : ℕ} (e : IsHeldTail held more tex
             (neither_between (position + 1) _ unread (omega arith) within last.after) seen;
       }
 
-  -- if no ESC is left, there is no end-update, as there is none in the older bytes
+  -- If no ESC is left, there is no end-update, as there is none in the older bytes.
   pub seen-all : (unread begin begins : ℕ) → after_last_end held ≡ None → unread ≤ length text
       → Nowhere (Passes (is_byte 0x1b) (take unread text)) 0 (length (take unread text))
       → HasSeen all (length more) (start + unread) begin begins

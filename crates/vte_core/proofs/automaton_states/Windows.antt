@@ -134,7 +134,7 @@ module _ (layout : Bool) (bytes : List ℕ) (window : Window) (from at : ℕ) (e
 
 -- ---- ASCII
 
--- No character is open.
+-- No character is open at `at`.
 record IsClosed (bytes : List ℕ) (from at : ℕ) : Type 0 where
   between : state_after Between (take (at - from) (drop from bytes)) ≡ Between
   first : slice_index bytes (at - 1) < 0xc0
@@ -179,7 +179,7 @@ not_yet_failed text m n low going failed =
     ∙ ap (λ s. state_after s (take (n - m) (drop m text))) failed
     ∙ failed-for_good (take (n - m) (drop m text)))
 
--- a byte that begins a character is between two
+-- A byte from C0 on is accepted only between characters.
 only-between : (s : AutomatonState) (b : ℕ) → 0xc0 ≤ b → next_state s b ≢ Failed → s ≡ Between
 only-between s b high going = elim (phase s) [
   | phase-between same ↦ same

@@ -8,7 +8,7 @@ use Rattle.std.proofs.lemmas.List.{length-map, map_push, take_more_set}
 
 -- ---- the pieces of a text are its data bytes, cut at each `;`
 
--- `prefix` is the beginning of the piece that the text continues
+-- The ends cut data into the pieces of the text; `prefix` is the beginning of the piece that the text continues.
 cut_onto : (earlier prefix text : List ℕ) → All (λ b. (b == semicolon) ≡ false) prefix →
     cut_data (length earlier) (earlier ++ (prefix ++ filter is_data_item text))
     (ends_after (length earlier + length prefix) text)
@@ -57,7 +57,7 @@ length_onto_first : (item : ℕ) (pieces : List (List ℕ))
     → length (concat (onto_first item pieces)) ≡ length (concat pieces) + 1
 length_onto_first item pieces = search (rules, arith)
 
--- all pieces of a text have its data bytes
+-- All pieces of a text together have as many bytes as it has data bytes.
 pieces_length : (text : List ℕ)
     → length (concat (slice_split (λ b. b == semicolon) text)) ≡ length (filter is_data_item text)
 pieces_length [] = refl
@@ -113,7 +113,7 @@ kept-all : (items : List ℕ) (count : ℕ) → kept_after None count items ≡ 
 kept-all [] count = refl
 kept-all (item ∷ items) count = ap (λ those. item ∷ those) (kept-all items _)
 
--- how much data is kept of a command with these items
+-- How much data is kept of a command with these items.
 abbrev kept_size : List ℕ → ℕ
 kept_size items = length (concat (pieces_of None items))
 
@@ -124,9 +124,9 @@ pieces_push items item =
 
 -- ---- the slices of a dispatch
 
--- They are the pieces that the ends cut: with fewer than 16 ends one more piece is after the last.
+-- The slices are the pieces that the ends cut: with fewer than 16 ends, one more piece is after the last.
 
--- what slices show
+-- The bytes that slices show.
 abbrev pub contents : List (Bor (List ℕ)) → List (List ℕ)
 contents slices = map (λ slice. slice.now) slices
 
@@ -144,7 +144,7 @@ contents_last slices later slice bytes ends start index at_end at_most all writt
     let whole = take_all most_pieces (cut_data 0 bytes ends) (omega (arith, length_cut_data 0 bytes ends)) in
     rw (written, taken, pushed, is, whole) (rw (left, at_end) at cut)
 
--- 16 ends leave no place for what is after them
+-- 16 ends leave no place for what is after them.
 pub contents_all : (slices : List (Bor (List ℕ))) (bytes ends : List ℕ) (start index : ℕ) →
     index ≡ length ends → length ends ≡ most_pieces → length slices ≡ most_pieces →
     contents (take index slices) ++ cut_data start bytes (drop index ends) ≡ cut_data 0 bytes ends →

@@ -60,7 +60,7 @@ module _ {V W : Type 0} (m : Meaning V W) where
       grows_on (turns_grow m taken)
       (refused-grows pending (refused-parses m pending reached next rest left refused))
 
-  -- A turn that parses leaves no update open and nothing held, even if it is refused memory.
+  -- After a parsing turn that was refused memory, no update is pending, and nothing is held.
   refused-outside : (pending : Bool) (state next : State V W) (bytes left : List ℕ) → IsSteady m.timeout
       → HoldsWellAt m state
       → m.timeout.allows state.timeout pending

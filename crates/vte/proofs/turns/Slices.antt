@@ -55,15 +55,18 @@ module _ {V W : Type 0} (m : Meaning V W) (s : State V W) (bytes : List ℕ) whe
       → HasParsedPrefix m (parse m s (take read bytes)) slice n b new → b ≡ false
       → HasParsedWithoutBegin m s bytes (read + n) new
   parsing-more {slice} {read} {n} k o is at uncut =
+      -- The slice is its own prefix, so it begins no update.
       let all = prefix-whole at uncut in
       let zero : begin_count (added m.limit (s.parsed ++ take read bytes) slice) ≡ 0 =
       rw all at (begins-none at uncut) in
+      -- The slice follows the bytes that were read, so together they are the first `read + n` bytes.
       let view : drop read bytes ≡ slice ++ drop k (drop read bytes) =
       rw is (sym (take-append-drop k (drop read bytes))) in
       let more : take (read + n) bytes ≡ take read bytes ++ slice =
       take-add read n bytes
       ∙ ap (λ x. take read bytes ++ x)
       (ap (take n) view ∙ take_at slice (drop k (drop read bytes)) n (sym (begin-whole at uncut))) in
+      -- No update begins in either, so none begins in both.
       record {
         none_begin = rw more (begin_count-none m.limit s.parsed (take read bytes) slice o.none_begin zero);
         is_at = rw (more, ← parse-append m s (take read bytes) slice) (rw all at at.is_at);
@@ -76,13 +79,16 @@ module _ {V W : Type 0} (m : Meaning V W) (s : State V W) (bytes : List ℕ) whe
       → HasTakenParsingTurn m s bytes (read + n) new
   parsing-ends {slice} {read} {n} k o inside is at begun =
       let prefix = prefix_to_begin m.limit (s.parsed ++ take read bytes) slice in
+      -- An update begins in the prefix of the slice.
       let test : nat_lt 0 (begin_count (added m.limit (s.parsed ++ take read bytes) prefix)) ≡ true =
       sym at.begins_is ∙ begun in
       let some : 0 < begin_count (added m.limit (s.parsed ++ take read bytes) prefix) = grind (arith, nat_tests) in
+      -- The slice follows the bytes that were read.
       let view : drop read bytes ≡ slice ++ drop k (drop read bytes) =
       rw is (sym (take-append-drop k (drop read bytes))) in
       let whole : bytes ≡ take read bytes ++ (slice ++ drop k (drop read bytes)) =
       sym (take-append-drop read bytes) ∙ ap (λ rest. take read bytes ++ rest) view in
+      -- So the prefix of all bytes is what was read and the prefix of the slice, whatever follows.
       let all : prefix_to_begin m.limit s.parsed bytes ≡ take read bytes ++ prefix =
       ap (prefix_to_begin m.limit s.parsed) whole ∙ prefix-after m.limit s.parsed (take read bytes) _ o.none_begin
       ∙ ap (λ x. take read bytes ++ x)

@@ -90,6 +90,7 @@ pub begin_count-none : (limit : Option ℕ) (p a r : List ℕ) → begin_count (
     → begin_count (added limit p (a ++ r)) ≡ 0
 begin_count-none limit p a r first second = omega (arith, begin_count-added limit p a r, first, second)
 
+-- Bytes in which no update begins come before the prefix of those that follow.
 pub prefix-after : (limit : Option ℕ) (p a r : List ℕ) → begin_count (added limit p a) ≡ 0
     → prefix_to_begin limit p (a ++ r) ≡ a ++ prefix_to_begin limit (p ++ a) r
 prefix-after limit p [] r none = rw append-nil
@@ -99,6 +100,7 @@ prefix-after limit p (b ∷ a) r none =
     let later : begin_count (added limit (p ++ b ∷ []) a) ≡ 0 = omega (arith, all, none) in
     rw first (ap (λ prefix. b ∷ prefix) (prefix-after limit (p ++ b ∷ []) a r later ∙ rw append_assoc))
 
+-- If an update begins in the bytes, their prefix is the same whatever follows.
 pub prefix-more : (limit : Option ℕ) (p r more : List ℕ) → 0 < begin_count (added limit p (prefix_to_begin limit p r))
     → prefix_to_begin limit p (r ++ more) ≡ prefix_to_begin limit p r
 prefix-more limit p [] more some = absurd (omega (arith, begin_count-nothing limit p, some))

@@ -37,17 +37,20 @@ neither-pair a rest text position none =
       | inr other ↦ other
     ]
 
+-- Neither sequence begins in a block, if no ESC of the block has `?` as the second byte after it.
 pub neither-block : (text : List ℕ) (from n : ℕ) → BeginsNoUpdate (take (n + 2) (drop from text)) n
     → NoneBetween text from (from + n)
 neither-block text from n plain k low high =
     let i = k - from in
     let here : from + i ≡ k = omega arith in
+    -- Byte j of the block, and of the two bytes after it, is byte `from + j` of the text.
     let byte : (j : ℕ) → j < n + 2 → get_or (take (n + 2) (drop from text)) j 0 ≡ get_or text (from + j) 0
     = λ j inside. get_or-take (n + 2) (drop from text) j 0 inside ∙ get_or-drop from text j 0 in
     let first : get_or (take (n + 2) (drop from text)) i 0 ≡ get_or text k 0 =
     byte i (omega arith) ∙ ap (λ at. get_or text at 0) here in
     let third : get_or (take (n + 2) (drop from text)) (i + 2) 0 ≡ get_or text (k + 2) 0 =
     byte (i + 2) (omega arith) ∙ ap (λ at. get_or text at 0) (omega arith) in
+    -- So the test of the block says that byte k isn't ESC, or that the third byte from there isn't `?`.
     let none : (eqb (get_or text k 0) 0x1b && eqb (get_or text (k + 2) 0) 0x3f) ≡ false =
     subst (λ a. (eqb a 0x1b && eqb (get_or text (k + 2) 0) 0x3f) ≡ false) first
     (subst (λ a. (eqb (get_or (take (n + 2) (drop from text)) i 0) 0x1b && eqb a 0x3f) ≡ false) third
@@ -78,7 +81,9 @@ neither-before text position escape before near inside here =
     let d = drop_more text position 0 (omega arith) in
     let i = escape - (position + 1) in
     let n : position + 1 + i ≡ escape = omega arith in
+    -- The ESC is among the seven bytes after `position`.
     let there : eqb (get_or (drop (position + 1) text) i 0) 0x1b ≡ true = rw (get_or-drop, n) here in
+    -- A sequence has no ESC after its first byte, so none begins at `position`.
     let none : (sequence : List ℕ) → HasNoEscape sequence → 7 ≡ length sequence
     → begins_with (0x1b ∷ sequence) (drop position text) ≡ false
     = λ sequence plain long.
@@ -115,10 +120,13 @@ module _ {text : List ℕ} {new position begin begins : ℕ} (l : position < len
   seen-begin at_most e =
       let d = drop_more text position 0 l in
       let long = begins_with-length begin_update (drop position text) e in
+      -- Fewer than `new` bytes follow the sequence, so it ends among the new bytes.
       let near : nat_lt (length (drop 7 (drop (position + 1) text))) new ≡ true =
       (let h = rw length-drop at long in rw (length-drop, length-drop) (grind (arith, nat_tests))) in
       let here = rw d at e in
+      -- A begin-update is no end-update, so there is still none of those.
       let other = rw d at (begins-one (drop position text) e) in
+      -- So the earliest begin-update is here, and one more ends among the new bytes.
       record {
         no_end = rw (d, seen.no_end, other) refl;
         begin_is = rw (d, here) (rw length-drop (omega arith));
@@ -130,7 +138,9 @@ module _ {text : List ℕ} {new position begin begins : ℕ} (l : position < len
   seen-end e =
       let d = drop_more text position 0 l in
       let here = rw d at e in
+      -- No update begins inside the end-update, so what was seen is what follows it.
       let skipped = from_begin-end_skipped new (get_or text position 0) (drop (position + 1) text) here in
+      -- It is the last end-update of the text, as none was seen after it.
       let last : after_last_end text ≡ Some (drop 7 (drop (position + 1) text)) =
       last_of position text _ (rw (d, seen.no_end, after_word-whole end_update _ here) refl) in
       record {
@@ -238,6 +248,7 @@ module _ {held more text : List ℕ} {start : ℕ} (e : IsHeldTail held more tex
       (λ k low high. neither-short all k (omega (arith, whole_size)))
       (record { no_end = rw none; begin_is = rw none (omega (arith, whole_size)); begins_are = rw none })
 
+  -- The last ESC of what is unread is found, and everything after it was seen.
   pub last_escape : (position unread : ℕ) {begin begins : ℕ} → unread ≤ length text
       → NoneAfter (Passes (is_byte 0x1b) (take unread text)) 0 (length (take unread text)) position
       → Passes (is_byte 0x1b) (take unread text) position → HasSeen all (length more) (start + unread) begin begins
@@ -248,6 +259,7 @@ module _ {held more text : List ℕ} {start : ℕ} (e : IsHeldTail held more tex
         earlier = omega arith;
         inside = omega (arith, whole_size);
         here = rw (byte_at unread position earlier) at escape;
+        -- None of the bytes after the ESC is another one, so no sequence begins at them.
         seen =
             seen-down (omega arith)
             (omega (arith, whole_size))
@@ -260,11 +272,14 @@ module _ {held more text : List ℕ} {start : ℕ} (e : IsHeldTail held more tex
       → HasSeen all (length more) (start + unread) begin begins
       → Adds all (length more) (record { begins = begins; released = 0 })
   seen-all unread begin begins none within nowhere seen =
+      -- Without ESC no sequence begins in what is unread, so all of the tail is seen.
       let rest =
       seen-down (omega arith) (omega (arith, whole_size))
       (neither_between 0 start unread (omega arith) within nowhere) seen in
       let tail : drop start all ≡ drop (length held - 7) all = rw e.start_is in
+      -- The tail has no end-update. With none in the older bytes, there is none at all.
       let no_end : after_last_end all ≡ None = cc (tail, after_last_end-tail held more none, rest.no_end) in
+      -- So no bytes are released, and the updates that begin are those of the tail.
       record {
         begins = rw no_end (cc (tail, rest.begins_are, begins_ending_in_last-tail held more refl));
         released = rw no_end (omega arith);

@@ -312,12 +312,14 @@ module _ (layout : Bool) (bytes : List ℕ) (from a : ℕ) (within : from < leng
       → (a ≡ 0xc2 → 0xa0 ≤ slice_index bytes (from + 1)) → ⊥) → HasNoRunAt layout bytes from
   no_run-two low high none n far whole =
       let p = begins n whole in
+      -- A sequence that began here would have two bytes, of which the second is a continuation.
       let one =
       fits-one (second_range a) bytes (from + 1) p.m (sym (tests-two a low high (later p.m)).is_whole ∙ p.well) in
       let b : ℕ = slice_index bytes (from + 1) in
       let second : is_in continuation b ≡ true =
       subst (λ range. is_in range b ≡ true)
       (second_plain a (omega arith) (omega arith) (omega arith) (omega arith)) one.is in
+      -- By `none`, the sequence isn't that of a printed character, so it is C2 and a byte below A0.
       let control : (a ≡ 0xc2) × (b < 0xa0) = elim (cases_lt b 0xa0) [
         | inr up ↦ absurd (none one.within second (λ _. omega (arith, up)))
         | inl down ↦ elim (cases_lt 0xc2 a) [
@@ -325,6 +327,7 @@ module _ (layout : Bool) (bytes : List ℕ) (from a : ℕ) (within : from < leng
           | inr first ↦ (omega (arith, first, low), down)
         ]
       ] in
+      -- The number of such a sequence is that of its second byte, a control.
       let bounds = continuation-bounds b second in
       let number : scalar_of (a ∷ b ∷ []) ≡ b = omega (arith, control.0, bounds.0) in
       rw (p.parts, one.same, number)

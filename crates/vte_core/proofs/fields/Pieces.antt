@@ -28,6 +28,7 @@ cut_onto earlier prefix (item ∷ text) none =
         (ends_after (length earlier + length prefix) (item ∷ text))
         ≡ slice_split (λ b. b == semicolon) (prefix ++ item ∷ text)
     by_test true e rests =
+        -- A `;` ends the piece, and the next one begins with nothing.
         let more = rests (earlier ++ prefix) [] (λ k d lt. absurd (omega arith)) in
         let first = slice_split_at (λ b. b == semicolon) prefix item text none e in
         let later = filter is_data_item text in
@@ -37,6 +38,7 @@ cut_onto earlier prefix (item ∷ text) none =
         let cut = take_at prefix later (length prefix) refl in
         grind (arith, more, first, counted, joined, all, cut)
     by_test false e rests =
+        -- Any other item continues the piece.
         let more = rests earlier (prefix ++ item ∷ []) (All-push (λ b. (b == semicolon) ≡ false) prefix item none e) in
         let counted = length-append prefix (item ∷ []) in
         let joined = append_assoc prefix (item ∷ []) (filter is_data_item text) in
@@ -138,9 +140,12 @@ pub contents_last : (slices later : List (Bor (List ℕ))) (slice : Bor (List �
     contents (take index slices) ++ cut_data start bytes (drop index ends) ≡ cut_data 0 bytes ends →
     contents (take (length ends + 1) later) ≡ take most_pieces (cut_data 0 bytes ends)
 contents_last slices later slice bytes ends start index at_end at_most all written is cut =
+    -- The last slice comes after those that end at an end.
     let taken = take_more_set slices (length ends) slice (omega arith) in
     let pushed = map_push (λ (slice : Bor (List ℕ)). slice.now) (take (length ends) slices) slice in
+    -- No end is left, so the rest of the bytes is one piece.
     let left = drop_all index ends (omega arith) in
+    -- Fewer than 16 ends cut at most 16 pieces, so all of them count.
     let whole = take_all most_pieces (cut_data 0 bytes ends) (omega (arith, length_cut_data 0 bytes ends)) in
     rw (written, taken, pushed, is, whole) (rw (left, at_end) at cut)
 

@@ -68,7 +68,7 @@ text_outcome-open : (limit : Option ℕ) (u : List ℕ) → may_continue u ≡ t
 text_outcome-open limit [] o = text_outcome-nothing
 text_outcome-open limit (a ∷ u) o = rw append-nil (text_outcome-end (a ∷ u) o)
 
--- No further bytes report nothing, and leave open what is open at the place.
+-- If no bytes follow, nothing is reported, and what is open at the place stays open.
 pub rest_outcome-nothing : (limit : Option ℕ) (place : Place) → IsPlace place
     → rest_outcome limit place [] ≡ leaves (left_at limit place)
 unfolding body_outcome executed_events escape_from control_sequence_from device_control_from device_data_outcome

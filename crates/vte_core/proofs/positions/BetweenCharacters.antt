@@ -158,21 +158,28 @@ pub advances-first : {V B given : Type 0} {call : ChunkCall V} {old new : V} {i 
     → Completes call old new (i + 1) j (One first) next
     → Advances (given × HasNoRunAt false call.bytes i) call old new i j parser next
 advances-first {call} {i} {first} {parser} r lead fits completes = record {
+  -- The first byte opens the character, and `completes` goes on from inside it.
   goes_on = λ value stream s.
       completes.is_at_position value stream (in_text parser (One first)) refl
       (reads-byte_at r.within r.looked_at r.may_go_on
       (takes_bytes-opened r.begun (λ e. omega (arith, e, lead)) (refl, first_truncated first lead fits) refl) s);
+  -- If bytes are left, the parser is between characters again.
   settled = λ within. settled-same_state (completes.text within) tt;
+  -- It remains to show that what the whole character reports is outside runs.
   outside_runs = λ given value stream s.
+      -- After the first byte, the call is inside the character.
       let inside =
       reads-byte_at r.within r.looked_at r.may_go_on
       (takes_bytes-opened r.begun (λ e. omega (arith, e, lead)) (refl, first_truncated first lead fits) refl) s in
+      -- For a performer that keeps all events (`recorded-at`), the same says that the first byte reported nothing.
       let silent = reads-byte_at {call = keeping call.limit call.bytes} r.within r.looked_at
       (λ does. absurd (false≢true does))
       (takes_bytes-opened {step = keep} r.begun (λ e. omega (arith, e, lead))
       (refl, first_truncated first lead fits) refl)
       (recorded-at s) in
+      -- So what the character reports is what `completes` adds.
       let reported = completes.adds value stream (in_text parser (One first)) refl inside in
+      -- Either this is outside runs by itself, or it is a whole character.
       adds-character reported (added-inside {parser = in_text parser (One first)} silent) (elim reported.events_are [
         | inl others ↦ others
         | inr whole ↦
@@ -180,6 +187,7 @@ advances-first {call} {i} {first} {parser} r lead fits completes = record {
             ap (λ n. take n (drop i call.bytes)) (let e : whole.n + 1 ≡ suc whole.n = omega arith in e)
             ∙ ap (take (suc whole.n)) (drop_more call.bytes i 0 r.within)
             ∙ ap (λ x. x ∷ take whole.n (drop (i + 1) call.bytes)) (sym r.looked_at) in
+            -- As no run begins here, a well-formed sequence that begins here spells a control.
             let control =
             rw cut at (given.1 (whole.n + 1) (omega (arith, whole.in_bytes)) (rw cut whole.well_formed)) in
             subst (All IsOutsideRuns) (sym whole.event_is) (outside_runs-control _ control)

@@ -16,7 +16,7 @@ returns-else-is_nothing-clause-is_at_position g c =
     λ stream h.
     c.continue_character.ensures.completes.is_at_position _ stream c.args.self.now c.in-Text.is (starts-inside h)
 
--- Outside a text.
+-- Outside a text no character is open, so the call is at its start.
 pub returns-in_default-clause-is_at_position : goal.returns-in_default-clause-is_at_position
 returns-in_default-clause-is_at_position g c = λ stream h. starts-at (settled-outside _ c.in_default.not-Text) h
 

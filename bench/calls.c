@@ -1,6 +1,6 @@
-/* Times the C library, as tools/peer does the crates: calls KIND PIECE PASSES < STREAM
+/* Times the C library, as tools/peer does the crates: calls KIND CHUNK PASSES < STREAM
  *
- * A call gets PIECE bytes. Standard output gets a sum of what was reported, and standard error the
+ * A call gets CHUNK bytes. Standard output gets a sum of what was reported, and standard error the
  * nanoseconds of the fastest pass. The kinds are vte_feed, vte_long_feed and vte_processor and, if
  * LIBVTERM is defined, libvterm: the parser of that library, whose user finds where a text ends,
  * and decodes it. */
@@ -173,16 +173,16 @@ static uint64_t now(void) {
 
 int main(int argc, char **argv) {
     size_t kind = 0, length = fread(stream, 1, STREAM, stdin);
-    if (argc != 4) fail("KIND, PIECE and PASSES are wanted");
+    if (argc != 4) fail("KIND, CHUNK and PASSES are wanted");
     while (kind < sizeof kinds / sizeof *kinds && strcmp(kinds[kind].name, argv[1]) != 0) kind++;
     if (kind == sizeof kinds / sizeof *kinds) fail("no such kind");
-    size_t piece = strtoull(argv[2], NULL, 10);
+    size_t chunk = strtoull(argv[2], NULL, 10);
     void *reader = kinds[kind].new();
     uint64_t best = UINT64_MAX;
     for (long passes = strtol(argv[3], NULL, 10); passes > 0; passes--) {
         uint64_t start = now();
-        for (size_t at = 0; at < length; at += piece)
-            kinds[kind].feed(reader, stream + at, length - at < piece ? length - at : piece);
+        for (size_t at = 0; at < length; at += chunk)
+            kinds[kind].feed(reader, stream + at, length - at < chunk ? length - at : chunk);
         uint64_t time = now() - start;
         if (time < best) best = time;
     }

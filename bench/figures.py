@@ -46,13 +46,13 @@ def line(row):
 
 
 def shown(row):
-    return f"{row['kind']} `{row['stream']}` in calls of {row['piece']:,} B"
+    return f"{row['kind']} `{row['stream']}` in calls of {row['chunk']:,} B"
 
 
 def tables(rows):
     """The tables of the page, of what was measured."""
     ratios = {(row["kind"], row["stream"]): comparisons(row) for row in rows
-              if row["piece"] == 4096 and row["stream"] in COMMON_STREAMS}
+              if row["chunk"] == 4096 and row["stream"] in COMMON_STREAMS}
     stripped = [row for row in rows if row["kind"] == "strip"]
     called = [row for row in rows if row["kind"] == "calls"]
     others = dict.fromkeys(row["kind"] for row in rows)
@@ -95,16 +95,20 @@ def slower(rows, build):
 def by_run(rows):
     """Text in runs: the nanoseconds per byte of each side, and the ratio."""
     sides = list(rows[0]["nanoseconds"])
-    return table(["stream", "`advance_text`", *sides[1:], *comparisons(rows[0])], [
-        [f"`{row['stream']}`",
-         *(f"{Comparison(row, side).median:.2f}" if side in row["nanoseconds"] else ""
-           for side in sides), *map(str, comparisons(row).values())] for row in rows])
+
+    def cells(row):
+        for side in sides:
+            yield f"{Comparison(row, side).median:.2f}" if side in row["nanoseconds"] else ""
+        yield from map(str, comparisons(row).values())
+
+    return table(["stream", "`advance_text`", *sides[1:], *comparisons(rows[0])],
+                 [[f"`{row['stream']}`", *cells(row)] for row in rows])
 
 
 def by_call(rows):
     """The C library over libvterm."""
     return table(["stream", "call", *comparisons(rows[0])], [
-        [f"`{row['stream']}`", f"{row['piece']:,} B", *map(str, comparisons(row).values())]
+        [f"`{row['stream']}`", f"{row['chunk']:,} B", *map(str, comparisons(row).values())]
         for row in rows])
 
 

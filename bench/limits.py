@@ -40,8 +40,8 @@ class Table:
         heads, rows = lines[:len(COLUMNS)], lines[len(COLUMNS) + 1:]
         self.conditions = dict(line.split(": ", 1) for line in heads)
         self.rows = {}
-        for kind, stream, piece, *cells in map(str.split, rows):
-            self.rows[kind, stream, int(piece)] = dict(zip(COLUMNS, cells, strict=True))
+        for kind, stream, chunk, *cells in map(str.split, rows):
+            self.rows[kind, stream, int(chunk)] = dict(zip(COLUMNS, cells, strict=True))
 
     def counted(self, columns):
         """The rows and columns that have a count, or are to have one."""
@@ -61,15 +61,15 @@ class Table:
             yield line(*row, *{**cells, **counted}.values())
 
 
-def line(kind, stream, piece, *cells):
-    return f"{kind:<14}{stream:<13}{piece:>5}{''.join(f'{cell:>9}' for cell in cells)}"
+def line(kind, stream, chunk, *cells):
+    return f"{kind:<14}{stream:<13}{chunk:>5}{''.join(f'{cell:>9}' for cell in cells)}"
 
 
 def judged(table, counts):
     """What is to be said of counts, and whether it is a fault."""
     for (row, column), count in counts.items():
-        cell, (kind, stream, piece) = table.rows[row][column], row
-        what = f"{kind} `{stream}` in calls of {piece:,} B, {column}: {count:.3f}"
+        cell, (kind, stream, chunk) = table.rows[row][column], row
+        what = f"{kind} `{stream}` in calls of {chunk:,} B, {column}: {count:.3f}"
         if cell == "?":
             yield f"{what}, and the table has none", True
         elif count > float(cell) * MOST:

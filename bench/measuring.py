@@ -131,10 +131,10 @@ def in_rounds(rounds, sides):
     return times
 
 
-def in_passes(words, place, piece):
+def in_passes(words, place, chunk):
     """A function that runs a program over a stream, and returns the seconds of its fastest pass."""
     def seconds(passes):
-        return int(run([*words, str(piece), str(passes)], place)[1]) / 1e9
+        return int(run([*words, str(chunk), str(passes)], place)[1]) / 1e9
 
     passes = max(1, round(SECONDS / seconds(1)))
     return lambda: seconds(passes)
@@ -142,12 +142,12 @@ def in_passes(words, place, piece):
 
 def compare_checksums(name, sides, place):
     """Stops if the sides' checksums of a stream differ. They get it in one call, because the
-    crate's events can be wrong in pieces."""
+    crate's events can be wrong in chunks."""
     size = str(place.stat().st_size)
-    told = {side: run([*commands[0], size, "1"], place)[0] for side, commands in sides.items()
-            if side not in REFERENCES}
-    if len(set(told.values())) > 1:
-        builder.stop(f"the checksums of {name} differ: {told}")
+    checksums = {side: run([*commands[0], size, "1"], place)[0] for side, commands in sides.items()
+                 if side not in REFERENCES}
+    if len(set(checksums.values())) > 1:
+        builder.stop(f"the checksums of {name} differ: {checksums}")
 
 
 def rows(kind, programs, given):
@@ -155,14 +155,14 @@ def rows(kind, programs, given):
     placement."""
     sides = programs.commands(kind)
     asked = {4096: given.streams} if given.streams else STREAMS_OF[kind]
-    for name, piece in ((name, piece) for piece, names in asked.items() for name in names):
+    for name, chunk in ((name, chunk) for chunk, names in asked.items() for name in names):
         commands = {side: of_side for side, of_side in sides.items()
                     if name not in LEFT_OUT.get(side, [])}
         if kind != "calls":
             compare_checksums(name, commands, programs.stream(name, CHECKED))
         place = programs.stream(name, given.bytes)
-        times = in_rounds(given.rounds, {side: [in_passes(words, place, piece) for words in of_side]
+        times = in_rounds(given.rounds, {side: [in_passes(words, place, chunk) for words in of_side]
                                          for side, of_side in commands.items()})
         found = {side: [[its / given.bytes * 1e9 for its in seconds] for seconds in of_side]
                  for side, of_side in times.items()}
-        yield {"kind": kind, "stream": name, "piece": piece, "nanoseconds": found}
+        yield {"kind": kind, "stream": name, "chunk": chunk, "nanoseconds": found}

@@ -39,9 +39,11 @@ def test_how_long_a_line_may_be(place, begin, most):
     ("x.antt", "", "a\n", "", 400, "a file of 401 lines"),
     *((place, "", "a\n", "", 500, "") for place in (
         "crates/vte_handler/src/by_call.rt", "rust/x/src/proved/f.rs", "vectors/x.json")),
-    ("x.py", "class A:\n    def f(self):\n", "        a\n", "a\n", 59, "f: a function of 61 lines"),
-    ("x.rs", "    fn g();\n    fn f(a: [u8; 2])\n    {\n", "        a;\n", "    }\n", 57,
-     "f: a function of 61 lines")])
+    *((*given, "f: a function of 47 lines") for given in (
+        ("x.py", "class A:\n    def f(self):\n", "        a\n", "a\n", 45),
+        ("x.rs", "    fn g();\n    fn f(a: [u8; 2])\n    {\n", "        a;\n", "    }\n", 43),
+        ("x.rt", "fn g();\nfn f(\n)\n    ensures {\n        b\n    }\n{\n", "    a;\n", "}\n", 44),
+        ("x.rt", "fn f(\n    b: B,\n) -> [u8; 2] {\n", "    a;\n", "}\n", 44)))])
 def test_how_long_files_and_functions_may_be(place, begin, line, end, most, wanted):
     assert faults(place, begin + most * line + end) == []
     assert faults(place, begin + (most + 1) * line + end) == [f"{place}: {wanted}"] * bool(wanted)

@@ -34,16 +34,11 @@ def differences(source, written, place="c/mod.rs"):
     ("pub static N: u8 = 1;", "pub static N: u8 = 2;", "+static N, -static N"),
     ("impl S { const N: u8 = 1; }", "impl S {}", "-const N"),
     ("fn f<const N: u8>() -> *const u8 { N }", "fn f<const N: u8>() -> *const u8 { N }", ""),
-    ("fn f() { g(&mut reader, Chunk::new(a), input.up_to(b)); }",
-     "fn f() { g(reader, a, up_to(input, b)); }", ""),
-    ("fn f() { let (mut reader, input) = chunk.into_reader(); self.looks.add(reader); g(); }",
-     "fn f() { let reader = Reader {}; g(); }", ""),
     ("fn f() { g(text_between(a, b.c)); take_run(a); }",
      "fn f() { g(unsafe { text_between(a, b.c) }); unsafe { take_run(a) }; }", ""),
     ("fn f() { text_between(a); }", "fn f() { unsafe { text_between(b) }; }", "+fn f, -fn f"),
     *(("fn f() { g(a); }", f"fn f() {{ unsafe {{ {made} }} }}", "+fn f, -fn f")
       for made in ("g(a);", "text_between(a); g(a);", "h(text_between(a))")),
-    ("fn f() { match a { A => 1, _ => c } }", "fn f() { match a { A => { 1 } _ => c, } }", ""),
     ("fn f() { input.up_to(a); }", "fn f() { up_to(input, b); }", "+fn f, -fn f"),
     # contracts and ghosts
     ("fn f() // requires { }\n ghost a: { ℕ }\n requires b { { \"}\" } ≡ '}' } "
@@ -55,11 +50,16 @@ def differences(source, written, place="c/mod.rs"):
     ("fn f() {\n// cargo instead: a();\nb(); }", "fn f() { b(); }", "+fn f, -fn f"),
     ("// cargo lacks: why\nfn f() {}\nfn g() {}", "fn f() {}", "+fn f, -fn g"),
     ("fn f() { match a { 0..16 => 1 } }", "fn f() { match a { 0..=16 => 1 } }", "+fn f, -fn f")])
-def test_what_differs_is_told(source, written, wanted):
+def test_what_differs_is_reported(source, written, wanted):
     shown = re.compile("c/mod.rs (.*?): it isn't (?:written|in the source as it is written: (.*))")
     found = [shown.fullmatch(line) for line in differences(source, written)]
     assert ", ".join("+-"[it[2] is None] + it[1] for it in found) == wanted
     assert all(word in written for it in found for word in (it[2] or "").split())
+
+
+@pytest.mark.parametrize("example", [it[2] for it in Tool("check_erased").parts["PATTERNS"]])
+def test_what_may_differ(example):
+    assert differences(*(f"fn f() {{ {text} }}" for text in example.split(" -> "))) == []
 
 
 def test_all_files_are_compared():

@@ -9,13 +9,15 @@ import pytest
 
 from tests.support import TOOLS, write
 
-# parts in the place of those of tools/test: those at once, and those after them
-PARTS = {
-    "FIRST": [("first", "bash", "try first", "try again"),
-              ("lacking", "bash no-such-command", "try lacking"),
-              ("far", "rust=1.0 no-such-program", "try far")],
-    "LATER": [("second", "bash crates rust-1.2 +no-such-tool",
-               "try second 'missing: a thing: not tried'"), ("proofs", "rt", "rt ci")], "LAST": []}
+# runs tools/test with parts in the place of its own: those at once, and those after them
+RUN = """import runpy, sys
+test = runpy.run_path("tools/test"); Part = test["Part"]
+first = [Part("first", "bash", ["try first", "try again"]),
+         Part("lacking", "bash no-such-command", ["try lacking"]),
+         Part("far", "rust=1.0 no-such-program", ["try far"])]
+later = [Part("second", "bash crates rust-1.2", ["try second 'missing: a thing: not tried'"],
+              "no-such-tool"), Part("proofs", "rt", ["rt ci"])]
+sys.exit(test["main"](sys.argv[1:], (first, later, [])))"""
 PROGRAMS = {
     "bin/try": '#!/bin/sh\necho $1 >>asked\necho said by $1\necho $2\n'
                '[ $1 != "$FAILS" ] && [ "$CARGO_HOME" = next ]\n',
@@ -65,16 +67,13 @@ CASES = {
 
 def run(folder, words, fails=""):
     """The status and the lines of tools/test, and what was tried."""
-    text = (TOOLS / "test").read_text()
-    for name, parts in PARTS.items():
-        text = re.sub(rf"^{name} = \[$.*?^\]$", f"{name} = {parts}", text, flags=re.M | re.S)
-    for name, program in {**PROGRAMS, "tools/test": text}.items():
+    for name, program in {**PROGRAMS, "tools/test": (TOOLS / "test").read_text()}.items():
         write(name, program, 0o755)
     (folder / "temporary").mkdir()
     asked = write("asked", "")
     given = {**os.environ, "PATH": f"{folder}/bin:{os.environ['PATH']}",
              "TMPDIR": f"{folder}/temporary", "FAILS": fails}
-    done = subprocess.run([sys.executable, "tools/test", *words.split()], env=given,
+    done = subprocess.run([sys.executable, "-c", RUN, *words.split()], env=given,
                           capture_output=True, text=True)
     assert not any((folder / "temporary").iterdir())
     lines = [re.sub(r"^ *\d+ s ", "", line) for line in done.stdout.splitlines()]

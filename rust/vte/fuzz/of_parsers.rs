@@ -85,7 +85,7 @@ fn in_runs<R: Read, const KEEPS: bool>(chunks: &[&[u8]]) -> Outcome {
     (text, parser.open())
 }
 
-/// With a stop after each character, or after each escape sequence.
+/// With a stop after each character, escape sequence or event.
 fn with_stops<R: Read>(chunks: &[&[u8]], stop: Stop) -> Outcome {
     let (mut parser, mut text) = (R::new(), String::new());
     for chunk in chunks {
@@ -131,16 +131,14 @@ fn compare_with<R: Read>(stream: &[u8], chunks: &[&[u8]]) -> Outcome {
     assert_eq!(in_chunks::<R>(chunks), wanted, "in chunks");
     assert_eq!(in_runs::<R, false>(chunks), wanted, "in runs");
     assert_eq!(in_runs::<R, true>(chunks), wanted, "in runs with line ends");
-    assert_eq!(
-        with_stops::<R>(chunks, Stop::AfterPrint),
-        wanted,
-        "with stops after characters"
-    );
-    assert_eq!(
-        with_stops::<R>(chunks, Stop::AfterEscape),
-        wanted,
-        "with stops after escapes"
-    );
+    let stops = [
+        (Stop::AfterPrint, "after characters"),
+        (Stop::AfterEscape, "after escapes"),
+        (Stop::AfterEach, "after each event"),
+    ];
+    for (stop, place) in stops {
+        assert_eq!(with_stops::<R>(chunks, stop), wanted, "with stops {place}");
+    }
     assert_eq!(to_runs::<R>(chunks), wanted, "to runs");
     wanted
 }

@@ -19,9 +19,9 @@ const PLAIN: &[u8] =
 const DATA: &[u8] =
     b"a\x1bP1qxyz\n\x7fb\x80\xffcd\x1b\\e\x1bPq\x18\x1bPqf\x9cg\x1bP1:zh\x1b\\\x07\x07i";
 
-/// Reads a piece run by run.
-fn read_by_runs(parser: &mut Parser, lines: &mut EventLines, piece: &[u8]) {
-    let mut unread = piece;
+/// Reads a chunk run by run.
+fn read_by_runs(parser: &mut Parser, lines: &mut EventLines, chunk: &[u8]) {
+    let mut unread = chunk;
     while !unread.is_empty() {
         lines.is_terminated = false;
         let run = parser.advance_to_run(lines, unread);

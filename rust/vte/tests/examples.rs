@@ -18,7 +18,7 @@ use std::fs;
 use std::io::{self, Read, Write};
 use std::path::Path;
 
-/// An example that reads pieces and writes to something.
+/// An example that reads chunks and writes to something.
 type Example = fn(&mut dyn Read, &mut dyn Write) -> io::Result<()>;
 
 /// Each kind of event, and two sequences with too much.

@@ -12,7 +12,7 @@ use vte::ansi::{Attr, Handler};
 use vte::{Params, Parser, Perform};
 
 /// A text, a control sequence, and a character that is cut.
-const PIECES: [&[u8]; 3] = [b"a\x1b[", b"7mb\xc3", b"\xa9"];
+const CHUNKS: [&[u8]; 3] = [b"a\x1b[", b"7mb\xc3", b"\xa9"];
 const WRITTEN: &str = "a<7>b\u{e9}";
 
 /// Writes characters, and the first numbers of control sequences.
@@ -110,11 +110,11 @@ pass_on! {
     [] &Shared, this => this.0.borrow_mut();
 }
 
-/// Reads the pieces with a performer of any type, and returns it.
+/// Reads the chunks with a performer of any type, and returns it.
 fn read<P: Perform>(mut performer: P) -> P {
     let mut parser = Parser::new();
-    for piece in PIECES {
-        parser.advance(&mut performer, piece);
+    for chunk in CHUNKS {
+        parser.advance(&mut performer, chunk);
     }
     performer
 }
@@ -160,8 +160,8 @@ macro_rules! assert_all_read {
 fn read_by_performers() {
     assert_all_read!(read);
     let mut terminal = Terminal::default();
-    for piece in PIECES {
-        terminal.advance(piece);
+    for chunk in CHUNKS {
+        terminal.advance(chunk);
     }
     assert_eq!(terminal.log.0, WRITTEN);
 }
@@ -172,7 +172,7 @@ mod handlers {
 
     use vte::ansi::{Attr, Color, Handler, Processor, Timeout};
 
-    use super::{Around, Both, Log, Page, Screen, Shared, PIECES, WRITTEN};
+    use super::{Around, Both, Log, Page, Screen, Shared, CHUNKS, WRITTEN};
 
     impl Handler for Log {
         fn input(&mut self, c: char) {
@@ -215,8 +215,8 @@ mod handlers {
 
     fn read<H: Handler>(mut handler: H) -> H {
         let mut processor: Box<dyn Reader<H>> = Box::new(Processor::<Never>::default());
-        for piece in PIECES {
-            processor.read(&mut handler, piece);
+        for chunk in CHUNKS {
+            processor.read(&mut handler, chunk);
         }
         handler
     }

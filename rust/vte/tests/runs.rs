@@ -24,11 +24,11 @@ fn assert_runs(lines: &str, found: &[String], runs: &[&str]) {
     assert_eq!(count, in_runs.chars().count());
 }
 
-/// The events of a stream in pieces, by `advance_text`.
-fn events_of<const KEEPS: bool>(pieces: &[&[u8]]) -> EventLines<KEEPS> {
+/// The events of a stream in chunks, by `advance_text`.
+fn events_of<const KEEPS: bool>(chunks: &[&[u8]]) -> EventLines<KEEPS> {
     let (mut parser, mut lines) = (Parser::new(), EventLines::default());
-    for piece in pieces {
-        parser.advance_text(&mut lines, piece);
+    for chunk in chunks {
+        parser.advance_text(&mut lines, chunk);
     }
     lines
 }
@@ -146,10 +146,10 @@ fn text_comes_by_the_method_for_text_alone_however_it_is_cut() {
                 <(Text<true>, Text<false>, Text<false>)>::default();
             let (mut parser, mut other) = (Parser::new(), Parser::new());
             let mut processor = Processor::<Pending>::new();
-            for piece in [&stream[..at], &stream[at..]] {
-                parser.advance_text(&mut kept, piece);
-                other.advance_text(&mut text, piece);
-                processor.advance_text(&mut shown, piece);
+            for chunk in [&stream[..at], &stream[at..]] {
+                parser.advance_text(&mut kept, chunk);
+                other.advance_text(&mut text, chunk);
+                processor.advance_text(&mut shown, chunk);
             }
             let found = [kept.0, text.0, shown.0];
             assert_eq!(found, [wanted, &printed, &printed], "{stream:?} at {at}");

@@ -187,7 +187,7 @@ inline void check(int status, size_t read = 0) {
 
 } // namespace detail
 
-// Reads a stream in pieces of any length, and calls a handler, which has to outlive it.
+// Reads a stream in chunks of any length, and calls a handler, which has to outlive it.
 class Processor {
     std::unique_ptr<vte_processor, detail::Free> processor;
 

@@ -70,7 +70,7 @@ fn vectors_give_their_lines() {
             ("text", _) => (&["text"], vector.get("text").map_or(vec![], Value::bytes)),
             _ => continue,
         };
-        let output = run(arguments, &vector.pieces().concat());
+        let output = run(arguments, &vector.chunks().concat());
         let (name, is_told) = (vector.text("name"), !output.stderr.is_empty());
         assert!(output.status.success() && !is_told, "{name}");
         assert!(output.stdout == wanted, "{name}");
@@ -251,16 +251,16 @@ fn a_closed_output_is_silent_whatever_is_written() {
 
 /// A log that grows can be followed: what has no line end is written as well.
 #[test]
-fn what_a_piece_gives_is_written_before_the_next_is_read() {
+fn what_a_chunk_gives_is_written_before_the_next_is_read() {
     let of_text = [("a\x1b[1", "a"), ("mb", "b"), ("\r\n\tc", "\r\n\tc")];
     let of_lines = [("a", "print 0061\n"), ("\x1b[m", "csi [0] - false 6d\n")];
-    for (arguments, pieces) in WAYS.into_iter().zip([&of_lines[..], &of_text]) {
+    for (arguments, chunks) in WAYS.into_iter().zip([&of_lines[..], &of_text]) {
         let mut child = vtlog(arguments).spawn().unwrap();
         let (mut stdin, stdout) = (child.stdin.take().unwrap(), child.stdout.take().unwrap());
         let (sender, written) = std::sync::mpsc::channel();
         let mut bytes = BufReader::new(stdout).bytes();
         std::thread::spawn(move || bytes.try_for_each(|byte| sender.send(byte)));
-        for (input, output) in pieces {
+        for (input, output) in chunks {
             stdin.write_all(input.as_bytes()).unwrap();
             let next = || written.recv_timeout(Duration::from_secs(1200)).ok()?.ok();
             let bytes: Vec<u8> = output.bytes().map_while(|_| next()).collect();

@@ -28,7 +28,7 @@ EXIT = "(protocol: it ended without a line `end`)"
 NO_LINE_FEED = "(protocol: no line feed after `end`)"
 # the most bytes of an answer, and how many are kept of a longer one
 MAX_OUTPUT, KEPT_OUTPUT = 1 << 25, 1 << 14
-# a process that ends all groups of processes that it was told of, once the judge is gone
+# a process that ends all groups of processes that were reported to it, once the judge is gone
 GUARD = """
 import contextlib, os, signal, sys
 groups = set()
@@ -181,17 +181,17 @@ class Program:
             file.write(data)
             file.seek(0)
             process = subprocess.Popen(self.command, stdin=file, **self.how)
-        self.tell_guard(b"+", process)
+        self.report_to_guard(b"+", process)
         try:
             yield process
         finally:
             with suppress(OSError):
                 os.killpg(process.pid, signal.SIGKILL)
             process.wait()
-            self.tell_guard(b"-", process)
+            self.report_to_guard(b"-", process)
             process.stdout.close()
 
-    def tell_guard(self, sign, process):
+    def report_to_guard(self, sign, process):
         with self.lock:
             self.guard.stdin.write(b"%s%d\n" % (sign, process.pid))
             self.guard.stdin.flush()
@@ -229,7 +229,7 @@ class Program:
 
 
 def used_memory(process):
-    """The bytes of memory that a process uses, where the system tells them in /proc."""
+    """The bytes of memory that a process uses, where the system shows them in /proc."""
     try:
         with open(f"/proc/{process.pid}/statm", "rb") as file:
             return int(file.read().split()[1]) * os.sysconf("SC_PAGE_SIZE")

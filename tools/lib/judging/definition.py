@@ -86,9 +86,12 @@ class Reader:
         """The steps of what stands at the place; none at the end."""
         self.steps = []
         if self.place < len(self.text):
-            is_body = self.text[self.place] == ESC
-            (self.device_byte if self.is_hooked else self.body if is_body else self.character)(
-                self.place)
+            if self.is_hooked:
+                self.device_byte(self.place)
+            elif self.text[self.place] == ESC:
+                self.body(self.place)
+            else:
+                self.character(self.place)
         return self.steps
 
     def add(self, rules, start, end, *lines):
@@ -135,10 +138,10 @@ class Reader:
         is_cut_short = begun and self.at(end) in ("", ESC, *ENDS)
         lines = {"subparts": ["print fffd"], "bytes": ["print fffd"] * len(segment), "drop": []}
         # at the end of the stream it is open
-        is_told = end < len(self.text) or not begun
+        is_reported = end < len(self.text) or not begun
         self.add(["unfinished" if is_cut_short else "malformed",
                   *["surrogate" if segment[0] == "\xed" else "overlong"] * bool(is_formed)],
-                 start, end, *lines[self.house.malformed] * is_told)
+                 start, end, *lines[self.house.malformed] * is_reported)
 
     # ---- sequences
 
@@ -150,9 +153,10 @@ class Reader:
             return self.add(["escape-sequence", "terminator"], escape, escape + 2, *lines)
         key = self.final(escape, escape + 1, " -~")
         if key:
-            {"[": self.control_sequence, "P": self.device_control, "]": self.system_command,
-             **dict.fromkeys("X^_", self.ignored_string),
-             }.get(self.text[key], self.escape_sequence)(escape, key)
+            by_key = {"[": self.control_sequence, "P": self.device_control,
+                      "]": self.system_command, **dict.fromkeys("X^_", self.ignored_string)}
+            read = by_key.get(self.text[key], self.escape_sequence)
+            read(escape, key)
 
     def final(self, escape, start, wanted, dropped="dropped-in-sequence"):
         """The place of a final byte, or None if the sequence ends without one: by the next ESC, or
@@ -238,7 +242,7 @@ class Reader:
         self.dropped_string(escape, key + 1, "ignored-string")
 
     def dropped_string(self, escape, start, rule):
-        """A string of which nothing is told, up to ESC, CAN or SUB."""
+        """A string of which nothing is reported, up to ESC, CAN or SUB."""
         stop = self.first(ST * (self.house.ignored_9c == "ends"), start)
         last, text = self.at(stop), self.text[start:stop]
         has_other = rule == "ignored-string" and re.search("[^\x08-\x0d -~]", text)
@@ -259,12 +263,17 @@ class Reader:
         kept, pieces = command_pieces(items, house)
         is_cut_short = self.at(stop + 1) != "\\" if last == ESC else last in ENDS
         data = len(items) - items.count(";")
-        rules = {"limit": kept < len(items) or data > 1024,
-                 "pieces": len(pieces) > (16 if house.pieces is None else min(house.pieces, 16)),
-                 NEAR + "limit": data > 16, NEAR + "pieces": len(pieces) > 4,
-                 "byte-9c": ST in items + last, "command-bytes": re.search("[\x7f-\xff]", items),
-                 "command-bell": last == BEL, "empty-command": not items,
-                 "command-cut-short": is_cut_short}
+        most_pieces = 16 if house.pieces is None else min(house.pieces, 16)
+        rules = {
+            "limit": kept < len(items) or data > 1024,
+            "pieces": len(pieces) > most_pieces,
+            NEAR + "limit": data > 16,
+            NEAR + "pieces": len(pieces) > 4,
+            "byte-9c": ST in items + last,
+            "command-bytes": re.search("[\x7f-\xff]", items),
+            "command-bell": last == BEL,
+            "empty-command": not items,
+            "command-cut-short": is_cut_short}
         if not last:
             rules = {name: rules[name] for name in ("byte-9c", "command-bytes")}
         is_dropped = not last or house.empty_commands == "drop" and not items or (

@@ -34,12 +34,12 @@ def as_json(result, seed, again):
 
 
 def tests(result, again):
-    """The name of each test, whether it is new that it fails, and what is told if it does."""
+    """The name of each test, whether it is new that it fails, and what is reported if it does."""
     for name, rule in TESTS.items():
         found = [it for it in result.findings.values() if rule_of(it.name)[-1] is rule]
         found.sort(key=lambda finding: not finding.is_new)
-        told = "\n\n".join(shown_finding(finding, again) for finding in found)
-        yield name, bool(found and found[0].is_new), told
+        report = "\n\n".join(shown_finding(finding, again) for finding in found)
+        yield name, bool(found and found[0].is_new), report
     left = result.unexplained
     yield "each difference has a class", left > 0, f"{left} streams have none" * (left > 0)
     is_partial = not result.streams or bool(result.ended_early)
@@ -48,12 +48,12 @@ def tests(result, again):
 
 def as_junit(result, seed, again):
     suite = ElementTree.Element("testsuite", name=f"judge, seed {plain(seed)}")
-    for name, is_new, told in tests(result, again):
+    for name, is_new, report in tests(result, again):
         case = ElementTree.SubElement(suite, "testcase", classname="judge", name=name)
-        if told:
-            message = told.splitlines()[0] if is_new else "known"
+        if report:
+            message = report.splitlines()[0] if is_new else "known"
             kind = "failure" if is_new else "skipped"
-            ElementTree.SubElement(case, kind, message=message).text = told
+            ElementTree.SubElement(case, kind, message=message).text = report
     if result.ended_early:
         ElementTree.SubElement(suite, "system-out").text = f"ended early: {result.ended_early}"
     for count, kind in ("tests", "testcase"), ("failures", "failure"), ("skipped", "skipped"):

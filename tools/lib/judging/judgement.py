@@ -17,8 +17,8 @@ from lib.judging.sides import LIMITS, Sides, is_alike, kinds_of
 # 129, and some of long streams more than this. And to shrink one at which the program passes a
 # limit, as each may take its whole time: by trial
 MAX_CASES, MAX_OVER_LIMIT = 2000, 200
-# how often a case is tried again before it is told: a program whose answer changes every other time
-# passes all of these once in 64
+# how often a case is tried again before it is reported: a program whose answer changes every other
+# time passes all of these once in 64
 MORE_TRIES = 6
 NOT_DETERMINISTIC, KEPT_STATE, PROTOCOL = ALONE
 OUT_OF_TIME = "the time was over before all streams were judged"
@@ -55,6 +55,17 @@ class Judgement:
         """The number of streams that differ and have no class."""
         return self.different - sum(finding.streams for finding in self.findings.values())
 
+    def rules(self):
+        """The rules of the classes found so far."""
+        rules = {finding.rule for finding in self.findings.values()} - ALONE.keys()
+        return rules | {NEAR + name for name in rules}
+
+    def count(self, name):
+        """Counts a stream for a class. Whether there is one."""
+        if name in self.findings:
+            self.findings[name].streams += 1
+        return name in self.findings
+
     def new(self):
         """The findings that aren't known."""
         return [finding for finding in self.findings.values() if finding.is_new]
@@ -76,8 +87,8 @@ class Judge:
         self.candidate, self.house = candidate, house
         self.left_out, self.known, self.report = frozenset(left_out), known, report
         # the case that is examined, and the smallest difference that was found of it: what there is
-        # to tell if the time is over
-        self.at_hand = None
+        # to report if the time is over
+        self.examined = None
 
     def run(self, cases):
         """Judges cases until there are none left or the time is over."""
@@ -87,7 +98,7 @@ class Judge:
                     self.judge_batch(batch)
         except OutOfTime:
             self.result.ended_early = OUT_OF_TIME
-            self.tell_at_hand()
+            self.report_examined()
         return self.result
 
     def probe(self, case):
@@ -109,8 +120,8 @@ class Judge:
         self.result.streams, self.result.different = 1, int(reference != answer)
         if reference != answer:
             case, difference = Case("--case", chunks), Difference(chunks, reference, answer, before)
-            if steady := self.steady(case, difference, MORE_TRIES):
-                self.add(self.named(steady), steady, case)
+            if repeated := self.repeated(case, difference, MORE_TRIES):
+                self.add(self.named(repeated), repeated, case)
         return reference, answer
 
     def judge_batch(self, batch):
@@ -123,40 +134,29 @@ class Judge:
                 differing.append((batch[index], difference))
         self.result.streams += len(batch)
         self.result.different += len(differing)
-        self.at_hand = next(iter(differing), None)
+        self.examined = differing[0] if differing else None
         explained = self.explained([difference for _, difference in differing])
-        for self.at_hand, is_explained in zip(differing, explained):
-            before, (case, difference) = self.result.unexplained, self.at_hand
-            steady = difference if is_explained else self.steady(case, difference)
-            if steady:
-                self.examine(case, steady, is_explained)
+        for (case, difference), is_explained in zip(differing, explained):
+            before, self.examined = self.result.unexplained, (case, difference)
+            repeated = difference if is_explained else self.repeated(case, difference)
+            if repeated:
+                self.examine(case, repeated, is_explained)
             elif self.result.unexplained == before:  # it was only slow
                 self.result.different -= 1
-        self.at_hand = None
+        self.examined = None
 
     # ---- what is found so far
 
-    def rules(self):
-        """The rules of the classes found so far."""
-        rules = {finding.rule for finding in self.result.findings.values()} - ALONE.keys()
-        return rules | {NEAR + name for name in rules}
-
     def excluded(self, but=frozenset()):
-        return (self.rules() - but) | self.left_out
+        return (self.result.rules() - but) | self.left_out
 
     def explained(self, differing):
         """Whether each case no longer differs without the rules of the classes found so far."""
-        rules = self.rules()
+        rules = self.result.rules()
         if not rules:
             return [False] * len(differing)
         rests = [freed(difference.chunks, rules, self.house) for difference in differing]
         return [one == other for one, other in self.sides.answers(rests)]
-
-    def count(self, name):
-        """Counts a stream for a class. Whether there is one."""
-        if name in self.result.findings:
-            self.result.findings[name].streams += 1
-        return name in self.result.findings
 
     def add(self, name, difference, case, is_smallest=True):
         is_new = name not in self.known and name.partition("/")[0] not in self.known
@@ -169,14 +169,14 @@ class Judge:
     def examine(self, case, difference, is_explained):
         """Counts a case that differs for a class: a new one if it differs without the rules of the
         classes found so far, or in a kind for which its rules have no class yet."""
-        if mark_of(difference.candidate) == PROTOCOL and self.count(PROTOCOL):
+        if mark_of(difference.candidate) == PROTOCOL and self.result.count(PROTOCOL):
             return
         before, excluded = self.result.unexplained, self.excluded()
-        left = not is_explained and self.sides.left(difference, excluded)
-        if left and self.patience.is_left():
-            self.find(case, left, excluded)
-        places = differences_of(*difference[1:3]) if self.rules() else []
-        signatures = [(*nearest(difference.chunks, place, self.rules(), self.house), kind)
+        rest = not is_explained and self.sides.rest_without(difference, excluded)
+        if rest and self.patience.is_left():
+            self.find(case, rest, excluded)
+        places = differences_of(*difference[1:3]) if self.result.rules() else []
+        signatures = [(*nearest(difference.chunks, place, self.result.rules(), self.house), kind)
                       for place, kind in places]
         for rule, of_step, kind in signatures:
             if self.result.unexplained < before:
@@ -186,51 +186,53 @@ class Judge:
             if is_known or not self.patience.is_left_for(rule, kind):
                 continue
             excluded = self.excluded(of_step)
-            if left := self.sides.left(difference, excluded, kind):
+            if rest := self.sides.rest_without(difference, excluded, kind):
                 self.patience.tries[rule, kind] += 1
-                self.find(case, left, excluded, kind)
+                self.find(case, rest, excluded, kind)
         if signatures and self.result.unexplained == before:
             rule, _, kind = signatures[0]
             of_rule = (it for it, finding in self.result.findings.items() if finding.rule == rule)
-            self.count(f"{rule}/{kind}") or self.count(next(of_rule, None))
+            if not self.result.count(f"{rule}/{kind}"):
+                self.result.count(next(of_rule, None))
 
-    def find(self, case, left, excluded, kind=None):
+    def find(self, case, rest, excluded, kind=None):
         """Shrinks a difference without some rules, and reports its class if it is new."""
-        most = (MAX_OVER_LIMIT if mark_of(left.candidate) in LIMITS else
+        most = (MAX_OVER_LIMIT if mark_of(rest.candidate) in LIMITS else
                 MAX_CASES // 4 if kind else MAX_CASES)
         tries = Tries(self.time, most)
 
         def asked(streams):
             return tries.ask(self.sides.difference_without, excluded, kind, *streams)
 
-        difference = shrunk([left.chunks], asked, self.candidate.at_once)
+        difference = shrunk([rest.chunks], asked, self.candidate.at_once)
         # a kind that doesn't show alone comes from several differences in a row
         is_mixed = difference and kind and len(kinds_of(difference)) > 1
         if self.time.is_over:
-            self.at_hand = case, difference or left
+            self.examined = case, difference or rest
         if self.time.is_over and not difference:
             raise OutOfTime
-        if not difference or is_mixed or not self.steady(
+        if not difference or is_mixed or not self.repeated(
                 case, difference, 1 if self.time.is_over else MORE_TRIES):
             return
         name = self.named(difference)
         name = self.same_as(name, difference) or name
-        if self.count(name):
+        if self.result.count(name):
             self.patience.again += 1
         else:
             self.add(name, difference, case, is_smallest=not tries.is_over())
 
-    def tell_at_hand(self):
-        """Tells of the difference that there was no time to examine, if nothing was found or there
+    def report_examined(self):
+        """Reports the difference that there was no time to examine, if nothing was found or there
         is no answer. Its rule is that of where it is."""
-        if not self.at_hand:
+        if not self.examined:
             return
-        case, difference = self.at_hand
+        case, difference = self.examined
         place, kind = differences_of(difference.reference, difference.candidate)[0]
         if kind in FAILURES or not self.result.findings:
             rule, _ = nearest(difference.chunks, place, {*RULES}, self.house)
             name = PROTOCOL if kind == PROTOCOL else f"{rule}/{kind}"
-            self.count(name) or self.add(name, difference, case, is_smallest=False)
+            if not self.result.count(name):
+                self.add(name, difference, case, is_smallest=False)
 
     def named(self, difference):
         """The class of a difference that is shrunk."""
@@ -260,25 +262,25 @@ class Judge:
 
     # ---- what differs only at times
 
-    def steady(self, case, difference, tries=1):
-        """The difference that a stream has alone, each time in a new process, or None: what is told
-        then is why."""
+    def repeated(self, case, difference, tries=1):
+        """The difference that a stream has alone, each time in a new process, or None: then it is
+        reported why."""
         # a program that doesn't end takes its time again
         for _ in range(min(tries, 2) if mark_of(difference.candidate) in LIMITS else tries):
             again = self.sides.difference(difference.chunks)
             if again and is_alike(again, difference):
                 continue
             if mark_of(difference.candidate) == "hang":  # it was only slow
-                return again and self.steady(case, again, tries)
-            return self.tell_unsteady(case, difference, again)
+                return again and self.repeated(case, again, tries)
+            return self.report_unrepeated(case, difference, again)
         return difference._replace(before=[])
 
-    def tell_unsteady(self, case, difference, again):
-        """Tells or counts that a stream has different answers: after others, or at any time."""
-        is_told = NOT_DETERMINISTIC in self.result.findings
-        after = self.after_others(difference) if difference.before and not is_told else None
+    def report_unrepeated(self, case, difference, again):
+        """Reports or counts that a stream has different answers: after others, or at any time."""
+        is_known = NOT_DETERMINISTIC in self.result.findings
+        after = self.after_others(difference) if difference.before and not is_known else None
         name = KEPT_STATE if after else NOT_DETERMINISTIC
-        if not self.count(name):
+        if not self.result.count(name):
             answer = again.candidate if again else difference.reference
             self.add(name, after or Difference(difference.chunks, difference.candidate, answer),
                      case)

@@ -16,8 +16,8 @@ PLAIN = [("\x1a", "a\x0a\x07\x18"), ("\x1b", ""), ("\x1f", "a\x0a"), ("\x7e", "a
 
 
 def shrunk(streams, asked, at_once=1):
-    """What is told of the smallest streams in a row, each in chunks, that were found to differ.
-    `asked` tells something of those that do; so many are tried at once."""
+    """What is known of the smallest streams in a row, each in chunks, that were found to differ.
+    `asked` returns something of those that do; so many are tried at once."""
     answers, threads = {}, concurrent.futures.ThreadPoolExecutor(at_once)
 
     def answer(text):
@@ -29,8 +29,8 @@ def shrunk(streams, asked, at_once=1):
         """The first of some texts whose streams differ, or None."""
         texts = iter(texts)
         while some := list(islice(texts, at_once)):
-            told = threads.map(answer, some) if at_once > 1 else map(answer, some)
-            found = next((text for text, is_different in zip(some, told) if is_different), None)
+            differ = threads.map(answer, some) if at_once > 1 else map(answer, some)
+            found = next((text for text, is_different in zip(some, differ) if is_different), None)
             if found is not None:
                 return found
         return None

@@ -37,7 +37,7 @@ class Sides:
         is_of_kind = difference and (kind is None or kind in kinds_of(difference))
         return difference if is_of_kind else None
 
-    def left(self, difference, rules, kind=None):
+    def rest_without(self, difference, rules, kind=None):
         """What is left of a difference without some rules."""
         return self.difference_without(rules, kind, freed(difference.chunks, rules, self.house))
 

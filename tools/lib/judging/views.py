@@ -3,27 +3,34 @@ import re
 
 EVENTS = {"print": ("print",), "execute": ("execute",), "csi": ("csi",), "esc": ("esc",),
           "osc": ("osc",), "dcs": ("hook", "put", "unhook")}
+
+
+def joined(command):
+    """The line of a command whose pieces are joined again by `;`."""
+    data = command[2].replace("-", "").replace(" ", "3b")
+    return f"{command[1]} 1 {data or '-'}"
+
+
 # the fields ignore and bell_terminated, how the data of a command are divided into pieces, and
 # which numbers `:` joins in a group
 FIELDS = {
     "ignore": (r"^((csi|hook|esc) .*) \S+ (\S+)$", r"\1 - \3"),
     "bell": (r"^osc \S+", "osc -"),
-    "pieces": (r"^(osc \S+) \d+ (.*)$",
-               lambda line: f"{line[1]} 1 {line[2].replace('-', '').replace(' ', '3b') or '-'}"),
+    "pieces": (r"^(osc \S+) \d+ (.*)$", joined),
     "groups": (r"^(csi|hook) \S+", lambda line: line[0].replace(":", ";"))}
 
 
 class View:
-    """Event lines without what is untold."""
+    """Event lines without what a parser doesn't report."""
 
-    def __init__(self, untold=()):
-        untold = list(untold)
-        unknown = [name for name in untold if name not in EVENTS and name not in FIELDS]
+    def __init__(self, unreported=()):
+        unreported = list(unreported)
+        unknown = [name for name in unreported if name not in EVENTS and name not in FIELDS]
         if unknown:
             choices = ", ".join([*EVENTS, *FIELDS])
             raise ValueError(f"unknown word {unknown[0]!r}; choose from {choices}")
-        self.changes = [FIELDS[name] for name in untold if name in FIELDS]
-        self.hidden = {method for name in untold for method in EVENTS.get(name, ())}
+        self.changes = [FIELDS[name] for name in unreported if name in FIELDS]
+        self.hidden = {method for name in unreported for method in EVENTS.get(name, ())}
 
     def of(self, lines):
         """The lines with what both sides report."""

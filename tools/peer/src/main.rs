@@ -1,5 +1,5 @@
 //! Times the parser or processor of the crate `vte` 0.15.0, or of rust/vte (`--cfg runs`), alone,
-//! as crates/benchmark does ours, for bench/: `peer KIND PIECE PASSES` reads a stream from standard
+//! as crates/benchmark does ours, for bench/: `peer KIND CHUNK PASSES` reads a stream from standard
 //! input. Standard output gets the checksum, standard error the nanoseconds of the fastest pass.
 //! The kinds are `parser` and `processor`, with a performer or handler that folds all into a
 //! checksum, `screen` and `terminal`, with a screen as the parser's performer or the processor's
@@ -54,12 +54,12 @@ macro_rules! kinds {
     )*) => {
         $(
             $(#[$runs])?
-            fn $kind(stream: &[u8], piece: usize, passes: usize) -> (Checksum, Duration) {
+            fn $kind(stream: &[u8], chunk: usize, passes: usize) -> (Checksum, Duration) {
                 let (mut reader, mut receiver) = ($reader, $receiver);
                 let pass = |_| {
                     $($begin(&mut receiver);)?
                     let start = Instant::now();
-                    for bytes in black_box(stream).chunks(piece) {
+                    for bytes in black_box(stream).chunks(chunk) {
                         $advance(&mut reader, &mut receiver, bytes);
                     }
                     start.elapsed()
@@ -103,14 +103,14 @@ kinds! {
 
 fn main() {
     let words: Vec<String> = std::env::args().skip(1).collect();
-    let [kind, piece, passes] = &words[..] else {
-        panic!("KIND, PIECE and PASSES are wanted");
+    let [kind, chunk, passes] = &words[..] else {
+        panic!("KIND, CHUNK and PASSES are wanted");
     };
     let number = |word: &String| word.parse().expect("a number is wanted");
     let mut stream = Vec::new();
     let read = std::io::stdin().lock().read_to_end(&mut stream);
     read.expect("the read failed");
-    let (checksum, time) = function_of(kind)(&stream, number(piece), number(passes));
+    let (checksum, time) = function_of(kind)(&stream, number(chunk), number(passes));
     println!("{checksum}");
     eprintln!("{}", time.as_nanos());
 }

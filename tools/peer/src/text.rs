@@ -24,7 +24,7 @@ impl Text {
     }
 }
 
-/// Only checks text, without the rest of a character that another piece has begun.
+/// Only checks text, without the rest of a character that an earlier chunk has begun.
 pub struct Checker;
 
 impl Checker {

@@ -115,8 +115,8 @@ impl<const OSC_RAW_BUF_SIZE: usize> Parser<OSC_RAW_BUF_SIZE> {
     /// assert_eq!(text.0, "naïve");
     /// ```
     ///
-    /// A run begins where nothing is open and a character stands in the bytes that is printed as it
-    /// is, or at a data byte that is put. It ends before the first control, malformed sequence,
+    /// A run begins where nothing is open and a character is in the bytes that is printed as it is,
+    /// or at a data byte that is put. It ends before the first control, malformed sequence,
     /// unfinished character or byte that isn't put. What an earlier call began is performed.
     /// Without a run the call ends with the bytes, or if the performer is terminated, which is
     /// asked as by [`advance_until_terminated`](Self::advance_until_terminated).

@@ -1,7 +1,7 @@
 //! Vectors of handler calls, by handlers of owned and of lent texts, and by one that takes calls as
 //! values.
 //!
-//! However the bytes of a stream are cut, they make its calls; also in pieces of every length, if
+//! However the bytes of a stream are cut, they make its calls; also in chunks of every length, if
 //! the vector has the calls of the timeout too. Vectors of updates have acts on one processor.
 
 use super::call_lines::CallLines;
@@ -10,7 +10,7 @@ use super::json::{cuttings, vectors, Value};
 use super::reader::CallsInRuns;
 use super::reader::{ByObject, LentTexts, LentTextsInRuns, OwnedTexts, OwnedTextsInRuns, Reader};
 
-const LONGEST_PIECE: usize = 32;
+const LONGEST_CHUNK: usize = 32;
 /// Updates that are stopped at each place.
 const STOPPED: [&str; 3] = [
     "update ended and begun in one call",
@@ -19,9 +19,9 @@ const STOPPED: [&str; 3] = [
 ];
 
 fn check_stream<R: Reader>(name: &str, stream: &[u8], calls: &str) {
-    for pieces in cuttings(stream) {
-        let lengths: Vec<_> = pieces.iter().map(|piece| piece.len()).take(9).collect();
-        assert!(R::calls_of(&pieces) == calls, "{name} in {lengths:?}");
+    for chunks in cuttings(stream) {
+        let lengths: Vec<_> = chunks.iter().map(|chunk| chunk.len()).take(9).collect();
+        assert!(R::calls_of(&chunks) == calls, "{name} in {lengths:?}");
     }
 }
 
@@ -40,15 +40,15 @@ fn check_stops<R: Reader>(name: &str, stream: &[u8], calls: &str) {
     }
 }
 
-/// Checks the calls of the handler and the timeout, in pieces of each length.
+/// Checks the calls of the handler and the timeout, in chunks of each length.
 fn check_order<R: Reader>(name: &str, stream: &[u8], calls: &str) {
-    for length in 1..LONGEST_PIECE {
+    for length in 1..LONGEST_CHUNK {
         let (mut reader, mut lines) = (R::default(), CallLines::default());
         reader.timeout().log.replace(lines.text.clone());
-        for piece in stream.chunks(length) {
-            reader.read(&mut lines, piece);
+        for chunk in stream.chunks(length) {
+            reader.read(&mut lines, chunk);
         }
-        assert_eq!(lines.take(), calls, "{name} in pieces of {length}");
+        assert_eq!(lines.take(), calls, "{name} in chunks of {length}");
     }
 }
 
@@ -99,7 +99,7 @@ fn command_of(vector: &Value) -> (String, String) {
 fn check_vectors<R: Reader>() {
     let (mut count, mut stopped) = (0, 0);
     for vector in vectors() {
-        let (name, stream) = (vector.text("name"), vector.pieces().concat());
+        let (name, stream) = (vector.text("name"), vector.chunks().concat());
         let mut calls = vector.lines("calls");
         match vector.text("kind") {
             "calls" if vector.get("timeouts").is_some() => {

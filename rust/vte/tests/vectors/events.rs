@@ -24,18 +24,18 @@ fn check<P: Clone, const KEEPS: bool>(
     parser: P,
     advance: impl Fn(&mut P, &mut EventLines<KEEPS>, &[u8]),
 ) {
-    let (pieces, name) = (vector.pieces(), vector.text("name"));
-    let pieces: Vec<&[u8]> = pieces.iter().map(Vec::as_slice).collect();
-    let stream = pieces.concat();
+    let (chunks, name) = (vector.chunks(), vector.text("name"));
+    let chunks: Vec<&[u8]> = chunks.iter().map(Vec::as_slice).collect();
+    let stream = chunks.concat();
     let (events, next) = (vector.lines("events"), events_of_next(vector));
-    for cutting in [pieces].into_iter().chain(cuttings(&stream)) {
+    for cutting in [chunks].into_iter().chain(cuttings(&stream)) {
         let (mut parser, mut lines) = (parser.clone(), EventLines::default());
-        for piece in &cutting {
-            advance(&mut parser, &mut lines, piece);
+        for chunk in &cutting {
+            advance(&mut parser, &mut lines, chunk);
         }
         let found = lines.text.split_off(0);
         advance(&mut parser, &mut lines, NEXT);
-        let lengths: Vec<_> = cutting.iter().map(|piece| piece.len()).take(9).collect();
+        let lengths: Vec<_> = cutting.iter().map(|chunk| chunk.len()).take(9).collect();
         assert!(found == events, "{name} in {lengths:?}");
         assert_eq!(lines.text, next, "`next` of {name} in {lengths:?}");
     }
@@ -51,11 +51,11 @@ fn advance_all(parser: &mut Parser, lines: &mut EventLines, bytes: &[u8]) {
 fn check_long(vector: &Value) {
     use vte::LongParser;
     let new = LongParser::new;
-    check::<_, false>(vector, new(), |it, lines, piece| {
-        it.advance(lines, piece).unwrap()
+    check::<_, false>(vector, new(), |it, lines, chunk| {
+        it.advance(lines, chunk).unwrap()
     });
-    check::<_, false>(vector, new(), |it, lines, piece| {
-        it.advance_text(lines, piece).unwrap()
+    check::<_, false>(vector, new(), |it, lines, chunk| {
+        it.advance_text(lines, chunk).unwrap()
     });
 }
 
@@ -73,7 +73,7 @@ fn vectors_of(kind: &'static str) -> impl Iterator<Item = Value> {
 fn streams_for_all() -> Vec<Value> {
     let does_not_depend = |vector: &Value| {
         let size = vector.number("limit");
-        !may_reach(&vector.pieces().concat(), size) && (cfg!(feature = "std") || size.is_some())
+        !may_reach(&vector.chunks().concat(), size) && (cfg!(feature = "std") || size.is_some())
     };
     let vectors: Vec<_> = vectors_of("events").filter(does_not_depend).collect();
     assert!(vectors.len() > 190, "{} vectors", vectors.len());
@@ -141,13 +141,13 @@ fn commands_are_found_by_skipping() {
     }
     let by_hand = b"a\x1b[m\x1b\n]0;b\x07\x1b\x7f]0;c\x07d\xf0\x9f\x8e".to_vec();
     let of_vectors = streams_for_all().into_iter();
-    let of_vectors = of_vectors.map(|vector| vector.pieces().concat());
+    let of_vectors = of_vectors.map(|vector| vector.chunks().concat());
     let mut skipped = 0;
     for stream in of_vectors.chain([by_hand]) {
-        for pieces in cuttings(&stream) {
+        for chunks in cuttings(&stream) {
             let (mut all, mut found) = (EventLines::default(), EventLines::default());
             let (mut whole, mut parser) = (Parser::new(), Parser::new());
-            for mut bytes in pieces {
+            for mut bytes in chunks {
                 whole.advance(&mut all, bytes);
                 while !bytes.is_empty() {
                     if !parser.is_open() {
@@ -172,7 +172,7 @@ fn commands_are_found_by_skipping() {
 fn parts_give_the_events_of_their_stream() {
     let mut most = 0;
     for vector in streams_for_all() {
-        let (stream, name) = (vector.pieces().concat(), vector.text("name"));
+        let (stream, name) = (vector.chunks().concat(), vector.text("name"));
         // one with 100,000 bytes takes a while
         let sizes = if stream.len() > MAX_CUT { 3 } else { 40 };
         for size in 0..stream.len().min(sizes) {

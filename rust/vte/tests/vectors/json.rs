@@ -66,13 +66,13 @@ impl Value {
         }
     }
 
-    /// The pieces of a stream.
-    pub fn pieces(&self) -> Vec<Vec<u8>> {
+    /// The chunks of a stream.
+    pub fn chunks(&self) -> Vec<Vec<u8>> {
         let of_steps = self.items("steps").iter();
         let of_steps =
             of_steps.filter_map(|step| step.get("advance").or_else(|| step.get("bytes")));
-        let pieces = self.items("pieces").iter().chain(self.get("before"));
-        pieces.chain(of_steps).map(Value::bytes).collect()
+        let chunks = self.items("pieces").iter().chain(self.get("before"));
+        chunks.chain(of_steps).map(Value::bytes).collect()
     }
 
     /// The bytes that this gives in hex.

@@ -72,7 +72,7 @@ fn check_counts(cases: impl Fn(usize) -> Vec<Case>) {
     }
 }
 
-/// Checks the calls of a stream, whatever its pieces and the handler.
+/// Checks the calls of a stream, whatever its chunks and the handler.
 fn check_stream(stream: &[u8], wanted: &str) {
     type CallsOf = fn(&[&[u8]]) -> String;
     const READERS: [(&str, CallsOf); 4] = [
@@ -81,11 +81,11 @@ fn check_stream(stream: &[u8], wanted: &str) {
         ("lent", LentTexts::calls_of),
         ("lent, in runs", LentTextsInRuns::calls_of),
     ];
-    for pieces in cuttings(stream) {
+    for chunks in cuttings(stream) {
         for (name, calls_of) in READERS {
             // the beginning alone: they may be long
             let start = String::from_utf8_lossy(&stream[..40.min(stream.len())]);
-            let (count, length, calls) = (pieces.len(), stream.len(), calls_of(&pieces));
+            let (count, length, calls) = (chunks.len(), stream.len(), calls_of(&chunks));
             assert!(calls == wanted, "{start:?}, {length} in {count}, {name}");
         }
     }

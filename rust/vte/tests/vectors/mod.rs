@@ -18,9 +18,9 @@ mod reader;
 
 use event_lines::EventLines;
 
-/// The events of a stream in pieces.
-pub fn events_of(pieces: &[&[u8]]) -> EventLines {
+/// The events of a stream in chunks.
+pub fn events_of(chunks: &[&[u8]]) -> EventLines {
     let (mut parser, mut lines) = (vte::Parser::new(), EventLines::default());
-    pieces.iter().for_each(|it| parser.advance(&mut lines, it));
+    chunks.iter().for_each(|it| parser.advance(&mut lines, it));
     lines
 }

@@ -26,9 +26,9 @@ pub trait Reader: Default {
         self.processor().sync_timeout()
     }
 
-    fn calls_of(pieces: &[&[u8]]) -> String {
+    fn calls_of(chunks: &[&[u8]]) -> String {
         let (mut reader, mut lines) = (Self::default(), CallLines::default());
-        pieces.iter().for_each(|it| reader.read(&mut lines, it));
+        chunks.iter().for_each(|it| reader.read(&mut lines, it));
         lines.take()
     }
 }

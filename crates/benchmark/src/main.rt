@@ -1,11 +1,11 @@
-//! Times a parser or a processor for `bench/run`: `benchmark KIND PIECE PASSES`.
+//! Times a parser or a processor for `bench/run`: `benchmark KIND CHUNK PASSES`.
 //!
 //! KIND is `parser`, `long` or `processor`, with a performer or handler that folds everything into
 //! a checksum, or `screen` or `terminal`, with a screen as the performer of a parser or the handler
 //! of a processor. `screen_runs` and `terminal_runs` get text in runs.
 //!
 //! It reads a stream from standard input to its end and gives it PASSES times to one parser or
-//! processor, in pieces of PIECE bytes. Standard output gets the checksum of all events or calls,
+//! processor, in chunks of CHUNK bytes. Standard output gets the checksum of all events or calls,
 //! or of the screen, which must be the crate's; standard error gets the nanoseconds of the fastest
 //! pass.
 #![tactic(auto)]
@@ -92,11 +92,11 @@ impl Benchmark for ProcessorBenchmark {
     }
 }
 
-/// Gives a stream once, in pieces.
-fn pass<B: Benchmark>(benchmark: &mut B, stream: &[u8], piece: usize)
-    requires { 0 < piece }
+/// Gives a stream once, in chunks.
+fn pass<B: Benchmark>(benchmark: &mut B, stream: &[u8], chunk: usize)
+    requires { 0 < chunk }
 {
-    for bytes in stream.chunks(piece) {
+    for bytes in stream.chunks(chunk) {
         benchmark.read(bytes);
     }
 }
@@ -106,17 +106,17 @@ fn measure<B: Benchmark + Drop>(
     rt: &HostRuntime,
     benchmark: B,
     stream: &[u8],
-    piece: usize,
+    chunk: usize,
     passes: usize,
 ) -> io::Result<()>
-    requires { 0 < piece }
+    requires { 0 < chunk }
 {
     // A local, so that the compiler sees that no byte of the stream is part of it.
     let mut benchmark = benchmark;
     let mut fastest = u128::MAX;
     for _ in 0..passes {
         let start = Instant::now(rt)?;
-        pass(&mut benchmark, stream, piece);
+        pass(&mut benchmark, stream, chunk);
         fastest = fastest.min(start.elapsed(rt)?.as_nanos());
     }
     println!(rt; "{}", benchmark.checksum()?)?;
@@ -141,10 +141,10 @@ fn new_processor(alloc: Global) -> io::Result<Processor<UntilCleared, Global>> {
 fn main(rt: HostRuntime) -> io::Result<()> {
     let args: Vec<String> = env::args(&rt)?.skip(1).collect(rt.alloc())?;
     let words: Vec<&str> = args.iter().map(|arg| arg.as_str()).collect(rt.alloc())?;
-    let [kind, piece, passes] = words.as_slice() else {
+    let [kind, chunk, passes] = words.as_slice() else {
         return Err(io::Error::from(ErrorKind::InvalidInput));
     };
-    let (piece, passes) = (number(piece)?, number(passes)?);
+    let (chunk, passes) = (number(chunk)?, number(passes)?);
     let mut stream = Vec::new(rt.alloc());
     rt.stdin().read_to_end(&mut stream)?;
     let stream = stream.as_slice();
@@ -154,7 +154,7 @@ fn main(rt: HostRuntime) -> io::Result<()> {
                 parser: Parser::new(),
                 checksum: Checksum::new(),
             };
-            measure(&rt, benchmark, stream, piece, passes)
+            measure(&rt, benchmark, stream, chunk, passes)
         }
         "long" => {
             let benchmark = LongParserBenchmark {
@@ -162,24 +162,24 @@ fn main(rt: HostRuntime) -> io::Result<()> {
                 checksum: Checksum::new(),
                 refused: false,
             };
-            measure(&rt, benchmark, stream, piece, passes)
+            measure(&rt, benchmark, stream, chunk, passes)
         }
         "processor" => {
             let benchmark = ProcessorBenchmark {
                 processor: new_processor(rt.alloc())?,
                 handler: ByCall(CallChecksum::new()),
             };
-            measure(&rt, benchmark, stream, piece, passes)
+            measure(&rt, benchmark, stream, chunk, passes)
         }
-        "screen" => measure(&rt, ScreenBenchmark::<false>::new(), stream, piece, passes),
-        "screen_runs" => measure(&rt, ScreenBenchmark::<true>::new(), stream, piece, passes),
+        "screen" => measure(&rt, ScreenBenchmark::<false>::new(), stream, chunk, passes),
+        "screen_runs" => measure(&rt, ScreenBenchmark::<true>::new(), stream, chunk, passes),
         "terminal" => {
             let benchmark = TerminalBenchmark::<false>::new(new_processor(rt.alloc())?);
-            measure(&rt, benchmark, stream, piece, passes)
+            measure(&rt, benchmark, stream, chunk, passes)
         }
         "terminal_runs" => {
             let benchmark = TerminalBenchmark::<true>::new(new_processor(rt.alloc())?);
-            measure(&rt, benchmark, stream, piece, passes)
+            measure(&rt, benchmark, stream, chunk, passes)
         }
         _ => Err(io::Error::from(ErrorKind::InvalidInput)),
     }

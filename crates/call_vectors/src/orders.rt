@@ -10,7 +10,7 @@ use std::time::Duration;
 use test_lines::CallLines;
 use vte::ansi::{ByCall, HandlerCall, Processor, TakeCall, Timeout};
 
-/// Streams are given in pieces shorter than this.
+/// Streams are given in chunks shorter than this.
 const LONGEST_PIECE: usize = 32;
 
 /// A handler that writes to the log.
@@ -71,7 +71,7 @@ impl<'a> Timeout for LoggedTimeout<'a> {
     }
 }
 
-/// Returns whether the bytes of a vector make its log, in pieces of every length.
+/// Returns whether the bytes of a vector make its log, in chunks of every length.
 pub(crate) fn is_shown(alloc: Global, vector: &Vector<'_>) -> io::Result<bool> {
     let (stream, calls) = (vector.bytes(alloc)?, vector.calls(alloc)?);
     let mut same = true;
@@ -81,7 +81,7 @@ pub(crate) fn is_shown(alloc: Global, vector: &Vector<'_>) -> io::Result<bool> {
     Ok(same)
 }
 
-/// Returns whether a stream in pieces of this length makes this log.
+/// Returns whether a stream in chunks of this length makes this log.
 fn is_logged(alloc: Global, stream: &[u8], length: usize, calls: &str) -> io::Result<bool>
     requires { 0 < length }
 {
@@ -94,8 +94,8 @@ fn is_logged(alloc: Global, stream: &[u8], length: usize, calls: &str) -> io::Re
         return Err(io::Error::from(ErrorKind::OutOfMemory));
     };
     let mut handler = ByCall(LoggedCalls { log: &log });
-    for piece in stream.chunks(length) {
-        processor.advance(&mut handler, piece);
+    for chunk in stream.chunks(length) {
+        processor.advance(&mut handler, chunk);
     }
     match log.try_borrow() {
         Ok(lines) => Ok(streams::text_of(&lines)? == calls),

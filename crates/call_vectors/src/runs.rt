@@ -63,10 +63,10 @@ impl<A: Allocator, B: Allocator> Run<A, B> {
             Line::Timeout(_answers) => {}
             Line::Advance(bytes) => {
                 self.settle()?;
-                let mut piece = Vec::new(alloc);
-                bytes.add_bytes(alloc, &mut piece)?;
-                self.processor.advance(&mut self.handler, piece.as_slice());
-                self.given.extend_from_slice(piece.as_slice())?;
+                let mut chunk = Vec::new(alloc);
+                bytes.add_bytes(alloc, &mut chunk)?;
+                self.processor.advance(&mut self.handler, chunk.as_slice());
+                self.given.extend_from_slice(chunk.as_slice())?;
                 self.same = self.same && self.holds_well();
             }
             Line::StopSync => {

@@ -48,7 +48,7 @@ pub(crate) fn is_shown_with_stops(alloc: Global, vector: &Vector<'_>) -> io::Res
     Ok(same)
 }
 
-/// Returns whether a stream in pieces of this length makes the calls.
+/// Returns whether a stream in chunks of this length makes the calls.
 fn makes<A: Allocator, B: Allocator>(
     mut processor: Processor<TestTimeout, A>,
     lines: CallLines<B>,
@@ -59,8 +59,8 @@ fn makes<A: Allocator, B: Allocator>(
     requires { 0 < length }
 {
     let mut handler = ByCall(lines);
-    for piece in stream.chunks(length) {
-        processor.advance(&mut handler, piece);
+    for chunk in stream.chunks(length) {
+        processor.advance(&mut handler, chunk);
     }
     Ok(text_of(&handler.0)? == calls)
 }

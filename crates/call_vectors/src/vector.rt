@@ -26,7 +26,7 @@ pub(crate) enum Kind {
     Stream,
     /// Its bytes make its prints and attributes, with a stop at the cut.
     Stops,
-    /// Its bytes make its calls of the handler and the timeout, in this order, in pieces of every
+    /// Its bytes make its calls of the handler and the timeout, in this order, in chunks of every
     /// length.
     Order,
     /// Each act makes the calls that follow it.
@@ -94,8 +94,8 @@ impl<'a> Vector<'a> {
     pub(crate) fn bytes(&self, alloc: Global) -> io::Result<Vec<u8>> {
         let mut bytes = Vec::new(alloc);
         for line in self.lines() {
-            if let Line::Advance(piece) = Line::read(line)? {
-                piece.add_bytes(alloc, &mut bytes)?;
+            if let Line::Advance(chunk) = Line::read(line)? {
+                chunk.add_bytes(alloc, &mut bytes)?;
             }
         }
         Ok(bytes)

@@ -5,7 +5,7 @@ use Rattle.std.proofs.lemmas.List.Folds.{flat_map-map}
 use Rattle.std.proofs.lemmas.Slice.Eq.{bytes_eq-Decides}
 use Rattle.event_log.specs.declared.lines.short.TheConstants.{HEX_PAIRS}
 
--- If both texts had room, they have it together.
+-- Two texts have room one after the other exactly if they have room together.
 fit_together : (f fb fc : Bool) (a s b t : List ℕ) → fb ≡ (f && has_room_after a s) → fc ≡ (fb && has_room_after b t)
     → (IsTrue fb → b ≡ a ++ s) → fc ≡ (f && has_room_after a (s ++ t))
 fit_together false fb fc a s b t h k e = rw (k, h)
@@ -77,7 +77,7 @@ table_entry =
 
 -- ---- the line of a character
 
--- It has the last four, five or six of its six hex digits: by the size of its number.
+-- The line of a character has the last four, five or six of six hex digits, by the size of its number.
 
 pub line_of_four : (n : ℕ) → n < 0x10000
     → line_of (Print n) ≡ codes "print " ++ (hex_byte (n / 0x100) ++ hex_byte (n % 0x100)) ++ line_feed

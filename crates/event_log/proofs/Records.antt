@@ -94,7 +94,7 @@ module _ (text_of : Event → List ℕ) (small : IsSmall text_of) (units : Repor
       (omega (arith, small unit brief, ap (λ (r : Record). length r.bytes) taken))
       ∙ same_record (simp (append_assoc, flat_map-append)) refl
 
-  -- By induction on m: what was reported before a place is what was reported at an earlier start, and one unit.
+  -- By induction on m: if there was room at each earlier start, what was reported before a place is taken.
   takes_below : (m i : ℕ) → i < m → i ≤ length bytes
       → ((j : ℕ) → j < i → IsStart stream bytes j
       → HasRoomForUnit (after (record_with_event text_of) old (reported_before usual_limit stream bytes j)))
@@ -122,8 +122,8 @@ module _ (text_of : Event → List ℕ) (small : IsSmall text_of) (units : Repor
 
 -- ---- what a collector holds
 
--- With the text of what is unread, it adds up to the whole text from call to call: the events that a call reported are
--- taken, and the parser goes on from another stream.
+-- From call to call, what is held and the text of what is unread add up to the whole text: the events that a call
+-- reported are taken, and the parser goes on from another stream.
 
 -- Before a call nothing is held, and the whole is the text of what the unread bytes and more add.
 pub adds_up_at_first : {text_of : Event → List ℕ} {parser : Parser 1024} (h : HasReadSome parser) (unread : List ℕ)

@@ -1,5 +1,5 @@
 //! What a processor tells of a stream: the lines of its handler calls, and `held N` after each
-//! piece and each stop.
+//! chunk and each stop.
 
 use crate::frames::Frame;
 use crate::timeouts::Expiring;
@@ -28,14 +28,14 @@ impl Calls {
 
     pub(crate) fn take<W: Write>(&mut self, frame: Frame<'_>, output: &mut W) -> io::Result<()> {
         match frame {
-            Frame::Piece(piece) => self.processor.advance(&mut self.handler, piece),
+            Frame::Chunk(chunk) => self.processor.advance(&mut self.handler, chunk),
             Frame::StopSync => self.processor.stop_sync(&mut self.handler),
             Frame::Expiry => self.processor.sync_timeout().expire(),
             Frame::NeverPending => self.processor.sync_timeout().turn_off(),
             _ => {}
         }
         match frame {
-            Frame::Piece(_) | Frame::StopSync => self.write(output),
+            Frame::Chunk(_) | Frame::StopSync => self.write(output),
             _ => Ok(()),
         }
     }

@@ -26,10 +26,10 @@ impl Events {
     pub(crate) fn take(&mut self, frame: Frame<'_>) {
         match frame {
             Frame::TextInRuns => self.is_in_runs = true,
-            Frame::Piece(piece) if self.is_in_runs => {
-                self.parser.advance_text(&mut self.lines, piece);
+            Frame::Chunk(chunk) if self.is_in_runs => {
+                self.parser.advance_text(&mut self.lines, chunk);
             }
-            Frame::Piece(piece) => self.parser.advance(&mut self.lines, piece),
+            Frame::Chunk(chunk) => self.parser.advance(&mut self.lines, chunk),
             _ => {}
         }
     }

@@ -1,4 +1,4 @@
-//! Feeds streams to a parser, in pieces, character by character or in runs of text, or with an
+//! Feeds streams to a parser, in chunks, character by character or in runs of text, or with an
 //! early stop.
 
 use test_lines::EventLines;
@@ -13,7 +13,7 @@ pub(crate) enum Text {
     Characters,
     /// By `advance_text`.
     Runs,
-    /// By both in turn, piece by piece.
+    /// By both in turn, chunk by chunk.
     InTurn,
 }
 
@@ -21,14 +21,14 @@ fn feed<const N: usize>(
     parser: &mut Parser<N>,
     lines: &mut EventLines,
     text: Text,
-    pieces: &[&[u8]],
+    chunks: &[&[u8]],
 ) {
     let mut is_in_runs = matches!(text, Text::Runs);
-    for piece in pieces {
+    for chunk in chunks {
         if is_in_runs {
-            parser.advance_text(lines, piece);
+            parser.advance_text(lines, chunk);
         } else {
-            parser.advance(lines, piece);
+            parser.advance(lines, chunk);
         }
         if let Text::InTurn = text {
             is_in_runs = !is_in_runs;
@@ -36,17 +36,17 @@ fn feed<const N: usize>(
     }
 }
 
-/// Feeds the pieces to a new parser whose buffer has `size` bytes. Returns false for a size that
+/// Feeds the chunks to a new parser whose buffer has `size` bytes. Returns false for a size that
 /// isn't listed here.
-pub(crate) fn feed_new(size: usize, lines: &mut EventLines, text: Text, pieces: &[&[u8]]) -> bool {
+pub(crate) fn feed_new(size: usize, lines: &mut EventLines, text: Text, chunks: &[&[u8]]) -> bool {
     match size {
-        0 => feed(&mut Parser::<0>::new_with_size(), lines, text, pieces),
-        1 => feed(&mut Parser::<1>::new_with_size(), lines, text, pieces),
-        2 => feed(&mut Parser::<2>::new_with_size(), lines, text, pieces),
-        5 => feed(&mut Parser::<5>::new_with_size(), lines, text, pieces),
-        30 => feed(&mut Parser::<30>::new_with_size(), lines, text, pieces),
-        32 => feed(&mut Parser::<32>::new_with_size(), lines, text, pieces),
-        1024 => feed(&mut Parser::<1024>::new_with_size(), lines, text, pieces),
+        0 => feed(&mut Parser::<0>::new_with_size(), lines, text, chunks),
+        1 => feed(&mut Parser::<1>::new_with_size(), lines, text, chunks),
+        2 => feed(&mut Parser::<2>::new_with_size(), lines, text, chunks),
+        5 => feed(&mut Parser::<5>::new_with_size(), lines, text, chunks),
+        30 => feed(&mut Parser::<30>::new_with_size(), lines, text, chunks),
+        32 => feed(&mut Parser::<32>::new_with_size(), lines, text, chunks),
+        1024 => feed(&mut Parser::<1024>::new_with_size(), lines, text, chunks),
         _ => return false,
     }
     true
@@ -74,14 +74,14 @@ pub(crate) fn feed_with_stop(size: usize, lines: &mut EventLines, bytes: &[u8]) 
     true
 }
 
-/// Feeds the pieces to a parser that is saved after each and restored before the next.
+/// Feeds the chunks to a parser that is saved after each and restored before the next.
 #[cfg(test)]
-pub(crate) fn feed_saved(lines: &mut EventLines, pieces: &[&[u8]]) {
+pub(crate) fn feed_saved(lines: &mut EventLines, chunks: &[&[u8]]) {
     let mut saved = Saved::new();
-    for piece in pieces {
+    for chunk in chunks {
         let mut parser = Parser::new();
         parser.restore(&saved);
-        parser.advance(lines, piece);
+        parser.advance(lines, chunk);
         parser.save(&mut saved);
     }
 }

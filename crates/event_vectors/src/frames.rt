@@ -1,6 +1,6 @@
-//! The input of the program: streams in pieces.
+//! The input of the program: streams in chunks.
 //!
-//! A piece is its length, as two bytes in big-endian order, and then its bytes. Six lengths have
+//! A chunk is its length, as two bytes in big-endian order, and then its bytes. Six lengths have
 //! other meanings: FFFF ends a stream, and at its start FFFB asks for its text in runs, FFFA for
 //! handler calls instead of events. Of the processor that makes these, FFFE calls `stop_sync`, FFFD
 //! makes the timeout expire, and FFFC turns it off for the rest of the stream.
@@ -8,14 +8,14 @@
 /// The next part of the input.
 #[derive(Clone, Copy)]
 pub(crate) enum Frame<'a> {
-    Piece(&'a [u8]),
+    Chunk(&'a [u8]),
     TextInRuns,
     HandlerCalls,
     StopSync,
     Expiry,
     NeverPending,
     EndOfStream,
-    /// The input ends inside a piece or a length.
+    /// The input ends inside a chunk or a length.
     CutShort,
 }
 
@@ -62,10 +62,10 @@ impl<'a> Iterator for Frames<'a> {
             return sign;
         }
         let length = u16::from_be_bytes(*length) as usize;
-        let Some((piece, rest)) = rest.split_at_checked(length) else {
+        let Some((chunk, rest)) = rest.split_at_checked(length) else {
             return Some(Frame::CutShort);
         };
         self.rest = rest;
-        Some(Frame::Piece(piece))
+        Some(Frame::Chunk(chunk))
     }
 }

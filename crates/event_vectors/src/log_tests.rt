@@ -7,7 +7,7 @@ mod peers;
 mod plain;
 mod recorder;
 
-use self::peers::{AtMost, Pieces, Written};
+use self::peers::{AtMost, Chunks, Written};
 use crate::vectors::{LinesVector, joined_lines, tables};
 use event_log::{Device, Fault, Plain, Recorder, run, run_text};
 use std::alloc::{AllocError, Global};
@@ -29,7 +29,7 @@ enum What {
     Text,
 }
 
-/// The pieces that a reader gives before it fails, and the lines that are written for them.
+/// The chunks that a reader gives before it fails, and the lines that are written for them.
 struct FailingReadVector {
     name: &'static str,
     reads: &'static [&'static [u8]],
@@ -52,19 +52,19 @@ fn each_byte<'a>(alloc: Global, bytes: &'a [u8]) -> Result<Vec<&'a [u8]>, AllocE
     bytes.chunks(1).collect(alloc)
 }
 
-fn run_for(what: What, reader: &mut Pieces<'_>, writer: &mut Written) -> Result<(), Fault> {
+fn run_for(what: What, reader: &mut Chunks<'_>, writer: &mut Written) -> Result<(), Fault> {
     match what {
         What::Lines => run(reader, writer),
         What::Text => run_text(reader, writer),
     }
 }
 
-/// A run over the pieces gives this result and writes this.
+/// A run over the chunks gives this result and writes this.
 fn assert_run(
     rt: &(impl Abort + AllocGlobal),
     name: &str,
     what: What,
-    mut reader: Pieces<'_>,
+    mut reader: Chunks<'_>,
     want: Result<(), Fault>,
     written: &[u8],
 ) -> Result<(), Fail> {
@@ -83,9 +83,9 @@ fn assert_written(
     written: &[u8],
 ) -> Result<(), Fail> {
     let whole = [bytes];
-    assert_run(rt, name, what, Pieces::new(&whole, false), Ok(()), written)?;
+    assert_run(rt, name, what, Chunks::new(&whole, false), Ok(()), written)?;
     let each = each_byte(rt.alloc(), bytes)?;
-    let reader = Pieces::new(each.as_slice(), false);
+    let reader = Chunks::new(each.as_slice(), false);
     assert_run(rt, name, what, reader, Ok(()), written)
 }
 
@@ -121,7 +121,7 @@ fn plain_vectors(rt: HostRuntime) -> Result<(), Fail> {
 #[test]
 fn failing_reads(rt: HostRuntime) -> Result<(), Fail> {
     for vector in &faults::VECTORS {
-        let reader = Pieces::new(vector.reads, true);
+        let reader = Chunks::new(vector.reads, true);
         let text = joined_lines(rt.alloc(), vector.lines)?;
         let want = Err(Fault::Read);
         assert_run(&rt, vector.name, What::Lines, reader, want, text.as_bytes())?;
@@ -131,7 +131,7 @@ fn failing_reads(rt: HostRuntime) -> Result<(), Fail> {
 
 #[test]
 fn text_before_a_failing_read(rt: HostRuntime) -> Result<(), Fail> {
-    let reader = Pieces::new(&[b"a\x1b[1", b"mb\n"], true);
+    let reader = Chunks::new(&[b"a\x1b[1", b"mb\n"], true);
     assert_run(&rt, "text", What::Text, reader, Err(Fault::Read), b"ab\n")
 }
 
@@ -148,14 +148,14 @@ fn assert_failing_calls(
 ) -> Result<(), Fail> {
     let mut writer = Written::new(rt.alloc(), None);
     assert_eq!(rt;
-        run_for(what, &mut Pieces::new(&STREAM, false), &mut writer),
+        run_for(what, &mut Chunks::new(&STREAM, false), &mut writer),
         Ok(())
     );
     assert_eq!(rt; writer.bytes.as_slice(), written);
     for failing_call in 0..writer.calls {
         let mut writer = Written::new(rt.alloc(), Some(failing_call));
         assert_eq!(rt;
-            run_for(what, &mut Pieces::new(&STREAM, false), &mut writer),
+            run_for(what, &mut Chunks::new(&STREAM, false), &mut writer),
             Err(Fault::Write)
         );
         assert!(rt; written.starts_with(writer.bytes.as_slice()));
@@ -187,13 +187,13 @@ fn run_goes_on_where_the_recorder_stopped(rt: HostRuntime) -> Result<(), Fail> {
         &rt,
         "4,096 times a",
         What::Lines,
-        Pieces::new(&[&[b'a'; 4096]], false),
+        Chunks::new(&[&[b'a'; 4096]], false),
         Ok(()),
         lines.as_slice(),
     )
 }
 
-/// The recorder also stops at broken characters, and the last character of the piece continues in
+/// The recorder also stops at broken characters, and the last character of the chunk continues in
 /// the next.
 #[test]
 fn run_goes_on_inside_a_character(rt: HostRuntime) -> Result<(), Fail> {
@@ -203,7 +203,7 @@ fn run_goes_on_inside_a_character(rt: HostRuntime) -> Result<(), Fail> {
         &rt,
         "4,096 times E4, and the rest of a character",
         What::Lines,
-        Pieces::new(&[&[0xe4; 4096], b"\xbf\xbf"], false),
+        Chunks::new(&[&[0xe4; 4096], b"\xbf\xbf"], false),
         Ok(()),
         lines.as_slice(),
     )
@@ -245,7 +245,7 @@ fn plain_takes_a_run(rt: HostRuntime) {
     assert!(rt; plain.bytes().ends_with(b"bac"));
 }
 
-/// However much text the bytes give, in two full pieces of 4,096 bytes, none of it is lost.
+/// However much text the bytes give, in two full chunks of 4,096 bytes, none of it is lost.
 #[test]
 fn text_that_grows(rt: HostRuntime) -> Result<(), Fail> {
     let streams: [(&[u8], usize, &[u8], usize); 5] = [
@@ -261,8 +261,8 @@ fn text_that_grows(rt: HostRuntime) -> Result<(), Fail> {
         let stream = repeated(rt.alloc(), unit, times)?;
         let (first, second) = stream.split_at(stream.len() / 2);
         let text = repeated(rt.alloc(), character, count)?;
-        let pieces = [first, second];
-        let reader = Pieces::new(&pieces, false);
+        let chunks = [first, second];
+        let reader = Chunks::new(&chunks, false);
         assert_run(&rt, "grows", What::Text, reader, Ok(()), text.as_slice())?;
     }
     Ok(())
@@ -311,14 +311,14 @@ fn repeated(alloc: Global, unit: &[u8], times: usize) -> Result<Vec<u8>, AllocEr
 #[test]
 fn writer_that_takes_one_byte_a_call(rt: HostRuntime) -> Result<(), Fail> {
     let mut writer = AtMost::new(rt.alloc(), 1);
-    let mut reader = Pieces::new(&STREAM, false);
+    let mut reader = Chunks::new(&STREAM, false);
     let result = run(&mut reader, &mut Device::new(&mut writer));
     assert_eq!(rt; result, Ok(()));
     let lines = joined_lines(rt.alloc(), &LINES)?;
     assert_eq!(rt; writer.bytes.as_slice(), lines.as_bytes());
 
     let mut writer = AtMost::new(rt.alloc(), 1);
-    let mut reader = Pieces::new(&STREAM, false);
+    let mut reader = Chunks::new(&STREAM, false);
     let result = run_text(&mut reader, &mut Device::new(&mut writer));
     assert_eq!(rt; result, Ok(()));
     assert_eq!(rt; writer.bytes.as_slice(), b"a\n".as_slice());
@@ -328,9 +328,9 @@ fn writer_that_takes_one_byte_a_call(rt: HostRuntime) -> Result<(), Fail> {
 /// A device fails where its writer does, in a flush too: ESC gives no line to write before it.
 #[test]
 fn writer_that_takes_nothing(rt: HostRuntime) -> Result<(), Fail> {
-    for pieces in [&STREAM[..], &[b"\x1b"]] {
+    for chunks in [&STREAM[..], &[b"\x1b"]] {
         let mut writer = AtMost::new(rt.alloc(), 0);
-        let mut reader = Pieces::new(pieces, false);
+        let mut reader = Chunks::new(chunks, false);
         let result = run(&mut reader, &mut Device::new(&mut writer));
         assert_eq!(rt; result, Err(Fault::Write));
         assert!(rt; writer.bytes.is_empty());

@@ -1,4 +1,4 @@
-//! Reads streams that are cut into pieces and writes what they tell: one line per event or, if the
+//! Reads streams that are cut into chunks and writes what they tell: one line per event or, if the
 //! stream asks for it, one line per handler call. `end` comes after each stream.
 //!
 //! A pipe doesn't keep cuts, so they are part of the input; `frames` describes its form.

@@ -9,7 +9,7 @@ use test_lines::{EventLines, Stop};
 /// Streams of at most this many bytes are broken off at every place.
 const BROKEN_OFF: usize = 64;
 
-/// The lines of a stream in two pieces.
+/// The lines of a stream in two chunks.
 fn lines_of(
     rt: &(impl Abort + AllocGlobal),
     size: usize,

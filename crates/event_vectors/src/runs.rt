@@ -103,11 +103,11 @@ impl<const KEEPS: bool> PerformText for RunCheck<KEEPS> {
     }
 }
 
-fn check_runs<const KEEPS: bool>(rt: &impl Abort, name: &str, pieces: &[&[u8]]) -> RunCheck<KEEPS> {
+fn check_runs<const KEEPS: bool>(rt: &impl Abort, name: &str, chunks: &[&[u8]]) -> RunCheck<KEEPS> {
     let mut check = RunCheck::new();
     let mut parser = Parser::<1024>::new_with_size();
-    for piece in pieces {
-        parser.advance_text(&mut check, piece);
+    for chunk in chunks {
+        parser.advance_text(&mut check, chunk);
     }
     assert_eq!(rt;
         (check.empty, check.with_controls, check.alone),

@@ -16,37 +16,37 @@ fn assert_lines(
     name: &str,
     size: usize,
     text: Text,
-    pieces: &[&[u8]],
+    chunks: &[&[u8]],
     want: &str,
 ) -> Result<(), Fail> {
     let mut lines = EventLines::new(rt.alloc(), Stop::Never);
     assert!(rt;
-        feed_new(size, &mut lines, text, pieces),
+        feed_new(size, &mut lines, text, chunks),
         "no parser has the store size of {name}"
     );
     assert_eq!(rt;
         lines.text(),
         Some(want),
-        "{name}, in {} pieces",
-        pieces.len()
+        "{name}, in {} chunks",
+        chunks.len()
     );
     Ok(())
 }
 
-/// A parser that is saved and restored between the pieces also gives `want`.
+/// A parser that is saved and restored between the chunks also gives `want`.
 fn assert_saved_lines(
     rt: &(impl Abort + AllocGlobal),
     name: &str,
-    pieces: &[&[u8]],
+    chunks: &[&[u8]],
     want: &str,
 ) -> Result<(), Fail> {
     let mut lines = EventLines::new(rt.alloc(), Stop::Never);
-    feed_saved(&mut lines, pieces);
+    feed_saved(&mut lines, chunks);
     assert_eq!(rt;
         lines.text(),
         Some(want),
-        "{name}, saved between {} pieces",
-        pieces.len()
+        "{name}, saved between {} chunks",
+        chunks.len()
     );
     Ok(())
 }
@@ -135,22 +135,22 @@ fn vectors_in_runs(rt: HostRuntime) -> Result<(), Fail> {
 /// Streams of at most this many bytes are cut in every way.
 const CUT_IN_EVERY_WAY: u32 = 12;
 
-/// The pieces of a stream that is cut after byte `place` if bit `place` of `cuts` is set.
+/// The chunks of a stream that is cut after byte `place` if bit `place` of `cuts` is set.
 fn cut<'a>(alloc: Global, bytes: &'a [u8], cuts: u32) -> Result<Vec<&'a [u8]>, AllocError> {
-    let mut pieces = Vec::new(alloc);
+    let mut chunks = Vec::new(alloc);
     let mut rest = bytes;
     let mut length = 0usize;
     for place in 0..CUT_IN_EVERY_WAY {
         length = length.saturating_add(1);
         if cuts >> place & 1 == 1 {
-            let (piece, back) = rest.split_at(length.min(rest.len()));
-            pieces.push(piece)?;
+            let (chunk, back) = rest.split_at(length.min(rest.len()));
+            chunks.push(chunk)?;
             rest = back;
             length = 0;
         }
     }
-    pieces.push(rest)?;
-    Ok(pieces)
+    chunks.push(rest)?;
+    Ok(chunks)
 }
 
 fn assert_lines_at_each_set_of_cuts(
@@ -163,15 +163,15 @@ fn assert_lines_at_each_set_of_cuts(
     if bytes.len() > CUT_IN_EVERY_WAY as usize {
         return Ok(());
     }
-    // The cut after the last byte is made twice, with an empty piece and without.
+    // The cut after the last byte is made twice, with an empty chunk and without.
     for cuts in 0..1u32 << bytes.len() {
-        let pieces = cut(rt.alloc(), bytes.as_slice(), cuts)?;
+        let chunks = cut(rt.alloc(), bytes.as_slice(), cuts)?;
         assert_lines(
             rt,
             vector.name,
             vector.size,
             text,
-            pieces.as_slice(),
+            chunks.as_slice(),
             want.as_str(),
         )?;
     }

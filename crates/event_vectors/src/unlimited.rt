@@ -98,7 +98,7 @@ fn assert_read<A: Allocator>(
     assert_eq!(rt; parser.advance(lines, bytes), Ok(()), "{name}");
 }
 
-/// The parser reads all pieces, and they give this text.
+/// The parser reads all chunks, and they give this text.
 fn assert_reads<A: Allocator>(
     rt: &(impl Abort + AllocGlobal),
     alloc: A,
@@ -111,8 +111,8 @@ fn assert_reads<A: Allocator>(
     let text = repeated_text(rt.alloc(), &vector.text)?;
     let mut parser = LongParser::new(alloc);
     let mut lines = EventLines::new(rt.alloc(), Stop::Never);
-    for piece in bytes.chunks(size) {
-        assert_read(rt, vector.name, &mut parser, &mut lines, piece);
+    for chunk in bytes.chunks(size) {
+        assert_read(rt, vector.name, &mut parser, &mut lines, chunk);
     }
     assert_eq!(rt; lines.text(), Some(text.as_str()), "{}", vector.name);
     Ok(())
@@ -166,12 +166,12 @@ fn each_growth_is_refused_in_turn(rt: HostRuntime) -> Result<(), Fail> {
         let mut parser = LongParser::new(&memory);
         let mut lines = EventLines::new(rt.alloc(), Stop::Never);
         let mut refusals = 0u32;
-        for piece in bytes.chunks(100) {
+        for chunk in bytes.chunks(100) {
             memory.set_allocation_limit(Some(0));
-            if let Err(refused) = parser.advance(&mut lines, piece) {
+            if let Err(refused) = parser.advance(&mut lines, chunk) {
                 refusals = refusals.saturating_add(1);
                 memory.set_allocation_limit(None);
-                let rest = &piece[refused.read..];
+                let rest = &chunk[refused.read..];
                 assert_read(&rt, vector.name, &mut parser, &mut lines, rest);
             }
         }
@@ -210,8 +210,8 @@ fn a_second_command_needs_no_memory(rt: HostRuntime) -> Result<(), Fail> {
         memory.set_allocation_limit(Some(0));
         for size in [1, 1000, 200_000] {
             lines.clear();
-            for piece in bytes.chunks(size) {
-                assert_read(&rt, vector.name, &mut parser, &mut lines, piece);
+            for chunk in bytes.chunks(size) {
+                assert_read(&rt, vector.name, &mut parser, &mut lines, chunk);
             }
             assert_eq!(rt; lines.text(), Some(text.as_str()), "{}", vector.name);
         }

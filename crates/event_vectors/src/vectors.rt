@@ -22,7 +22,7 @@ pub(crate) fn tables() -> [&'static [LinesVector]; 5] {
     ]
 }
 
-/// A stream in pieces, for a parser whose buffer has `size` bytes.
+/// A stream in chunks, for a parser whose buffer has `size` bytes.
 pub(crate) struct LinesVector {
     pub(crate) name: &'static str,
     pub(crate) size: usize,
@@ -34,8 +34,8 @@ impl LinesVector {
     /// Returns the whole stream.
     pub(crate) fn bytes(&self, alloc: Global) -> Result<Vec<u8>, AllocError> {
         let mut bytes = Vec::new(alloc);
-        for piece in self.pieces {
-            bytes.extend_from_slice(piece)?;
+        for chunk in self.pieces {
+            bytes.extend_from_slice(chunk)?;
         }
         Ok(bytes)
     }
@@ -56,7 +56,7 @@ pub(crate) fn joined_lines(alloc: Global, lines: &[&str]) -> Result<String, Allo
     Ok(text)
 }
 
-/// A long stream in one piece.
+/// A long stream in one chunk.
 pub(crate) struct LongVector {
     pub(crate) name: &'static str,
     pub(crate) size: usize,

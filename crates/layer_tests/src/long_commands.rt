@@ -71,13 +71,13 @@ fn command<A: Allocator>(alloc: A, begin: &[u8], count: usize) -> Result<Vec<u8,
 
 /// Checks what the four kinds of commands call for texts with this many bytes, if they come in
 /// calls of this many.
-fn check(rt: &impl Abort, alloc: Global, count: usize, piece: usize) -> Result<(), Fail> {
+fn check(rt: &impl Abort, alloc: Global, count: usize, chunk: usize) -> Result<(), Fail> {
     let mut handler = ByCall(Measure(NONE));
     match LongProcessor::new(alloc, TestTimeout::new(Answers::Never)) {
         Ok(mut processor) => {
             for begin in [&b"\x1b]2;"[..], b"\x1b]8;;", b"\x1b]52;c;", b"\x1b]4;1;"] {
                 let stream = command(alloc, begin, count)?;
-                for bytes in stream.as_slice().chunks(piece.max(1)) {
+                for bytes in stream.as_slice().chunks(chunk.max(1)) {
                     assert!(rt;
                         read(&mut processor, &mut handler, bytes).is_ok(),
                         "there is memory"

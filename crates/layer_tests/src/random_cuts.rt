@@ -1,6 +1,6 @@
-//! A random stream gives the same events, lines, text and calls in random pieces as it does whole.
+//! A random stream gives the same events, lines, text and calls in random chunks as it does whole.
 
-use crate::reader::PieceReader;
+use crate::reader::ChunkReader;
 use crate::streams::Streams;
 use event_log::{Device, Source, run, run_text};
 use std::alloc::{AllocError, Allocator, Global};
@@ -13,48 +13,48 @@ use vte_core::{LongParser, Parser};
 /// The number of streams per test.
 const STREAMS: u32 = 1000;
 
-/// The lines of the events of a stream in pieces.
-fn events_of(alloc: Global, pieces: &[&[u8]]) -> EventLines {
+/// The lines of the events of a stream in chunks.
+fn events_of(alloc: Global, chunks: &[&[u8]]) -> EventLines {
     let mut lines = EventLines::new(alloc, Stop::Never);
     let mut parser = Parser::<1024>::new();
-    for piece in pieces {
-        parser.advance(&mut lines, piece);
+    for chunk in chunks {
+        parser.advance(&mut lines, chunk);
     }
     lines
 }
 
-/// The lines of the events of a stream in pieces, with text in runs.
-fn events_in_runs_of(alloc: Global, pieces: &[&[u8]]) -> EventLines {
+/// The lines of the events of a stream in chunks, with text in runs.
+fn events_in_runs_of(alloc: Global, chunks: &[&[u8]]) -> EventLines {
     let mut lines = EventLines::new(alloc, Stop::Never);
     let mut parser = Parser::<1024>::new();
-    for piece in pieces {
-        parser.advance_text(&mut lines, piece);
+    for chunk in chunks {
+        parser.advance_text(&mut lines, chunk);
     }
     lines
 }
 
-/// The lines of the events of a stream in pieces, by a parser without a limit on commands.
+/// The lines of the events of a stream in chunks, by a parser without a limit on commands.
 fn unlimited_events_of(
     rt: &(impl Abort + AllocGlobal),
-    pieces: &[&[u8]],
+    chunks: &[&[u8]],
 ) -> Result<EventLines, Fail> {
     let mut lines = EventLines::new(rt.alloc(), Stop::Never);
     let mut parser = LongParser::new(rt.alloc());
-    for piece in pieces {
-        assert_eq!(rt; parser.advance(&mut lines, piece), Ok(()));
+    for chunk in chunks {
+        assert_eq!(rt; parser.advance(&mut lines, chunk), Ok(()));
     }
     Ok(lines)
 }
 
-/// The lines of the events of a stream in pieces, by a parser without a limit, in runs.
+/// The lines of the events of a stream in chunks, by a parser without a limit, in runs.
 fn unlimited_events_in_runs_of(
     rt: &(impl Abort + AllocGlobal),
-    pieces: &[&[u8]],
+    chunks: &[&[u8]],
 ) -> Result<EventLines, Fail> {
     let mut lines = EventLines::new(rt.alloc(), Stop::Never);
     let mut parser = LongParser::new(rt.alloc());
-    for piece in pieces {
-        assert_eq!(rt; parser.advance_text(&mut lines, piece), Ok(()));
+    for chunk in chunks {
+        assert_eq!(rt; parser.advance_text(&mut lines, chunk), Ok(()));
     }
     Ok(lines)
 }
@@ -65,14 +65,14 @@ fn events(rt: HostRuntime) -> Result<(), Fail> {
     for _ in 0..STREAMS {
         let stream = streams.stream(rt.alloc())?;
         let whole = [stream.as_slice()];
-        let pieces = streams.cut(rt.alloc(), stream.as_slice())?;
+        let chunks = streams.cut(rt.alloc(), stream.as_slice())?;
         let want = events_of(rt.alloc(), &whole);
-        let lines = events_of(rt.alloc(), pieces.as_slice());
-        assert_eq!(rt; lines.text(), want.text(), "{pieces:?}");
+        let lines = events_of(rt.alloc(), chunks.as_slice());
+        assert_eq!(rt; lines.text(), want.text(), "{chunks:?}");
         assert!(rt; want.text().is_some(), "out of memory");
         let want = unlimited_events_of(&rt, &whole)?;
-        let lines = unlimited_events_of(&rt, pieces.as_slice())?;
-        assert_eq!(rt; lines.text(), want.text(), "{pieces:?}");
+        let lines = unlimited_events_of(&rt, chunks.as_slice())?;
+        assert_eq!(rt; lines.text(), want.text(), "{chunks:?}");
     }
     Ok(())
 }
@@ -83,14 +83,14 @@ fn events_in_runs(rt: HostRuntime) -> Result<(), Fail> {
     for _ in 0..STREAMS {
         let stream = streams.stream(rt.alloc())?;
         let whole = [stream.as_slice()];
-        let pieces = streams.cut(rt.alloc(), stream.as_slice())?;
+        let chunks = streams.cut(rt.alloc(), stream.as_slice())?;
         let want = events_of(rt.alloc(), &whole);
-        let lines = events_in_runs_of(rt.alloc(), pieces.as_slice());
-        assert_eq!(rt; lines.text(), want.text(), "{pieces:?}");
+        let lines = events_in_runs_of(rt.alloc(), chunks.as_slice());
+        assert_eq!(rt; lines.text(), want.text(), "{chunks:?}");
         assert!(rt; want.text().is_some(), "out of memory");
         let want = unlimited_events_of(&rt, &whole)?;
-        let lines = unlimited_events_in_runs_of(&rt, pieces.as_slice())?;
-        assert_eq!(rt; lines.text(), want.text(), "{pieces:?}");
+        let lines = unlimited_events_in_runs_of(&rt, chunks.as_slice())?;
+        assert_eq!(rt; lines.text(), want.text(), "{chunks:?}");
     }
     Ok(())
 }
@@ -109,8 +109,8 @@ fn text_of<R: Source>(rt: &(impl Abort + AllocGlobal), reader: &mut R) -> Result
     Ok(text)
 }
 
-fn assert_same(rt: &impl Abort, written: &[u8], want: &[u8], pieces: &[&[u8]]) {
-    assert!(rt; written == want, "{pieces:?}");
+fn assert_same(rt: &impl Abort, written: &[u8], want: &[u8], chunks: &[&[u8]]) {
+    assert!(rt; written == want, "{chunks:?}");
 }
 
 #[test]
@@ -118,39 +118,39 @@ fn lines_and_text(rt: HostRuntime) -> Result<(), Fail> {
     let mut streams = Streams::new();
     for _ in 0..STREAMS {
         let stream = streams.stream(rt.alloc())?;
-        let pieces = streams.cut(rt.alloc(), stream.as_slice())?;
-        let pieces = pieces.as_slice();
-        let lines = lines_of(&rt, &mut PieceReader::new(pieces))?;
+        let chunks = streams.cut(rt.alloc(), stream.as_slice())?;
+        let chunks = chunks.as_slice();
+        let lines = lines_of(&rt, &mut ChunkReader::new(chunks))?;
         let want = lines_of(&rt, &mut Device::new(stream.as_slice()))?;
-        assert_same(&rt, lines.as_slice(), want.as_slice(), pieces);
+        assert_same(&rt, lines.as_slice(), want.as_slice(), chunks);
         // The same lines, by code that shares nothing with `run`.
-        let events = events_of(rt.alloc(), pieces);
+        let events = events_of(rt.alloc(), chunks);
         let events = events.text().unwrap_or("out of memory");
-        assert_same(&rt, events.as_bytes(), want.as_slice(), pieces);
-        let text = text_of(&rt, &mut PieceReader::new(pieces))?;
+        assert_same(&rt, events.as_bytes(), want.as_slice(), chunks);
+        let text = text_of(&rt, &mut ChunkReader::new(chunks))?;
         let want = text_of(&rt, &mut Device::new(stream.as_slice()))?;
-        assert_same(&rt, text.as_slice(), want.as_slice(), pieces);
+        assert_same(&rt, text.as_slice(), want.as_slice(), chunks);
     }
     Ok(())
 }
 
-/// The calls of a stream in pieces, with stops after some of them. The stop after the last leaves
+/// The calls of a stream in chunks, with stops after some of them. The stop after the last leaves
 /// nothing held.
 fn calls_of(
     rt: &(impl Abort + AllocGlobal),
     answers: Answers,
     in_runs: bool,
-    pieces: &[&[u8]],
+    chunks: &[&[u8]],
     stops: &mut Streams,
 ) -> Result<CallLines, Fail> {
     let mut handler = ByCall(CallLines::new(rt.alloc()));
     match Processor::new(rt.alloc(), TestTimeout::new(answers)) {
         Ok(mut processor) => {
-            for piece in pieces {
+            for chunk in chunks {
                 if in_runs {
-                    processor.advance_text(&mut handler, piece);
+                    processor.advance_text(&mut handler, chunk);
                 } else {
-                    processor.advance(&mut handler, piece);
+                    processor.advance(&mut handler, chunk);
                 }
                 if stops.below(8) == 0 {
                     stop(&mut processor, in_runs, &mut handler);
@@ -193,13 +193,13 @@ fn assert_same_calls(rt: &(impl Abort + AllocGlobal), in_runs: bool) -> Result<(
     for _ in 0..STREAMS {
         let stream = streams.stream(rt.alloc())?;
         let whole = [stream.as_slice()];
-        let pieces = streams.cut(rt.alloc(), stream.as_slice())?;
+        let chunks = streams.cut(rt.alloc(), stream.as_slice())?;
         let whole = calls_of(rt, Answers::Never, false, &whole, &mut streams)?;
         let want = without_ends(rt.alloc(), &whole)?;
         for answers in [Answers::Never, Answers::Counting] {
-            let calls = calls_of(rt, answers, in_runs, pieces.as_slice(), &mut streams)?;
+            let calls = calls_of(rt, answers, in_runs, chunks.as_slice(), &mut streams)?;
             let calls = without_ends(rt.alloc(), &calls)?;
-            assert_eq!(rt; calls.as_str(), want.as_str(), "{pieces:?}");
+            assert_eq!(rt; calls.as_str(), want.as_str(), "{chunks:?}");
         }
     }
     Ok(())

@@ -13,11 +13,11 @@ fn parsed(stream: &[u8]) -> Screen {
     screen
 }
 
-/// The screen of a stream whose text comes in runs, in calls of `piece` bytes.
-fn parsed_in_runs(stream: &[u8], piece: usize) -> Screen {
+/// The screen of a stream whose text comes in runs, in calls of `chunk` bytes.
+fn parsed_in_runs(stream: &[u8], chunk: usize) -> Screen {
     let mut screen = Screen::new();
     let mut parser = Parser::new();
-    for bytes in stream.chunks(piece.max(1)) {
+    for bytes in stream.chunks(chunk.max(1)) {
         parser.advance_text(&mut screen, bytes);
     }
     screen
@@ -33,11 +33,11 @@ fn processed(alloc: Global, stream: &[u8]) -> Option<Screen> {
     Some(handler.0)
 }
 
-/// The screen of a stream by a processor, with text in runs, in calls of `piece` bytes.
-fn processed_in_runs(alloc: Global, stream: &[u8], piece: usize) -> Option<Screen> {
+/// The screen of a stream by a processor, with text in runs, in calls of `chunk` bytes.
+fn processed_in_runs(alloc: Global, stream: &[u8], chunk: usize) -> Option<Screen> {
     let mut handler = ByCall(Screen::new());
     match Processor::new(alloc, TestTimeout::new(Answers::Never)) {
-        Ok(mut processor) => for bytes in stream.chunks(piece.max(1)) {
+        Ok(mut processor) => for bytes in stream.chunks(chunk.max(1)) {
             processor.advance_text(&mut handler, bytes);
         },
         Err(_) => return None,
@@ -55,15 +55,15 @@ fn are_same(one: &Screen, other: &Screen) -> bool {
     one.cursor() == other.cursor()
 }
 
-/// Whether runs of text show what characters show, in calls of `piece` bytes.
-fn runs_show_the_same(alloc: Global, stream: &[u8], piece: usize) -> bool {
+/// Whether runs of text show what characters show, in calls of `chunk` bytes.
+fn runs_show_the_same(alloc: Global, stream: &[u8], chunk: usize) -> bool {
     match (
         processed(alloc, stream),
-        processed_in_runs(alloc, stream, piece),
+        processed_in_runs(alloc, stream, chunk),
     ) {
         (Some(by_characters), Some(in_runs)) => {
             are_same(&in_runs, &by_characters)
-                && are_same(&parsed_in_runs(stream, piece), &parsed(stream))
+                && are_same(&parsed_in_runs(stream, chunk), &parsed(stream))
         }
         _ => false,
     }

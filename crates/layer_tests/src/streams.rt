@@ -157,13 +157,13 @@ impl Streams {
         Ok(())
     }
 
-    /// Cuts a stream into single bytes or longer pieces, some of them empty.
+    /// Cuts a stream into single bytes or longer chunks, some of them empty.
     pub(crate) fn cut<'a>(
         &mut self,
         alloc: Global,
         stream: &'a [u8],
     ) -> Result<Vec<&'a [u8]>, AllocError> {
-        let mut pieces = Vec::new(alloc);
+        let mut chunks = Vec::new(alloc);
         let longest = match self.below(4) {
             0 => 1,
             1 => 3,
@@ -176,13 +176,13 @@ impl Streams {
                 break;
             }
             let length = self.below(longest) as usize + 1;
-            let (piece, back) = rest.split_at(length.min(rest.len()));
-            pieces.push(piece)?;
+            let (chunk, back) = rest.split_at(length.min(rest.len()));
+            chunks.push(chunk)?;
             rest = back;
             if self.below(16) == 0 {
-                pieces.push(&[])?;
+                chunks.push(&[])?;
             }
         }
-        Ok(pieces)
+        Ok(chunks)
     }
 }

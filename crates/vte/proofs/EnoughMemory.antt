@@ -14,7 +14,7 @@ events_fit : (size n : ℕ) (events : List Event) → n + 16 ≤ size → All (I
     → All (FitsText size) events
 events_fit size n events memory are = search (rules, arith)
 
--- what fits of all bytes fits of a prefix
+-- If the events of all bytes fit into this size, those of a prefix do too.
 pub prefix_fits : (size : ℕ) (limit : Option ℕ) (p prefix rest : List ℕ)
     → All (FitsText size) (added limit p (prefix ++ rest)) → All (FitsText size) (added limit p prefix)
 prefix_fits size limit p prefix rest all =
@@ -58,7 +58,7 @@ module _ {N : ℕ} {V W : Type 0} {step : PerformerValue V W → Event → Perfo
 
 -- ---- the parser without a limit
 
--- memory that is there stays
+-- If neither size shrinks, memory that was enough stays enough.
 keeps_enough : {A : Type 0} {parser next : LongParser A} {size larger : ℕ} → memory_of parser ≤ memory_of next
     → size ≤ larger → KeepsMemory (ParserHasMemory parser size) (ParserHasMemory next larger)
 keeps_enough more at_most = search (rules, arith)
@@ -77,7 +77,7 @@ module _ {A : Type 0} {parser : LongParser A} {size : ℕ} (stream bytes : List 
       → ParserHasMemory next size (stream ++ bytes) n
   memory_left next kept = search (rules, arith, counts_data)
 
--- a call for which there is memory is refused none
+-- A call for which there is memory is refused none.
 module _ {A V W : Type 0} {step : PerformerValue V W → Event → PerformerValue V W} {old new : PerformerValue V W}
     {bytes : List ℕ}
     {parser next : LongParser A} where

@@ -53,7 +53,7 @@ calls_whole limit p u =
     ap calls (events_grow limit p u)
     ∙ rw (added_calls-events limit p u) (calls-append None (events limit p) (added limit p u))
 
--- a timeout that is set several times
+-- To set a timeout n + k times is to set it n times, then k times.
 pub set_times-add : {W : Type 0} (m : TimeoutMeaning W) (value : W) (n k : ℕ)
     → set_times m (n + k) value ≡ set_times m k (set_times m n value)
 set_times-add m value zero k = rw zero-add
@@ -62,7 +62,7 @@ set_times-add m value (suc n) k = rw suc-add (set_times-add m (m.set value updat
 begun-more : (b t : Bool) (n : ℕ) → ((b || t) || nat_lt 0 n) ≡ (b || nat_lt 0 ((if t then 1 else 0) + n))
 begun-more b t n = grind (arith, nat_tests)
 
--- one mode more is set
+-- To set the first private mode and then the others is to set them all.
 pub modes-more : {V W : Type 0} (step : V → Call → V) (timeout : TimeoutMeaning W) (performer : PerformerValue V W)
     (group : List ℕ) (groups : List (List ℕ))
     → with_private_modes step timeout (with_private_mode step timeout performer (first_number group)) groups

@@ -8,12 +8,12 @@ use Rattle.vte.proofs.EventCalls.{after_calls-append, last_printed-append, added
 
 -- ---- the value after events
 
--- One by one, events make of it what `with_events` says of all, if they fit the text.
+-- One by one, events make of a value what `with_events` says of all of them, if they fit the text.
 
 any-sum : (b : Bool) (m n : ℕ) → ((b || nat_lt 0 m) || nat_lt 0 n) ≡ (b || nat_lt 0 (m + n))
 any-sum b m n = grind (arith, nat_tests)
 
--- what all events together make of a performer's value
+-- What all events together make of a performer's value.
 abbrev with_events : {V W : Type 0} → Meaning V W → PerformerValue V W → List Event → PerformerValue V W
 with_events m performer events = record {
   handler = after m.step performer.handler (calls_from performer.last events);
@@ -57,7 +57,7 @@ module _ {H T B G V W : Type 0} (handler_of : H → V) (timeout_of : T → W) (t
   state-is : state ≡ new.state.now
   state-is = back_state (sym (ap (λ performer. performer.state_name) all_made))
 
-  -- the text has the same size
+  -- The text has the same size as before.
   pub text_size_back : text_size_of state.text ≡ old.text_size
   text_size_back = rw state-is (ap (λ performer. performer.text_size) all_made)
 
@@ -73,10 +73,13 @@ module _ {H T B G V W : Type 0} (handler_of : H → V) (timeout_of : T → W) (t
       (parse m s f)
   performer-given_back {lent} at at_last at_timeout at_handler at_text_size read back_handler keeps =
       let all = all_made in
+      -- The handler that comes back is the one that was lent.
       let is_handler = back_handler (sym (ap (λ performer. performer.handler_name) all)) in
+      -- Before the bytes, the performer had the values of the state `s`.
       let last : old.last ≡ last_printed (events m.limit s.parsed) = at_last ∙ at.last in
       let timeout : old.timeout ≡ s.timeout = at_timeout ∙ at.timeout_is in
       let handler : old.handler ≡ s.handler = at_handler ∙ at.handler_is in
+      -- After the bytes, it has those of `with_events`, which are the values of `parse m s f`.
       record {
         parts_at = record {
           has_read = read;
@@ -110,27 +113,35 @@ module _ {V W : Type 0} (m : Meaning V W) {old new : PerformerValue V W} (goes_o
   prefix : IsPrefix m.limit p r (length (prefix_to_begin m.limit p r))
   prefix = prefix-is m.limit p r
 
+  -- Before position i, the performer is terminated exactly if an update begins in the first i bytes.
   terminated_at : (i : ℕ)
       → (performed (performer_with_event m.step m.timeout) old (reported_before m.limit p r i)).terminated
       ≡ nat_lt 0 (begin_count (added m.limit p (take i r)))
   terminated_at i =
       terminated_by m old (reported_before m.limit p r i) ∙ rw (goes_on, begin_count-reported m.limit p r i)
 
+  -- The call doesn't stop before the end of the prefix.
   size-not_before : n < length (prefix_to_begin m.limit p r) → ⊥
   size-not_before less =
       let f = prefix in
+      -- Bytes are left after a stop at n, so the performer is terminated there.
       let ends = stop.stops (omega (arith, f.within)) in
+      -- But in the first n bytes no update begins.
       let none = rw (stop.comes.performed, terminated_at n, f.before n less) at ends in
       false≢true none
 
+  -- The call doesn't stop after the end of the prefix.
   size-not_after : length (prefix_to_begin m.limit p r) < n → ⊥
   size-not_after less =
       let f = prefix in
       let k = length (prefix_to_begin m.limit p r) in
+      -- The end of the prefix is a start, as no character is open there.
       let within : k < length r = omega (arith, stop.comes.within) in
+      -- A call that stops later wasn't terminated there.
       let goes_on =
       rw (terminated_at k) at (stop.comes.earlier k less
       (starts-settled within (open_character-prefix f within))) in
+      -- But in the prefix an update begins.
       grind (arith, nat_tests, f.begins within)
 
   pub stops_at_prefix : n ≡ length (prefix_to_begin m.limit p r)
@@ -145,6 +156,7 @@ module _ {V W : Type 0} (m : Meaning V W) {old new : PerformerValue V W} (goes_o
   pub stop_performs : new
       ≡ performed (performer_with_event m.step m.timeout) old (added m.limit p (prefix_to_begin m.limit p r))
   stop_performs =
+      -- After the prefix no character is broken, so what is reported before its end is what the prefix adds.
       let f =
       prefix in
       rw (f.is, ← stops_at_prefix, ← reported-settled m.limit p r n (rw stops_at_prefix (breaks_at-prefix f)))

@@ -1,7 +1,7 @@
 /* Writes the events of its standard input, one line each, as vtlog does.
  *
- * events [WORD..] [PIECE [ROOM [DATA]]]: reads pieces of PIECE bytes, with room for ROOM events and
- * DATA data bytes. With a PIECE of 0, pieces and room have random sizes. Words: `kinds N` and
+ * events [WORD..] [CHUNK [ROOM [DATA]]]: reads chunks of CHUNK bytes, with room for ROOM events and
+ * DATA data bytes. With a CHUNK of 0, chunks and room have random sizes. Words: `kinds N` and
  * `stops N` are the masks of vte_feed, `losses` writes of each command only whether it lost data,
  * `strip` writes the text, with room for ROOM bytes, and `long` keeps commands of any length, if
  * this is compiled with WITH_LONG. */
@@ -150,7 +150,7 @@ int main(int argc, char **argv) {
         else if (strcmp(argv[1], "long") == 0) is_long = 1;
         else return 2;
     }
-    size_t piece = number_at(argc - 1, argv + 1, 0);
+    size_t chunk = number_at(argc - 1, argv + 1, 0);
     size_t first = number_at(argc - 1, argv + 1, 1), second = number_at(argc - 1, argv + 1, 2);
     if (vte_version() != VTE_VERSION || vte_parser_size() != sizeof(vte_parser)
         || vte_event_size() != sizeof(vte_event) || vte_least_events() != VTE_MIN_EVENTS
@@ -164,7 +164,7 @@ int main(int argc, char **argv) {
     if (long_parser == NULL) return 1;
 #endif
     for (;;) {
-        size_t most = size_of(piece, 1, 300);
+        size_t most = size_of(chunk, 1, 300);
         uint8_t *bytes = room_for(most);
         size_t length = fread(bytes, 1, most, stdin);
         for (size_t at = 0; at < length;)

@@ -70,6 +70,7 @@ goes_on_at_first : (old : Room) (broken : Bool) → Starts old
     → is_full (after room_with_event old (if broken then Print replacement ∷ [] else [])) ≡ false
 goes_on_at_first old false starts others = grind (arith, nat_tests)
 goes_on_at_first old true starts others =
+    -- U+FFFD has at most four bytes of data, and its event doesn't pause the room.
     let small : length (data_of (Print replacement)) ≤ 4 =
     omega (arith, length-encode replacement, (len_utf8_bounds replacement).1) in
     let next : Room = room_with_event old (Print replacement) in
@@ -150,6 +151,7 @@ goes-then : {old mid new : Room} {since next last bytes : List ℕ} {from n m : 
 goes-then {old} {mid} {since} {bytes} {from} {n} {m} a free within b =
     let unread : List ℕ = drop from bytes in
     let size = length-drop from bytes in
+    -- The second step begins n bytes after the first, with the same kinds and stops.
     let rest : drop (from + n) bytes ≡ drop n unread = sym (drop-drop n from bytes) in
     let kinds : mid.kinds ≡ old.kinds = ap (λ (r : Room). r.kinds) a.holds.room in
     let stops : mid.stops ≡ old.stops = ap (λ (r : Room). r.stops) a.holds.room in
@@ -168,10 +170,13 @@ goes-then {old} {mid} {since} {bytes} {from} {n} {m} a free within b =
             let place : n + k ≡ i = omega arith in
             let front = a.continues.prefixes k (omega (arith, within)) in
             let stop : ℕ → Bool = is_stop old.kinds old.stops in
+            -- The room wasn't full after the first step, so none of its events stops.
             let given_without_stop =
             no_event_stops-reported old.kinds old.stops a.given
             (rw a.shows at (no_event_stops-entries old.stops bytes old.used a.entries (unmet a.holds free))) in
+            -- Before the end of the second step, none of its events stops either.
             let more = rw (kinds, stops, rest) at (b.before (rw (kinds, stops) none) k (omega arith)) in
+            -- What the bytes up to place i add is the first part of these events.
             rw (← place)
             (no_event_stops-front stop (added usual_limit since (take (n + k) unread)) front.others
             (rw front.parts at (no_event_stops-append stop _ _ given_without_stop more)))

@@ -90,8 +90,8 @@ continues-call goes_on since bytes n = elim (cases_Bool (breaks_at since bytes n
 
 -- ---- events that stop a call
 
--- None is given before the last byte that it reads: a byte before that ends at a start, where the call would have
--- stopped, or adds nothing that stops.
+-- No such event is given before the last byte that a call reads: a byte before that ends at a start, where the call
+-- would have stopped, or adds nothing that stops.
 
 -- ---- records of kinds that do not stop
 
@@ -152,7 +152,7 @@ no_event_stops-reported kinds stops (event ∷ events) h = elim (cases_Bool (has
   | inr other ↦ (rw other refl, no_event_stops-reported kinds stops events (rw other at h))
 ]
 
--- If nothing that bytes add stops, neither does what fewer add.
+-- If nothing that bytes add stops, nothing that fewer of them add does.
 pub no_event_stops-earlier : (stop : ℕ → Bool) (stream bytes : List ℕ) (i n : ℕ) → i ≤ n
     → NoEventStops stop (added usual_limit stream (take n bytes))
     → NoEventStops stop (added usual_limit stream (take i bytes))

@@ -258,7 +258,7 @@ entry_events_later input more (InInput run start size ∷ entries) are =
 
 -- ---- buffers that were empty
 
--- Then they hold the records and data of just the entries of the call, so a reader finds their events.
+-- The buffers then hold just the records and data of the call's entries, so a reader finds their events.
 
 module _ (old new : Events) (input : List ℕ) (entries : List Entry) (starts : Starts (room_of old))
     (h : HasEntries (room_of old) (room_of new) input entries) (more : List ℕ) where

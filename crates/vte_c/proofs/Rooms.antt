@@ -10,7 +10,7 @@ use Rattle.vte_c.proofs.Continuations.{no_kind_stops-append, no_kind_stops-none}
 
 -- ---- how long the data of an event are
 
--- At most 1,088 bytes, and those of the second one that a byte adds at most four: by cases of the event.
+-- Each event has at most 1,088 bytes, and the second one that a byte adds at most four, by cases of the event.
 
 pub length_numbers : (numbers : List ℕ) → length (flat_map two_bytes numbers) ≡ 2 * length numbers
 length_numbers [] = refl
@@ -297,30 +297,38 @@ entries-unit input room (event ∷ []) brief free =
     (record { events = omega (arith, room_for.events); data_fits = omega (arith, room_for.data_fits) })
 entries-unit input room (event ∷ last ∷ []) brief free =
     let room_for = roomy room free in
+    -- The first event has at most 1,088 bytes of data, and the last one at most four.
     let size = data_most event brief.0 in
     let short = short_data last brief.1 in
+    -- Each has at most one entry, with no more data than the event.
     let at_most = are_few room event in
     let more = are_few room last in
     let next : Room = resumed (room_with_event room event) in
+    -- The room isn't full, so it has room for the first event.
     let first =
     entries-event input room event brief.0 (unpaused room free)
     (record { events = omega (arith, room_for.events); data_fits = omega (arith, room_for.data_fits) }) in
+    -- After that event, the room differs from the old one by the entry alone.
     let kinds : next.kinds ≡ room.kinds = ap (λ (r : Room). r.kinds) first.room in
     let count = ap (λ (r : Room). r.count) first.room in
     let most = ap (λ (r : Room). r.most) first.room in
     let used = ap (λ (r : Room). r.used) first.room in
     let whole = ap (λ (r : Room). r.size) first.room in
+    -- So what is left is enough for the last event.
     let room_for_last : HasRoomFor next 1 (length (data_of last)) = record {
       events = omega (arith, room_for.events, at_most.count, count, most);
       data_fits = omega (arith, room_for.data_fits, at_most.size, size, short, used, whole);
     } in
+    -- The last event is written into that room, which reports the same kinds.
     let second =
     subst (λ (k : ℕ). HasEntries next (resumed (room_with_event next last)) input (map Single (reported k (last ∷ []))))
     kinds
     (entries-event input next last (short_bounded usual_limit last brief.1) refl room_for_last) in
+    -- The entries of both events are those of the first, followed by those of the last.
     let both : entries_of room (event ∷ last ∷ []) ≡ entries_of room (event ∷ []) ++ entries_of room (last ∷ []) =
     ap (map Single) (filter-append (λ e. has room.kinds (event_kind e)) (event ∷ []) (last ∷ []))
     ∙ map-append Single _ _ in
+    -- A pause after the first event doesn't change how the last one is written, so the two steps join.
     rw (with_event_resumed (room_with_event room event) last, both) (record {
       readable = readable-append input _ _ first.readable second.readable;
       room =
@@ -342,9 +350,11 @@ pub entries-unit_more : {old : Room} (input : List ℕ) (room : Room) (before un
     → HasEntries old (resumed (after room_with_event room (before ++ unit))) input (entries_of old (before ++ unit))
 entries-unit_more {old} input room before unit h free brief =
     let mid : Room = after room_with_event room before in
+    -- The room before the unit isn't full, so it isn't paused either.
     let same : resumed mid ≡ mid = resumed_same mid (unpaused mid free) in
     let first : HasEntries old mid input (entries_of old before) = rw same at h in
     let kinds : mid.kinds ≡ old.kinds = ap (λ (r : Room). r.kinds) first.room in
+    -- The unit is written into that room, which reports the kinds of the old one.
     rw (after_events-append room_with_event room before unit, filter-append, map-append)
     (entries-then first free
     (subst (λ (k : ℕ). HasEntries mid (resumed (after room_with_event mid unit)) input (map Single (reported k unit)))

@@ -69,7 +69,7 @@ unfoldable pub use Rattle.vte_core.specs.machine.ParserFields.{second_range}
 
 -- ---- words of proofs alone
 
--- At most one short event.
+-- There is at most one event, and it is short.
 abbrev pub IsAtMostOneShort : List Event → Type 0
 IsAtMostOneShort [] = Unit {0}
 IsAtMostOneShort (event ∷ []) = IsShort event

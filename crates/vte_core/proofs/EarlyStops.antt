@@ -12,7 +12,7 @@ use Rattle.vte_core.proofs.streams.StreamSteps.{added-byte, LeadsTo, leads_to, e
 
 -- ---- what is kept from start to start holds wherever a call stops
 
--- By induction over positions, a unit at a time.
+-- The proof is by induction over positions, a unit at a time.
 
 -- P is to hold of what is reported before each place. It holds of no events, and a unit keeps it.
 -- Before each unit Q holds, which is what the performer answers when it is asked: at first, and at
@@ -20,7 +20,7 @@ use Rattle.vte_core.proofs.streams.StreamSteps.{added-byte, LeadsTo, leads_to, e
 module _ {limit : Option ℕ} (P Q : List Event → Type 0) (stream bytes : List ℕ) (units : ReportsUnits limit)
     (at_first : P []) (asked_first : Q [])
     (kept : (before unit : List Event) → P before → Q before → AreFromOneByte limit unit → P (before ++ unit)) where
-  -- by induction on m
+  -- By induction on m, P holds before each position below m, if Q holds before each earlier start.
   passed-below : (m i : ℕ) → i < m → i ≤ length bytes
       → ((j : ℕ) → j < i → IsStart stream bytes j → Q (reported_before limit stream bytes j))
       → P (reported_before limit stream bytes i)
@@ -43,7 +43,7 @@ module _ {limit : Option ℕ} (P Q : List Event → Type 0) (stream bytes : List
 
 -- ---- a byte that belongs to an open character
 
--- it reports at most a short event, and nothing if it leaves the character open
+-- The byte reports at most a short event, and nothing if it leaves the character open.
 abbrev ReportsAtMostOneShort : Option ℕ → List ℕ → ℕ → Type 0
 ReportsAtMostOneShort limit stream b =
     IsAtMostOneShort (added limit stream (b ∷ []))
@@ -62,7 +62,8 @@ reports_little limit stream b some unbroken =
 
 -- ---- what is reported from one position to the next
 
--- At most one unit (`reports_units`), by induction over the bytes; what they add is split at the last start (`Added`).
+-- From the last start to a position, at most one unit is reported (`reports_units`), by induction over the bytes; what
+-- the bytes add is split at that start (`Added`).
 
 pub added-append : (limit : Option ℕ) (stream prefix rest : List ℕ)
     → added limit stream (prefix ++ rest) ≡ added limit stream prefix ++ added limit (stream ++ prefix) rest
@@ -71,8 +72,7 @@ added-append limit stream prefix rest = search (rules, arith, events_grow, appen
 one_short-replacement : IsAtMostOneShort (Print replacement ∷ [])
 one_short-replacement = (refl, refl)
 
--- the bytes after a prefix add what they add to its stream or, after a character that they break,
--- to the empty one
+-- The bytes after a prefix add what they add to its stream or, after a character that they break, to the empty one.
 pub added_from : (limit : Option ℕ) (stream prefix rest : List ℕ) (broken : Bool)
     → (broken ≡ true → breaks (open_character (stream ++ prefix)) rest ≡ true)
     → added limit stream (prefix ++ rest)
@@ -99,7 +99,7 @@ ends_from stream rest broken is =
     (after_from stream rest broken is a.is_after) a.is_place
     ∙ sym (after-open_character a.is_after a.is_place)
 
--- what the bytes before a position add, by the last start before it
+-- What the bytes before a position add, divided at the last start before it.
 record Added (limit : Option ℕ) (stream bytes : List ℕ) (i : ℕ) : Type 0 where
   before : List Event
   unit : List Event
@@ -116,7 +116,7 @@ none_or_some : (xs : List ℕ) → (xs ≡ []) ⊎ (xs ≡ [] → ⊥)
 none_or_some [] = inl refl
 none_or_some (x ∷ xs) = inr (λ e. cc)
 
--- a byte more
+-- From position i, one byte leads to the next position.
 module _ (limit : Option ℕ) (stream bytes : List ℕ) (i : ℕ) (within : i < length bytes) where
   abbrev here : List ℕ
   here = stream ++ take i bytes
@@ -135,7 +135,7 @@ module _ (limit : Option ℕ) (stream bytes : List ℕ) (i : ℕ) (within : i < 
   breaks_here : breaks_at stream bytes i ≡ breaks (open_character here) (b ∷ [])
   breaks_here = breaks_at-byte stream bytes i within refl refl
 
-  -- the position is a start
+  -- If the position is a start, the unit is what the byte adds.
   from_start : IsStart stream bytes i → Added limit stream bytes (i + 1)
   unfolding reported_before resumed_stream
   from_start starts =
@@ -155,7 +155,7 @@ module _ (limit : Option ℕ) (stream bytes : List ℕ) (i : ℕ) (within : i < 
         begun = inr (record { start = i; earlier = omega arith; starts = starts; events_are = refl });
       }
 
-  -- the byte belongs to an open character
+  -- If the byte belongs to an open character, the unit goes on.
   from_carried : Added limit stream bytes i → (open_character here ≡ [] → ⊥)
       → breaks (open_character here) (b ∷ []) ≡ false
       → Added limit stream bytes (i + 1)
@@ -238,7 +238,7 @@ pub breaks_there : (stream bytes : List ℕ) (n : ℕ) → breaks_at stream byte
 unfolding breaks_at
 breaks_there stream bytes n broken = broken
 
--- of what is unread only the next byte counts
+-- A character that unread bytes break is broken whatever follows them.
 breaks-more : (u unread more : List ℕ) → breaks u unread ≡ true → breaks u (unread ++ more) ≡ true
 breaks-more u unread more is = search (rules, arith)
 

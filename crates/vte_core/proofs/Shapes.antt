@@ -6,7 +6,7 @@ use Rattle.vte_core.proofs.bytes.Utf8.{AtMostOne-first, AtMostOne-rows_after_byt
 
 -- ---- events before an outcome
 
--- They stay before it: they pass through what follows unchanged.
+-- Events that are reported first pass through what follows unchanged.
 
 pub report-append : (es fs : List Event) (outcome : Outcome) → report (es ++ fs) outcome ≡ report es (report fs outcome)
 report-append es fs outcome =
@@ -21,7 +21,7 @@ with_bodies-report limit es part (body ∷ bodies) = search (rules, arith, appen
 
 -- The parts of a head are cut off its prefix, so a byte more changes only the last part that was reached.
 
--- the bytes don't begin with one of these classes
+-- The bytes don't begin with one of these classes.
 abbrev BeginsWithout : (Class → Bool) → List ℕ → Type 0
 BeginsWithout has [] = Unit {0}
 BeginsWithout has (b ∷ rest) = has (class_of b) ≡ false
@@ -39,7 +39,7 @@ head_after-parts marker [] (b ∷ rest) are none = rw none refl
 head_after-parts marker (p ∷ parameters) rest are none =
     search (rules, arith, (head_after-parts marker parameters rest are.1 none))
 
--- the parts of a head
+-- `head_of` finds the three parts of a head.
 pub head_of-parts : (marker parameters rest : List ℕ) → IsMarker marker → AreInClass is_parameter_text parameters
     → BeginsWithout is_parameter_text rest
     → (marker ++ parameters ≡ [] → BeginsWithout is_marker rest)
@@ -68,7 +68,7 @@ pub list_all-not : (bytes : List ℕ) (b : ℕ) (more : List ℕ) → is_interme
 list_all-not [] b more h = rw h refl
 list_all-not (a ∷ bytes) b more h = grind (arith, nat_tests, list_all-not bytes b more h)
 
--- the parts of a head that is well shaped so far
+-- `head_of` finds the parts of a head that is well shaped so far.
 pub held-parts : (marker parameters intermediates : List ℕ) → IsMarker marker → AreInClass is_parameter_text parameters
     → AreInClass is_intermediate intermediates
     → head_of (marker ++ (parameters ++ intermediates))
@@ -101,7 +101,7 @@ truncated_not_well_formed (a ∷ u) more =
 
 -- ---- how far a segment goes
 
--- As far as the rows allow: to the end of a sequence, or to the byte that breaks a truncated one.
+-- The rest of a segment is as long as the rows allow: up to the end of a sequence, or to what breaks a truncated one.
 
 pub trailing_count-whole : (a : ℕ) (u x : List ℕ) → is_well_formed (a ∷ u) ≡ true → trailing_count a (u ++ x) ≡ length u
 unfolding is_well_formed trailing_count
@@ -136,7 +136,7 @@ segments-first a u x far = rw (far, take-append_seam u x, segments_after-length 
 
 -- ---- its event
 
--- a whole segment comes first
+-- A segment that isn't truncated is reported before those that follow.
 segments_outcome-first : (segment : List ℕ) (more : List (List ℕ)) → is_truncated segment ≡ false
     → segments_outcome (segment ∷ more) ≡ report (segment_event segment ∷ []) (segments_outcome more)
 segments_outcome-first segment more whole = search (rules, arith)
@@ -172,7 +172,7 @@ unfolding segment_event
 text_outcome-well_formed p x whole =
     search (rules, arith, not_well_formed-nothing, text_outcome-first, trailing_count-whole, well_formed_not_truncated)
 
--- the byte that breaks a character begins anew
+-- After the U+FFFD of a broken character, the text goes on from the byte that broke it.
 pub text_outcome-broken : (u : List ℕ) (b : ℕ) → is_truncated u ≡ true → is_well_formed (u ++ b ∷ []) ≡ false
     → is_truncated (u ++ b ∷ []) ≡ false
     → (x : List ℕ) → text_outcome (u ++ b ∷ x) ≡ report (Print replacement ∷ []) (text_outcome (b ∷ x))
@@ -185,7 +185,7 @@ pub text_outcome-lone : (x : List ℕ) (b : ℕ) → is_well_formed (b ∷ []) �
 unfolding segment_event
 text_outcome-lone x b whole more = text_outcome-first b [] x (trailing_count-lone b x whole more) more ∙ rw whole refl
 
--- open bytes alone wait
+-- The bytes of an unfinished character alone report nothing, and leave it open.
 pub text_outcome-end : (u : List ℕ) → is_truncated u ≡ true
     → text_outcome u ≡ leaves (CharacterToClose u)
 unfolding text_outcome is_truncated
@@ -227,7 +227,7 @@ pub breaks-no_byte : (u : List ℕ) → breaks u [] ≡ false
 breaks-no_byte [] = refl
 breaks-no_byte (a ∷ u) = refl
 
--- of what is unread only the next byte counts
+-- Whether unread bytes break a character depends on the next one alone.
 breaks-next : (u : List ℕ) (b : ℕ) (rest : List ℕ) → breaks u (b ∷ rest) ≡ breaks u (b ∷ [])
 breaks-next [] b rest = refl
 breaks-next (a ∷ u) b rest = refl
@@ -258,7 +258,7 @@ pub starts-broken : {stream bytes : List ℕ} {i : ℕ} → i < length bytes →
     → IsStart stream bytes i
 starts-broken within broken = record { within = within; starts = inr broken }
 
--- a byte of a character that was begun before it is none
+-- A byte that continues an open character is no start.
 pub no_start : {stream bytes u : List ℕ} {i b : ℕ} → i < length bytes → b ≡ slice_index bytes i
     → open_character (stream ++ take i bytes) ≡ u
     → (u ≡ [] → ⊥) → breaks u (b ∷ []) ≡ false

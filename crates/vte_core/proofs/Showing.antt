@@ -16,7 +16,7 @@ use Rattle.vte_core.proofs.streams.StreamSteps.{reported_by_stream}
 
 -- The text has separators between the parts; a loop writes one before each part but the first. Both are the same text.
 
--- the text of one group
+-- The text of one group.
 abbrev pub group_text : List ℕ → List ℕ
 group_text group = join_with_byte colon (map decimal group)
 
@@ -44,14 +44,14 @@ pub shown-nil : shown [] ≡ []
 unfolding shown
 shown-nil = refl
 
--- what a loop over the numbers after the first has written at its end
+-- After its last number, the loop over the numbers after the first has written the text of the group.
 pub group_written : (numbers : List ℕ) (i : ℕ) → 1 ≤ length numbers
     → length (take (length numbers - 1) (drop 1 numbers)) ≤ i
     → decimal (get_or numbers 0 0) ++ flat_map after_colon (take i (take (length numbers - 1) (drop 1 numbers)))
     ≡ group_text numbers
 group_written numbers i j end = search (rules, arith, take_all, group_text_from_front)
 
--- what a loop over the groups after the first has written at its end
+-- After its last group, the loop over the groups after the first has written the text of all groups.
 pub groups_written : (groups : List (List ℕ)) (first : List ℕ) (rest passed left : List (List ℕ))
     → groups ≡ first ∷ rest → passed ++ left ≡ rest → left ≡ []
     → group_text first ++ flat_map after_semicolon passed ≡ shown groups
@@ -59,7 +59,7 @@ groups_written groups first rest passed left start along none = search (rules, a
 
 -- ---- what is read
 
--- 0 to 9
+-- A digit is 0 to 9.
 abbrev IsDigit : ℕ → Type 0
 IsDigit b = (48 ≤ b) × (b ≤ 57)
 
@@ -138,7 +138,7 @@ groups-spelled ((n ∷ ns) ∷ groups) filled =
       append_assoc,
     )
 
--- their text, with a separator before it
+-- The text of groups, with a `;` before it, spells their numbers.
 shown-spelled : (groups : List (List ℕ)) → AreParameters groups
     → semicolon ∷ shown groups ≡ flat_map spelled (flat_map in_group groups)
 shown-spelled [] ok = absurd (omega (arith, ok.some))
@@ -181,7 +181,7 @@ grouped-groups before ((n ∷ ns) ∷ groups) filled =
     ∙ grouped-groups (before ++ (n ∷ ns) ∷ []) groups rest
     ∙ append_assoc before ((n ∷ ns) ∷ []) groups
 
--- after the separator the same numbers follow as from the start
+-- The text of groups gives back the numbers in the groups.
 numbers-shown : (groups : List (List ℕ)) → AreParameters groups → numbers (shown groups) ≡ flat_map in_group groups
 numbers-shown groups ok =
     let all = IsSmall-groups groups ok.groups_are.small in
@@ -199,7 +199,7 @@ at_most-groups groups ok =
           (flat_map in_group groups),
     )
 
--- the text of groups gives the groups back
+-- The text of groups gives the groups back.
 groups_of-shown : (groups : List (List ℕ)) → AreParameters groups → groups_of (shown groups) ≡ groups
 unfolding groups_of
 groups_of-shown groups ok = search (rules, arith, numbers-shown, take_all, at_most-groups, grouped-groups)
@@ -238,7 +238,7 @@ parameters-shown groups ok = search (rules, arith, shown-spelled, parameters-spe
 
 -- ---- a control sequence
 
--- Its head leads byte by byte to its final byte, and the head is read as the groups that it shows.
+-- The head of such a sequence leads byte by byte to its final byte, and is read as the groups that it shows.
 
 bytes_lead-head : (limit : Option ℕ) (head bytes : List ℕ) → AreInClass is_parameter_text bytes
     → BytesLead limit (InControlSequence head) bytes [] (InControlSequence (head ++ bytes))
@@ -251,7 +251,7 @@ bytes_lead-head limit head (b ∷ bytes) are =
     let rest = bytes_lead-head limit (head ++ b ∷ []) bytes are.1 in
     rw append_assoc at (bytes_lead-append one rest)
 
--- ESC, `[`, the bytes and `m`
+-- ESC, `[`, bytes of parameters and `m` report the sequence of these bytes.
 bytes_lead-shown : (limit : Option ℕ) (bytes : List ℕ) → AreInClass is_parameter_text bytes
     → BytesLead limit (InText []) (0x1b ∷ 0x5b ∷ (bytes ++ 0x6d ∷ []))
     (sequence_event CsiDispatch (head_of bytes) 0x6d ∷ []) (InText [])

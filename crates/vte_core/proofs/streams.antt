@@ -3,7 +3,7 @@
 -- From a byte to bytes, and from the place after a stream to that after more of it.
 pub mod After
 pub mod StreamSteps
--- Parts of a stream, which begins anew at each ESC.
+-- Parts of a stream, which begins again at each ESC.
 pub mod Parts
 -- What is open at the end began at the last ESC, or is a few bytes of a character.
 pub mod OpenLaws

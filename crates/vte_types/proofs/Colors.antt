@@ -37,7 +37,7 @@ color_back color r g b = rw (byte_back color.r r, byte_back color.g g, byte_back
 
 -- ---- named colours
 
--- By cases of the colour.
+-- The proofs are by cases of the colour.
 
 pub bright_back : (color : NamedColor) → is_bright color ≡ false → dim_of (bright_of color) ≡ color
 unfolding number_of_color

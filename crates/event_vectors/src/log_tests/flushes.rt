@@ -43,9 +43,9 @@ impl Sink for Flushes {
 
 #[test]
 fn the_lines_of_each_piece_are_flushed(rt: HostRuntime) -> Result<(), Fail> {
-    let pieces = b"a"[..].chain(&b"\x1b(B"[..]).chain(&b"\n"[..]);
+    let chunks = b"a"[..].chain(&b"\x1b(B"[..]).chain(&b"\n"[..]);
     let mut writer = Flushes::new(rt.alloc());
-    assert_eq!(rt; run(&mut Device::new(pieces), &mut writer), Ok(()));
+    assert_eq!(rt; run(&mut Device::new(chunks), &mut writer), Ok(()));
     assert_eq!(rt; writer.at_flushes.as_slice(), [11, 27, 38].as_slice());
     Ok(())
 }

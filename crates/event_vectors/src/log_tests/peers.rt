@@ -5,19 +5,19 @@ use event_log::{Sink, Source};
 use std::alloc::Global;
 use std::io::{self, ErrorKind};
 
-/// A reader that gives one piece per call, and ends or fails after the last.
+/// A reader that gives one chunk per call, and ends or fails after the last.
 #[derive(Drop)]
-pub(super) struct Pieces<'a> {
-    pieces: &'a [&'a [u8]],
+pub(super) struct Chunks<'a> {
+    chunks: &'a [&'a [u8]],
     given: usize,
     fails: bool,
     failed: bool,
 }
 
-impl<'a> Pieces<'a> {
-    pub(super) fn new(pieces: &'a [&'a [u8]], fails: bool) -> Self {
-        Pieces {
-            pieces,
+impl<'a> Chunks<'a> {
+    pub(super) fn new(chunks: &'a [&'a [u8]], fails: bool) -> Self {
+        Chunks {
+            chunks,
             given: 0,
             fails,
             failed: false,
@@ -25,23 +25,23 @@ impl<'a> Pieces<'a> {
     }
 }
 
-impl Source for Pieces<'_> {
+impl Source for Chunks<'_> {
     ghost use Rattle.std.specs.Prelude.{None};
 
-    ghost to_come = { λ pieces. None };
+    ghost to_come = { λ chunks. None };
 
-    ghost has_failed = { λ pieces. pieces.failed };
+    ghost has_failed = { λ chunks. chunks.failed };
 
     fn read(&mut self, room: &mut [u8]) -> Result<usize, ()> {
         if self.failed {
             return Err(());
         }
-        let Some(piece) = self.pieces.get(self.given) else {
+        let Some(chunk) = self.chunks.get(self.given) else {
             self.failed = self.fails;
             return if self.fails { Err(()) } else { Ok(0) };
         };
-        let count = piece.len().min(room.len());
-        room[..count].copy_from_slice(&piece[..count]);
+        let count = chunk.len().min(room.len());
+        room[..count].copy_from_slice(&chunk[..count]);
         self.given = self.given.saturating_add(1);
         Ok(count)
     }

@@ -42,12 +42,12 @@ further_part : (r g b : List ℕ) (parts : List (List ℕ)) (n : ℕ) → length
 further_part r g b [] n e = absurd (omega (arith, e))
 further_part r g b (part ∷ parts) n e = refl
 
--- four parts and more are no colour
+-- Four parts or more are no colour.
 pub fourth_part : (r g b rest : List ℕ) → color_of_parts (r ∷ g ∷ b ∷ split_by 0x2f rest) ≡ None
 fourth_part r g b rest =
     further_part r g b (split_by 0x2f rest) _ (length-slice_split (λ (byte : ℕ). byte == 0x2f) rest)
 
--- three hex digits at most give little
+-- Three hex digits or fewer write a number below 4096.
 pub few_hex_digits : (i number : ℕ) → i ≤ 3 → number < 16 ^ i → number < 4096
 few_hex_digits i number at_most small = let k : 16 ^ i ≤ 16 ^ 3 = pow-le-pow_right {n = 16} (omega arith) at_most in
     omega (arith, k, small)

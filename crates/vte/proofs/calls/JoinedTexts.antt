@@ -4,7 +4,7 @@ use Rattle.vte.proofs.Common.{◌≡◌, ◌≤◌, ◌<◌, ◌+◌, ℕ, List,
 use Rattle.std.proofs.lemmas.Str.{IsUtf8-from_is_utf8, is_utf8-from_IsUtf8}
 use Rattle.std.specs.Option.{option_map, unwrap_or}
 
--- what texts add after others
+-- What texts add after others, each with a separator unless it is the first.
 abbrev joined_more : Bool → List (List ℕ) → List ℕ
 joined_more is_first [] = []
 joined_more is_first (text ∷ texts) = text_to_join is_first text ++ joined_more false texts
@@ -18,7 +18,7 @@ joined-all : (texts : List (List ℕ)) → joined_more true texts ≡ join_with_
 joined-all [] = refl
 joined-all (text ∷ texts) = sym (joined-text_to_join text texts)
 
--- the text holds what was joined, the texts of the pieces that are left add the rest, and they fit
+-- The text holds what was joined, the texts of the pieces that are left add the rest, and they fit.
 pub record Joins (keeps_all : Bool) (size : ℕ) (text : List ℕ) (is_first : Bool)
     (left all : List (List ℕ)) : Type 0 where
   pub joins : text ++ joined_more is_first (filter_map (text_in keeps_all) left) ≡ joined_texts keeps_all all
@@ -58,12 +58,12 @@ module _ (keeps_all : Bool) (pieces : List (Bor (List ℕ))) (i : ℕ) (d : Bor 
   opened : Joins keeps_all size text is_first (piece ∷ left) all
   opened = rw (drop_more pieces i d inside) at before
 
-  -- the next text fits
+  -- The next text fits into the size, with its separator.
   pub joins-fits : {part : List ℕ} → Some part ≡ text_in keeps_all piece → length text + length part + 1 ≤ size
   joins-fits {part} is =
       omega (arith, text-short keeps_all piece part is, opened.fits, length-append piece (concat left))
 
-  -- a piece has a text
+  -- If the next piece has a text, it is joined to the others.
   pub joins-more : {part : List ℕ} → Some part ≡ text_in keeps_all piece
       → Joins keeps_all size (text ++ text_to_join is_first part) false left all
   joins-more {part} is = record {
@@ -80,7 +80,7 @@ module _ (keeps_all : Bool) (pieces : List (Bor (List ℕ))) (i : ℕ) (d : Bor 
     );
   }
 
-  -- a piece has no text
+  -- If the next piece has no text, nothing is joined.
   pub joins-same : None ≡ text_in keeps_all piece → Joins keeps_all size text is_first left all
   joins-same none =
       record {
@@ -96,7 +96,7 @@ no_utf8 text never = false_from_ne_true _ (λ is. never (IsUtf8-from_is_utf8 tex
 pub is_text : (text : List ℕ) → IsUtf8 text → is_utf8 text ≡ true
 is_text text is = is_utf8-from_IsUtf8 text is
 
--- one piece needs no joining
+-- One piece needs no joining: its text, if any, is the joined text.
 pub one_text : (keeps_all : Bool) (piece : List ℕ) (found : Option (Bor (List ℕ))) (nothing : Bor (List ℕ))
     → option_map (λ text. text.now) found ≡ text_in keeps_all piece
     → nothing.now ≡ [] → joined_texts keeps_all (piece ∷ []) ≡ (unwrap_or found nothing).now

@@ -3,12 +3,12 @@
 use Rattle.vte.proofs.Common.{◌≡◌, ◌≤◌, ◌<◌, ◌+◌, ◌-◌, ℕ, zero, suc, List, [], ◌∷◌, length, map, refl, arith, take, drop, Bor, take_all, slice_index_or, palette_entry_calls, palette_entries_calls, attributes_from, decimal_number, Call, after}
 use Rattle.vte.proofs.EventCalls.{after_calls-append}
 
--- one more of those that are left
+-- At i, one more is left than at i + 1.
 pub one_less : (n i : ℕ) → i < n → n - i ≡ suc (n - (i + 1))
 one_less n i inside = omega arith
 
 module _ {V : Type 0} (step : V → Call → V) (old new all : V) where
-  -- one entry is read
+  -- The calls of one entry of a palette come before those of the pieces after its two.
   pub entry_made : (terminator : List ℕ) (left : List (Bor (List ℕ))) (d e : Bor (List ℕ)) → 2 ≤ length left
       → new
       ≡ after step old
@@ -23,7 +23,7 @@ module _ {V : Type 0} (step : V → Call → V) (old new all : V) where
       let left : take (length (index ∷ color ∷ rest) - 2) rest ≡ rest = take_all _ rest (omega arith) in
       rw (left, made) (rw after_calls-append at before)
 
--- the attributes after groups that are used up
+-- The attributes from group n on are those of the groups that are left without the first n.
 pub attributes_after : (n : ℕ) (groups : List (List ℕ)) → attributes_from n groups ≡ attributes_from 0 (drop n groups)
 attributes_after zero [] = refl
 attributes_after zero (group ∷ groups) = refl

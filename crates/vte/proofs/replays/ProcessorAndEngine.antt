@@ -12,7 +12,7 @@ use Rattle.vte.proofs.turns.RefusedTurns.{until_refused-grows}
 
 -- ---- with the usual limit
 
--- There is always memory.
+-- With a limit, there is always memory.
 
 abbrev limited : {B T W : Type 0} → (T → W) → EngineView (Parser 1024) B T W
 limited timeout_of = engine_view usual_limit limited_parser_view (λ text. TEXT_SIZE) timeout_of
@@ -29,7 +29,7 @@ module _ {T A V W : Type 0} {timeout_of : T → W} {processor : Processor T A} {
     handler_is = at.handler_is;
   }
 
--- a call that has read all its bytes, of any processor
+-- What a call of any processor ensures if it has read all its bytes.
 module _ {V W : Type 0} {m : Meaning V W} {Before After : ProcessorPredicate W} {old new : V}
     (bytes : Bor (List ℕ)) {read : ℕ}
     (takes : (s : State V W) → IsAt Before old s → HasTaken m s bytes.now read (IsAt After new))

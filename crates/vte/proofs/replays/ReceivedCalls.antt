@@ -19,7 +19,7 @@ in_order-sooner parsed prefix [] to order = omega (arith, order, length-append p
 in_order-sooner parsed prefix (position ∷ positions) to (from, order) =
     (omega (arith, from, length-append parsed prefix), order)
 
--- a prefix is parsed, and then the rest
+-- A prefix is parsed, and then the rest.
 module _ (limit : Option ℕ) (parsed prefix : List ℕ) where
   abbrev both : List ℕ
   both = parsed ++ prefix
@@ -40,7 +40,7 @@ module _ (limit : Option ℕ) (parsed prefix : List ℕ) where
   pub calls_between-whole : calls_between limit both (length parsed) (length both) ≡ added_calls limit parsed prefix
   calls_between-whole = rw (take-append_seam parsed prefix, take_all (length both) both (omega arith)) refl
 
-  -- bytes before the first stop
+  -- If the first stop comes after the prefix, the calls of the prefix come before all others.
   calls_with_stops-later : (rest positions : List ℕ) {all : List ℕ} → all ≡ both ++ rest
       → AreInOrder (length both) positions (length all)
       → calls_with_stops limit all (length parsed) positions
@@ -55,7 +55,7 @@ module _ (limit : Option ℕ) (parsed prefix : List ℕ) where
 -- calls of X.
 
 module _ {V W : Type 0} (m : Meaning V W) (end : State V W) where
-  -- what the handler still receives if bytes were parsed, with these stops, and its value is this
+  -- What the handler still receives if bytes were parsed, with these stops, and its value is this.
   pub record HasStillToDeliver (parsed stops : List ℕ) (value : V) : Type 0 where
     pub more : List ℕ
     pub parsed_is : end.parsed ≡ parsed ++ more
@@ -153,7 +153,7 @@ module _ {V W : Type 0} (m : Meaning V W) (end : State V W) where
   pub delivers-replay : (state : State V W) (steps : List Step) → TakesSteps m state steps end → DeliversAt state
   delivers-replay state steps taken = delivers-steps state end steps taken delivers-nothing
 
-  -- the last call was refused memory
+  -- `DeliversAt` also holds if the last call was refused memory.
   pub delivers-refused : (state reached : State V W) (steps : List Step) (bytes left : List ℕ)
       → TakesSteps m state steps reached → TakesTurnsUntilRefused m reached bytes end left → DeliversAt state
   delivers-refused state reached steps bytes left taken (between_turns more) =

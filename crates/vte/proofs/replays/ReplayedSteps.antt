@@ -8,7 +8,7 @@ use Rattle.vte.specs.Refusal.{IsFirstRefused}
 use Rattle.vte.proofs.turns.RefusedTurns.{until_refused-grows}
 use Rattle.vte.proofs.replays.ReceivedCalls.{HasStillToDeliver, delivers-refused, delivers-replay}
 
--- the refused step is the first of those that are left
+-- The refused step is the first of those that are left.
 pub first_lacks : {i : ℕ} {bytes : Bor (List ℕ)} (lacks : ℕ → Type 0) (steps : List Step) (d : Step) (read : ℕ)
     → i < length steps → get_or steps i d ≡ Advance bytes
     → lacks (length bytes.now - read) → lacks (length (given_bytes (take 1 (drop i steps))) - read)
@@ -52,7 +52,7 @@ module _ {V W : Type 0} (m : Meaning V W) where
       replay_well reached next steps r (taken_well m a h)
   replay_well state next (StopSync ∷ steps) r h = replay_well (stop m state) next steps r (stop_well m state)
 
-  -- a list of calls goes on with further ones
+  -- Steps that lead to a state and further steps from there are one list of steps.
   pub replay_append : (state reached next : State V W) (steps more : List Step) → TakesSteps m state steps reached
       → TakesSteps m reached more next
       → TakesSteps m state (steps ++ more) next
@@ -62,7 +62,7 @@ module _ {V W : Type 0} (m : Meaning V W) where
   replay_append state reached next (StopSync ∷ steps) more q r =
       replay_append (stop m state) reached next steps more q r
 
-  -- what the handler has received, and what became of the bytes
+  -- `HasDelivered` says what the handler has received, and what became of the bytes.
   delivers : {state next : State V W} {bytes : List ℕ} (more : List ℕ) → next.parsed ≡ state.parsed ++ more
       → state.held ++ bytes ≡ more ++ next.held → HasStillToDeliver m next state.parsed state.stops state.handler
       → HasDelivered m state bytes next
@@ -83,7 +83,7 @@ module _ {V W : Type 0} (m : Meaning V W) where
       delivers g.more g.parsed_is (g.each_once ∙ ap (λ held. g.more ++ held) (append-nil next.held))
       (delivers-replay m next state steps run)
 
-  -- the last call was refused memory
+  -- If the last call was refused memory, the calls of the bytes read so far were delivered.
   pub refused_delivered : (state reached next : State V W) (steps : List Step) (bytes : List ℕ) (read : ℕ)
       → TakesSteps m state steps reached
       → TakesTurnsUntilRefused m reached bytes next (drop read bytes)
@@ -111,7 +111,7 @@ module _ {V W : Type 0} (m : Meaning V W) where
     is_at = at;
   }
 
-  -- a call of `advance` is such a list
+  -- A call of `advance` is a list of one step.
   pub advance_runs : {state : State V W} {bytes : Bor (List ℕ)} {IsNowAt : State V W → Type 0}
       → HasAdvanced m state bytes.now IsNowAt → HasReplayed m state (Advance bytes ∷ []) IsNowAt
   advance_runs a = replayed a.next (a.next, (a.advances, refl)) a.is_at
@@ -124,7 +124,7 @@ module _ {V W : Type 0} (m : Meaning V W) where
         (rw (take_more steps i d inside)
         (replay_append state r.next q.next (take i steps) (get_or steps i d ∷ []) r.takes q.takes)) q.is_at
 
-    -- the next step is taken, or refused
+    -- The next step is taken, or refused.
     pub advance_taken : {bytes : Bor (List ℕ)} → get_or steps i d ≡ Advance bytes → HasAdvanced m r.next bytes.now new
         → HasReplayed m state (take (i + 1) steps) new
     advance_taken {bytes} is a = step_taken (rw is (advance_runs a))

@@ -7,7 +7,7 @@ use Rattle.vte.specs.ProcessorCalls.{AreAdvances, IsNeverPending, ParsesAll}
 use Rattle.vte.proofs.replays.ReceivedCalls.{calls_between-whole}
 use Rattle.vte.proofs.replays.ReplayedSteps.{advance_runs}
 
--- nothing is held, and there was no stop
+-- `t` holds nothing, and has the stops of `s`.
 record IsPlain {V W : Type 0} (s t : State V W) : Type 0 where
   pub none_held : t.held ≡ []
   pub no_stop : t.stops ≡ s.stops
@@ -96,7 +96,7 @@ module _ {V W : Type 0} (m : Meaning V W) {Before After : ProcessorPredicate W} 
       → Replays m Before After old new steps
   replays_all {steps} replayed = record { replays = replayed; plain = plain_calls steps replayed }
 
-  -- a call is a list of one
+  -- A single call is a list of one step.
   pub plain_call : (bytes : Bor (List ℕ))
       → ((s : State V W) → IsAt Before old s → HasAdvanced m s bytes.now (IsAt After new))
       → IsNeverPending m.timeout.allows → ParsesAll m Before After old new bytes.now

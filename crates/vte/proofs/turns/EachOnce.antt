@@ -28,7 +28,7 @@ pub grows_on : {V W : Type 0} {state reached next : State V W} {bytes rest left 
     → Progresses reached next rest left → Progresses state next bytes left
 grows_on {state} {next} {left} a b = search (rules, arith, append_assoc)
 
--- bytes that follow are left
+-- Bytes that follow those that were read are left.
 pub grows_before : {V W : Type 0} {state next : State V W} {bytes : List ℕ} → Progresses state next bytes []
     → (left : List ℕ)
     → Progresses state next (bytes ++ left) left
@@ -41,7 +41,7 @@ module _ {V W : Type 0} (m : Meaning V W) where
   stop_grows : {state : State V W} {bytes : List ℕ} → Progresses state (stop m state) bytes bytes
   stop_grows {state} = record { more = state.held; parsed_is = refl; each_once = refl }
 
-  -- before bytes are parsed
+  -- After `stop_if_due`, nothing is held.
   pub stop_if_due_none : (pending : Bool) (state : State V W) → (stop_if_due m pending state).held ≡ []
   stop_if_due_none pending state = search (rules, arith, nil_from_length)
 

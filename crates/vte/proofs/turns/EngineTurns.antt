@@ -6,13 +6,13 @@ use Rattle.vte.proofs.turns.EachOnce.{grown_bytes}
 use Rattle.vte.proofs.turns.Slices.{parsing-refused}
 use Rattle.vte.proofs.turns.RefusedTurns.{until_refused-all, takes-one, until_refused-grows, until_refused-on, until_refused-well, taken_on}
 
--- an engine is where its parts are
+-- If an engine is at a state, so are its parts.
 module _ {P B T A V W : Type 0} {view : EngineView P B T W} {engine : Engine P B T A} {value : V} {s : State V W}
   where
     pub parts-at : EngineIsAt view engine value s → ArePartsAt view engine.parser engine.state value s
     parts-at at = search rules
 
-    -- if they hold nothing
+    -- If its parts are at a state and nothing is held, the engine is at that state.
     pub at-parts : ArePartsAt view engine.parser engine.state value s → held_of engine.hold ≡ s.held → s.held ≡ []
         → EngineIsAt view engine value s
     at-parts parsed holds none = record {
@@ -27,7 +27,7 @@ module _ {P B T A V W : Type 0} {view : EngineView P B T W} {engine : Engine P B
       handler_is = parsed.handler_is;
     }
 
--- turns that go on, with the memory that was there before
+-- Turns go on with the memory that was there before.
 module _ {P B T A V W : Type 0} {view : EngineView P B T W} {value : V} {s : State V W} where
   pub next-at : {engine : Engine P B T A} → EngineIsAt view engine value s
       → EngineIsAtKeepingMemory view engine engine value s
@@ -37,7 +37,7 @@ module _ {P B T A V W : Type 0} {view : EngineView P B T W} {value : V} {s : Sta
       → EngineIsAtKeepingMemory view mid new value s → EngineIsAtKeepingMemory view old new value s
   after-next keeps next = search (rules, arith)
 
-  -- they are where they were, and the handler is the same
+  -- A reservation, whatever its result, changes neither the state nor the handler.
   pub kept-next : {old mid new : Engine P B T A} {more : ℕ} {result : Bool} → Reserves view mid new more result
       → EngineIsAtKeepingMemory view old mid value s → EngineIsAtKeepingMemory view old new value s
   kept-next r at = record {
@@ -46,7 +46,7 @@ module _ {P B T A V W : Type 0} {view : EngineView P B T W} {value : V} {s : Sta
     keeps_memory = λ stream count had. r.keeps_memory stream count (at.keeps_memory stream count had);
   }
 
--- a slice is parsed with the memory that was taken for it
+-- A slice is parsed with the memory that was reserved for it.
 module _ {P B T A V W : Type 0} {view : EngineView P B T W} {m : Meaning V W} {s : State V W} {bytes slice : List ℕ}
     {read count n : ℕ} {b : Bool}
     {first old taken : Engine P B T A} {parser : P} {state : ProcessorState T B} {before value : V} where
@@ -78,7 +78,7 @@ module _ {P B T A V W : Type 0} {view : EngineView P B T W} {m : Meaning V W} {s
         };
       }
 
--- after a stop
+-- A stop ends the update if the engine comes to the stopped state and keeps its memory.
 pub stops_update : {P B T A V W : Type 0} {view : EngineView P B T W} {m : Meaning V W}
     {old mid new : Engine P B T A}
     {before value : V} → KeepsMemory (EngineHasMemory view old) (EngineHasMemory view mid)
@@ -91,7 +91,7 @@ pub stops-next : {P B T A V W : Type 0} {view : EngineView P B T W} {m : Meaning
     → EngineIsAt view old before s → EngineIsAtKeepingMemory view old new value (stop m s)
 stops-next stopped at = search (rules, arith)
 
--- a turn that parses bytes, after a stop if need be
+-- A turn whose bytes aren't held parses them, after a stop if one is due.
 pub ends_turn : {P B T A V W : Type 0} {view : EngineView P B T W} {m : Meaning V W} {old mid new : Engine P B T A}
     {value : V} {s : State V W} {bytes : List ℕ} (pending : Bool)
     → m.timeout.allows s.timeout pending → is_held pending s bytes ≡ false
@@ -137,7 +137,7 @@ rest-is : (bytes : List ℕ) (read : ℕ) → read ≤ length bytes
     → take (length bytes - read) (drop read bytes) ≡ drop read bytes
 rest-is bytes read inside = take_all (length bytes - read) (drop read bytes) (rw length-drop (omega arith))
 
--- how many bytes are left
+-- As many bytes are left as weren't read.
 pub rest-size : (bytes : List ℕ) (read : ℕ) → read ≤ length bytes
     → length (take (length bytes - read) (drop read bytes)) ≡ length bytes - read
 rest-size bytes read inside = rw (rest-is bytes read inside, length-drop)
@@ -191,7 +191,7 @@ module _ {V W : Type 0} (m : Meaning V W) (s : State V W) (bytes : List ℕ) whe
       → HasTaken m s bytes read IsNowAt
   has_taken-reached r = has_taken-turns r.here (between_turns r.takes) r.is_at
 
-  -- a turn was refused memory
+  -- If a turn was refused memory after n bytes, its call has taken `read + n` of them.
   pub reached-refused : {P B T A : Type 0} {view : EngineView P B T W} {first mid new : Engine P B T A}
       {before value : V}
       {count read n : ℕ}
@@ -207,7 +207,7 @@ module _ {V W : Type 0} (m : Meaning V W) (s : State V W) (bytes : List ℕ) whe
       (rw left at (until_refused-on m s r.here h.next bytes slice (drop n slice) (rw is r.takes) h.takes))
       (after-next r.is_at.keeps_memory h.is_at)
 
-  -- a call that has read all its bytes
+  -- A call that has read all its bytes ensures `HasAdvanced`.
   pub has_advanced : {read : ℕ} {IsNowAt : State V W → Type 0} → HasTaken m s bytes read IsNowAt → length bytes ≤ read
       → HasAdvanced m s bytes IsNowAt
   has_advanced {read} h all = record {
@@ -218,7 +218,7 @@ module _ {V W : Type 0} (m : Meaning V W) (s : State V W) (bytes : List ℕ) whe
     is_at = h.is_at;
   }
 
--- what follows where a call is
+-- `HasTaken` may promise less about the state that a call reaches.
 module _ {V W : Type 0} {m : Meaning V W} {s : State V W} {bytes : List ℕ} {read : ℕ} where
   pub taken-to : {IsNowAt other : State V W → Type 0} → ((t : State V W) → IsNowAt t → other t)
       → HasTaken m s bytes read IsNowAt → HasTaken m s bytes read other
@@ -229,7 +229,7 @@ module _ {V W : Type 0} {m : Meaning V W} {s : State V W} {bytes : List ℕ} {re
       → HasTaken m s bytes read (EngineIsAt view new value)
   taken-at = taken-to (λ t next. next.engine_at)
 
--- what a call ensures by its turns
+-- What a call ensures follows from its turns.
 module _ {P B T A V W : Type 0} {view : EngineView P B T W} {m : Meaning V W} {old new : Engine P B T A}
     {before value : V} (bytes : List ℕ) where
   pub engine_reads-all : {count read : ℕ}

@@ -15,7 +15,7 @@ module _ {V W : Type 0} (m : Meaning V W) where
   release-some t [] some = absurd (omega arith)
   release-some t (b ∷ kept) some = refl
 
-  -- some bytes stay held, or none
+  -- If some bytes stay held, a turn cuts off those before them; if none do, it stops the update.
   holds-some : (s : State V W) (r : List ℕ) → 0 < length (still_held (s.held ++ r))
       → hold_turn m s r ≡ cut (extend m s r) (still_held (s.held ++ r))
   holds-some s r some = elim (cases_Option (after_last_end (s.held ++ r))) [
@@ -35,7 +35,7 @@ module _ {V W : Type 0} (m : Meaning V W) where
       → hold_turn m s r ≡ stop m (extend m s r)
   holds-none s r some none = search (rules, arith)
 
--- the hold has the new bytes, and the timeout was set as often as they begin updates
+-- The hold has the new bytes, and the timeout was set as often as they begin updates.
 module _ {P B T A V W : Type 0} {view : EngineView P B T W} (m : Meaning V W) {s : State V W} {more : List ℕ}
     {old : Engine P B T A} {hold : SyncState A} {timeout : T} {begins : ℕ} {value : V}
     (at : EngineIsAt view old value s) (added : IsAdded s.held more hold begins)
@@ -45,7 +45,7 @@ module _ {P B T A V W : Type 0} {view : EngineView P B T W} (m : Meaning V W) {s
   abbrev set : Engine P B T A
   set = record old { hold = hold; state = record old.state { timeout = timeout } }
 
-  -- there is memory to parse so many more bytes
+  -- There is memory to parse so many more bytes.
   abbrev HasMemoryFor : List ℕ → ℕ → Type 0
   HasMemoryFor = view.parser.has_memory old.parser (view.text_size_of old.state.text)
 
@@ -57,7 +57,7 @@ module _ {P B T A V W : Type 0} {view : EngineView P B T W} (m : Meaning V W) {s
     handler_is = at.handler_is;
   }
 
-  -- the released bytes are parsed, and the others stay held, with memory to parse them
+  -- If some bytes stay held, the released ones are parsed, with memory to parse the others later.
   pub turned_cut : {last : Engine P B T A} {next : V} → 0 < length (held_of hold)
       → ((t : State V W) (n : ℕ) → ArePartsAt view set.parser set.state value t
       → (0 < length (released_of hold)
@@ -71,6 +71,7 @@ module _ {P B T A V W : Type 0} {view : EngineView P B T W} (m : Meaning V W) {s
       let t = extend m s more in
       let all = s.held ++ more in
       let rest = length (held_of hold) in
+      -- The released and the held bytes together are as many as the old and the new ones.
       let sum : length (released_of hold) + rest ≡ length s.held + length more = rw (added.released_is, added.held_is) (
       omega (
         arith,
@@ -79,14 +80,17 @@ module _ {P B T A V W : Type 0} {view : EngineView P B T W} (m : Meaning V W) {s
             (stays_held all).suffix,
         length-append s.held more,
       )) in
+      -- So there is memory to parse the released bytes, and the held ones later.
       let ready : HasMemoryFor s.parsed
       (length (released_of hold) + rest)
       =
       rw sum memory in
+      -- The released bytes are parsed, which leads to the state after the bytes before `still_held`.
       let there = parses t rest extended (λ some. ready) in
       let parsed : ArePartsAt view last.parser last.state next
       (parse m t (take (length all - length (still_held all)) all)) =
       rw added.released_is at there.parts_at in
+      -- As some bytes stay held, the turn is this cut.
       rw (holds-some m s more (rw added.held_is at some)) (record {
         engine_at = record {
           agrees = record {
@@ -104,7 +108,7 @@ module _ {P B T A V W : Type 0} {view : EngineView P B T W} (m : Meaning V W) {s
         keeps_memory = there.keeps_memory;
       })
 
-  -- the update is stopped
+  -- If no bytes stay held, the update is stopped.
   pub turned_stop : {last : Engine P B T A} {next : V} → 0 < length more → length (held_of hold) ≡ 0
       → ((t : State V W) (n : ℕ) → ArePartsAt view set.parser set.state value t → released_of hold ≡ t.held
       → held_of hold ≡ []
@@ -114,12 +118,15 @@ module _ {P B T A V W : Type 0} {view : EngineView P B T W} (m : Meaning V W) {s
       → EngineIsAtKeepingMemory view old last next (hold_turn m s more)
   turned_stop {last} {next} some is stops =
       let all = s.held ++ more in
+      -- No byte stays held, so all of them are released.
       let none : held_of hold ≡ [] = nil_from_length (held_of hold) is in
       let nothing : still_held all ≡ [] = sym added.held_is ∙ none in
       let whole : released_of hold ≡ all =
       added.released_is ∙ rw nothing (take_all (length all - 0) all (omega arith)) in
       let sum : length all + 0 ≡ length s.held + length more = omega (arith, length-append s.held more) in
+      -- The stop parses all of them, for which there is memory.
       let there : EngineIsAtKeepingMemory view set last next (stop m (extend m s more)) =
       stops (extend m s more) 0 extended whole none (λ some. rw sum memory) in
+      -- As no byte stays held, the turn is this stop.
       rw (holds-none m s more (omega (arith, some, length-append s.held more)) nothing)
       (record { engine_at = there.engine_at; keeps_memory = there.keeps_memory })

@@ -21,7 +21,7 @@ module _ {V W : Type 0} (m : Meaning V W) where
   takes-one {bytes = []} pending some allowed = absurd (omega arith)
   takes-one {bytes = b ∷ bytes} pending some allowed = turns pending allowed done
 
-  -- turns go on with those of the rest
+  -- Turns of some bytes, followed by turns of the rest, are turns of all.
   pub taken_on : (state reached next : State V W) (bytes left rest : List ℕ) → TakesTurns m state bytes reached left
       → TakesTurns m reached left next rest → TakesTurns m state bytes next rest
   taken_on state reached next bytes left rest done more = more
@@ -37,7 +37,7 @@ module _ {V W : Type 0} (m : Meaning V W) where
   until_refused-on state reached next bytes left rest first (inside_turn more pending allowed refused) =
       inside_turn (taken_on state reached _ bytes left _ first more) pending allowed refused
 
-  -- where nothing is left, no turn was refused memory
+  -- If no bytes are left, no turn was refused memory.
   pub until_refused-all : {state next : State V W} {bytes : List ℕ} → TakesTurnsUntilRefused m state bytes next []
       → TakesTurns m state bytes next []
   until_refused-all h = search (rules, arith)
@@ -60,7 +60,7 @@ module _ {V W : Type 0} (m : Meaning V W) where
       grows_on (turns_grow m taken)
       (refused-grows pending (refused-parses m pending reached next rest left refused))
 
-  -- outside an update, and with nothing held
+  -- After a parsing turn that was refused memory, no update is pending, and nothing is held.
   refused-outside : (pending : Bool) (state next : State V W) (bytes left : List ℕ) → IsSteady m.timeout
       → HoldsWellAt m state
       → m.timeout.allows state.timeout pending

@@ -18,7 +18,7 @@ module _ {V W : Type 0} (m : Meaning V W) where
   parse-append s a b =
       search (rules, arith, begin_count-added, set_times-add, added_calls-append, after_calls-append, append_assoc)
 
--- where no update begins in bytes, they are their own prefix
+-- If no update begins in bytes, they are their own prefix.
 module _ {V W : Type 0} {m : Meaning V W} {s : State V W} {bytes : List ℕ} {n : ℕ} {b : Bool} {IsNowAt : State V W
     → Type 0} (at : HasParsedPrefix m s bytes n b IsNowAt) (whole : b ≡ false) where
   begins-none : begin_count (added m.limit s.parsed (prefix_to_begin m.limit s.parsed bytes)) ≡ 0
@@ -49,40 +49,46 @@ module _ {V W : Type 0} (m : Meaning V W) (s : State V W) (bytes : List ℕ) whe
         is_at = rw is (rw whole at o.is_at);
       }
 
-  -- a slice in which no update begins is parsed whole
+  -- A slice in which no update begins is parsed whole.
   pub parsing-more : {slice : List ℕ} {read n : ℕ} {b : Bool} {old new : State V W → Type 0} (k : ℕ)
       → HasParsedWithoutBegin m s bytes read old → slice ≡ take k (drop read bytes)
       → HasParsedPrefix m (parse m s (take read bytes)) slice n b new → b ≡ false
       → HasParsedWithoutBegin m s bytes (read + n) new
   parsing-more {slice} {read} {n} k o is at uncut =
+      -- The slice is its own prefix, so it begins no update.
       let all = prefix-whole at uncut in
       let zero : begin_count (added m.limit (s.parsed ++ take read bytes) slice) ≡ 0 =
       rw all at (begins-none at uncut) in
+      -- The slice follows the bytes that were read, so together they are the first `read + n` bytes.
       let view : drop read bytes ≡ slice ++ drop k (drop read bytes) =
       rw is (sym (take-append-drop k (drop read bytes))) in
       let more : take (read + n) bytes ≡ take read bytes ++ slice =
       take-add read n bytes
       ∙ ap (λ x. take read bytes ++ x)
       (ap (take n) view ∙ take_at slice (drop k (drop read bytes)) n (sym (begin-whole at uncut))) in
+      -- No update begins in either, so none begins in both.
       record {
         none_begin = rw more (begin_count-none m.limit s.parsed (take read bytes) slice o.none_begin zero);
         is_at = rw (more, ← parse-append m s (take read bytes) slice) (rw all at at.is_at);
       }
 
-  -- an update begins in the slice
+  -- If an update begins in the slice, the parsing turn ends with the prefix.
   pub parsing-ends : {slice : List ℕ} {read n : ℕ} {b : Bool} {old new : State V W → Type 0} (k : ℕ)
       → HasParsedWithoutBegin m s bytes read old → read ≤ length bytes
       → slice ≡ take k (drop read bytes) → HasParsedPrefix m (parse m s (take read bytes)) slice n b new → b ≡ true
       → HasTakenParsingTurn m s bytes (read + n) new
   parsing-ends {slice} {read} {n} k o inside is at begun =
       let prefix = prefix_to_begin m.limit (s.parsed ++ take read bytes) slice in
+      -- An update begins in the prefix of the slice.
       let test : nat_lt 0 (begin_count (added m.limit (s.parsed ++ take read bytes) prefix)) ≡ true =
       sym at.begins_is ∙ begun in
       let some : 0 < begin_count (added m.limit (s.parsed ++ take read bytes) prefix) = grind (arith, nat_tests) in
+      -- The slice follows the bytes that were read.
       let view : drop read bytes ≡ slice ++ drop k (drop read bytes) =
       rw is (sym (take-append-drop k (drop read bytes))) in
       let whole : bytes ≡ take read bytes ++ (slice ++ drop k (drop read bytes)) =
       sym (take-append-drop read bytes) ∙ ap (λ rest. take read bytes ++ rest) view in
+      -- So the prefix of all bytes is what was read and the prefix of the slice, whatever follows.
       let all : prefix_to_begin m.limit s.parsed bytes ≡ take read bytes ++ prefix =
       ap (prefix_to_begin m.limit s.parsed) whole ∙ prefix-after m.limit s.parsed (take read bytes) _ o.none_begin
       ∙ ap (λ x. take read bytes ++ x)

@@ -17,7 +17,7 @@ pub begin_count-added : (limit : Option ℕ) (p a r : List ℕ)
 begin_count-added limit p a r =
     ap begin_count (added-append limit p a r) ∙ begin_count-append (added limit p a) (added limit (p ++ a) r)
 
--- a broken character begins no update
+-- The U+FFFD of a broken character begins no update.
 pub begin_count-reported : (limit : Option ℕ) (p r : List ℕ) (i : ℕ)
     → begin_count (reported_before limit p r i) ≡ begin_count (added limit p (take i r))
 begin_count-reported limit p r i = search (rules, arith, reported-broken, begin_count-append, reported-settled)
@@ -72,7 +72,7 @@ prefix-is limit p (b ∷ rest) = elim (cases_Bool (nat_lt 0 (begin_count (added 
       })
 ]
 
--- no character is open after a byte that begins an update
+-- No character is open after a byte that begins an update.
 open_character-begin : {limit : Option ℕ} {p : List ℕ} → EndsInBegin limit p → open_character p ≡ []
 open_character-begin {limit} e = search (rules, arith, opens_silently)
 
@@ -80,16 +80,17 @@ pub open_character-prefix : {limit : Option ℕ} {p r : List ℕ} {k : ℕ} → 
     → open_character (p ++ take k r) ≡ []
 open_character-prefix f more = open_character-begin (f.ends (f.begins more))
 
--- no character is broken after the prefix
+-- No character is broken after the prefix.
 pub breaks_at-prefix : {limit : Option ℕ} {p r : List ℕ} {k : ℕ} → IsPrefix limit p r k → breaks_at p r k ≡ false
 breaks_at-prefix {p} {r} {k} f = search (rules, arith, breaks_at-settled, open_character-prefix, breaks_at-all)
 
--- the prefix after bytes in which no update begins, and of bytes that begin one, whatever follows
+-- If no update begins in some bytes, nor in those that follow, none begins in all of them.
 pub begin_count-none : (limit : Option ℕ) (p a r : List ℕ) → begin_count (added limit p a) ≡ 0
     → begin_count (added limit (p ++ a) r) ≡ 0
     → begin_count (added limit p (a ++ r)) ≡ 0
 begin_count-none limit p a r first second = omega (arith, begin_count-added limit p a r, first, second)
 
+-- Bytes in which no update begins come before the prefix of those that follow.
 pub prefix-after : (limit : Option ℕ) (p a r : List ℕ) → begin_count (added limit p a) ≡ 0
     → prefix_to_begin limit p (a ++ r) ≡ a ++ prefix_to_begin limit (p ++ a) r
 prefix-after limit p [] r none = rw append-nil
@@ -99,6 +100,7 @@ prefix-after limit p (b ∷ a) r none =
     let later : begin_count (added limit (p ++ b ∷ []) a) ≡ 0 = omega (arith, all, none) in
     rw first (ap (λ prefix. b ∷ prefix) (prefix-after limit (p ++ b ∷ []) a r later ∙ rw append_assoc))
 
+-- If an update begins in the bytes, their prefix is the same whatever follows.
 pub prefix-more : (limit : Option ℕ) (p r more : List ℕ) → 0 < begin_count (added limit p (prefix_to_begin limit p r))
     → prefix_to_begin limit p (r ++ more) ≡ prefix_to_begin limit p r
 prefix-more limit p [] more some = absurd (omega (arith, begin_count-nothing limit p, some))
@@ -118,7 +120,7 @@ prefix-more limit p (b ∷ r) more some = elim (cases_Bool (nat_lt 0 (begin_coun
       rw no_begin (ap (λ prefix. b ∷ prefix) (prefix-more limit (p ++ b ∷ []) r more later))
 ]
 
--- bytes in which no update begins are their own prefix
+-- Bytes in which no update begins are their own prefix.
 pub prefix-all : (limit : Option ℕ) (p r : List ℕ) → begin_count (added limit p (prefix_to_begin limit p r)) ≡ 0
     → prefix_to_begin limit p r ≡ r
 prefix-all limit p r none =
@@ -129,7 +131,7 @@ prefix-all limit p r none =
       | inr all ↦ omega arith
     ])
 
--- a prefix of some bytes has some
+-- If there are bytes, their prefix isn't empty.
 pub prefix-some : (limit : Option ℕ) (p r : List ℕ) → 0 < length r → 0 < length (prefix_to_begin limit p r)
 prefix-some limit p [] some = absurd (omega arith)
 prefix-some limit p (b ∷ rest) some = grind arith

@@ -7,7 +7,7 @@ use Rattle.memchr.specs.Find.{NoneAfter, Nowhere, Passes, is_byte}
 use Rattle.vte.specs.machine.Hold.{IsNeither, BeginsNoUpdate, NoneBetween}
 use Rattle.vte.proofs.updates.Sequences.{after_word-whole, begins_ending_in_last-tail, begins_with-is, begins_with-length, after_last_end-tail, from_begin-end_skipped, begins_with-further, not_some}
 
--- without ESC, or with fewer than eight bytes
+-- Neither sequence begins at a byte other than ESC, or if fewer than eight bytes are left.
 neither-plain : (text : List ℕ) (position : ℕ) → position < length text → eqb (get_or text position 0) 0x1b ≡ false
     → IsNeither text position
 neither-plain text position l e = grind (arith, nat_tests, drop_more)
@@ -23,7 +23,7 @@ neither-short text position short =
       no_end = begins_with-short end_update (drop position text) at_most;
     }
 
--- without ESC, or without `?` as the third byte
+-- Neither sequence begins without ESC, or without `?` as the third byte.
 neither-pair : (a : ℕ) (rest text : List ℕ) (position : ℕ)
     → (eqb (get_or text position 0) 0x1b && eqb (get_or text (position + 2) 0) 0x3f) ≡ false
     → begins_with (0x1b ∷ a ∷ 0x3f ∷ rest) (drop position text) ≡ false
@@ -37,17 +37,20 @@ neither-pair a rest text position none =
       | inr other ↦ other
     ]
 
+-- Neither sequence begins in a block, if no ESC of the block has `?` as the second byte after it.
 pub neither-block : (text : List ℕ) (from n : ℕ) → BeginsNoUpdate (take (n + 2) (drop from text)) n
     → NoneBetween text from (from + n)
 neither-block text from n plain k low high =
     let i = k - from in
     let here : from + i ≡ k = omega arith in
+    -- Byte j of the block, and of the two bytes after it, is byte `from + j` of the text.
     let byte : (j : ℕ) → j < n + 2 → get_or (take (n + 2) (drop from text)) j 0 ≡ get_or text (from + j) 0
     = λ j inside. get_or-take (n + 2) (drop from text) j 0 inside ∙ get_or-drop from text j 0 in
     let first : get_or (take (n + 2) (drop from text)) i 0 ≡ get_or text k 0 =
     byte i (omega arith) ∙ ap (λ at. get_or text at 0) here in
     let third : get_or (take (n + 2) (drop from text)) (i + 2) 0 ≡ get_or text (k + 2) 0 =
     byte (i + 2) (omega arith) ∙ ap (λ at. get_or text at 0) (omega arith) in
+    -- So the test of the block says that byte k isn't ESC, or that the third byte from there isn't `?`.
     let none : (eqb (get_or text k 0) 0x1b && eqb (get_or text (k + 2) 0) 0x3f) ≡ false =
     subst (λ a. (eqb a 0x1b && eqb (get_or text (k + 2) 0) 0x3f) ≡ false) first
     (subst (λ a. (eqb (get_or (take (n + 2) (drop from text)) i 0) 0x1b && eqb a 0x3f) ≡ false) third
@@ -57,7 +60,7 @@ neither-block text from n plain k low high =
       no_end = neither-pair 0x5b (drop 3 end_update) text k none;
     }
 
--- with ESC among the seven bytes that follow
+-- Neither sequence begins within the seven bytes before an ESC, as neither has an ESC after its first byte.
 abbrev HasNoEscape : List ℕ → Type 0
 HasNoEscape [] = Unit {0}
 HasNoEscape (b ∷ bytes) = (eqb b 0x1b ≡ false) × HasNoEscape bytes
@@ -78,7 +81,9 @@ neither-before text position escape before near inside here =
     let d = drop_more text position 0 (omega arith) in
     let i = escape - (position + 1) in
     let n : position + 1 + i ≡ escape = omega arith in
+    -- The ESC is among the seven bytes after `position`.
     let there : eqb (get_or (drop (position + 1) text) i 0) 0x1b ≡ true = rw (get_or-drop, n) here in
+    -- A sequence has no ESC after its first byte, so none begins at `position`.
     let none : (sequence : List ℕ) → HasNoEscape sequence → 7 ≡ length sequence
     → begins_with (0x1b ∷ sequence) (drop position text) ≡ false
     = λ sequence plain long.
@@ -91,7 +96,7 @@ neither-before text position escape before near inside here =
 begins-one : (text : List ℕ) → begins_with begin_update text ≡ true → after_word end_update text ≡ None
 begins-one text e = rw (begins_with-is begin_update text e) refl
 
--- what follows the position `unread` of a text, of which the last `new` bytes are new
+-- What was seen after the position `unread` of a text, of which the last `new` bytes are new.
 pub record HasSeen (text : List ℕ) (new unread begin begins : ℕ) : Type 0 where
   pub no_end : after_last_end (drop unread text) ≡ None
   pub begin_is : begin ≡ length text - length (from_begin_update (drop unread text))
@@ -99,7 +104,7 @@ pub record HasSeen (text : List ℕ) (new unread begin begins : ℕ) : Type 0 wh
 
 -- ---- one position more, from the end down
 
--- By what begins there: neither sequence, a begin-update, or an end-update, which ends the search.
+-- At the position, neither sequence begins, or a begin-update does, or an end-update, which ends the search.
 
 module _ {text : List ℕ} {new position begin begins : ℕ} (l : position < length text)
     (seen : HasSeen text new (position + 1) begin begins) where
@@ -109,16 +114,19 @@ module _ {text : List ℕ} {new position begin begins : ℕ} (l : position < len
       let no_end = not_some _ (rw d at n.no_end) in
       grind (arith, d)
 
-  -- with at most seven older bytes from there on, it ends among the new ones
+  -- A begin-update with at most seven older bytes from its start on ends among the new ones, so it is counted.
   seen-begin : length text ≤ position + 7 + new → begins_with begin_update (drop position text) ≡ true
       → HasSeen text new position position (begins + 1)
   seen-begin at_most e =
       let d = drop_more text position 0 l in
       let long = begins_with-length begin_update (drop position text) e in
+      -- Fewer than `new` bytes follow the sequence, so it ends among the new bytes.
       let near : nat_lt (length (drop 7 (drop (position + 1) text))) new ≡ true =
       (let h = rw length-drop at long in rw (length-drop, length-drop) (grind (arith, nat_tests))) in
       let here = rw d at e in
+      -- A begin-update is no end-update, so there is still none of those.
       let other = rw d at (begins-one (drop position text) e) in
+      -- So the earliest begin-update is here, and one more ends among the new bytes.
       record {
         no_end = rw (d, seen.no_end, other) refl;
         begin_is = rw (d, here) (rw length-drop (omega arith));
@@ -130,7 +138,9 @@ module _ {text : List ℕ} {new position begin begins : ℕ} (l : position < len
   seen-end e =
       let d = drop_more text position 0 l in
       let here = rw d at e in
+      -- No update begins inside the end-update, so what was seen is what follows it.
       let skipped = from_begin-end_skipped new (get_or text position 0) (drop (position + 1) text) here in
+      -- It is the last end-update of the text, as none was seen after it.
       let last : after_last_end text ≡ Some (drop 7 (drop (position + 1) text)) =
       last_of position text _ (rw (d, seen.no_end, after_word-whole end_update _ here) refl) in
       record {
@@ -154,7 +164,7 @@ seen-further {text} {new} (suc n) {position} {begin} {begins} within neither see
     seen-further n (omega arith) (λ k low high. neither k low (omega arith))
     (seen-other (omega arith) (rw e at seen) (neither (position + n) (omega arith) (omega arith)))
 
--- if no sequence begins in between
+-- What was seen from `unread` on was also seen from an earlier position on, if no sequence begins in between.
 seen-down : {text : List ℕ} {new position unread begin begins : ℕ} → position ≤ unread → unread ≤ length text
     → ((k : ℕ) → position ≤ k → k < unread → IsNeither text k)
     → HasSeen text new unread begin begins → HasSeen text new position begin begins
@@ -164,7 +174,7 @@ seen-down {position} {unread} l within neither seen =
 
 -- ---- the end of a hold
 
--- from ESC on, and from at most seven bytes before it on
+-- There is an ESC at `position`, and everything after it was seen.
 pub record IsLastEscape (all : List ℕ) (new position unread begin begins : ℕ) : Type 0 where
   pub earlier : position < unread
   pub inside : position < length all
@@ -215,7 +225,7 @@ module _ {held more text : List ℕ} {start : ℕ} (e : IsHeldTail held more tex
       neither-plain all k (omega (arith, whole_size))
       (grind (arith, nowhere i (omega arith) (rw length-take-le (omega arith))))
 
-  -- blocks in which neither sequence begins
+  -- Blocks in which neither sequence begins change nothing.
   pub seen-skipped : (unread before : ℕ) {begin begins : ℕ} → unread ≤ before → before ≤ length text
       → NoneBetween text unread before → HasSeen all (length more) (start + before) begin begins
       → HasSeen all (length more) (start + unread) begin begins
@@ -229,7 +239,7 @@ module _ {held more text : List ℕ} {start : ℕ} (e : IsHeldTail held more tex
       record { no_begin = rw tail at neither.no_begin; no_end = rw tail at neither.no_end })
       seen
 
-  -- the last seven bytes are too few for a sequence
+  -- The last seven bytes are too few for a sequence.
   pub seen-nothing : (unread : ℕ) → unread ≡ length text - 7
       → HasSeen all (length more) (start + unread) (start + length text) 0
   seen-nothing unread is =
@@ -238,6 +248,7 @@ module _ {held more text : List ℕ} {start : ℕ} (e : IsHeldTail held more tex
       (λ k low high. neither-short all k (omega (arith, whole_size)))
       (record { no_end = rw none; begin_is = rw none (omega (arith, whole_size)); begins_are = rw none })
 
+  -- The last ESC of what is unread is found, and everything after it was seen.
   pub last_escape : (position unread : ℕ) {begin begins : ℕ} → unread ≤ length text
       → NoneAfter (Passes (is_byte 0x1b) (take unread text)) 0 (length (take unread text)) position
       → Passes (is_byte 0x1b) (take unread text) position → HasSeen all (length more) (start + unread) begin begins
@@ -248,23 +259,27 @@ module _ {held more text : List ℕ} {start : ℕ} (e : IsHeldTail held more tex
         earlier = omega arith;
         inside = omega (arith, whole_size);
         here = rw (byte_at unread position earlier) at escape;
+        -- None of the bytes after the ESC is another one, so no sequence begins at them.
         seen =
             seen-down (omega arith)
             (omega (arith, whole_size))
             (neither_between (position + 1) _ unread (omega arith) within last.after) seen;
       }
 
-  -- if no ESC is left, there is no end-update, as there is none in the older bytes
+  -- If no ESC is left, there is no end-update, as there is none in the older bytes.
   pub seen-all : (unread begin begins : ℕ) → after_last_end held ≡ None → unread ≤ length text
       → Nowhere (Passes (is_byte 0x1b) (take unread text)) 0 (length (take unread text))
       → HasSeen all (length more) (start + unread) begin begins
       → Adds all (length more) (record { begins = begins; released = 0 })
   seen-all unread begin begins none within nowhere seen =
+      -- Without ESC no sequence begins in what is unread, so all of the tail is seen.
       let rest =
       seen-down (omega arith) (omega (arith, whole_size))
       (neither_between 0 start unread (omega arith) within nowhere) seen in
       let tail : drop start all ≡ drop (length held - 7) all = rw e.start_is in
+      -- The tail has no end-update. With none in the older bytes, there is none at all.
       let no_end : after_last_end all ≡ None = cc (tail, after_last_end-tail held more none, rest.no_end) in
+      -- So no bytes are released, and the updates that begin are those of the tail.
       record {
         begins = rw no_end (cc (tail, rest.begins_are, begins_ending_in_last-tail held more refl));
         released = rw no_end (omega arith);

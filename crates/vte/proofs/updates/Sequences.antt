@@ -3,7 +3,7 @@
 use Rattle.vte.proofs.Common.{◌≡◌, ℕ, zero, suc, ◌+◌, ◌-◌, ◌≤◌, inl, inr, ◌⊎◌, true, false, Option, Some, None, List, [], ◌∷◌, ◌++◌, length, drop, refl, ap, zero-add, length-append, length-drop, arith, cases_Bool, cases_lt, nat_tests, drop-drop, after_word, begin_update, end_update, begins_with, after_last_end, from_begin_update, begins_ending_in_last, still_held, sym, ◌<◌, rules}
 use Rattle.std.specs.Prelude.{is_some, nat_lt}
 
--- an `Option` by cases, for `elim`
+-- An `Option` by cases, for `elim`.
 pub cases_Option : {A : Type 0} (o : Option A) → (o ≡ None) ⊎ ((x : A) × (o ≡ Some x))
 cases_Option None = inl refl
 cases_Option (Some x) = inr (x, refl)
@@ -24,7 +24,7 @@ pub begins_with-further : (a b : ℕ) (sequence text : List ℕ) → begins_with
     → begins_with (a ∷ sequence) (b ∷ text) ≡ false
 begins_with-further a b sequence text e = grind (arith, e)
 
--- the text is the sequence and what follows it
+-- A text that begins with a sequence is the sequence and what follows it.
 pub begins_with-is : (sequence text : List ℕ) → begins_with sequence text ≡ true
     → text ≡ sequence ++ drop (length sequence) text
 begins_with-is [] text e = refl
@@ -36,7 +36,7 @@ begins_with-length [] text e = omega arith
 begins_with-length (a ∷ sequence) [] e = cc
 begins_with-length (a ∷ sequence) (b ∷ text) e = grind (arith, nat_tests, begins_with-length sequence text)
 
--- more bytes don't matter if there are enough
+-- More bytes don't matter if there are enough.
 begins_with-more : (sequence text more : List ℕ) → length sequence ≤ length text
     → begins_with sequence (text ++ more) ≡ begins_with sequence text
 begins_with-more [] text more l = refl
@@ -48,7 +48,7 @@ pub begins_with-append : (sequence text more : List ℕ) → begins_with sequenc
 begins_with-append sequence text more e =
     grind (arith, begins_with-length sequence text, begins_with-more sequence text more)
 
--- no update begins inside an end-update
+-- No update begins inside an end-update.
 pub from_begin-end_skipped : (n b : ℕ) (text : List ℕ) → begins_with end_update (b ∷ text) ≡ true
     → (from_begin_update text ≡ from_begin_update (drop 7 text))
     × (begins_ending_in_last n text ≡ begins_ending_in_last n (drop 7 text))
@@ -74,13 +74,13 @@ suffix-trans {text} s t = record {
 suffix-more : {part text : List ℕ} (b : ℕ) → IsSuffix part text → IsSuffix part (b ∷ text)
 suffix-more b s = record { prefix = suc s.prefix; within = omega (arith, s.within); is = s.is }
 
--- without an end-update in a text there is none in its parts
+-- Without an end-update in a text there is none in its parts.
 after_last_end-drop : (n : ℕ) (text : List ℕ) → after_last_end text ≡ None → after_last_end (drop n text) ≡ None
 after_last_end-drop zero text e = e
 after_last_end-drop (suc n) [] e = e
 after_last_end-drop (suc n) (b ∷ text) e = grind (arith, after_last_end-drop n text)
 
--- what is after the last end-update has none
+-- What is after the last end-update has none.
 pub record FollowsLastEnd (rest text : List ℕ) : Type 0 where
   pub suffix : IsSuffix rest text
   pub no_end : after_last_end rest ≡ None
@@ -101,7 +101,7 @@ follows_last_end (b ∷ text) rest e = elim (cases_Option (after_last_end text))
       record { suffix = suffix-more b l.suffix; no_end = l.no_end }
 ]
 
--- what is found from the earliest begin-update on starts with it
+-- What is found from the earliest begin-update on starts with it.
 pub record StartsAtBegin (kept text : List ℕ) : Type 0 where
   pub suffix : IsSuffix kept text
   pub begins : 0 < length kept → begins_with begin_update kept ≡ true
@@ -115,7 +115,7 @@ starts_at_begin (b ∷ text) = elim (cases_Bool (begins_with begin_update (b ∷
   | inr later ↦ rw later (let l = starts_at_begin text in record { suffix = suffix-more b l.suffix; begins = l.begins })
 ]
 
--- what stays held: all of it, or what starts with a begin-update
+-- What stays held is all of it, or what starts with a begin-update.
 pub record StaysHeld (held kept : List ℕ) : Type 0 where
   pub suffix : IsSuffix kept held
   pub no_end : after_last_end kept ≡ None
@@ -144,7 +144,7 @@ stays-is held =
 
 -- ---- the last seven of the older bytes suffice, if no end-update is in them
 
--- an end-update that begins eight bytes before the end of the older ones would be in them
+-- An end-update that begins eight bytes before the end of the older ones would be in them.
 begins_with-no_end : (b : ℕ) (old more : List ℕ) → 7 ≤ length old → after_last_end (b ∷ old) ≡ None
     → begins_with end_update (b ∷ (old ++ more)) ≡ false
 begins_with-no_end b old more long none = grind (arith, begins_with-more end_update (b ∷ old) more (omega arith))

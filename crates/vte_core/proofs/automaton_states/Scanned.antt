@@ -68,7 +68,7 @@ phase Failed = phase-failed refl
 abbrev EndsCharacter : ℕ → List Range → Type 0
 EndsCharacter b ranges = (u : List ℕ) → fits ranges u ≡ true → IsUtf8Run true (b ∷ u)
 
--- the row of Unicode's table that the byte has
+-- After a byte from C3 on, the ranges that Unicode's table has left say which bytes end a character.
 ends_character-row : (b : ℕ) {ranges : List Range} → 0xc3 ≤ b → rows_after_byte b utf8_rows ≡ ranges ∷ []
     → EndsCharacter b ranges
 ends_character-row b {ranges} low same u fit =
@@ -86,7 +86,7 @@ begins-opened : (b : ℕ) (t : AutomatonState) → next_between b ≡ t → t �
     → rows_after_byte b utf8_rows ≡ wanted_ranges t ∷ [] → Begins b
 begins-opened b t is not low same = opens t is not (ends_character-row b low same)
 
--- after C2 the table also has controls
+-- After C2, only A0..BF end a character, though the table also has controls.
 ends_character-after_c2 : EndsCharacter 0xc2 (from_to 0xa0 0xbf ∷ [])
 unfolding second_range
 ends_character-after_c2 [] fit = absurd (false≢true fit)
@@ -149,7 +149,7 @@ begins b =
 
 -- ---- what has been read
 
--- Up to `end` are characters; the bytes from there up to `at` are those of one that has begun.
+-- The bytes up to `end` are characters; those from there up to `at` belong to one that has begun.
 pub record ReadSoFar (text : List ℕ) (at : ℕ) (s : AutomatonState) : Type 0 where
   pub end : ℕ
   pub before : end ≤ at
@@ -160,7 +160,7 @@ pub record ReadSoFar (text : List ℕ) (at : ℕ) (s : AutomatonState) : Type 0 
 none-taken : (text : List ℕ) (at end : ℕ) → end ≡ at → take (at - end) (drop end text) ≡ []
 none-taken text at end same = search (rules, arith)
 
--- Between two characters all of the text is printed.
+-- Between two characters, all of the text so far is printed.
 so_far-printed : {text : List ℕ} {at : ℕ} → IsUtf8Run true (take at text) → ReadSoFar text at Between
 so_far-printed {text} {at} printed = record {
   end = at;
@@ -214,7 +214,7 @@ module _ (text : List ℕ) (at : ℕ) (within : at < length text) (s : Automaton
     settled = λ same. absurd (not same);
   }
 
-  -- the first byte of a character
+  -- The first byte of a character continues what was read so far.
   so_far-first : s ≡ Between → next_state s b ≢ Failed → ReadSoFar text (at + 1) (next_state s b)
   unfolding next_state
   so_far-first same ok =
@@ -231,7 +231,7 @@ module _ (text : List ℕ) (at : ℕ) (within : at < length text) (s : Automaton
             (λ u fit. subst (λ x. IsUtf8Run true ((x ++ b ∷ []) ++ u)) (sym none) (completes u fit)))
       ]
 
-  -- a further one
+  -- A further byte of a character continues what was read so far.
   so_far-later : (t : AutomatonState) (range : Range) → s ≢ Between → range.last ≤ 0xbf
       → wanted_ranges s ≡ range ∷ wanted_ranges t
       → next_state s b ≡ next_if_in range t b → next_state s b ≢ Failed → ReadSoFar text (at + 1) (next_state s b)
@@ -298,7 +298,7 @@ AreAbove bytes = (k : ℕ) → k < length bytes → 0x20 ≤ get_or bytes k 0
 stays-above : (c : ℕ) → 0x20 ≤ c → StaysInRun true c → StaysInRun false c
 stays-above c low e = grind (arith, nat_tests)
 
--- a character below 20 is a byte
+-- A character whose bytes are all from 20 on is itself from 20 on.
 first-above : (c : ℕ) (rest : List ℕ) → AreAbove (encode c ++ rest) → 0x20 ≤ c
 first-above c rest are = search (rules, arith, encode_ascii)
 
@@ -312,7 +312,7 @@ stays-all_above (c ∷ cs) are all =
     (stays-above c (first-above c (encodes cs) are) (All-head (StaysInRun true) c cs all))
     (stays-all_above cs rest (All-tail (StaysInRun true) c cs all))
 
--- a run without bytes below 20 has none
+-- A run without bytes below 20 is also one if layout isn't kept.
 pub run-kept : (layout : Bool) (text : List ℕ) (at end : ℕ) → (layout ≡ false → Each (λ b. 0x20 ≤ b) text 0 at)
     → end ≤ at
     → IsUtf8Run true (take end text) → IsUtf8Run layout (take end text)

@@ -33,10 +33,12 @@ module _ (t s f b : ℕ) (fit : Fits t s f b) where
   first-byte : Trails Between t s f → Trails (next_between b) s f b
   first-byte old = search (rules, arith)
 
+  -- In each state, a byte that fits is in the range that the state wants, so it leads on.
   pub leads : (state : AutomatonState) → Trails state t s f → Trails (next_state state b) s f b
   unfolding next_state
   leads Between old = first-byte old
   leads NeedsOne old =
+      -- If the byte didn't continue a character, none would be open, but in this state one is.
       let cont : is_in (from_to 0x80 0xbf) b ≡ true = elim (cases_Bool (is_in (from_to 0x80 0xbf) b)) [
         | inl is ↦ is
         | inr not ↦
@@ -44,6 +46,7 @@ module _ (t s f b : ℕ) (fit : Fits t s f b) where
       ] in
       more (from_to 0x80 0xbf) Between cont (grind (arith, nat_tests, cont), old.1, old.2)
   leads NeedsTwo old =
+      -- The same is true here.
       let cont : is_in (from_to 0x80 0xbf) b ≡ true = elim (cases_Bool (is_in (from_to 0x80 0xbf) b)) [
         | inl is ↦ is
         | inr not ↦
@@ -134,7 +137,7 @@ module _ (layout : Bool) (bytes : List ℕ) (window : Window) (from at : ℕ) (e
 
 -- ---- ASCII
 
--- No character is open.
+-- No character is open at `at`.
 record IsClosed (bytes : List ℕ) (from at : ℕ) : Type 0 where
   between : state_after Between (take (at - from) (drop from bytes)) ≡ Between
   first : slice_index bytes (at - 1) < 0xc0
@@ -179,7 +182,7 @@ not_yet_failed text m n low going failed =
     ∙ ap (λ s. state_after s (take (n - m) (drop m text))) failed
     ∙ failed-for_good (take (n - m) (drop m text)))
 
--- a byte that begins a character is between two
+-- A byte from C0 on is accepted only between characters.
 only-between : (s : AutomatonState) (b : ℕ) → 0xc0 ≤ b → next_state s b ≢ Failed → s ≡ Between
 only-between s b high going = elim (phase s) [
   | phase-between same ↦ same

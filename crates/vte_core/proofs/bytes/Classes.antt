@@ -8,7 +8,7 @@ use Rattle.vte_core.specs.SequenceKind.{IgnoredString, begins_ignored_string}
 
 -- Bounds of each, by the tests of `class_of`, which ask in ascending order.
 
--- the bytes of a class lie so
+-- The range in which the bytes of a class are.
 abbrev pub Spans : Class → ℕ → Type 0
 Spans Control b = b < 0x20
 Spans Cancel b = b < 0x20
@@ -26,11 +26,11 @@ class_of-spans : (b : ℕ) → Spans (class_of b) b
 unfolding class_of
 class_of-spans b = grind (arith, nat_tests)
 
--- the same, at a class by another name
+-- A byte of class `k` is in the range of `k`.
 pub spans : (b : ℕ) {k : Class} → class_of b ≡ k → Spans k b
 spans b e = rw e at (class_of-spans b)
 
--- a byte of a head is none that ends it
+-- A byte of a head is below each final byte.
 pub below_final : (b : ℕ) → is_head_byte (class_of b) ≡ true → b < 0x40
 unfolding class_of
 below_final b h = grind (arith, nat_tests)
@@ -39,18 +39,18 @@ below_final b h = grind (arith, nat_tests)
 
 -- Which keys after ESC begin no other shape than an escape sequence, and which bytes mean nothing there or in a head.
 
--- a class of bytes that are dropped after ESC
+-- A class of bytes that are dropped after ESC.
 abbrev pub is_dropped : Class → Bool
 is_dropped Delete = true
 is_dropped High = true
 is_dropped _ = false
 
--- a class of bytes that are dropped in the head of a device control string
+-- A class of bytes that are dropped in the head of a device control string.
 abbrev pub is_dropped_in_head : Class → Bool
 is_dropped_in_head Control = true
 is_dropped_in_head k = is_dropped k
 
--- what other keys than [, P and ] begin
+-- Keys other than [, P and ] begin an ignored string or an escape sequence.
 pub other_key : (b : ℕ) → (b ≡ 0x5b → ⊥) → (b ≡ 0x50 → ⊥) → (b ≡ 0x5d → ⊥)
     → sequence_kind b ≡ (if begins_ignored_string b then IgnoredString else EscapeSequence)
 unfolding sequence_kind
@@ -96,7 +96,7 @@ pub final_ends_nothing : (k : Class) → is_final k ≡ true → ends_body k ≡
 final_ends_nothing Final h = refl
 final_ends_nothing _ h = cc
 
--- CAN, SUB and ESC are either CAN and SUB or ESC
+-- A byte that ends a body and isn't ESC is CAN or SUB.
 pub ends_by_cancel : (b : ℕ) → ends_body (class_of b) ≡ true → (b ≡ 0x1b → ⊥) → class_of b ≡ Cancel
 unfolding class_of
 ends_by_cancel b h n = grind (arith, nat_tests)
@@ -119,11 +119,11 @@ parameter_is_head k i = search (rules, arith)
 
 -- ---- the class that is left if others are excluded
 
--- 30..3F
+-- After ESC, a byte 30..3F ends an escape sequence.
 pub other_dispatches : (k : Class) → is_head_byte k ≡ true → is_intermediate k ≡ false → dispatches_escape k ≡ true
 other_dispatches k i j = search (rules, arith)
 
--- after 20..7E, CAN, SUB, ESC and C0: DEL and 80..FF
+-- A class other than those of 20..7E, CAN, SUB, ESC and C0 is that of DEL or of 80..FF.
 pub other_is_dropped : (k : Class) → is_head_byte k ≡ false → is_final k ≡ false → ends_body k ≡ false
     → is_plain_control k ≡ false
     → is_dropped k ≡ true
@@ -134,12 +134,12 @@ pub other_than_intermediate : (k : Class) → is_intermediate k ≡ false → di
     → is_plain_control k ≡ false → is_dropped k ≡ true
 other_than_intermediate k i d e c = search (rules, arith)
 
--- the same with C0
+-- In the head of a device control string, bytes of C0 are dropped too.
 pub other_in_head : (k : Class) → is_head_byte k ≡ false → is_final k ≡ false → ends_body k ≡ false
     → is_dropped_in_head k ≡ true
 other_in_head k i f e = search (rules, arith)
 
--- what ends no data of a device control string
+-- A byte other than CAN, SUB, ESC and 9C doesn't end the data of a device control string.
 pub ends_no_data : (b : ℕ) → ends_body (class_of b) ≡ false → (b ≡ 0x9c → ⊥) → ends_device_data b ≡ false
 ends_no_data b e n = search (rules, arith)
 
@@ -147,7 +147,7 @@ pub terminator_is_high : {b : ℕ} → b ≡ 0x9c → class_of b ≡ High
 unfolding class_of
 terminator_is_high is = rw is refl
 
--- what is left of an operating system command
+-- In an operating system command, a byte that ends nothing and is neither data nor `;` is a control.
 pub other_is_control : (b : ℕ) → ends_body (class_of b) ≡ false → (IsCommandData b → ⊥) → (b ≡ 0x3b → ⊥)
     → class_of b ≡ Control
 unfolding class_of

@@ -8,11 +8,11 @@ use Rattle.std.specs.Int.{bit_at, from_le_bytes, to_le_bytes}
 use Rattle.std.specs.Prelude.{bit_and, bit_or}
 use Rattle.vte_core.specs.machine.Scans.{IsPrintedAscii, ArePrintedAscii}
 
--- 0x20 is subtracted from each byte: 0xdfdfdfdfdfdfdfe0 is 2 ^ 64 - 0x2020202020202020
+-- 0x20 is subtracted from each byte: 0xdfdfdfdfdfdfdfe0 is 2 ^ 64 - 0x2020202020202020.
 abbrev pub less : ℕ → ℕ
 less word = (word + 0xdfdfdfdfdfdfdfe0) % 2 ^ 64
 
--- bit 7 of each byte
+-- Bit 7 of each byte.
 abbrev mask : ℕ
 mask = 0x8080808080808080
 
@@ -22,7 +22,7 @@ marks_of word = bit_and (bit_or (less word) word) mask
 mask_at : (k : ℕ) → k < 8 → bit_at mask (8 * k + 7) ≡ 1
 mask_at k low = eqb-true _ _ (agree_below_at (λ k. nat_eq (bit_at mask (8 * k + 7)) 1) (λ k. true) 8 k refl low)
 
--- a byte at whose bit 7 neither number has a 1
+-- A byte is printed ASCII if neither number has a 1 at its bit 7.
 byte-unmarked : (word k : ℕ) → word < 2 ^ 64 → k < 8 → bit_at (less word) (8 * k + 7) ≡ 0
     → bit_at word (8 * k + 7) ≡ 0 → IsPrintedAscii (get_or (to_le_bytes w64 word) k 0)
 byte-unmarked word zero fits low x y = (omega (arith, fits, x, y), omega (arith, fits, x, y))
@@ -41,7 +41,7 @@ byte-unmarked word (suc (suc (suc (suc (suc (suc (suc (suc k)))))))) fits low x 
 pub marks-fit : (word : ℕ) → marks_of word < 2 ^ 64
 marks-fit word = omega (arith, and_le_r (bit_or (less word) word) mask)
 
--- up to a byte that is marked, or all
+-- The first n bytes are printed ASCII if none of them is marked.
 pub prefix-printed : (bytes : List ℕ) {word : ℕ} (n : ℕ) → ((i : ℕ) → get_or bytes i 0 < 256) → length bytes ≡ 8
     → word < 2 ^ 64
     → word ≡ from_le_bytes w64 bytes → n ≤ 8 → ((i : ℕ) → i < 8 * n → bit_at (marks_of word) i ≡ 0)

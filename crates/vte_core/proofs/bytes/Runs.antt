@@ -19,7 +19,7 @@ use Rattle.vte_core.proofs.bytes.Utf8.{rows-lone, rows-none, continuation, fits,
 
 -- ---- each byte between two positions
 
--- Of one byte, of two stretches joined, of a block: by cases of where a position lies.
+-- `Each` holds of one byte, of two joined stretches and of a block, by cases of the position.
 
 pub one_byte : (bytes : List ℕ) (from b : ℕ) → from < length bytes → b ≡ slice_index bytes from
     → take (from + 1 - from) (drop from bytes) ≡ b ∷ []
@@ -34,23 +34,23 @@ pub each-both : (holds : ℕ → Type 0) (bytes : List ℕ) (i j k : ℕ) → Ea
     → Each holds bytes i k
 each-both holds bytes i j k prefix back m low high = search (rules, arith)
 
--- one byte more
+-- What holds of each byte of a stretch, and of the byte after it, holds of each byte of both.
 pub each-next : (holds : ℕ → Type 0) (bytes : List ℕ) (from end b : ℕ) → Each holds bytes from end
     → b ≡ slice_index bytes end → holds b → Each holds bytes from (end + 1)
 each-next holds bytes from end b all is one = search (rules, arith)
 
--- the first bytes of what is at a position
+-- The first chunk from a position on consists of the next n bytes.
 pub prefix-block : (bytes block : List ℕ) (from n : ℕ) → from ≤ length bytes
     → IsFirstChunk (take (length bytes - from) (drop from bytes)) block n
     → (from + n ≤ length bytes) × (block ≡ take n (drop from bytes))
 prefix-block bytes block from n within first = search (rules, arith, length-take, length-drop, take_rest)
 
--- the bytes of a block
+-- Byte k of a block is the byte k places after the block's start.
 pub block-byte : (bytes block : List ℕ) (from n k : ℕ) → block ≡ take n (drop from bytes) → k < n
     → get_or block k 0 ≡ get_or bytes (from + k) 0
 block-byte bytes block from n k is l = ap (λ x. get_or x k 0) is ∙ get_or-chunk from n bytes k 0 l
 
--- what holds of its first ones
+-- What holds of the first bytes of a block holds of the same bytes of the input.
 pub each-block : (holds : ℕ → Type 0) (bytes block : List ℕ) (from n m : ℕ) → block ≡ take n (drop from bytes) → m ≤ n
     → Each holds block 0 m
     → Each holds bytes from (from + m)
@@ -62,7 +62,7 @@ each-block holds bytes block from n m is at_most all k low high =
 
 -- ---- which characters stay in a run
 
--- All but controls, and with `layout` HT, LF and CR too.
+-- All characters but controls stay in a run, and with `layout` HT, LF and CR do too.
 
 pub no_control-stays : (layout : Bool) (c : ℕ) → is_control_character c ≡ false → StaysInRun layout c
 no_control-stays layout c e = search (rules, arith)
@@ -151,7 +151,7 @@ pub chars-one : (bytes : List ℕ) (from b : ℕ) → from < length bytes → b 
 chars-one bytes from b within is printed =
     ap chars (one_byte bytes from b within is) ∙ chars-IsAscii (b ∷ []) (IsAscii-cons b [] printed.1 IsAscii-nil)
 
--- HT, LF or CR, where these are kept
+-- HT, LF and CR are each a run, if runs keep them.
 pub run-layout : (bytes : List ℕ) (from b : ℕ) → from < length bytes → b ≡ slice_index bytes from → is_layout b ≡ true
     → IsRun true bytes from (from + 1)
 run-layout bytes from b within is layout =
@@ -189,7 +189,7 @@ pub scans-run : {layout : Bool} {bytes : List ℕ} {i j k : ℕ} {s t u : Reader
     → Scans (IsRun layout) bytes i j s t → Scans (IsRun layout) bytes j k t u → Scans (IsRun layout) bytes i k s u
 scans-run a b = search (rules, arith, run-append)
 
--- by printed ASCII: one byte, and what follows it
+-- A scan goes on by one byte of printed ASCII and the printed ASCII after it.
 pub scans-ascii : {layout : Bool} {bytes : List ℕ} {i j k byte : ℕ} {s t u v : Reader}
     → Scans (IsRun layout) bytes i j s t → byte ≡ slice_index bytes j → looked u ≡ looked t + 1
     → is_in (from_to 0x20 0x7f) byte ≡ true → Scans ArePrintedAscii bytes (j + 1) k u v
@@ -203,14 +203,14 @@ scans-ascii {bytes} {j} {byte} a is count printed more =
       at_least = omega (arith, more.at_least, count);
     })
 
--- by another character, or a kept control
+-- A scan goes on by a further run, such as another character or a kept control.
 pub scans-other : {layout : Bool} {bytes : List ℕ} {i j k : ℕ} {s t u : Reader}
     → Scans (IsRun layout) bytes i j s t → j < k → k ≤ length bytes → IsRun layout bytes j k
     → looked u + j ≡ looked t + k → Scans (IsRun layout) bytes i k s u
 scans-other a low high run count =
     scans-run a (record { low = omega (arith, low); high = high; passed = run; at_least = omega (arith, count) })
 
--- over a block, of which the first bytes are such
+-- A scan goes on over the first bytes of a block, if its property holds of them.
 pub scans-block : (holds : ℕ → Type 0) (bytes : List ℕ) {block : List ℕ} {i j n : ℕ} (m : ℕ)
     {s t u : Reader} → Scans (Each holds) bytes i j s t
     → (j + n ≤ length bytes) × (block ≡ take n (drop j bytes)) × (looked u ≡ looked t + n) → m ≤ n
@@ -243,7 +243,7 @@ fits-none : (u : List ℕ) → fits [] u ≡ true → u ≡ []
 fits-none [] fit = refl
 fits-none (b ∷ u) fit = cc
 
--- one byte, in its range
+-- There is one byte, in its range.
 record OneIn (range : Range) (bytes : List ℕ) (i m : ℕ) : Type 0 where
   within : i < length bytes
   is : is_in range (slice_index bytes i) ≡ true
@@ -267,7 +267,7 @@ module _ (layout : Bool) (bytes : List ℕ) (from a : ℕ) (within : from < leng
   abbrev later : ℕ → List ℕ
   later m = take m (drop (from + 1) bytes)
 
-  -- a well-formed sequence there begins with the byte
+  -- A well-formed sequence there begins with the byte.
   record BeginsHere (n : ℕ) : Type 0 where
     m : ℕ
     parts : take n (drop from bytes) ≡ a ∷ later m
@@ -285,7 +285,7 @@ module _ (layout : Bool) (bytes : List ℕ) (from a : ℕ) (within : from < leng
       → ends_run layout c ≡ true
   control-ends c control other = search (rules, arith)
 
-  -- a byte that is neither printed nor kept, and begins no longer sequence
+  -- A run ends at a byte that is neither printed nor kept, and begins no longer sequence.
   pub no_run-single : is_in (from_to 0x20 0x7f) a ≡ false → is_in (from_to 0xc2 0xf4) a ≡ false
       → (layout ≡ true → is_layout a ≡ false) → HasNoRunAt layout bytes from
   no_run-single other lone plain n far whole =
@@ -306,18 +306,20 @@ module _ (layout : Bool) (bytes : List ℕ) (from a : ℕ) (within : from < leng
         ]
       ]
 
-  -- a sequence of two that is a control's
+  -- A run ends at a byte C2..DF without a sequence of two, or with that of a control.
   pub no_run-two : 0xc2 ≤ a → a < 0xe0
       → (from + 1 < length bytes → is_in continuation (slice_index bytes (from + 1)) ≡ true
       → (a ≡ 0xc2 → 0xa0 ≤ slice_index bytes (from + 1)) → ⊥) → HasNoRunAt layout bytes from
   no_run-two low high none n far whole =
       let p = begins n whole in
+      -- A sequence that began here would have two bytes, of which the second is a continuation.
       let one =
       fits-one (second_range a) bytes (from + 1) p.m (sym (tests-two a low high (later p.m)).is_whole ∙ p.well) in
       let b : ℕ = slice_index bytes (from + 1) in
       let second : is_in continuation b ≡ true =
       subst (λ range. is_in range b ≡ true)
       (second_plain a (omega arith) (omega arith) (omega arith) (omega arith)) one.is in
+      -- By `none`, the sequence isn't that of a printed character, so it is C2 and a byte below A0.
       let control : (a ≡ 0xc2) × (b < 0xa0) = elim (cases_lt b 0xa0) [
         | inr up ↦ absurd (none one.within second (λ _. omega (arith, up)))
         | inl down ↦ elim (cases_lt 0xc2 a) [
@@ -325,12 +327,13 @@ module _ (layout : Bool) (bytes : List ℕ) (from a : ℕ) (within : from < leng
           | inr first ↦ (omega (arith, first, low), down)
         ]
       ] in
+      -- The number of such a sequence is that of its second byte, a control.
       let bounds = continuation-bounds b second in
       let number : scalar_of (a ∷ b ∷ []) ≡ b = omega (arith, control.0, bounds.0) in
       rw (p.parts, one.same, number)
       (control-ends b (grind (arith, nat_tests, control.1, bounds.0)) (λ _. grind (arith, nat_tests, bounds.0)))
 
-  -- a run ends at a byte E0..EF without a sequence of three
+  -- A run ends at a byte E0..EF without a sequence of three.
   pub no_run-three : 0xe0 ≤ a → a < 0xf0
       → (from + 2 < length bytes → is_in (second_range a) (slice_index bytes (from + 1)) ≡ true
       → is_in continuation (slice_index bytes (from + 2)) ≡ true → ⊥) → HasNoRunAt layout bytes from
@@ -342,7 +345,7 @@ module _ (layout : Bool) (bytes : List ℕ) (from a : ℕ) (within : from < leng
       let e : from + 1 + 1 ≡ from + 2 = omega arith in
       absurd (none (rw e at those.2.0) those.1 (rw e at those.2.1))
 
-  -- a run ends at a byte F0..F4 without a sequence of four
+  -- A run ends at a byte F0..F4 without a sequence of four.
   pub no_run-four : 0xf0 ≤ a → is_in (from_to 0xc2 0xf4) a ≡ true
       → (from + 3 < length bytes → is_in (second_range a) (slice_index bytes (from + 1)) ≡ true
       → is_in continuation (slice_index bytes (from + 2)) ≡ true
@@ -357,7 +360,7 @@ module _ (layout : Bool) (bytes : List ℕ) (from a : ℕ) (within : from < leng
       let f : from + 2 + 1 ≡ from + 3 = omega arith in
       absurd (none (rw (e, f) at those.2.2.0) those.1 (rw e at those.2.1) (rw (e, f) at those.2.2.1))
 
-  -- no byte follows a first one
+  -- A run ends at a first byte that no byte follows.
   pub no_run-long : is_in (from_to 0xc2 0xf4) a ≡ true → (from + 1 < length bytes → ⊥) → HasNoRunAt layout bytes from
   no_run-long lead none =
       let bounds = in_range-bounds (from_to 0xc2 0xf4) a lead in
@@ -370,12 +373,12 @@ module _ (layout : Bool) (bytes : List ℕ) (from a : ℕ) (within : from < leng
         ]
       ]
 
--- with the bytes
+-- No run begins at the end of the bytes.
 pub no_run-all : (layout : Bool) (bytes : List ℕ) (place : ℕ) → length bytes ≤ place → HasNoRunAt layout bytes place
 unfolding is_well_formed utf8_rows
 no_run-all layout bytes place all l far whole = search (rules, arith)
 
--- ASCII that is printed begins a run
+-- ASCII that is printed begins a run, so a byte at which no run begins isn't such.
 pub no_run-unprinted : (bytes : List ℕ) (from : ℕ) → from < length bytes → HasNoRunAt false bytes from
     → is_in (from_to 0x20 0x7f) (slice_index bytes from) ≡ false
 unfolding is_well_formed utf8_rows

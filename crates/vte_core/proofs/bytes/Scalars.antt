@@ -30,7 +30,7 @@ second_byte fits = search (rules, arith)
 
 -- ---- the character of a well-formed sequence
 
--- For each number of bytes (`Sequence`), their ranges bound its number.
+-- For each number of bytes (`Sequence`), the ranges of the bytes bound the number of the character.
 
 in_range-two : (a b : ℕ) → 0xc2 ≤ a → a < 0xe0 → SecondByte a b → InScalarRange (scalar_of (a ∷ b ∷ []))
 in_range-two a b low high second = inl (omega arith)
@@ -43,7 +43,7 @@ in_range-four : (a b c d : ℕ) → 0xf0 ≤ a → a < 0xf5 → SecondByte a b �
     → InScalarRange (scalar_of (a ∷ b ∷ c ∷ d ∷ []))
 in_range-four a b c d low high second third fourth = search (rules, arith)
 
--- as many bytes as ranges
+-- There are as many bytes as ranges that they fit.
 fits-length : (ranges : List Range) (u : List ℕ) → fits ranges u ≡ true → length u ≡ length ranges
 fits-length [] [] fit = refl
 fits-length [] (b ∷ u) fit = absurd (false≢true fit)
@@ -51,7 +51,7 @@ fits-length (range ∷ ranges) [] fit = absurd (false≢true fit)
 fits-length (range ∷ ranges) (b ∷ u) fit =
     ap suc (fits-length ranges u (and_parts (is_in range b) (fits ranges u) fit).1)
 
--- a well-formed sequence, by its bytes
+-- A well-formed sequence, by its bytes.
 pub data Sequence (p : List ℕ) : Type 0 where
   whole_one : (a : ℕ) → p ≡ a ∷ [] → a < 0x80 → Sequence p
   whole_two : (a b : ℕ) → p ≡ a ∷ b ∷ [] → 0xc2 ≤ a → a < 0xe0 → SecondByte a b → Sequence p
@@ -113,7 +113,7 @@ pub first_truncated : (b : ℕ) → 0xc2 ≤ b → b < 0xf5 → is_truncated (b 
 unfolding is_truncated utf8_rows
 first_truncated b low high = grind (arith, nat_tests)
 
--- a byte that begins no sequence and is none
+-- A byte from 80 on that begins no sequence is neither well-formed nor truncated.
 pub begins_none : (b : ℕ) → 0x80 ≤ b → is_in (from_to 0xc2 0xf4) b ≡ false → Tests (b ∷ []) false false
 begins_none b high no_lead = elim (cases_lt b 0xc2) [
   | inl below ↦ tests-none b (rows-lone b high below) []
@@ -122,7 +122,7 @@ begins_none b high no_lead = elim (cases_lt b 0xc2) [
 
 -- ---- a character made of its bytes
 
--- the bytes are a well-formed sequence, and the number is its character's
+-- The bytes are a well-formed sequence, and the number is its character's.
 pub record Spells (p : List ℕ) (number : ℕ) : Type 0 where
   pub is_whole : is_well_formed p ≡ true
   pub same : number ≡ scalar_of p
@@ -146,11 +146,11 @@ spells-four {a} {b} {c} {d} low high second third fourth =
 pub spells-scalar : (p : List ℕ) (number : ℕ) → Spells p number → IsScalar number
 spells-scalar p number spells = subst IsScalar (sym spells.same) (well_formed_is_scalar p spells.is_whole)
 
--- the same number, by another name
+-- `Spells` holds of an equal number too.
 pub spells-same : {p : List ℕ} {number other : ℕ} → Spells p number → other ≡ number → Spells p other
 spells-same spells same = search (rules, arith)
 
--- what is made of a well-formed sequence's number
+-- A byte that completes a well-formed sequence carries the character to `Whole`, with its number.
 whole_by : (u : List ℕ) (b : ℕ) {number : ℕ} (r : Carried) → Spells (u ++ b ∷ []) number
     → (InScalarRange number → r ≡ Whole number) → Carries u b r
 whole_by u b r spells makes = search (rules, arith, scalar_of-in_range)
@@ -164,7 +164,7 @@ pub second-broken : (a b : ℕ) → is_truncated (a ∷ []) ≡ true → is_in (
 unfolding is_well_formed is_truncated utf8_rows second_range
 second-broken a b more misfits = (grind (arith, nat_tests), grind (arith, nat_tests))
 
--- a byte that may follow no first byte
+-- A byte that is no continuation is the second byte of no character.
 pub second-lone : (a b : ℕ) → is_in continuation b ≡ false → is_in (second_range a) b ≡ false
 unfolding second_range
 second-lone a b misfits = grind (arith, nat_tests)

@@ -9,14 +9,14 @@ AtMostOne [] = Unit {0}
 AtMostOne (row ∷ []) = Unit {0}
 AtMostOne (row ∷ next ∷ rows) = ⊥
 
--- the rows begin with ranges above n, each above the one before
+-- The rows begin with ranges above n, each above the one before.
 abbrev ascends : ℕ → List (List Range) → Bool
 ascends n [] = true
 ascends n ([] ∷ rows) = false
 ascends n ((range ∷ ranges) ∷ rows) =
     nat_le n range.first && (nat_le range.first range.last && ascends (range.last + 1) rows)
 
--- a byte and a range
+-- A byte between the bounds of a range is in it.
 pub in_range : (range : Range) (b : ℕ) → range.first ≤ b → b ≤ range.last → is_in range b ≡ true
 in_range range b low high = search (rules, arith)
 
@@ -28,7 +28,7 @@ ascends_parts : (n : ℕ) (range : Range) (ranges : List Range) (rows : List (Li
     → (n ≤ range.first) × (range.first ≤ range.last) × (ascends (range.last + 1) rows ≡ true)
 ascends_parts n range ranges rows up = search (rules, arith)
 
--- rows that begin above the byte want nothing after it
+-- Rows that begin above the byte want nothing after it.
 none_after : (n b : ℕ) (rows : List (List Range)) → ascends n rows ≡ true → b < n → rows_after_byte b rows ≡ []
 none_after n b [] up low = refl
 none_after n b ([] ∷ rows) up low = cc
@@ -74,11 +74,11 @@ rows_after_bytes-append (b ∷ u) v rows = rows_after_bytes-append u v (rows_aft
 
 -- ---- the two tests of what is left
 
--- some row wants nothing more
+-- Some row wants nothing more.
 abbrev pub some_whole : List (List Range) → Bool
 some_whole rows = list_any is_complete rows
 
--- some row wants more
+-- Some row wants more.
 abbrev pub some_open : List (List Range) → Bool
 some_open rows = list_any (λ row. not (is_complete row)) rows
 
@@ -95,13 +95,13 @@ neither_whole_nor_open ((range ∷ ranges) ∷ rows) whole more = cc
 
 -- ---- how many bytes the rows allow
 
--- As many as some row wants, one after the other.
+-- The rows allow as many bytes as some row wants, one after the other.
 
 pub allowed_length-none : (bytes : List ℕ) → allowed_length [] bytes ≡ 0
 allowed_length-none [] = refl
 allowed_length-none (b ∷ bytes) = refl
 
--- of a byte and those after it: no row wants the byte, or it is allowed with what the rows left allow
+-- Either no row wants the byte, or it is allowed with what the rows that are left allow of the bytes after it.
 pub data Allowed (rows : List (List Range)) (b : ℕ) (bytes : List ℕ) : Type 0 where
   unwanted : rows_after_byte b rows ≡ [] → allowed_length rows (b ∷ bytes) ≡ 0 → Allowed rows b bytes
   wanted : rows_after_byte b rows ≢ []
@@ -110,7 +110,7 @@ pub data Allowed (rows : List (List Range)) (b : ℕ) (bytes : List ℕ) : Type 
 pub allowed : (rows : List (List Range)) (b : ℕ) (bytes : List ℕ) → Allowed rows b bytes
 allowed rows b bytes = search (rules, arith)
 
--- if such a test holds after bytes, a row was left before them
+-- If such a test holds after bytes, a row was left before them.
 some_left : (test : List (List Range) → Bool) → test [] ≡ false → (bytes : List ℕ) (rows : List (List Range))
     → test (rows_after_bytes bytes rows) ≡ true → rows ≢ []
 some_left test nothing bytes rows is none = search (rules, arith, rows_after_bytes-none)
@@ -119,7 +119,7 @@ allowed_length-more : (rows : List (List Range)) (b : ℕ) (bytes : List ℕ) �
     → allowed_length rows (b ∷ bytes) ≡ suc (allowed_length (rows_after_byte b rows) bytes)
 allowed_length-more rows b bytes some = search (rules, arith)
 
--- a sequence is allowed whole, and nothing after it
+-- A sequence is allowed whole, and nothing after it.
 pub allowed_length-whole : (rows : List (List Range)) (bytes x : List ℕ) → AtMostOne rows
     → some_whole (rows_after_bytes bytes rows) ≡ true
     → allowed_length rows (bytes ++ x) ≡ length bytes
@@ -132,7 +132,7 @@ allowed_length-whole rows (b ∷ bytes) x one whole =
     allowed_length-more rows b (bytes ++ x) (some_left some_whole refl bytes _ whole)
     ∙ ap suc (allowed_length-whole (rows_after_byte b rows) bytes x (AtMostOne-next b rows one) whole)
 
--- a truncated sequence is allowed whole, and nothing after it that no row wants there
+-- A truncated sequence is allowed whole, and nothing after it that no row wants there.
 pub allowed_length-broken : (rows : List (List Range)) (bytes : List ℕ) (b : ℕ) (x : List ℕ)
     → some_open (rows_after_bytes bytes rows) ≡ true
     → rows_after_byte b (rows_after_bytes bytes rows) ≡ [] → allowed_length rows (bytes ++ b ∷ x) ≡ length bytes
@@ -141,7 +141,7 @@ allowed_length-broken rows (c ∷ bytes) b x more none =
     allowed_length-more rows c (bytes ++ b ∷ x) (some_left some_open refl bytes _ more)
     ∙ ap suc (allowed_length-broken (rows_after_byte c rows) bytes b x more none)
 
--- a truncated sequence at the end is allowed whole
+-- A truncated sequence at the end is allowed whole.
 pub allowed_length-end : (rows : List (List Range)) (bytes : List ℕ) → some_open (rows_after_bytes bytes rows) ≡ true
     → allowed_length rows bytes ≡ length bytes
 allowed_length-end rows [] more = refl
@@ -155,7 +155,7 @@ pub second_plain : (a : ℕ) → a ≢ 0xe0 → a ≢ 0xed → a ≢ 0xf0 → a 
 unfolding second_range
 second_plain a e0 ed f0 f4 = grind (arith, nat_tests)
 
--- a byte after the second
+-- The range of a byte after the second.
 abbrev pub continuation : Range
 continuation = from_to 0x80 0xbf
 
@@ -197,14 +197,14 @@ first_byte a =
 
 -- ---- the two tests of a sequence, by its first byte and the ranges of the others
 
--- a byte for each range, each in its own
+-- There is a byte for each range, and each is in its own.
 abbrev pub fits : List Range → List ℕ → Bool
 fits [] [] = true
 fits [] (b ∷ bytes) = false
 fits (range ∷ ranges) [] = false
 fits (range ∷ ranges) (b ∷ bytes) = is_in range b && fits ranges bytes
 
--- the same for the first ranges, and some are left
+-- The bytes fit the first ranges, and some ranges are left.
 abbrev fits_prefix : List Range → List ℕ → Bool
 fits_prefix [] bytes = false
 fits_prefix (range ∷ ranges) [] = true
@@ -222,7 +222,7 @@ some_open-row [] (b ∷ u) = ap some_open (rows_after_bytes-none u)
 some_open-row (range ∷ ranges) [] = refl
 some_open-row (range ∷ ranges) (b ∷ u) = search (rules, arith, (some_open-row ranges u), rows_after_bytes-none)
 
--- what the two tests say of bytes
+-- What the two tests say of bytes.
 pub record Tests (bytes : List ℕ) (whole more : Bool) : Type 0 where
   pub is_whole : is_well_formed bytes ≡ whole
   pub is_open : is_truncated bytes ≡ more
@@ -304,7 +304,7 @@ fits_prefix-long [] u long = refl
 fits_prefix-long (range ∷ ranges) [] long = absurd (omega (arith, long))
 fits_prefix-long (range ∷ ranges) (b ∷ u) long = and_right _ _ (fits_prefix-long ranges u (omega (arith, long)))
 
--- no sequence of four bytes or more is truncated
+-- No sequence of four bytes or more is truncated.
 pub truncated-long : (a : ℕ) (u : List ℕ) → 3 ≤ length u → is_truncated (a ∷ u) ≡ false
 truncated-long a u long = elim (first_byte a) [
   | ascii high ↦ (tests-ascii a high u).is_open
@@ -328,7 +328,7 @@ ascii_after-three : (a c d b : ℕ) → b < 0x80 → is_well_formed (a ∷ c ∷
 unfolding is_well_formed utf8_rows
 ascii_after-three a c d b high = grind (arith, nat_tests)
 
--- it belongs to no sequence that others began
+-- A byte of ASCII belongs to no sequence that others began.
 pub ascii-breaks : (u : List ℕ) (b : ℕ) → is_truncated u ≡ true → b < 0x80 → Tests (u ++ b ∷ []) false false
 unfolding is_truncated
 ascii-breaks [] b more high = cc

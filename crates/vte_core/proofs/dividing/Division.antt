@@ -1,5 +1,5 @@
--- The division of a text is Unicode's: the longest segment at each place, and nothing lost. Where the rows still allow
--- a byte, a longer segment exists; where they don't, no longer one does.
+-- The division of a text is Unicode's: the longest segment at each place, and nothing lost. If the rows still allow
+-- a byte, a longer segment exists; if they don't, no longer one does.
 use Rattle.vte_core.proofs.Common.{◌≡◌, ◌≢◌, ℕ, zero, suc, ◌<◌, ◌≤◌, Bool, true, false, List, [], ◌∷◌, length, take, drop, refl, sym, subst, ap, ◌∙◌, arith, inl, inr, length-take-le, concat, take-append-drop, false≢true, cases_lt, Range, utf8_rows, rows_after_byte, rows_after_bytes, is_well_formed, is_truncated, allowed_length, trailing_count, segments_after, ◌++◌, length-append, length-drop, take-append_seam, drop-append_seam, segments, rules}
 use Rattle.vte_core.specs.Division.{IsSegment, IsAllDivided, IsRightSegment, AreRightSegments}
 use Rattle.vte_core.proofs.bytes.Utf8.{rows_after_bytes-none, some_whole, some_open, neither_whole_nor_open, allowed, allowed_length-none, unwanted, wanted}
@@ -22,7 +22,7 @@ allowed_length-le rows [] = omega arith
 allowed_length-le rows (b ∷ bytes) =
     search (rules, arith, (allowed_length-le (rows_after_byte b rows) bytes), allowed, unwanted, wanted)
 
--- some row still is_kept after what the rows allow
+-- After as many bytes as the rows allow, some row is left.
 allowed_length-is_kept : (rows : List (List Range)) (bytes : List ℕ) → rows ≢ []
     → rows_after_bytes (take (allowed_length rows bytes) bytes) rows ≢ []
 allowed_length-is_kept rows [] some none = some none
@@ -34,7 +34,7 @@ allowed_length-is_kept rows (b ∷ bytes) some none = elim (allowed rows b bytes
     is_kept : {n : ℕ} → allowed_length rows (b ∷ bytes) ≡ n → rows_after_bytes (take n (b ∷ bytes)) rows ≡ []
     is_kept is = subst (λ n. rows_after_bytes (take n (b ∷ bytes)) rows ≡ []) is none
 
--- no row still is_kept after more bytes than the rows allow
+-- After more bytes than the rows allow, no row is left.
 allowed_length-longest : (rows : List (List Range)) (bytes : List ℕ) (n : ℕ) → allowed_length rows bytes < n
     → n ≤ length bytes
     → rows_after_bytes (take n bytes) rows ≡ []
@@ -100,7 +100,7 @@ all_divided text = concat-segments_after 0 text
 
 -- ---- the right segments
 
--- The segments are the right ones, each where it is_kept, and no other division has only right ones: of two right
+-- The segments are the right ones, each at its place, and no other division has only right ones: of two right
 -- segments before one text neither is longer. By induction over the segments.
 
 segments_after-drop : (skip : ℕ) (bytes : List ℕ) → segments_after skip bytes ≡ segments (drop skip bytes)
@@ -108,7 +108,7 @@ segments_after-drop zero bytes = refl
 segments_after-drop (suc skip) [] = refl
 segments_after-drop (suc skip) (b ∷ bytes) = segments_after-drop skip bytes
 
--- a prefix of the bytes is what `take` gives for its length
+-- A prefix of the bytes is what `take` gives for its length.
 prefix_of : (u rest bytes : List ℕ) → u ++ rest ≡ bytes → (u ≡ take (length u) bytes) × (length u ≤ length bytes)
 prefix_of u rest bytes same = rw (← same) (sym (take-append_seam u rest), omega (arith, length-append u rest))
 
@@ -163,7 +163,7 @@ nonempty [] (inr (inl more)) = absurd (false≢true more)
 nonempty [] (inr (inr one)) = absurd (omega arith)
 nonempty (b ∷ segment) is = omega arith
 
--- of two right segments before one text neither is longer
+-- Of two right segments at the start of one text, neither is longer.
 not_longer : {p x q y : List ℕ} → p ++ x ≡ q ++ y → IsRightSegment p x → IsRightSegment q y → length p ≤ length q
 not_longer {p} {x} {q} same right other = search (rules, arith, nonempty)
 

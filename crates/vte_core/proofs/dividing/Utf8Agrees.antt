@@ -68,7 +68,7 @@ segments-encodes (c ∷ cs) are =
     segments-well_formed (encode c) (encodes cs) (encoded_is_well_formed c parts.0)
     ∙ ap (λ more. encode c ∷ more) (segments-encodes cs parts.1)
 
--- the segments of a text of the library are the encodings of its characters
+-- The segments of a text of the library are the encodings of its characters.
 pub segments_of_text : (text : List ℕ) → IsUtf8 text → segments text ≡ map encode (chars text)
 segments_of_text text is = rw (encodes-chars text is) at (segments-encodes (chars text) (scalars-chars text is))
 
@@ -83,7 +83,7 @@ concat-well_formed (segment ∷ more) are =
     at (IsUtf8-encode (scalar_of segment) (well_formed_is_scalar segment well)) in
     IsUtf8-append segment (concat more) first (concat-well_formed more (All-tail IsWholeSegment segment more are))
 
--- a text without a malformed segment is one of the library
+-- A text without a malformed segment is one of the library.
 pub text_of_segments : (text : List ℕ) → All IsWholeSegment (segments text) → IsUtf8 text
 text_of_segments text are = rw (all_divided text) at (concat-well_formed (segments text) are)
 
@@ -110,7 +110,7 @@ cut-text (b ∷ text) more none =
 
 -- ---- a character that is a run
 
--- It has two to four bytes, at the front of some bytes or in a call's input, and is no control.
+-- The character has two to four bytes, at the front of some bytes or in a call's input, and is no control.
 
 utf8_run-whole : {layout : Bool} (p : List ℕ) → is_well_formed p ≡ true → is_control_character (scalar_of p) ≡ false
     → IsUtf8Run layout p
@@ -126,7 +126,7 @@ utf8_run-whole {layout} p whole plain =
           (All-nil (StaysInRun layout)));
     }
 
--- a control of two bytes is C2 and less than A0
+-- A well-formed sequence of a lead byte, unless it is C2 and a byte below A0, is a character from A0 on.
 past_controls : (b : ℕ) (u : List ℕ) → 0xc2 ≤ b → (b ≡ 0xc2 → 0xa0 ≤ get_or u 0 0) → is_well_formed (b ∷ u) ≡ true
     → 0xa0 ≤ scalar_of (b ∷ u)
 past_controls b u low plain whole = elim (sequence (b ∷ u) whole) [
@@ -154,7 +154,7 @@ utf8_run-character {b} {u} low plain whole =
 
 -- ---- the same among other bytes
 
--- They are at `from`, past k others.
+-- The bytes of the list are those at `from`, past k others.
 abbrev AreBytesFrom : List ℕ → ℕ → ℕ → List ℕ → Type 0
 AreBytesFrom bytes from k [] = Unit {0}
 AreBytesFrom bytes from k (b ∷ u) =

@@ -9,10 +9,10 @@ use Rattle.vte_core.proofs.bytes.Classes.{AreInClass-append}
 
 -- ---- numbers
 
--- They are those of the text read so far, of which the last is open.
--- `counts-X`: the numbers are counted after X (`CountsNumbers`); `settles-X`: the last one is settled (`HoldsNumbers`).
+-- The numbers are those of the text read so far, of which the last is open. `counts-X`: the numbers are counted after X
+-- (`CountsNumbers`); `settles-X`: the last one is settled (`HoldsNumbers`).
 
--- the numbers of the text, of which the last is being read
+-- The numbers of the text are those before the last one, and the last one, which is being read.
 counts-numbers : (collected : Collected) (text : List ℕ) (k : CountsNumbers collected text)
     → numbers text ≡ k.prefix ++ numbered collected.joined collected.number ∷ []
 counts-numbers collected text k =
@@ -24,7 +24,7 @@ counts-held : (collected : Collected) (text : List ℕ) (k : CountsNumbers colle
 counts-held collected text k =
     ap count_of k.params ∙ count_of-grouped (take most_numbers k.prefix) ∙ length-take most_numbers k.prefix
 
--- where there is no room for the last number
+-- If there is no room for the last number, the text has too many numbers.
 pub settles-full : {collected : Collected} {text : List ℕ} → CountsNumbers collected text
     → 32 ≤ count_of collected.params
     → HoldsNumbers collected true text
@@ -41,7 +41,7 @@ settles-full {collected} {text} k full =
       more = rw (counts-numbers collected text k) (grind (arith, nat_tests));
     }
 
--- where there is room for it
+-- If there is room for the last number, it is pushed.
 pub settles-push : {old new : Collected} {text : List ℕ} → CountsNumbers old text → count_of old.params < 32
     → new.params ≡ with_number old.params (numbered old.joined old.number) → HoldsNumbers new false text
 unfolding groups_of has_too_many_numbers
@@ -59,7 +59,7 @@ settles-push {old} {text} k room pushed =
       more = rw (counts-numbers old text k) (grind (arith, nat_tests));
     }
 
--- after a separator
+-- A separator begins the next number, at 0.
 pub counts-separator : {old settled new : Collected} {more : Bool} {text : List ℕ} (b : ℕ) → CountsNumbers old text
     → HoldsNumbers settled more text → is_separator b ≡ true
     → new.params ≡ settled.params → new.joined ≡ is_colon b → new.number ≡ 0 → CountsNumbers new (text ++ b ∷ [])
@@ -74,7 +74,7 @@ counts-separator {old} {text} b k s is params joined number = record {
   number = number;
 }
 
--- after a digit
+-- A digit is added to the number that is being read.
 pub counts-digit : {old new : Collected} {text : List ℕ} (d : ℕ) → CountsNumbers old text → 48 ≤ d → d < 58
     → new.params ≡ old.params
     → new.joined ≡ old.joined → new.number ≡ min greatest_number (10 * old.number + (d - 48))
@@ -96,7 +96,7 @@ counts-nothing new params joined number =
 
 -- `holds-X`: the head is held after X (`HoldsHead`); `ill_shaped-X`: it stays ill-shaped after X.
 
--- the numbers that are held are those of the same text
+-- Numbers that are kept are those of the same text.
 CountsNumbers-kept : {old new : Collected} {text : List ℕ} → SameNumbers old new → CountsNumbers old text
     → CountsNumbers new text
 CountsNumbers-kept k c = search (rules, arith)
@@ -105,7 +105,7 @@ Holds-kept : {old new : Collected} {ints : List ℕ} → SameIntermediates old n
     → HoldsIntermediates new ints
 Holds-kept k h = search (rules, arith)
 
--- an intermediate, wherever the head has come
+-- A head can go on with an intermediate, however far it has come.
 pub holds-intermediate : {old new : Collected} {progress : HeadProgress} {head : List ℕ} (b : ℕ)
     → HoldsHead old progress head
     → class_of b ≡ Intermediate
@@ -124,7 +124,7 @@ holds-intermediate b h e k more = record {
   counts = CountsNumbers-kept k h.counts;
 }
 
--- a marker, where nothing has come
+-- A head can begin with a marker.
 pub holds-marker : (old new : Collected) (head : List ℕ) (b : ℕ) → HoldsHead old Entry head → class_of b ≡ Marker
     → SameNumbers old new
     → ((ints : List ℕ) → HoldsIntermediates old ints → HoldsIntermediates new (ints ++ b ∷ []))
@@ -145,7 +145,7 @@ holds-marker old new head b h e k more =
       counts = CountsNumbers-kept k h.counts;
     }
 
--- a byte of the parameters
+-- A head without intermediates can go on with a byte of the parameters.
 after_no_intermediate : {old new : Collected} (progress : HeadProgress) (head : List ℕ) (b : ℕ)
     (h : HoldsHead old progress head)
     → h.intermediates ≡ []
@@ -167,7 +167,7 @@ after_no_intermediate {old} progress head b h none is k more =
       counts = more h.parameters h.counts;
     }
 
--- no intermediate is held where the head may have parameters
+-- A head that has come no further than its parameters holds no intermediate, so a byte of the parameters fits.
 pub holds-parameter : {old new : Collected} {progress : HeadProgress} (head : List ℕ) (b : ℕ)
     → (progress ≡ Entry) ⊎ (progress ≡ Parameters) → HasReadHead old progress head
     → is_parameter_text (class_of b) ≡ true → SameIntermediates old new
@@ -178,13 +178,13 @@ holds-parameter {old} head b (inr e) s is k more =
     let h : HoldsHead old Parameters head =
     rw e at s in after_no_intermediate Parameters head b h h.reaches.1 is k more
 
--- a marker after a marker or a parameter
+-- A marker after a marker or a parameter makes the head ill-shaped for good.
 ill_shaped-marker : (old : Collected) (head : List ℕ) (b : ℕ) → HoldsHead old Parameters head → class_of b ≡ Marker
     → StaysIllShaped (head ++ b ∷ [])
 unfolding is_well_shaped
 ill_shaped-marker old head b h is = search (rules, arith, append-nil, append_assoc, head_of-parts, list_all-not)
 
--- what is no intermediate after an intermediate
+-- After an intermediate, any byte other than an intermediate makes the head ill-shaped for good.
 ill_shaped-after_intermediate : (old : Collected) (head : List ℕ) (b : ℕ) → HoldsHead old Intermediates head
     → is_intermediate (class_of b) ≡ false → StaysIllShaped (head ++ b ∷ [])
 unfolding is_well_shaped
@@ -207,7 +207,7 @@ ill_shaped-more head b s = record { stays = λ more. rw append_assoc (s.stays (b
 pub ill_shaped-now : {head : List ℕ} → StaysIllShaped head → is_well_shaped (head_of head) ≡ false
 ill_shaped-now s = rw append-nil at (s.stays [])
 
--- at the end of a head that is well shaped
+-- At the end of a head that is well shaped, what is held is ready.
 pub head-ready : {old new : Collected} (more : Bool) {ignored : Bool} {progress : HeadProgress} {head : List ℕ}
     → ((text : List ℕ) → CountsNumbers old text → HoldsNumbers new more text)
     → SameIntermediates old new → HoldsHead old progress head → ignored ≡ (new.too_many_intermediates || more)
@@ -217,13 +217,13 @@ head-ready more settles k h is = search (rules, arith, held-parts, Holds-kept, h
 pub holds-nothing : (new : Collected) → HoldsIntermediates new [] → CountsNumbers new [] → HoldsHead new Entry []
 holds-nothing new holds counts = search (rules, arith)
 
--- what is left of the bytes of a head
+-- A class of head bytes that is neither of parameters nor of intermediates is that of markers.
 pub left_is_marker : (k : Class) → is_head_byte k ≡ true → is_parameter_text k ≡ false
     → is_intermediate k ≡ false → k ≡ Marker
 left_is_marker Marker h p i = refl
 left_is_marker _ h p i = cc
 
--- a marker that does not come first, or a digit or a separator that may not come next
+-- A marker that isn't first, or a digit or separator that may not come next, makes the head ill-shaped for good.
 pub ill_shaped-late : (old : Collected) (progress : HeadProgress) (head : List ℕ) (b : ℕ)
     → HasReadHead old progress head
     → is_head_byte (class_of b) ≡ true
@@ -233,7 +233,7 @@ pub ill_shaped-late : (old : Collected) (progress : HeadProgress) (head : List �
 ill_shaped-late old progress head b s h i p e =
     grind (arith, nat_tests, ill_shaped-marker, left_is_marker, ill_shaped-after_intermediate, ill_shaped-more)
 
--- what is handed over at the end of a head
+-- At the end of a head, the call has the event of the sequence.
 pub dispatched-ready : (call : List (List ℕ) → List ℕ → Bool → ℕ → Event) {held : Collected} {ignored : Bool}
     {head : List ℕ} (final : ℕ)
     → IsReady held ignored head

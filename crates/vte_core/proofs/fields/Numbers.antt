@@ -9,7 +9,7 @@ use Rattle.std.proofs.lemmas.List.Splits.{slice_split_at, slice_split_none}
 
 -- ---- groups cut by lengths
 
--- By induction over the lengths, which together are as many as the numbers.
+-- The proofs are by induction over the lengths, whose sum is the number of numbers.
 
 abbrev pub IsFilled : List ℕ → Type 0
 IsFilled group = 0 < length group
@@ -23,14 +23,14 @@ AreSmall group = All IsSmallNumber group
 abbrev pub numbered : Bool → ℕ → Number
 numbered joined value = record { joined = joined; value = value }
 
--- no group is longer than all together
+-- There are at most as many lengths as their sum, as none is 0.
 length_le_sum : (lengths : List ℕ) → All (λ n. 0 < n) lengths → length lengths ≤ sum lengths
 length_le_sum [] filled = omega arith
 length_le_sum (n ∷ lengths) filled =
     let more = length_le_sum lengths (All-tail (λ m. 0 < m) n lengths filled) in
     omega (arith, more, All-head (λ m. 0 < m) n lengths filled, sum_by-cons (λ (m : ℕ). m) n lengths)
 
--- the first length takes its part, and the others take up the rest
+-- The first length takes its part, and the others take up the rest.
 sum_rest : (n : ℕ) (lengths numbers : List ℕ) → sum (n ∷ lengths) ≡ length numbers
     → (n ≤ length numbers) × (sum lengths ≡ length (drop n numbers))
 sum_rest n lengths numbers whole =
@@ -88,7 +88,7 @@ AreGroups-cut_by_lengths lengths numbers ok at_most =
 
 -- ---- a number more
 
--- It begins a group, or joins the last one, whose length grows; the groups before it stay.
+-- A number begins a group, or joins the last one, whose length grows; the groups before it stay.
 
 pub with_number-begins : (groups : List (List ℕ)) (value : ℕ)
     → with_number groups (numbered false value) ≡ groups ++ (value ∷ []) ∷ []
@@ -104,7 +104,7 @@ with_number-joins (first ∷ []) group value = refl
 with_number-joins (first ∷ next ∷ groups) group value =
     ap (λ (gs : List (List ℕ)). first ∷ gs) (with_number-joins (next ∷ groups) group value)
 
--- the groups of a prefix, and one more after them
+-- One more length cuts off one more group.
 cut_by_lengths-push : (lengths numbers : List ℕ) (n : ℕ) (more : List ℕ) → sum lengths ≡ length numbers
     → length more ≡ n
     → cut_by_lengths (lengths ++ n ∷ []) (numbers ++ more) ≡ cut_by_lengths lengths numbers ++ more ∷ []
@@ -121,7 +121,7 @@ cut_by_lengths-push (m ∷ lengths) numbers n more whole size =
 sum_push : (lengths : List ℕ) (n : ℕ) → sum (lengths ++ n ∷ []) ≡ sum lengths + n
 sum_push lengths n = sum_by_push (λ (m : ℕ). m) lengths n
 
--- the last group has what the lengths before its own leave, and more
+-- The last group has what the lengths before its own leave, and the further numbers.
 cut_by_lengths-last : (rest numbers more : List ℕ) (n m : ℕ) → sum rest + n ≡ length numbers → m ≡ n + length more
     → cut_by_lengths (rest ++ m ∷ []) (numbers ++ more)
     ≡ cut_by_lengths rest (take (sum rest) numbers) ++ (drop (sum rest) numbers ++ more) ∷ []
@@ -133,7 +133,7 @@ cut_by_lengths-last rest numbers more n m whole size =
     (sym (length-take-le at numbers (omega arith)))
     (omega (arith, length-append (drop at numbers) more, length-drop at numbers))
 
--- what is there with the number
+-- What holds once a number is pushed.
 pub record IsPushed (joined : Bool) (lengths rest numbers : List ℕ) (last : Option ℕ) (value : ℕ) : Type 0 where
   pub room : unwrap_or last 0 + length rest ≤ length numbers
   pub groups : cut_by_lengths (rest ++ (unwrap_or last 0 + 1) ∷ []) (numbers ++ value ∷ [])
@@ -187,11 +187,11 @@ pushed false lengths rest numbers None value ok taken =
 
 -- ---- lengths that are added up one after another
 
--- with one more
+-- The sum of the first i + 1 is that of the first i and the next.
 pub sum_take_more : (xs : List ℕ) (i : ℕ) → i < length xs → sum (take (i + 1) xs) ≡ sum (take i xs) + get_or xs i 0
 sum_take_more xs i some = rw (take_more xs i 0 some) (sum_by_push (λ x. x) (take i xs) (get_or xs i 0))
 
--- the first of them come to no more than all
+-- The first i and the next come to no more than all.
 pub sum_take_below : (xs : List ℕ) (i : ℕ) → i < length xs → sum (take i xs) + get_or xs i 0 ≤ sum xs
 sum_take_below xs i some = omega (arith, sum_take_more xs i some, sum_by-take-le (λ x. x) xs (i + 1))
 
@@ -240,7 +240,7 @@ is_digit_no_separator d low high = grind (arith, nat_tests)
 digit_value_is : (d : ℕ) → 48 ≤ d → d < 58 → digit_value d ≡ d - 48
 digit_value_is d low high = grind (arith, nat_tests)
 
--- a digit after a number that has stopped at the greatest leaves it there
+-- One more digit counts from the number so far, even if this has stopped at the greatest.
 pub number_of-push : (digits : List ℕ) (d : ℕ) → 48 ≤ d → d < 58
     → number_of (digits ++ d ∷ []) ≡ min greatest_number (10 * number_of digits + (d - 48))
 number_of-push digits d low high =
@@ -249,7 +249,7 @@ number_of-push digits d low high =
 abbrev pub IsSmall : Number → Type 0
 IsSmall n = n.value ≤ greatest_number
 
--- there is one, and each is at most 65,535
+-- There is at least one number, and each is at most 65,535.
 numbers_from-small : (joined : Bool) (digits text : List ℕ)
     → (0 < length (numbers_from joined digits text)) × All IsSmall (numbers_from joined digits text)
 numbers_from-small joined digits [] = search (rules, arith)
@@ -290,7 +290,7 @@ count_of-fold groups (n ∷ ns) = omega (arith, count_of-fold (with_number group
 pub count_of-grouped : (ns : List Number) → count_of (grouped ns) ≡ length ns
 count_of-grouped ns = omega (arith, count_of-fold [] ns)
 
--- what holds of each group, where a number that begins a group and one that joins it keep it
+-- What holds of each group, if a number that begins a group and one that joins it keep it.
 record Keeps (Q : List ℕ → Type 0) (R : ℕ → Type 0) : Type 0 where
   begins : (value : ℕ) → R value → Q (value ∷ [])
   joins : (group : List ℕ) (value : ℕ) → R value → Q group → Q (group ++ value ∷ [])
@@ -318,12 +318,12 @@ any_group : (groups : List (List ℕ)) → 0 < count_of groups → 0 < length gr
 any_group [] some = some
 any_group (group ∷ groups) some = omega arith
 
--- there is a group, also of an empty text
+-- Each text has a group, even an empty text.
 pub some_group : (text : List ℕ) → 0 < length (groups_of text)
 unfolding groups_of
 some_group text = search (rules, arith, any_group, count_of-grouped, length-take, numbers_small)
 
--- no group is empty
+-- No group is empty.
 filled-grouped : (ns : List Number) → All IsFilled (grouped ns)
 filled-grouped ns =
     let keeps : Keeps IsFilled (λ value. Unit {0}) = record {
@@ -345,7 +345,7 @@ AreGroups-grouped ns at_most small =
       filled = filled-grouped ns;
     }
 
--- a parameter text gives at most 32 numbers, each up to 65,535
+-- A parameter text gives at most 32 numbers, each up to 65,535.
 pub AreGroups-groups_of : (text : List ℕ) → AreGroups (groups_of text)
 unfolding groups_of
 AreGroups-groups_of text =

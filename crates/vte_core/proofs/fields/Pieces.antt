@@ -8,7 +8,7 @@ use Rattle.std.proofs.lemmas.List.{length-map, map_push, take_more_set}
 
 -- ---- the pieces of a text are its data bytes, cut at each `;`
 
--- `prefix` is the beginning of the piece that the text continues
+-- The ends cut data into the pieces of the text; `prefix` is the beginning of the piece that the text continues.
 cut_onto : (earlier prefix text : List ℕ) → All (λ b. (b == semicolon) ≡ false) prefix →
     cut_data (length earlier) (earlier ++ (prefix ++ filter is_data_item text))
     (ends_after (length earlier + length prefix) text)
@@ -28,6 +28,7 @@ cut_onto earlier prefix (item ∷ text) none =
         (ends_after (length earlier + length prefix) (item ∷ text))
         ≡ slice_split (λ b. b == semicolon) (prefix ++ item ∷ text)
     by_test true e rests =
+        -- A `;` ends the piece, and the next one begins with nothing.
         let more = rests (earlier ++ prefix) [] (λ k d lt. absurd (omega arith)) in
         let first = slice_split_at (λ b. b == semicolon) prefix item text none e in
         let later = filter is_data_item text in
@@ -37,6 +38,7 @@ cut_onto earlier prefix (item ∷ text) none =
         let cut = take_at prefix later (length prefix) refl in
         grind (arith, more, first, counted, joined, all, cut)
     by_test false e rests =
+        -- Any other item continues the piece.
         let more = rests earlier (prefix ++ item ∷ []) (All-push (λ b. (b == semicolon) ≡ false) prefix item none e) in
         let counted = length-append prefix (item ∷ []) in
         let joined = append_assoc prefix (item ∷ []) (filter is_data_item text) in
@@ -57,7 +59,7 @@ length_onto_first : (item : ℕ) (pieces : List (List ℕ))
     → length (concat (onto_first item pieces)) ≡ length (concat pieces) + 1
 length_onto_first item pieces = search (rules, arith)
 
--- all pieces of a text have its data bytes
+-- All pieces of a text together have as many bytes as it has data bytes.
 pieces_length : (text : List ℕ)
     → length (concat (slice_split (λ b. b == semicolon) text)) ≡ length (filter is_data_item text)
 pieces_length [] = refl
@@ -113,7 +115,7 @@ kept-all : (items : List ℕ) (count : ℕ) → kept_after None count items ≡ 
 kept-all [] count = refl
 kept-all (item ∷ items) count = ap (λ those. item ∷ those) (kept-all items _)
 
--- how much data is kept of a command with these items
+-- How much data is kept of a command with these items.
 abbrev kept_size : List ℕ → ℕ
 kept_size items = length (concat (pieces_of None items))
 
@@ -124,9 +126,9 @@ pieces_push items item =
 
 -- ---- the slices of a dispatch
 
--- They are the pieces that the ends cut: with fewer than 16 ends one more piece is after the last.
+-- The slices are the pieces that the ends cut: with fewer than 16 ends, one more piece is after the last.
 
--- what slices show
+-- The bytes that slices show.
 abbrev pub contents : List (Bor (List ℕ)) → List (List ℕ)
 contents slices = map (λ slice. slice.now) slices
 
@@ -138,13 +140,16 @@ pub contents_last : (slices later : List (Bor (List ℕ))) (slice : Bor (List �
     contents (take index slices) ++ cut_data start bytes (drop index ends) ≡ cut_data 0 bytes ends →
     contents (take (length ends + 1) later) ≡ take most_pieces (cut_data 0 bytes ends)
 contents_last slices later slice bytes ends start index at_end at_most all written is cut =
+    -- The last slice comes after those that end at an end.
     let taken = take_more_set slices (length ends) slice (omega arith) in
     let pushed = map_push (λ (slice : Bor (List ℕ)). slice.now) (take (length ends) slices) slice in
+    -- No end is left, so the rest of the bytes is one piece.
     let left = drop_all index ends (omega arith) in
+    -- Fewer than 16 ends cut at most 16 pieces, so all of them count.
     let whole = take_all most_pieces (cut_data 0 bytes ends) (omega (arith, length_cut_data 0 bytes ends)) in
     rw (written, taken, pushed, is, whole) (rw (left, at_end) at cut)
 
--- 16 ends leave no place for what is after them
+-- 16 ends leave no place for what is after them.
 pub contents_all : (slices : List (Bor (List ℕ))) (bytes ends : List ℕ) (start index : ℕ) →
     index ≡ length ends → length ends ≡ most_pieces → length slices ≡ most_pieces →
     contents (take index slices) ++ cut_data start bytes (drop index ends) ≡ cut_data 0 bytes ends →

@@ -9,7 +9,7 @@ use Rattle.vte_core.specs.machine.SavedLayout.{HasIntermediates, IsInHead, IsRes
 use Rattle.vte_core.specs.machine.Store.{AreParts, ArePieceEnds}
 use Rattle.vte_core.specs.Saved.{HasReadSaved}
 
--- what a state says of the place, if the parser is in it
+-- If the parser is in a state at a place, it is a place of the state.
 pub is_at-in : {B : Type 0} {limit : Option ℕ} {state : State} {parser : Machine B} {place : Place}
     → parser.state ≡ state → IsAtPlace limit parser place
     → IsPlaceOfState limit state parser place
@@ -31,7 +31,7 @@ pub is_at-escape : {B : Type 0} {limit : Option ℕ} (parser : Machine B) → Is
     → HoldsIntermediates parser.collected []
 is_at-escape {limit} parser s = escape-by_state limit parser.state parser s.fields
 
--- in that state there is one shape of places
+-- In a command, there is one shape of places.
 pub record InCommandAt {B : Type 0} (limit : Option ℕ) (parser : Machine B) (place : Place) : Type 0 where
   pub items : List ℕ
   pub same : place ≡ InSystemCommand items
@@ -45,7 +45,7 @@ pub in_command : {B : Type 0} {limit : Option ℕ} {parser : Machine B} {place :
     → IsAtPlace limit parser place → InCommandAt limit parser place
 in_command {limit} e s = command-by_place (is_at-in e s)
 
--- This is true of a place where some parser is.
+-- `IsPlace` is true of each place at which some parser is.
 abbrev pub IsPlace : Place → Type 0
 IsPlace (InText u) = may_continue u ≡ true
 IsPlace _ = Unit {0}
@@ -68,7 +68,7 @@ text_outcome-open : (limit : Option ℕ) (u : List ℕ) → may_continue u ≡ t
 text_outcome-open limit [] o = text_outcome-nothing
 text_outcome-open limit (a ∷ u) o = rw append-nil (text_outcome-end (a ∷ u) o)
 
--- nothing more reports nothing, and leaves open what is open at the place
+-- If no bytes follow, nothing is reported, and what is open at the place stays open.
 pub rest_outcome-nothing : (limit : Option ℕ) (place : Place) → IsPlace place
     → rest_outcome limit place [] ≡ leaves (left_at limit place)
 unfolding body_outcome executed_events escape_from control_sequence_from device_control_from device_data_outcome
@@ -92,7 +92,7 @@ pub open_at-settled : (place : Place) → IsSettledPlace place → open_at place
 open_at-settled (InText u) none = none
 open_at-settled _ none = refl
 
--- between characters
+-- A parser between characters is at the place of a text with nothing open.
 pub is_at-text_begun : {B : Type 0} {limit : Option ℕ} {parser : Machine B} → parser.state ≡ Text Nothing
     → IsAtPlace limit parser (InText [])
 is_at-text_begun e = is_at-by e (refl, refl)
@@ -105,7 +105,7 @@ keeps-same same keeps = search (rules, arith)
 
 -- A machine with the state of another, what is collected there and its items has read the same.
 
--- In a state only what counts in it must be the same.
+-- If the parser stays in a state, only what counts in this state must be the same.
 place_of_state-same : {B C : Type 0} (limit : Option ℕ) (state : State) (old : Machine B) (new : Machine C)
     (place : Place)
     → (HasIntermediates state → (ints : List ℕ) → HoldsIntermediates old.collected ints
@@ -166,7 +166,7 @@ items-saved : {B C : Type 0} {saved : Saved} {old : Machine B} {new : Machine C}
     → new.state ≡ SystemCommand → SameItems old.command new.command
 items-saved h r old_is new_is = search (rules, arith)
 
--- what was saved has read what the machine has
+-- What was saved has read what the machine has.
 pub reads_saved : {B : Type 0} {saved : Saved} {machine : Machine B} → HasSaved saved machine
     → (stream : List ℕ) → HasReadWithLimit usual_limit machine stream → HasReadSaved saved stream
 reads_saved {machine} h stream has_read =

@@ -18,7 +18,7 @@ module _ (limit : Option ℕ) (bytes ends : List ℕ) where
   pieces_from-nothing : pieces_from limit bytes ends [] ≡ cut_pieces bytes ends
   pieces_from-nothing = rw (append-nil bytes, append-nil ends) refl
 
-  -- without room nothing is kept
+  -- Without room, nothing more is kept.
   pub pieces_from-full : has_room limit (length bytes) ≡ false → (more : List ℕ)
       → pieces_from limit bytes ends more ≡ cut_pieces bytes ends
   pieces_from-full full [] = pieces_from-nothing
@@ -42,7 +42,7 @@ fitting-full : (limit : Option ℕ) (count : ℕ) (run : List ℕ) → has_room 
     → fitting limit count run ≡ []
 fitting-full limit count run full = search (rules, arith)
 
--- data bytes are kept as far as there is room
+-- Data bytes are kept as far as there is room.
 pieces_from-run : (limit : Option ℕ) (bytes ends run more : List ℕ) → All IsDataItem run →
     pieces_from limit bytes ends (run ++ more)
     ≡ pieces_from limit (bytes ++ fitting limit (length bytes) run) ends more
@@ -65,7 +65,7 @@ pieces_from-run limit bytes ends (b ∷ run) more none =
 
 -- ---- where pieces end
 
--- a data byte belongs to the piece after the last end
+-- A data byte belongs to the piece after the last end.
 piece_ends-more : (left start : ℕ) (ends : List ℕ) (count more : ℕ) → length ends < left
     → PiecesEnd left start ends count → PiecesEnd left start ends (count + more)
 piece_ends-more zero start ends count more at_most are = absurd (omega arith)
@@ -88,7 +88,7 @@ piece_ends-within (suc left) start [] count are = are
 piece_ends-within (suc left) start (end ∷ ends) count are =
     omega (arith, are.0, piece_ends-within left end ends count are.1)
 
--- all bytes are in the pieces
+-- All bytes are in the pieces.
 piece_ends-stored : (left start : ℕ) (bytes ends : List ℕ) → PiecesEnd left start ends (length bytes)
     → start + length (concat (take left (cut_data start bytes ends))) ≡ length bytes
 piece_ends-stored zero start bytes [] are = omega (arith, are)
@@ -109,7 +109,7 @@ slice_within : (start end : ℕ) (bytes more : List ℕ) → start ≤ end → e
     → slice_range (bytes ++ more) start end ≡ slice_range bytes start end
 slice_within start end bytes more order within = search (rules, arith, drop-append-le, take-append-le, length-drop)
 
--- after the last of them further bytes and ends make no difference
+-- After the last piece, further bytes and ends make no difference.
 piece_ends-complete : (start : ℕ) (bytes ends more later : List ℕ) → PiecesEnd (length ends) start ends (length bytes) →
     take (length ends) (cut_data start (bytes ++ more) (ends ++ later)) ≡ take (length ends) (cut_data start bytes ends)
 piece_ends-complete start bytes [] more later are = refl
@@ -152,11 +152,11 @@ pub keeps-nothing : (limit : Option ℕ) (held : Stored) → held.bytes ≡ [] �
 unfolding pieces_of kept_items
 keeps-nothing limit held no_bytes no_ends none_lost = search (rules, arith, cut_at_ends)
 
--- no item more counts
+-- No further item counts.
 abbrev IsDone : Option ℕ → Stored → Type 0
 IsDone limit held = (more : List ℕ) → pieces_from limit held.bytes held.ends more ≡ cut_pieces held.bytes held.ends
 
--- after 16 ends
+-- After 16 ends, no further item counts.
 pub done-complete : {limit : Option ℕ} {held : Stored} {items : List ℕ} → length held.ends ≡ most_pieces
     → HoldsItems limit held items → IsDone limit held
 done-complete {limit} {held} complete keeps more =
@@ -170,7 +170,7 @@ none-counts : {limit : Option ℕ} {held : Stored} {items : List ℕ} (more : Li
 none-counts {items} more done keeps later =
     rw (append_assoc items more later) (keeps.goes_on (more ++ later) ∙ done (more ++ later) ∙ sym (done later))
 
--- after 16 ends, data bytes are dropped
+-- After 16 ends, data bytes are dropped.
 pub keeps-later : (limit : Option ℕ) (old new : Stored) (items run : List ℕ) → length old.ends ≡ most_pieces
     → All IsDataItem run
     → new.bytes ≡ old.bytes → new.ends ≡ old.ends
@@ -179,12 +179,12 @@ pub keeps-later : (limit : Option ℕ) (old new : Stored) (items run : List ℕ)
 keeps-later limit old new items run complete none bytes ends lost keeps =
     search (rules, arith, none-counts, done-complete, count-run, loses-more)
 
--- if no more items count, a `;` changes nothing
+-- If no more items count, a `;` changes nothing.
 pub keeps-done : {limit : Option ℕ} {held : Stored} {items : List ℕ} → IsDone limit held → HoldsItems limit held items
     → HoldsItems limit held (items ++ semicolon ∷ [])
 keeps-done {items} done keeps = search (rules, arith, none-counts, count-end)
 
--- data bytes more
+-- Before 16 ends, data bytes are kept as far as there is room.
 pub keeps-run : (limit : Option ℕ) (old new : Stored) (items run : List ℕ) → length old.ends < most_pieces
     → All IsDataItem run
     → new.bytes ≡ old.bytes ++ fitting limit (length old.bytes) run → new.ends ≡ old.ends
@@ -194,7 +194,7 @@ pub keeps-run : (limit : Option ℕ) (old new : Stored) (items run : List ℕ) �
 keeps-run limit old new items run at_most none bytes ends lost keeps =
     search (rules, arith, piece_ends-more, length-append, length-fitting, append_assoc, pieces_from-run, count-run)
 
--- a `;` more
+-- Before 16 ends, a `;` ends a piece if there is room.
 pub keeps-end : (limit : Option ℕ) (old new : Stored) (items : List ℕ) → length old.ends < most_pieces
     → has_room limit (length old.bytes) ≡ true
     → new.bytes ≡ old.bytes → new.ends ≡ old.ends ++ length old.bytes ∷ [] → new.lost ≡ old.lost
@@ -203,19 +203,19 @@ pub keeps-end : (limit : Option ℕ) (old new : Stored) (items : List ℕ) → l
 keeps-end limit old new items at_most room bytes ends lost keeps =
     search (rules, arith, append_assoc, piece_ends-push, count-end)
 
--- the pieces, by what a store holds
+-- The pieces are what a store's ends make of its bytes.
 pub pieces_held : {limit : Option ℕ} {held : Stored} {items : List ℕ} → HoldsItems limit held items
     → pieces_of limit items ≡ cut_pieces held.bytes held.ends
 pieces_held {limit} {held} keeps =
     rw append-nil at (keeps.goes_on [] ∙ pieces_from-nothing limit held.bytes held.ends)
 
--- all bytes are in them
+-- The pieces have all bytes of the store.
 pub pieces_stored : {limit : Option ℕ} {held : Stored} {items : List ℕ} → HoldsItems limit held items
     → length held.bytes ≡ length (concat (pieces_of limit items))
 pieces_stored {held} keeps =
     rw (pieces_held keeps) (omega (arith, piece_ends-stored most_pieces 0 held.bytes held.ends keeps.end))
 
--- a store knows whether data bytes were dropped
+-- A store knows whether data bytes were dropped.
 pub loses_held : {limit : Option ℕ} {held : Stored} {items : List ℕ} → HoldsItems limit held items
     → loses_data limit items ≡ held.lost
 unfolding loses_data
@@ -225,7 +225,7 @@ loses_held {limit} {held} {items} keeps = rw (pieces_stored keeps) at (sym keeps
 
 -- With fewer than 16 `;` the byte joins the last piece, and the others stay.
 
--- the pieces of held bytes, and those with a byte more
+-- One more byte continues the last piece of the held bytes.
 record ContinuesPiece (start : ℕ) (bytes ends : List ℕ) (byte : ℕ) : Type 0 where
   pieces : List (List ℕ)
   last : List ℕ
@@ -274,7 +274,7 @@ concat-last : (pieces : List (List ℕ)) (last : List ℕ)
     → length (concat (pieces ++ last ∷ [])) ≡ length (concat pieces) + length last
 concat-last pieces last = rw (concat-append pieces (last ∷ []), append-nil last) (length-append (concat pieces) last)
 
--- a data byte more that is in a piece isn't dropped
+-- One more data byte that is in a piece isn't dropped.
 loss-same : (items : List ℕ) (byte : ℕ) (pieces : List (List ℕ)) (last : List ℕ)
     → pieces_of None items ≡ pieces ++ last ∷ []
     → pieces_of None (items ++ byte ∷ []) ≡ pieces ++ (last ++ byte ∷ []) ∷ [] → byte ≢ semicolon

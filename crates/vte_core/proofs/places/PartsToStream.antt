@@ -4,7 +4,7 @@ use Rattle.vte_core.proofs.Common.{◌≡◌, ℕ, false, eqb, Option, List, [],
 use Rattle.vte_core.proofs.Shapes.{report-append, with_bodies-report}
 use Rattle.vte_core.proofs.fields.PlaceOfState.{IsPlace, rest_outcome-nothing}
 
--- a stream is what more bytes give after nothing
+-- The outcome of a stream is what its bytes give after nothing.
 pub outcome-after_nothing : (limit : Option ℕ) (stream : List ℕ)
     → outcome limit stream ≡ outcome_from limit (InText []) stream
 unfolding outcome outcome_from
@@ -21,20 +21,20 @@ outcome_from-byte : (limit : Option ℕ) (place : Place) (b : ℕ) (more : List 
 unfolding outcome_from
 outcome_from-byte limit place b more e = simp e
 
--- what a byte does in a text or a body, it does in the stream
+-- What a byte does in a text or a body, it also does in the stream.
 pub bytes_lead-byte : {limit : Option ℕ} {place next : Place} {b : ℕ} {reported : List Event} → eqb b escape ≡ false
     → Leads limit place b reported next → BytesLead limit place (b ∷ []) reported next
 unfolding outcome_from
 bytes_lead-byte {limit} {place} {next} {b} {reported} e l = search (rules, arith, outcome_from-byte, with_bodies-report)
 
--- the same where the byte is still to be read
+-- The same holds if the byte is still to be read.
 pub waits-byte : (limit : Option ℕ) (place next : Place) (b : ℕ) (reported : List Event) (more : List ℕ)
     → eqb b escape ≡ false
     → ((rest : List ℕ) → rest_outcome limit place (b ∷ rest) ≡ report reported (rest_outcome limit next (b ∷ rest)))
     → outcome_from limit place (b ∷ more) ≡ report reported (outcome_from limit next (b ∷ more))
 waits-byte limit place next b reported more e l = search (rules, arith, outcome_from-byte, with_bodies-report)
 
--- ESC closes what is before it
+-- ESC closes what is open before it.
 pub outcome_from-escape : (limit : Option ℕ) (place : Place) (more : List ℕ) → IsPlace place
     → outcome_from limit place (escape ∷ more)
     ≡ report (closing_events_at limit place) (outcome_from limit AtEscape more)

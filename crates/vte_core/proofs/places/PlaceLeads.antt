@@ -14,7 +14,7 @@ use Rattle.vte_core.proofs.bytes.Scalars.{well_formed_is_scalar}
 
 -- ---- DEL and 80..FF
 
--- where they are dropped
+-- The places at which DEL and 80..FF are dropped.
 abbrev pub drops : Place → Bool
 drops (InText u) = false
 drops InDeviceData = false
@@ -28,7 +28,7 @@ byte-dropped at e h = search (rules, arith)
 
 -- ---- C0
 
--- where they are executed, and nothing changes
+-- The places at which bytes of C0 are executed, and nothing changes.
 abbrev executes : Place → Bool
 executes AtEscape = true
 executes (InEscape intermediates) = true
@@ -48,7 +48,7 @@ unfolding body_outcome executed_events escape_outcome escape_from
 escape-intermediate {b} e =
     let s = spans b e in record { leads = λ rest. simp (e, below_finals b (omega arith)) }
 
--- the place after a key that begins a body
+-- The place after a key that begins a body.
 abbrev begun_by : SequenceKind → Place
 begun_by ControlSequence = InControlSequence []
 begun_by DeviceControl = InDeviceControl []
@@ -80,7 +80,7 @@ pub intermediate-end : {limit : Option ℕ} {ints : List ℕ} {b : ℕ} {k : Cla
 unfolding escape_from executed_events
 intermediate-end e h = search (rules, arith)
 
--- where it has no other meaning after ESC
+-- A byte that has no other meaning after ESC ends an escape sequence.
 pub escape-end : {limit : Option ℕ} {b : ℕ} {k : Class} → class_of b ≡ k → dispatches_escape k ≡ true
     → sequence_kind b ≡ EscapeSequence
     → Leads limit AtEscape b (EscDispatch [] false b ∷ []) (InText [])
@@ -134,7 +134,7 @@ device-ill_shaped e ill = record { leads = λ rest. simp (e, append-nil, ill) }
 
 -- ---- in the data of a hooked string
 
--- a byte of a class that is data does not end them
+-- A byte of a class that is data doesn't end the data of a device control string.
 data_is_no_end : (b : ℕ) → is_device_data (class_of b) ≡ true → ends_device_data b ≡ false
 unfolding class_of
 data_is_no_end b h = grind (arith, nat_tests)
@@ -167,7 +167,7 @@ command-item {b} low =
     let is : nat_le 0x20 b ≡ true =
     grind (arith, nat_tests) in record { leads = λ rest. simp (item_is_no_end b low, is, append_assoc) }
 
--- C0 but BEL is dropped
+-- In an operating system command, bytes of C0 other than BEL are dropped.
 pub command-control : {limit : Option ℕ} {items : List ℕ} {b : ℕ} → class_of b ≡ Control → eqb b bell ≡ false
     → Leads limit (InSystemCommand items) b [] (InSystemCommand items)
 unfolding system_command_from class_of
@@ -209,7 +209,7 @@ executed_low b low = grind (arith, nat_tests)
 pub two_at_most : (bytes : List ℕ) → length (first_two bytes) ≤ 2
 two_at_most bytes = omega (arith, length-take 2 bytes)
 
--- the event of a sequence and of a hook have the same bounds
+-- The events of a sequence and of a hook have the same bounds.
 pub bounded-head : (limit : Option ℕ) (head : Head) (final : ℕ) → (0x40 ≤ final) × (final < 0x7f)
     → IsBounded limit (sequence_event CsiDispatch head final) × IsBounded limit (sequence_event Hook head final)
 unfolding sequence_event

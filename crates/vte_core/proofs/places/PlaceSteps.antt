@@ -19,8 +19,8 @@ HoldsNothing (InText (a ∷ u)) = ⊥
 HoldsNothing (InSystemCommand (item ∷ items)) = ⊥
 HoldsNothing _ = Unit {0}
 
--- From outside of text to a place that holds no bytes of a character or a command. Between places that are known this
--- computes, and `(tt, tt)` proves it.
+-- The first place is outside of text, and the next one holds no bytes of a character or a command. Between places that
+-- are known this computes, and `(tt, tt)` proves it.
 abbrev LeavesNothingOpen : Place → Place → Type 0
 LeavesNothingOpen place next = IsOutsideText place × HoldsNothing next
 
@@ -33,7 +33,7 @@ nothing_open : (limit : Option ℕ) (place : Place) → HoldsNothing place
 unfolding pieces_of kept_items
 nothing_open limit place j = search (rules, arith)
 
--- a byte of the class, of which the class says that it is not ESC
+-- A byte of a class that ends no body isn't ESC.
 no_escape-class : (b : ℕ) {k : Class} → class_of b ≡ k → ends_body k ≡ false → eqb b escape ≡ false
 no_escape-class b is no_end = no_escape b (rw is no_end)
 
@@ -56,14 +56,14 @@ module _ {limit : Option ℕ} {place next : Place} {b : ℕ} where
         outside_runs = outside_runs;
       }
 
-  -- by the byte's class
+  -- `Steps` holds for a byte whose class ends no body, if the byte leaves nothing open.
   step-leaving_nothing : {reported : List Event} {k : Class} → class_of b ≡ k → ends_body k ≡ false
       → LeavesNothingOpen place next → Leads limit place b reported next
       → ((size : Option ℕ) → FitsLeft size (left_at limit place) → AreFromOneByte size reported)
       → (IsOutsideRunsAtPlace place b → AreOutsideRuns reported) → Steps limit place b
   step-leaving_nothing is no_end = step-leaving_nothing_by (no_escape-class _ is no_end)
 
-  -- a byte that reports nothing
+  -- `Steps` holds for such a byte if it reports nothing.
   step-silent : {k : Class} → class_of b ≡ k → ends_body k ≡ false → LeavesNothingOpen place next
       → Leads limit place b [] next → Steps limit place b
   step-silent is no_end known leads = step-leaving_nothing is no_end known leads (λ _ _. tt) (λ _. tt)
@@ -179,7 +179,7 @@ step-in_device_data is no_end =
 
 -- ---- in an operating system command
 
--- a byte that joins the command, or is dropped there
+-- `Steps` holds for a byte that joins the command, or is dropped there.
 step-joins_command : {limit : Option ℕ} {items later : List ℕ} {b : ℕ} → eqb b escape ≡ false
     → Leads limit (InSystemCommand items) b [] (InSystemCommand later)
     → (limit ≡ None → open_data_count (left_at limit (InSystemCommand later))
@@ -227,7 +227,7 @@ step-ordinary limit (InSystemCommand items) b k placed is no_end = step-in_syste
 step-ordinary limit InIgnoredString b k placed is no_end =
     step-silent is no_end (tt, tt) (ignored-more (rw is (ends_not_cancel k no_end)))
 
--- ESC breaks a character
+-- As ESC breaks any open character, none is open here, so ESC reports nothing.
 silent_or_settles-escape : (limit : Option ℕ) (place : Place) → IsPlace place → IsText place
     → breaks (open_at place) (escape ∷ []) ≡ false → IsSilentOrSettles AtEscape (closing_events_at limit place)
 silent_or_settles-escape limit place is text unbroken = search (rules, arith)

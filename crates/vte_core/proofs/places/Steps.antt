@@ -3,11 +3,11 @@
 use Rattle.vte_core.proofs.Common.{◌≡◌, ℕ, false, Option, List, [], ◌∷◌, refl, class_of, Event, BytesLead, Place, InText, events, ◌⊎◌, AreFromOneByte, IsAtMostOneShort, IsOutsideRuns, is_device_data, Print, ◌≤◌, ◌+◌, None, FitsStore, ToClose, CommandToClose, open_data_count, left_at, replacement, InDeviceData, breaks, open_at}
 use Rattle.vte_core.proofs.fields.PlaceOfState.{IsPlace}
 
--- where a character is open at the place, at most U+FFFD was reported
+-- If a character is open at the next place, at most U+FFFD was reported.
 abbrev LeavesOpen : Place → List Event → Type 0
 LeavesOpen next reported = (open_at next ≡ []) ⊎ ((reported ≡ []) ⊎ (reported ≡ Print replacement ∷ []))
 
--- nothing was reported, or one short event after which no character is open
+-- Nothing was reported, or one short event after which no character is open.
 abbrev pub IsSilentOrSettles : Place → List Event → Type 0
 IsSilentOrSettles next reported = (reported ≡ []) ⊎ ((open_at next ≡ []) × IsAtMostOneShort reported)
 
@@ -19,12 +19,12 @@ pub text_at : (place : Place) → (open_at place ≡ [] → ⊥) → IsText plac
 text_at (InText begun) some = tt
 text_at _ some = absurd (some refl)
 
--- the pieces of the open command, if any, fit into a buffer of this size
+-- The pieces of the open command, if any, fit into a buffer of this size.
 abbrev pub FitsLeft : Option ℕ → ToClose → Type 0
 FitsLeft size (CommandToClose pieces dropped) = FitsStore size pieces
 FitsLeft size _ = Unit {0}
 
--- outside of a text, and of data that are put
+-- The byte is outside of a text, and of data that are put.
 abbrev pub IsOutsideRunsAtPlace : Place → ℕ → Type 0
 IsOutsideRunsAtPlace (InText begun) byte = ⊥
 IsOutsideRunsAtPlace InDeviceData byte = is_device_data (class_of byte) ≡ false
@@ -35,19 +35,19 @@ AreOutsideRuns [] = Unit {0}
 AreOutsideRuns (event ∷ []) = IsOutsideRuns event
 AreOutsideRuns (event ∷ events) = IsOutsideRuns event × AreOutsideRuns events
 
--- what the byte reports after the place, and where it leads
+-- What the byte reports after the place, and where it leads.
 pub record Steps (limit : Option ℕ) (place : Place) (byte : ℕ) : Type 0 where
   pub reported : List Event
   pub next : Place
   pub is_place : IsPlace next
-  -- for `after-reads`
+  -- For `after-reads`.
   pub reads : BytesLead limit place (byte ∷ []) reported next
-  -- for `laws::bytes_are_brief`
+  -- For `laws::bytes_are_brief`.
   pub brief : (size : Option ℕ) → FitsLeft size (left_at limit place) → AreFromOneByte size reported
-  -- for the size of a command without a limit
+  -- For the size of a command without a limit.
   pub grows : limit ≡ None → open_data_count (left_at limit next) ≤ open_data_count (left_at limit place) + 1
-  -- for early stops: nothing is reported where a character is left open
+  -- For early stops: nothing is reported if a character is left open.
   pub leaves : LeavesOpen next reported
   pub little : IsText place → breaks (open_at place) (byte ∷ []) ≡ false → IsSilentOrSettles next reported
-  -- for `advance_to_run`
+  -- For `advance_to_run`.
   pub outside_runs : IsOutsideRunsAtPlace place byte → AreOutsideRuns reported

@@ -38,7 +38,7 @@ step-silent_or_settles {limit} {begun} {later} {byte} {reported} little other le
   outside_runs = λ outside. absurd outside;
 }
 
--- the byte ends the character, or belongs to it, or neither
+-- `Steps` need only be shown for a byte that neither ends the character nor belongs to it.
 step-by_tests : {limit : Option ℕ} {begun : List ℕ} {byte : ℕ} → eqb byte escape ≡ false
     → (is_well_formed (begun ++ byte ∷ []) ≡ false → is_truncated (begun ++ byte ∷ []) ≡ false
     → Steps limit (InText begun) byte)
@@ -58,7 +58,7 @@ step-settled {byte} other =
     step-by_tests other
     (λ part none. step-silent_or_settles (inr (refl, short-malformed byte)) other (text-lone part none) refl)
 
--- the byte belongs to no character with those before it
+-- `Steps` holds for a byte that belongs to no character with those before it.
 step-broken : (limit : Option ℕ) (begun : List ℕ) (byte : ℕ) → eqb byte escape ≡ false → is_truncated begun ≡ true
     → is_well_formed (begun ++ byte ∷ []) ≡ false → is_truncated (begun ++ byte ∷ []) ≡ false
     → Steps limit (InText begun) byte
@@ -94,7 +94,7 @@ step-text limit begun byte other begun0 = search (rules, arith, step-settled, st
 
 -- ---- CAN and SUB
 
--- They end what is open and are executed: what is closed comes first. By cases of the place.
+-- CAN and SUB end what is open, which is closed first, and then are executed, by cases of the place.
 
 no_bell : (b : ℕ) → class_of b ≡ Cancel → eqb b bell ≡ false
 unfolding class_of
@@ -107,7 +107,7 @@ text_outcome-cancel rest b low =
     let control : is_control_character b ≡ true = grind (arith, nat_tests) in
     rw control at (text_outcome-well_formed (b ∷ []) rest (ascii-alone b (omega arith)).is_whole)
 
--- what is closed comes first, then the byte is executed
+-- CAN and SUB close what is open, and then are executed.
 pub byte-cancels : {limit : Option ℕ} {place : Place} {b : ℕ} → IsPlace place → class_of b ≡ Cancel
     → Leads limit place b (closing_events_at limit place ++ Execute b ∷ []) (InText [])
 unfolding body_outcome executed_events escape_from control_sequence_from control_sequence_end device_control_from

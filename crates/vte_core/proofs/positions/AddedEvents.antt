@@ -14,7 +14,8 @@ use Rattle.vte_core.proofs.streams.StreamSteps.{prints_no_ascii, prints_no_ascii
 
 -- ---- a performer that keeps all events
 
--- It is_at where any performer does (`recorded-at`), and its value is what was reported (`reported-at`).
+-- The performer that keeps all events is where any performer is (`recorded-at`), and its value is what was reported
+-- (`reported-at`).
 
 abbrev pub keep : List Event → Event → List Event
 keep events event = events ++ event ∷ []
@@ -71,7 +72,7 @@ outside_runs-place limit state parser place b outside s = search (rules, arith)
 
 -- ---- what is reported between two positions
 
--- No run, if no byte reports one (`adds-reads`): stretches compose (`adds-then`).
+-- If no byte reports a run, neither does the stretch (`adds-reads`), and stretches compose (`adds-then`).
 
 module _ {limit : Option ℕ} {stream bytes : List ℕ} {i : ℕ} where
   pub adds-same : {j : ℕ} → reported_before limit stream bytes i ≡ reported_before limit stream bytes j
@@ -126,7 +127,7 @@ module _ {limit : Option ℕ} {stream bytes : List ℕ} {i : ℕ} where
       let s = steps is_place in
       adds-reads within is a s.reads s.is_place (outside_runs-all s.reported (s.outside_runs outside))
 
-  -- what is reported of a character whose first byte reported nothing
+  -- If the first byte of a character reported nothing, what is added from it on are the events of the character.
   pub adds-character : {begun : List ℕ} {j : ℕ} (a : AddsCharacter limit stream begun bytes (i + 1) j)
       → reported_before limit stream bytes i ≡ added limit stream (take (i + 1) bytes) → All IsOutsideRuns a.events
       → AddsOutsideRuns limit stream bytes i j
@@ -134,7 +135,7 @@ module _ {limit : Option ℕ} {stream bytes : List ℕ} {i : ℕ} where
 
 -- ---- before a run
 
--- Nothing at the start, then what an open character is, then stretches of which each reports none.
+-- First nothing is reported, then what an open character is, then stretches of which none reports a run.
 
 abbrev AllAfterFirst : List Event → Type 0
 AllAfterFirst events = All IsOutsideRuns (drop 1 events)
@@ -144,7 +145,7 @@ after_first-append : (reported events : List Event) → AllAfterFirst reported �
 after_first-append [] events first are = All-drop IsOutsideRuns 1 events are
 after_first-append (event ∷ reported) events first are = All-append IsOutsideRuns reported events first are
 
--- nothing, at its start
+-- At the start of a call, nothing is reported.
 pub reports-nothing : {B : Type 0} {limit : Option ℕ} {stream bytes : List ℕ} {parser : Machine B}
     → IsSettled parser.state → HasReadWithLimit limit parser stream → ReportsOutsideRuns limit stream bytes 0
 reports-nothing {limit} {stream} {bytes} settled h =
@@ -156,7 +157,7 @@ reports-nothing {limit} {stream} {bytes} settled h =
       no_ascii = subst (All PrintsNoAscii) none (All-nil PrintsNoAscii);
     }
 
--- what an open character is
+-- Of a character that was open before the call, all events but the first are outside runs, and none prints ASCII.
 pub reports-open : {limit : Option ℕ} {stream begun bytes : List ℕ} {j : ℕ} → AddsCharacter limit stream begun bytes 0 j
     → (open_character stream ≡ [] → ⊥) → ReportsOutsideRuns limit stream bytes j
 reports-open {limit} {stream} {bytes} {j} a opened =
@@ -176,7 +177,7 @@ reports-open {limit} {stream} {bytes} {j} a opened =
       ]);
     }
 
--- what is reported up to position i, and what follows up to position j
+-- What is reported up to position i, and what is added up to position j, are reported up to j.
 pub reports-more : {limit : Option ℕ} {stream bytes : List ℕ} {i j : ℕ} → ReportsOutsideRuns limit stream bytes i
     → AddsOutsideRuns limit stream bytes i j → ReportsOutsideRuns limit stream bytes j
 reports-more {limit} {stream} {bytes} {i} t a = record {

@@ -20,7 +20,7 @@ unfolding character_event
 character_event-printed b printed = grind (arith, nat_tests)
 
 module _ {V B : Type 0} {step : V → Event → V} {old new : V} {limit : Option ℕ} {b : ℕ} {parser : Machine B} where
-  -- a byte that is a character
+  -- A byte that is a character by itself reports it.
   takes_bytes-whole : parser.state ≡ Text Nothing → b ≢ escape → is_well_formed (b ∷ []) ≡ true
       → new ≡ step old (character_event b) → (place : Place) → IsAtPlace limit parser place → IsSettledPlace place
       → TakesBytes step old new limit place (b ∷ []) parser
@@ -34,7 +34,7 @@ module _ {V B : Type 0} {step : V → Event → V} {old new : V} {limit : Option
         leads = text-whole whole;
       })
 
-  -- a byte that begins none
+  -- A byte that begins no character is malformed.
   takes_bytes-lone : parser.state ≡ Text Nothing → b ≢ escape
       → is_well_formed (b ∷ []) ≡ false → is_truncated (b ∷ []) ≡ false → new ≡ step old (malformed_event (b ∷ []))
       → (place : Place) → IsAtPlace limit parser place → IsSettledPlace place
@@ -49,7 +49,7 @@ module _ {V B : Type 0} {step : V → Event → V} {old new : V} {limit : Option
         leads = text-lone whole more;
       })
 
-  -- a character of ASCII that is printed
+  -- A character of ASCII that is printed is reported by `Print`.
   pub takes_bytes-printed : {c : ℕ} → parser.state ≡ Text Nothing → is_in (from_to 0x20 0x7f) b ≡ true → c ≡ b
       → new ≡ step old (Print c) → (place : Place) → IsAtPlace limit parser place → IsSettledPlace place
       → TakesBytes step old new limit place (b ∷ []) parser
@@ -59,7 +59,7 @@ module _ {V B : Type 0} {step : V → Event → V} {old new : V} {limit : Option
       takes_bytes-whole e (λ escape. omega (arith, escape, low)) (ascii-alone b high).is_whole
       (reported ∙ ap (λ x. step old (Print x)) same ∙ ap (step old) (sym (character_event-printed b printed)))
 
-  -- a byte that is neither printed nor begins a longer one
+  -- A byte that is neither printed nor begins a longer character is a control or malformed.
   pub takes_bytes-single : parser.state ≡ Text Nothing → b ≢ escape
       → is_in (from_to 0xc2 0xf4) b ≡ false → (b < 0x80 → new ≡ step old (character_event b))
       → (0x80 ≤ b → new ≡ step old (malformed_event (b ∷ []))) → (place : Place)
@@ -70,7 +70,7 @@ module _ {V B : Type 0} {step : V → Event → V} {old new : V} {limit : Option
         let lone = begins_none b high no_lead in takes_bytes-lone e n lone.is_whole lone.is_open (malformed high)
   ]
 
--- a byte that begins a longer one
+-- A byte that begins a longer character reports nothing, and opens it.
 takes_bytes-opened : {V B : Type 0} {step : V → Event → V} {value : V} {limit : Option ℕ} {b : ℕ} {v : Unfinished}
     {parser next : Machine B} → parser.state ≡ Text Nothing
     → b ≢ escape → Carries [] b (StillUnfinished v) → next.state ≡ Text v → (place : Place)
@@ -152,27 +152,34 @@ advances-single before r n other no_lead control malformed =
 -- A call that completes it from the second byte on (`Completes`) does from the first what any call does (`Advances`).
 -- What it reports is no printed character where no run could begin.
 
--- by what completes the character that the first byte begins
+-- A call that reads the first byte of a character advances by what completes the character.
 pub advances-first : {V B given : Type 0} {call : ChunkCall V} {old new : V} {i j first : ℕ} {parser next : Machine B}
     → MayReadByte call old (Text Nothing) parser i first → 0xc2 ≤ first → first < 0xf5
     → Completes call old new (i + 1) j (One first) next
     → Advances (given × HasNoRunAt false call.bytes i) call old new i j parser next
 advances-first {call} {i} {first} {parser} r lead fits completes = record {
+  -- The first byte opens the character, and `completes` goes on from inside it.
   goes_on = λ value stream s.
       completes.is_at_position value stream (in_text parser (One first)) refl
       (reads-byte_at r.within r.looked_at r.may_go_on
       (takes_bytes-opened r.begun (λ e. omega (arith, e, lead)) (refl, first_truncated first lead fits) refl) s);
+  -- If bytes are left, the parser is between characters again.
   settled = λ within. settled-same_state (completes.text within) tt;
+  -- It remains to show that what the whole character reports is outside runs.
   outside_runs = λ given value stream s.
+      -- After the first byte, the call is inside the character.
       let inside =
       reads-byte_at r.within r.looked_at r.may_go_on
       (takes_bytes-opened r.begun (λ e. omega (arith, e, lead)) (refl, first_truncated first lead fits) refl) s in
+      -- For a performer that keeps all events (`recorded-at`), the same says that the first byte reported nothing.
       let silent = reads-byte_at {call = keeping call.limit call.bytes} r.within r.looked_at
       (λ does. absurd (false≢true does))
       (takes_bytes-opened {step = keep} r.begun (λ e. omega (arith, e, lead))
       (refl, first_truncated first lead fits) refl)
       (recorded-at s) in
+      -- So what the character reports is what `completes` adds.
       let reported = completes.adds value stream (in_text parser (One first)) refl inside in
+      -- Either this is outside runs by itself, or it is a whole character.
       adds-character reported (added-inside {parser = in_text parser (One first)} silent) (elim reported.events_are [
         | inl others ↦ others
         | inr whole ↦
@@ -180,6 +187,7 @@ advances-first {call} {i} {first} {parser} r lead fits completes = record {
             ap (λ n. take n (drop i call.bytes)) (let e : whole.n + 1 ≡ suc whole.n = omega arith in e)
             ∙ ap (take (suc whole.n)) (drop_more call.bytes i 0 r.within)
             ∙ ap (λ x. x ∷ take whole.n (drop (i + 1) call.bytes)) (sym r.looked_at) in
+            -- As no run begins here, a well-formed sequence that begins here spells a control.
             let control =
             rw cut at (given.1 (whole.n + 1) (omega (arith, whole.in_bytes)) (rw cut whole.well_formed)) in
             subst (All IsOutsideRuns) (sym whole.event_is) (outside_runs-control _ control)

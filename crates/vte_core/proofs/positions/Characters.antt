@@ -24,7 +24,7 @@ is_at-in_text : {B : Type 0} {limit : Option ℕ} {parser : Machine B} {v : Unfi
     → may_continue u ≡ true → IsAtPlace limit parser (InText u)
 is_at-in_text e same more = is_at-by e (same, more)
 
--- the parser, inside a character of these bytes
+-- The parser, inside a character of these bytes.
 abbrev pub in_text : {B : Type 0} → Machine B → Unfinished → Machine B
 in_text parser unfinished = record { state = Text unfinished; collected = parser.collected; command = parser.command }
 
@@ -36,7 +36,7 @@ text-by_place : {B : Type 0} (limit : Option ℕ) (parser : Machine B) {u : Unfi
     → IsPlaceOfState limit (Text u) parser place → AtText u place
 text-by_place limit parser s = search (rules, arith)
 
--- an unfinished character has bytes
+-- An unfinished character isn't empty.
 pub unfinished-some : (x : ℕ) (u : List ℕ) → x ∷ u ≢ []
 unfinished-some x u none = cc
 
@@ -50,7 +50,7 @@ module _ {V B : Type 0} {call : ChunkCall V} {old mid : V} {stream : List ℕ} w
       → IsInsidePosition call old mid stream i parser → may_continue (bytes_of u) ≡ true
   inside-open {u} {parser} e s = (text-by_place call.limit parser (is_at-in e s.is_at)).begun
 
-  -- a byte that the character goes on with
+  -- A byte that continues a character leads to the next position inside it.
   carried-more : {i b : ℕ} {u v : Unfinished} {parser next : Machine B} → parser.state ≡ Text u
       → is_truncated (bytes_of u) ≡ true → Carries (bytes_of u) b (StillUnfinished v) → next.state ≡ Text v
       → IsInsidePosition call old mid stream i parser → i < length call.bytes → b ≡ slice_index call.bytes i
@@ -72,7 +72,7 @@ module _ {V B : Type 0} {call : ChunkCall V} {old mid : V} {stream : List ℕ} w
             (subst (ProgressInside call old mid stream i) t.same s.progress);
       }
 
-  -- a byte that ends it
+  -- A byte that ends a character leads to the position after it.
   carried-whole : {new : V} {i j b c : ℕ} {u : Unfinished} {parser next : Machine B} → parser.state ≡ Text u
       → is_truncated (bytes_of u) ≡ true → Carries (bytes_of u) b (Whole c) → next.state ≡ Text Nothing
       → new ≡ call.step mid (character_event c) → IsInsidePosition call old mid stream i parser → i < length call.bytes
@@ -97,7 +97,7 @@ module _ {V B : Type 0} {call : ChunkCall V} {old mid : V} {stream : List ℕ} w
         progress = progress-settled refl refl c;
       })
 
-  -- a byte that breaks it
+  -- A byte that breaks a character is still to be read.
   carried-broken : {new : V} {i b : ℕ} {u : Unfinished} {parser next : Machine B} → parser.state ≡ Text u
       → is_truncated (bytes_of u) ≡ true → Carries (bytes_of u) b Broken → next.state ≡ Text Nothing
       → new ≡ call.step mid (Print replacement) → IsInsidePosition call old mid stream i parser → i < length call.bytes
@@ -112,7 +112,7 @@ module _ {V B : Type 0} {call : ChunkCall V} {old mid : V} {stream : List ℕ} w
             (subst (ProgressInside call old mid stream i) t.same s.progress);
       }
 
--- what is open in a text
+-- In a text with an unfinished character, the stream leaves it open.
 pub opens-text : {B : Type 0} {limit : Option ℕ} {stream : List ℕ} {u : Unfinished} (parser : Machine B)
     → parser.state ≡ Text u → bytes_of u ≢ [] → HasReadWithLimit limit parser stream
     → open_character stream ≡ [] → ⊥
@@ -121,7 +121,7 @@ opens-text {limit} {stream} {u} parser e some h none =
 
 -- ---- any number of bytes
 
--- the bytes of a character, with those at a position
+-- The next m bytes extend the bytes of a character.
 character-bytes : (bytes : List ℕ) (i j n m : ℕ) (begun : List ℕ) {u : List ℕ} → j ≡ i + n
     → u ≡ begun ++ take n (drop i bytes)
     → u ++ take m (drop j bytes) ≡ begun ++ take (n + m) (drop i bytes)
@@ -134,13 +134,13 @@ character-byte bytes i n begun {j} {u} within far is are =
     ap (λ (x : List ℕ). u ++ x) (ap (λ (x : ℕ). x ∷ []) is ∙ sym (ap (take 1) (drop_more bytes j 0 within)))
     ∙ character-bytes bytes i j n 1 begun far are
 
--- From position i, inside a character of the bytes `begun`, a call has come to position j, inside one of
--- the bytes `u`, and reported nothing.
+-- From position i, inside a character of the bytes `begun`, a call has come to position j, inside a character of the
+-- bytes `u`, and reported nothing.
 pub record GoesOn {V B : Type 0} (call : ChunkCall V) (value : V) (i j : ℕ) (begun u : Unfinished)
     (next : Machine B) : Type 0 where
   pub inside : (old : V) (stream : List ℕ) (parser : Machine B) → parser.state ≡ Text begun
       → IsInsidePosition call old value stream i parser → IsInsidePosition call old value stream j (in_text next u)
-  -- the same for a performer that keeps all events
+  -- The same holds for a performer that keeps all events.
   pub kept : (stream : List ℕ) (parser : Machine B) → parser.state ≡ Text begun
       → IsInsidePosition (keeping call.limit call.bytes) []
       (added call.limit stream (take i call.bytes)) stream i parser
@@ -171,7 +171,7 @@ module _ {V B : Type 0} {call : ChunkCall V} {value : V} {i : ℕ} {begun : Unfi
         ∙ character-byte call.bytes i goes.n (bytes_of begun) within goes.far is (goes.bytes_are opened);
   }
 
-  -- all bytes are read
+  -- If all bytes are read, the character stays open.
   pub completes-all : {j k : ℕ} {u : Unfinished} {next : Machine B} → GoesOn call value i j begun u next → j ≡ k
       → length call.bytes ≤ k → Completes call value value i k begun (in_text next u)
   completes-all goes end all = record {
@@ -186,7 +186,7 @@ module _ {V B : Type 0} {call : ChunkCall V} {value : V} {i : ℕ} {begun : Unfi
     };
   }
 
-  -- a byte ends the character
+  -- A byte that ends the character completes it.
   pub completes-whole : {new : V} {j k b c : ℕ} {u : Unfinished} {parser next : Machine B}
       → GoesOn call value i j begun u parser → (is_truncated (bytes_of u) ≡ true → Carries (bytes_of u) b (Whole c))
       → next.state ≡ Text Nothing → new ≡ call.step value (character_event c) → j < length call.bytes
@@ -217,7 +217,7 @@ module _ {V B : Type 0} {call : ChunkCall V} {value : V} {i : ℕ} {begun : Unfi
         };
   }
 
-  -- a byte breaks it
+  -- A byte that breaks the character completes it too, and is still to be read.
   pub completes-broken : {new : V} {j b : ℕ} {u : Unfinished} {parser next : Machine B}
       → GoesOn call value i j begun u parser → (is_truncated (bytes_of u) ≡ true → Carries (bytes_of u) b Broken)
       → next.state ≡ Text Nothing → new ≡ call.step value (Print replacement) → j < length call.bytes
@@ -238,7 +238,7 @@ module _ {V B : Type 0} {call : ChunkCall V} {value : V} {i : ℕ} {begun : Unfi
         };
   }
 
-  -- another call goes on
+  -- Another function can complete the character that this one goes on with.
   pub completes-then : {new : V} {j k : ℕ} {u : Unfinished} {parser next : Machine B}
       → GoesOn call value i j begun u parser → Completes call value new j k u next
       → Completes call value new i k begun next
@@ -271,13 +271,13 @@ module _ {V B : Type 0} {call : ChunkCall V} {value : V} {i : ℕ} {begun : Unfi
   }
 
 module _ {V B : Type 0} {call : ChunkCall V} {value : V} {i x y : ℕ} where
-  -- the second byte of a character of three or four
+  -- A character of three or four bytes goes on with its second byte.
   pub goes-second : (next : Machine B) → 0xe0 ≤ x → is_in (second_range x) y ≡ true → i < length call.bytes
       → y ≡ slice_index call.bytes i → GoesOn call value i (i + 1) (One x) (Two x y) next
   goes-second next low second within is =
       goes-more (goes-nowhere next (unfinished-some x [])) (λ more. second-open x y more second low) within is
 
-  -- the second and the third of one of four
+  -- A character of four bytes goes on with its second and its third byte.
   pub goes-third : {z : ℕ} (next : Machine B) → 0xf0 ≤ x → is_in (second_range x) y ≡ true
       → is_in (from_to 0x80 0xbf) z ≡ true → i + 2 < length call.bytes → y ≡ slice_index call.bytes i
       → z ≡ slice_index call.bytes (i + 1) → GoesOn call value i (i + 2) (One x) (Three x y z) next

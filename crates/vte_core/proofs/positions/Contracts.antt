@@ -78,7 +78,7 @@ module _ {A V : Type 0} {step : V → Event → V} {old new : V} {bytes : List �
 
 module _ {A V : Type 0} {step : V → Event → V} {is_terminated : V → Bool} {old new : V} {bytes : List ℕ}
     {parser next : LongParser A} where
-  -- a call that may stop
+  -- A call that may stop ensures `IsRefusedMemory` if it is refused memory.
   is_refused-asked : {rate n : ℕ} {Answer : Type 0} {result : Result Answer Refused}
       → ReadsUntilRefused (chunk_call true step is_terminated None bytes) old new n parser.machine next.machine
       → Costs rate bytes result n parser.machine next.machine (counted parser.looks) (counted next.looks)
@@ -87,7 +87,7 @@ module _ {A V : Type 0} {step : V → Event → V} {is_terminated : V → Bool} 
       is_refused is_terminated refuses costs (λ stream h. (refuses-inside refuses stream h).progress.earlier refl)
       (refuses.may_go_on refl)
 
-  -- `advance`
+  -- The next lemmas are for `advance`.
   pub advance-refused : (refused : Refused) {drove : Result ℕ Refused}
       → ReadsUntilRefused (chunk_call false step is_terminated None bytes) old new refused.read parser.machine
       next.machine
@@ -111,7 +111,7 @@ module _ {A V : Type 0} {step : V → Event → V} {is_terminated : V → Bool} 
     stores = stores_pieces next.machine;
   }
 
-  -- `advance_until_terminated`
+  -- The next lemmas are for `advance_until_terminated`.
   pub advance-until : (result : Result ℕ Refused)
       → IfOk result
       (λ read. ReadsUpTo (chunk_call true step is_terminated None bytes) old new read parser.machine next.machine)
@@ -134,7 +134,7 @@ module _ {A V : Type 0} {step : V → Event → V} {is_terminated : V → Bool} 
     stores = stores_pieces next.machine;
   }
 
-  -- `advance_to_run`
+  -- The next lemmas are for `advance_to_run`.
   pub to_run-refused : (refused : Refused) {drove : Result RunRange Refused}
       → ReadsUntilRefused (chunk_call true step is_terminated None bytes) old new refused.read parser.machine
       next.machine

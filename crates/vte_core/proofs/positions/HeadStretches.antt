@@ -35,18 +35,18 @@ reads_head-then {bytes} {i} {j} {k} a b =
       low = omega (arith, a.low, b.low);
       high = b.high;
       head_bytes = rw whole (AreInClass-append is_head_byte _ _ a.head_bytes b.head_bytes);
-      is_at =
+      leads =
           λ head s. rw (whole, ← append_assoc head (take (j - i) (drop i bytes)) (take (k - j) (drop j bytes)))
-          (b.is_at _ (a.is_at head s));
+          (b.leads _ (a.leads head s));
     }
 
 pub reads_head-byte : {bytes : List ℕ} {i b : ℕ} {progress next : HeadProgress} {old new : Collected} → i < length bytes
     → b ≡ slice_index bytes i → is_head_byte (class_of b) ≡ true
     → ((head : List ℕ) → HasReadHead old progress head → HasReadHead new next (head ++ b ∷ []))
     → ReadsHead bytes i (i + 1) progress next old new
-reads_head-byte {bytes} {i} {b} within at is is_at = search (rules, arith, one_byte)
+reads_head-byte {bytes} {i} {b} within at is leads = search (rules, arith, one_byte)
 
--- no byte follows
+-- If no byte follows, the case for `None` holds.
 pub match-none : {A : Type 0} (B : ℕ → Type 0) (next : Option ℕ) → ((b : ℕ) → next ≡ Some b → ⊥) → MatchOption next A B
     → A
 match-none B None n all = all
@@ -65,7 +65,7 @@ progress_after-may : (reached : HeadProgress) (from to : ℕ) → (reached ≡ E
     → (progress_after reached from to ≡ Entry) ⊎ (progress_after reached from to ≡ Parameters)
 progress_after-may reached from to may = search (rules, arith)
 
--- a digit or a separator
+-- A head is read further by a digit or a separator.
 pub reads_head-parameter : {bytes : List ℕ} {from i b : ℕ} {reached : HeadProgress} {first old new : Collected}
     → (reached ≡ Entry) ⊎ (reached ≡ Parameters)
     → i < length bytes → b ≡ slice_index bytes i → is_parameter_text (class_of b) ≡ true → SameIntermediates old new
@@ -134,7 +134,7 @@ head-settled ControlHead progress = tt
 head-settled DeviceHead progress = tt
 
 module _ {V : Type 0} {call : ChunkCall V} where
-  -- n bytes of a head
+  -- A call makes progress over n bytes of a head.
   progress-head : {old value : V} {stream : List ℕ} {i : ℕ} (shape : Shape) (n : ℕ) (head : List ℕ)
       → i + n ≤ length call.bytes → AreInClass is_head_byte (take n (drop i call.bytes)) → MayGoOn call value
       → ProgressAt call old value stream i (in_head shape head)
@@ -157,7 +157,7 @@ module _ {V : Type 0} {call : ChunkCall V} where
       let far : i + suc n ≡ i + 1 + n = omega arith in
       rw (far, cut) (rw (append_assoc head (b ∷ []) (take n (drop (i + 1) call.bytes))) at rest)
 
-  -- the bytes of a part of a head
+  -- The bytes of a part of a head lead from position i to position j.
   is_at-head : {B : Type 0} {old value : V} {stream : List ℕ} {i j : ℕ} {reached progress : HeadProgress}
       {parser next : Machine B} (shape : Shape) → parser.state ≡ state_of shape reached
       → ReadsHead call.bytes i j reached progress parser.collected next.collected → MayGoOn call value
@@ -192,7 +192,7 @@ module _ {V : Type 0} {call : ChunkCall V} where
         (is_at-head {next = next} shape begun reads (λ does. absurd (false≢true does)) state (recorded-at s)));
   }
 
-  -- a part of a head and a byte after it, of which the caller says what it does there
+  -- A call reads a part of a head and the byte after it, if the caller says what that byte does.
   pub advances-past_head : {outside B : Type 0} {old new : V} {i j b : ℕ} {reached progress : HeadProgress}
       {parser next : Machine B}
       {held : Collected} (shape : Shape) → parser.state ≡ state_of shape reached
@@ -208,7 +208,7 @@ module _ {V : Type 0} {call : ChunkCall V} where
       advances-then (advances-head {next = head} shape begun reads may_go_on refl)
       (advances-given (head-outside_runs shape progress _) (advances-byte at.0 at.1 may_go_on performs settled))
 
--- a byte other than CAN, SUB and ESC there
+-- For a byte of a head other than CAN, SUB and ESC, it is enough to say what it does after each such head.
 pub takes_bytes-head : {V B : Type 0} {step : V → Event → V} {old new : V} {limit : Option ℕ} {b : ℕ}
     {parser next : Machine B} (shape : Shape) (progress : HeadProgress)
     → parser.state ≡ state_of shape progress → ends_body (class_of b) ≡ false
@@ -221,7 +221,7 @@ takes_bytes-head {step} {old} {new} {limit} {b} {parser}
     let k = head-place shape limit progress parser place s in
     subst (λ p. TakesByte step old new limit p b next) (sym k.same) (takes k.head k.is_at))
 
--- a head and the final byte of a control sequence
+-- A call reads the rest of a head and the final byte of a control sequence.
 pub advances-control_sequence : {V B outside : Type 0} {call : ChunkCall V} {old new : V} {i j k b : ℕ}
     {reached progress : HeadProgress} {parser next : Machine B} {held : Collected}
     → parser.state ≡ ControlSequence reached

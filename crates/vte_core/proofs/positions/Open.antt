@@ -22,7 +22,7 @@ use Rattle.vte_core.proofs.streams.StreamSteps.{counts_data}
 -- Only between characters of a text does a parser go on as a new one: after every other place the digit 0 gives
 -- something else than after the empty stream.
 
--- the byte is a digit
+-- The byte is a digit, by which places can be told apart.
 record IsProbe (b : ℕ) : Type 0 where
   class : class_of b ≡ Digit
   key : sequence_kind b ≡ EscapeSequence
@@ -34,14 +34,14 @@ probe-zero : IsProbe 0x30
 unfolding class_of sequence_kind
 probe-zero = search (rules, arith)
 
--- what a digit gives after a stream
+-- After a stream, a digit adds what it reports at the place of the stream.
 probe-gives : {limit : Option ℕ} {stream : List ℕ} {place next : Place} {b : ℕ} {reported : List Event}
     → IsProbe b → IsAfter limit stream place → Leads limit place b reported next → IsPlace next
     → added limit stream (b ∷ []) ≡ reported
 probe-gives {limit} {stream} {place} {next} {b} {reported} d a leads =
     added-reads a (bytes_lead-byte d.other leads)
 
--- it breaks a character
+-- A digit breaks an open character.
 probe-in_character : {limit : Option ℕ} {stream u : List ℕ} {b : ℕ}
     → IsProbe b → is_truncated u ≡ true → IsAfter limit stream (InText u)
     → added limit stream (b ∷ []) ≡ Print replacement ∷ events_from limit (InText []) (b ∷ [])
@@ -51,7 +51,7 @@ probe-in_character {limit} {u} {b} d is a =
     added-after (b ∷ []) a
     ∙ ap (λ o. o.reported) (waits-byte limit (InText u) (InText []) b (Print replacement ∷ []) [] d.other broken)
 
--- it isn't printed alone, but between characters
+-- A digit is printed alone only between characters.
 probe-not_alone : {limit : Option ℕ} {stream : List ℕ} {place : Place} {b : ℕ}
     → IsProbe b → IsPlace place → IsAfter limit stream place → place ≢ InText []
     → added limit stream (b ∷ []) ≢ Print b ∷ []
@@ -83,7 +83,7 @@ pub which_is_open : {B : Type 0} {limit : Option ℕ} {stream : List ℕ} {parse
 which_is_open {limit} {stream} {parser} h =
     search (rules, arith, open_in-place, after-left, is_at-place, open_at_end-any)
 
--- nothing is open only between characters
+-- Nothing is open only between characters.
 
 settled-open_in : (state : State) → open_in state ≡ kind.Nothing → state ≡ Text Nothing
 settled-open_in (Text Nothing) e = refl
@@ -117,12 +117,12 @@ pub inside-reads : {V B : Type 0} {call : ChunkCall V} {old value : V} {stream :
     → IsInsidePosition call old value stream i parser → HasReadWithLimit call.limit parser (stream ++ take i call.bytes)
 inside-reads s = search (rules, arith)
 
--- what a stream leaves is what its place leaves
+-- What a stream leaves open is what its place leaves open.
 left-at_place : {B : Type 0} (parser : Machine B) (stream : List ℕ) (h : HasReadWithLimit None parser stream)
     → (outcome None stream).left ≡ left_at None h.place
 left-at_place parser stream h = after-left h.is_after (is_at-place h.is_at)
 
--- a byte that is refused is a data byte of an open command
+-- A byte that is refused is a data byte of an open command.
 pub meets_data : {B : Type 0} {parser : Machine B} {stream bytes : List ℕ} {from : ℕ}
     → IsRefusedInCommand None parser.state parser.command bytes from
     → HasReadWithLimit None parser stream → MeetsData stream (slice_index bytes from)
@@ -150,7 +150,7 @@ meets_data {parser} {stream} {bytes} {from} refused h =
 
 -- ---- a call is where it was refused memory
 
--- in a command no character is open
+-- If memory is refused, a command is open, so no character is.
 pub refuses-inside : {V B : Type 0} {call : ChunkCall V} {old new : V} {n : ℕ} {before parser : Machine B}
     → ReadsUntilRefused call old new n before parser → (stream : List ℕ) → HasReadWithLimit call.limit before stream
     → IsInsidePosition call old new stream n parser
@@ -165,7 +165,7 @@ refuses-inside {call} {old} {new} {n} {parser} r stream h =
 
 -- ---- a command stores as many bytes as are open, and outside a command none is open
 
--- in a command as many bytes as are open
+-- In a command, the parser stores as many bytes as are open.
 pub stored_is_open : {B : Type 0} {parser : Machine B} {stream : List ℕ} → parser.state ≡ SystemCommand
     → HasReadWithLimit None parser stream
     → length parser.command.bytes ≡ open_command_size stream
@@ -179,14 +179,14 @@ state-by_command : {B : Type 0} {parser : Machine B} {place : Place} {pieces : L
     → parser.state ≡ SystemCommand
 state-by_command s e = search (rules, arith)
 
--- a command is open in that state alone
+-- A command is open in the state `SystemCommand` alone.
 state-in_command : {B : Type 0} (parser : Machine B) (stream : List ℕ) → HasReadWithLimit None parser stream
     → (pieces : List (List ℕ)) (lost : Bool) → (outcome None stream).left ≡ CommandToClose pieces lost
     → parser.state ≡ SystemCommand
 state-in_command parser stream h pieces lost open_command =
     state-by_command h.is_at (sym (left-at_place parser stream h) ∙ open_command)
 
--- of an open command the bytes of its pieces
+-- Of an open command, the parser stores the bytes of the pieces.
 pub stores_pieces : {B : Type 0} (parser : Machine B) (stream : List ℕ) → HasReadWithLimit None parser stream
     → (pieces : List (List ℕ)) (lost : Bool)
     → (outcome None stream).left ≡ CommandToClose pieces lost → length parser.command.bytes ≡ length (concat pieces)
@@ -199,13 +199,13 @@ open_data-by_left : (left : ToClose) (n : ℕ)
     → open_data_count left ≤ n
 open_data-by_left left n stored = search (rules, arith)
 
--- no more are open
+-- No more bytes are open than are stored.
 pub open_is_stored : {B : Type 0} (parser : Machine B) (stream : List ℕ) → HasReadWithLimit None parser stream
     → open_command_size stream ≤ length parser.command.bytes
 open_is_stored parser stream h =
     open_data-by_left (outcome None stream).left (length parser.command.bytes) (stores_pieces parser stream h)
 
--- outside a command no data bytes are open
+-- Outside a command no data bytes are open.
 pub none_is_open : {B : Type 0} (parser : Machine B) (stream : List ℕ) → (parser.state ≡ SystemCommand → ⊥)
     → HasReadWithLimit None parser stream → open_command_size stream ≡ 0
 none_is_open parser stream other h =
@@ -215,7 +215,7 @@ none_is_open parser stream other h =
           (λ pieces lost e. absurd (other (state-in_command parser stream h pieces lost e))),
     )
 
--- where memory is refused, there wasn't enough for all bytes of the call
+-- If memory is refused, there wasn't enough for all bytes of the call.
 pub lacks_all : {V B : Type 0} {call : ChunkCall V} {old new : V} {n : ℕ} {before parser : Machine B}
     → ReadsUntilRefused call old new n before parser → (stream : List ℕ) → HasReadWithLimit call.limit before stream
     → before.command.capacity ≤ parser.command.capacity

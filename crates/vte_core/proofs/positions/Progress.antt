@@ -24,12 +24,12 @@ text-by_place : {B : Type 0} (limit : Option ℕ) (parser : Machine B) (place : 
     → IsPlaceOfState limit (Text Nothing) parser place → place ≡ InText []
 text-by_place limit parser place s = search (rules, arith)
 
--- between characters of a text there is one place
+-- Between characters of a text there is only one place.
 pub place-settled_text : {B : Type 0} {limit : Option ℕ} {parser : Machine B} {place : Place}
     → parser.state ≡ Text Nothing → IsAtPlace limit parser place → place ≡ InText []
 place-settled_text {limit} {parser} {place} e s = text-by_place limit parser place (is_at-in e s)
 
--- no character is open there
+-- In a settled state, no character is open at the place.
 settled-by_place : {B : Type 0} (limit : Option ℕ) (state : State) (parser : Machine B) (place : Place)
     → IsSettled state → IsPlaceOfState limit state parser place → IsSettledPlace place
 settled-by_place limit state parser place settled s = search (rules, arith)
@@ -51,14 +51,14 @@ settled-outside _ n = tt
 
 -- ---- whether a call asks
 
--- a const parameter that is a `bool` is a number in proofs
+-- A const parameter that is a `bool` is a number in proofs.
 pub may_stop-some : (n : ℕ) → (n ≡ 0 → ⊥) → not (eqb n 0) ≡ true
 may_stop-some n some = grind (arith, nat_tests)
 
 pub may_stop-none : {n : ℕ} → n ≡ 0 → not (eqb n 0) ≡ true → ⊥
 may_stop-none none is = let e : not (eqb 0 0) ≡ true = rw none at is in cc
 
--- a call that may stop nothing reads all
+-- A call that may not stop reads all bytes.
 pub all_read-unless_asked : (n size : ℕ) → n ≤ size → (n < size → false ≡ true) → n ≡ size
 all_read-unless_asked n size within asked = search (rules, arith)
 
@@ -81,7 +81,7 @@ stretch-ends : (bytes : List ℕ) (i j : ℕ) → i < j → take j bytes ≡ tak
 stretch-ends bytes i j further =
     let place : j ≡ i + (j - i) = omega (arith, further) in ap (λ n. take n bytes) place ∙ take-add i (j - i) bytes
 
--- of what is unread only the next byte counts
+-- If unread bytes break a character, so does each of their prefixes that isn't empty.
 breaks-prefix : (u unread : List ℕ) (n : ℕ) → 0 < n → breaks u unread ≡ true → breaks u (take n unread) ≡ true
 breaks-prefix u unread n k broken = search (rules, arith)
 
@@ -116,7 +116,7 @@ module _ (limit : Option ℕ) (stream bytes : List ℕ) (i j : ℕ) (further : i
 module _ {V : Type 0} {call : ChunkCall V} {old : V} {stream : List ℕ} where
   -- ---- from inside to a place
 
-  -- no character is broken here: nothing is reported more
+  -- If no character is broken here, nothing more is reported.
   progress-whole : {value : V} {i : ℕ} {place : Place} → breaks_at stream call.bytes i ≡ false
       → ProgressInside call old value stream i place → ProgressAt call old value stream i place
   progress-whole {i} whole c =
@@ -134,7 +134,7 @@ module _ {V : Type 0} {call : ChunkCall V} {old : V} {stream : List ℕ} where
       → ProgressInside call old value stream i place → ProgressAt call old value stream i place
   progress-all {i} all c = progress-whole (breaks_at-all stream call.bytes i all) c
 
-  -- U+FFFD is reported for a character that the next byte breaks, and the parser is as at first
+  -- U+FFFD is reported for a character that the next byte breaks, and the parser is as it was at first.
   pub progress-broken : {value new : V} {i b : ℕ} {place : Place} → IsPlace place → i < length call.bytes
       → b ≡ slice_index call.bytes i → breaks (open_at place) (b ∷ []) ≡ true
       → new ≡ call.step value (Print replacement) → ProgressInside call old value stream i place
@@ -153,8 +153,7 @@ module _ {V : Type 0} {call : ChunkCall V} {old : V} {stream : List ℕ} where
 
   -- ---- some bytes more
 
-  -- the performer may go on where they begin, if something starts there, and wherever something
-  -- starts among them
+  -- Bytes that lead to a place make progress, if the performer may go on at each start among them.
   pub progress-further : {value new : V} {i j : ℕ} {place next : Place} {these : List Event} → i < j
       → j ≤ length call.bytes
       → (call.may_stop ≡ true → IsStart stream call.bytes i → call.is_terminated value ≡ false)
@@ -197,7 +196,7 @@ module _ {V : Type 0} {call : ChunkCall V} {old : V} {stream : List ℕ} where
       (λ does k past below. absurd (omega (arith, past, below)))
       (subst (λ x. BytesLead call.limit place x these next) (sym one) r)
 
-  -- after an answer, whatever starts here; after a broken character too
+  -- If the performer may go on, a byte makes progress whatever it starts, even if it breaks a character.
   pub progress-byte : {value new : V} {i b : ℕ} {place next : Place} {these : List Event} → i < length call.bytes
       → b ≡ slice_index call.bytes i → MayGoOn call value → BytesLead call.limit place (b ∷ []) these next
       → new ≡ after call.step value these → IsPlace next → ProgressAt call old value stream i place
@@ -205,7 +204,7 @@ module _ {V : Type 0} {call : ChunkCall V} {old : V} {stream : List ℕ} where
   progress-byte within is may_go_on r performed is_place c =
       progress-one within is (λ does _. may_go_on does) r performed is_place c
 
-  -- inside a character
+  -- A byte of an open character makes progress inside it.
   pub progress-carried : {value new : V} {i b : ℕ} {place next : Place} {these : List Event} → IsPlace place
       → i < length call.bytes → b ≡ slice_index call.bytes i → (open_at place ≡ [] → ⊥)
       → breaks (open_at place) (b ∷ []) ≡ false → BytesLead call.limit place (b ∷ []) these next
@@ -219,7 +218,7 @@ module _ {V : Type 0} {call : ChunkCall V} {old : V} {stream : List ℕ} where
       performed is_place
       (progress-whole (breaks_at-byte stream call.bytes i within is ends ∙ whole) c)
 
-  -- n data bytes of a command, before which the performer was asked once
+  -- Data bytes of a command make progress if the performer may go on before the first.
   pub progress-items : {value : V} {i : ℕ} (n : ℕ) (items : List ℕ) → i + n ≤ length call.bytes
       → ((k : ℕ) → i ≤ k → k < i + n → 0x20 ≤ slice_index call.bytes k) → MayGoOn call value
       → ProgressAt call old value stream i (InSystemCommand items)
@@ -248,7 +247,7 @@ module _ {V : Type 0} {call : ChunkCall V} {old : V} {stream : List ℕ} where
   progress-back {i} whole c =
       rw (reported-settled call.limit stream call.bytes i whole, resumed_stream-settled stream call.bytes i whole) at c
 
-  -- in a command no character was broken
+  -- In a command, no character was broken.
   pub progress-command : {value : V} {i : ℕ} {items : List ℕ}
       → ProgressAt call old value stream i (InSystemCommand items)
       → ProgressInside call old value stream i (InSystemCommand items)
@@ -281,7 +280,7 @@ module _ {V : Type 0} {call : ChunkCall V} {old : V} {stream : List ℕ} where
 
   -- ---- the end of a call
 
-  -- the public clauses of a call that may stop: `starts` comes from the loop's exit
+  -- A call that may stop ensures its public clauses: `starts` comes from the loop's exit.
   progress-comes : {value : V} {n : ℕ} {place : Place} → call.may_stop ≡ true → n ≤ length call.bytes
       → (n < length call.bytes → IsStart stream call.bytes n) → ProgressAt call old value stream n place
       → ComesTo call.step call.is_terminated old call.limit stream call.bytes value n
@@ -303,7 +302,7 @@ module _ {V : Type 0} {call : ChunkCall V} {old : V} {stream : List ℕ} where
             ∙ ap (added call.limit stream) (append-nil call.bytes));
       }
 
-  -- the public clause of a call that reads all bytes
+  -- A call that has read all bytes has performed all their events.
   progress-all_read : {value : V} {n : ℕ} {place : Place} → n ≡ length call.bytes
       → ProgressAt call old value stream n place → value ≡ after call.step old (added call.limit stream call.bytes)
   progress-all_read {n} all c = c.performed ∙ ap (after call.step old) (reported-all call.limit stream call.bytes n all)
@@ -370,7 +369,7 @@ module _ {V B : Type 0} {call : ChunkCall V} where
       → HasReadWithLimit call.limit parser (resumed_stream stream call.bytes n)
   call_ends-reads s = record { place = s.place; is_at = s.is_at; is_after = s.progress.is_after }
 
-  -- of a call that reads all bytes
+  -- A call at the position after all bytes has performed all their events.
   pub call_ends-performs : {old value : V} {stream : List ℕ} {n : ℕ} {parser : Machine B} → n ≡ length call.bytes
       → IsAtPosition call old value stream n parser → value ≡ after call.step old (added call.limit stream call.bytes)
   call_ends-performs all s = progress-all_read all s.progress

@@ -99,7 +99,7 @@ module _ {V : Type 0} (layout : Bool) (call : ChunkCall V)
       not_stopped (call.step value x) given rest cs others
       (ap (λ event. call.is_terminated (call.step value event)) first ∙ never value c goes)
 
-  -- the U+FFFD of a broken character stops it neither
+  -- The U+FFFD of a broken character doesn't stop the performer either.
   not_stopped-reported : (value : V) (stream : List ℕ) (k : ℕ)
       → call.is_terminated (after call.step value (added call.limit stream (take k call.bytes))) ≡ false
       → call.is_terminated (after call.step value (reported_before call.limit stream call.bytes k)) ≡ false
@@ -134,7 +134,7 @@ may_go_on-malformed layout call {old} {b} never may_go_on high performed does =
     rw printed (sym (run_event-no_control layout refl)) in
     rw (performed, event) (never does old replacement (may_go_on does))
 
--- a run more
+-- A call advances by a run of text.
 pub advances-text : {V B : Type 0} {call : ChunkCall V} {layout : Bool} {old new : V} {i j : ℕ} {parser : Machine B}
     → (call.may_stop ≡ true → NoCharacterStops layout call.step call.is_terminated) → MayGoOn call old
     → parser.state ≡ Text Nothing → i < j → j ≤ length call.bytes
@@ -149,7 +149,7 @@ advances-text {V} {call} {layout} {old} {new} {i} {j} {parser}
     run : List ℕ
     run = take (j - i) (drop i call.bytes)
 
-    -- after a prefix of the run that isn't empty
+    -- The performer may go on after each prefix of the run that isn't empty.
     inside : (value : V) (stream : List ℕ) → ProgressAt call value old stream i (InText []) → call.may_stop ≡ true
         → (k : ℕ) → i < k → k < j
         → call.is_terminated (after call.step value (reported_before call.limit stream call.bytes k)) ≡ false

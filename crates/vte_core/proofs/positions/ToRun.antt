@@ -25,7 +25,7 @@ has-nowhere : {B : Type 0} {limit : Option ℕ} {bytes : List ℕ} {from : ℕ} 
 has-nowhere {limit} {bytes} {from} {place} {parser} within starts ends kind =
     search (rules, arith, added-nothing, append-nil)
 
--- in no other state
+-- A state other than `Text` and `DeviceData` is outside text and data.
 pub outside-text_and_data : (state : State) → ((unfinished : Unfinished) → state ≡ Text unfinished → ⊥)
     → (state ≡ DeviceData → ⊥)
     → IsOutsideTextAndData state
@@ -37,7 +37,7 @@ pub settled-text : {state : State} {unfinished : Unfinished} → state ≡ Text 
     → state ≡ Text Nothing
 settled-text {unfinished} e settled = search (rules, arith)
 
--- bytes that lead from the parser's place to the same
+-- A run has bytes that lead from the parser's place to the same place.
 has-run : {B : Type 0} {limit : Option ℕ} {bytes : List ℕ} {place : RunRange} {parser : Machine B} {here : Place}
     → IsPlace here
     → ((at : Place) → IsAtPlace limit parser at → at ≡ here)
@@ -47,7 +47,7 @@ has-run : {B : Type 0} {limit : Option ℕ} {bytes : List ℕ} {place : RunRange
 has-run {limit} {bytes} {place} {parser} {here} is only reads range kind whole =
     search (rules, arith, added-reads, after-reads)
 
--- the text that is from one position to another
+-- The text from one position to another is a run.
 pub has-text : {B : Type 0} {limit : Option ℕ} {bytes : List ℕ} {from end : ℕ} {parser : Machine B}
     → parser.state ≡ Text Nothing → from < end → end ≤ length bytes
     → IsRun false bytes from end → HasNoRunAt false bytes end
@@ -92,7 +92,7 @@ has-data {limit} {bytes} {from} {end} {parser} begun low high are ended =
 
 -- ---- nothing open
 
--- between characters a parser goes on as a new one
+-- Between characters, a parser goes on as a new one does.
 pub reads-anew : {B : Type 0} {limit : Option ℕ} {stream : List ℕ} (parser : Machine B) → parser.state ≡ Text Nothing
     → HasReadWithLimit limit parser stream → HasReadWithLimit limit parser []
 reads-anew {limit} parser begun h = search (rules, arith, place-settled_text, after-nothing)
@@ -100,7 +100,7 @@ reads-anew {limit} parser begun h = search (rules, arith, place-settled_text, af
 -- ---- a call comes to a run, or ends without one
 
 module _ {V B : Type 0} {call : ChunkCall V} {old new : V} {place : RunRange} {before parser : Machine B} where
-  -- the call comes to a run
+  -- A call that is at the start of a run comes to it.
   pub comes-to_run : HasRun call.limit call.bytes place parser → place.start < place.end
       → call.is_terminated new ≡ false
       → ((stream : List ℕ) → HasReadWithLimit call.limit before stream
@@ -108,7 +108,7 @@ module _ {V B : Type 0} {call : ChunkCall V} {old new : V} {place : RunRange} {b
       → ComesToRun call old new place before parser
   comes-to_run has some goes is_at = search (rules, arith)
 
-  -- the call ends without a run
+  -- A call that finds no run ends at its position.
   pub comes-nowhere : {from : ℕ} → from ≤ length call.bytes → place.start ≡ from → place.end ≡ from
       → place.kind ≡ NoKind
       → ((stream : List ℕ) → HasReadWithLimit call.limit before stream → IsAtPosition call old new stream from parser)
@@ -124,7 +124,7 @@ module _ {V B : Type 0} {call : ChunkCall V} {old new : V} {place : RunRange} {b
 
 -- ---- the run that is taken there
 
--- what is taken is what is there
+-- What is taken is what is there.
 record TakesRun (bytes : List ℕ) (end : ℕ) (these : List ℕ) (kind : RunKind) (taken : Taken) : Type 0 where
   are : taken_bytes taken ≡ these
   events : taken_events taken ≡ kind_events kind these
@@ -152,7 +152,7 @@ is_run-in : {B : Type 0} {limit : Option ℕ} {bytes : List ℕ} {run : Run} {pl
     → run.end ≡ place.end → IsTaken place.kind (bytes_at bytes place) run.taken → IsRunIn bytes run
 is_run-in {bytes} {run} {place} h starts ends taken = search (rules, arith, takes-run, run-size)
 
--- a call that comes to a run, as its callers see it
+-- What the callers of a call that comes to a run see of it.
 module _ {V B : Type 0} {call : ChunkCall V} {old new : V} (run : Run) {place : RunRange} {before parser : Machine B}
     (c : ComesToRun call old new place before parser) (starts : run.start ≡ place.start) (ends : run.end ≡ place.end)
     (taken : IsTaken place.kind (bytes_at call.bytes place) run.taken) where

@@ -19,7 +19,7 @@ pub after_events-append : {V : Type 0} (step : V → Event → V) (value : V) (x
 after_events-append step value [] ys = refl
 after_events-append step value (x ∷ xs) ys = after_events-append step (step value x) xs ys
 
--- one byte that is no ESC
+-- A single byte other than ESC is taken as `TakesByte` says.
 pub takes_bytes-one : {V B : Type 0} {step : V → Event → V} {old new : V} {limit : Option ℕ} {place : Place} {byte : ℕ}
     {parser : Machine B} → eqb byte escape ≡ false
     → TakesByte step old new limit place byte parser → TakesBytes step old new limit place (byte ∷ []) parser
@@ -33,7 +33,7 @@ takes_bytes-one e t = record {
 
 -- ---- a byte that is offered to an open character
 
--- a byte that belongs to an open character is no ESC
+-- A byte that belongs to an open character is no ESC.
 pub carried_is_no_escape : (u : List ℕ) (b : ℕ) → is_truncated u ≡ true
     → (is_well_formed (u ++ b ∷ []) ≡ true) ⊎ (is_truncated (u ++ b ∷ []) ≡ true) → eqb b escape ≡ false
 carried_is_no_escape u b more carried = elim (cases_Bool (eqb b escape)) [
@@ -50,7 +50,7 @@ unfolding is_truncated
 closing-unfinished limit [] more = cc
 closing-unfinished limit (a ∷ u) more = refl
 
--- a byte that breaks a character is still to be read, ESC too
+-- A byte that breaks a character is still to be read, even ESC.
 pub waits-broken : (limit : Option ℕ) (u : List ℕ) (b : ℕ) (more : List ℕ) → is_truncated u ≡ true
     → is_well_formed (u ++ b ∷ []) ≡ false → is_truncated (u ++ b ∷ []) ≡ false
     → outcome_from limit (InText u) (b ∷ more)
@@ -75,9 +75,9 @@ events-empty limit = events-after_nothing limit [] ∙ events_from-nothing limit
 
 -- ---- what is unfinished, whatever the limit
 
--- By the definitions, part by part: only what is kept of a command depends on the size of the store.
+-- By the definitions, part by part, only what is kept of a command depends on the size of the store.
 
--- a view of what is open that is the same whatever is kept of a command
+-- A view of what is open that is the same whatever is kept of a command.
 module _ {A : Type 0} (view : ToClose → A)
     (same : (pieces others : List (List ℕ)) (lost other : Bool)
     → view (CommandToClose pieces lost) ≡ view (CommandToClose others other)) where
@@ -142,7 +142,7 @@ pub after-events : {limit : Option ℕ} {stream : List ℕ} (more : List ℕ) {p
 unfolding events
 after-events {limit} {stream} more a = search (rules, arith)
 
--- what the stream leaves open is open at the place
+-- What the stream leaves open is open at the place.
 pub after-left : {limit : Option ℕ} {stream : List ℕ} {place : Place} → IsAfter limit stream place → IsPlace place
     → (outcome limit stream).left ≡ left_at limit place
 after-left {limit} {stream} {place} a is =
@@ -155,7 +155,7 @@ pub after-open_character : {limit : Option ℕ} {stream : List ℕ} {place : Pla
 after-open_character {limit} {stream} {place} a is =
     sym (open_bytes-any limit stream) ∙ ap open_bytes (after-left a is) ∙ open_bytes-at limit place
 
--- the bytes lead from one place to another
+-- If the bytes after a stream lead from its place to a next one, the longer stream leads to that place.
 pub after-reads : {limit : Option ℕ} {stream bytes : List ℕ} {place next : Place} {these : List Event}
     → IsAfter limit stream place → BytesLead limit place bytes these next → IsPlace next
     → IsAfter limit (stream ++ bytes) next
@@ -180,12 +180,12 @@ after-reads {limit} {stream} {bytes} {next} {these} a r is = record {
         ∙ ap (λ es. (events limit stream ++ these) ++ es) (events_from-nothing limit next is)
         ∙ append-nil (events limit stream ++ these)
 
--- what is added to a stream is what follows its place
+-- What is added to a stream is what follows its place.
 pub added-after : {limit : Option ℕ} {stream : List ℕ} (bytes : List ℕ) {place : Place} → IsAfter limit stream place
     → added limit stream bytes ≡ events_from limit place bytes
 added-after {limit} {stream} bytes {place} a = search (rules, arith, after-events, drop-append_seam)
 
--- what bytes that lead to a place add is what they report
+-- What bytes that lead to a place add is what they report.
 pub added-reads : {limit : Option ℕ} {stream bytes : List ℕ} {place next : Place} {these : List Event}
     → IsAfter limit stream place → BytesLead limit place bytes these next → IsPlace next
     → added limit stream bytes ≡ these
@@ -194,7 +194,7 @@ added-reads {limit} {bytes} {place} {next} {these} a r is =
     ∙ ap (events_from limit place) (sym (append-nil bytes)) ∙ ap (λ o. o.reported) (r.reads [])
     ∙ ap (λ es. these ++ es) (events_from-nothing limit next is) ∙ append-nil these
 
--- a parser between characters of a text has read nothing
+-- A parser between characters of a text has read what gives no events.
 pub has_read-nothing : {B : Type 0} {limit : Option ℕ} {parser : Machine B} → IsAtPlace limit parser (InText [])
     → HasReadWithLimit limit parser []
 has_read-nothing s = record { place = InText []; is_at = s; is_after = after-nothing }

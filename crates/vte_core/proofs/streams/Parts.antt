@@ -1,4 +1,4 @@
--- Parts give the events of their stream, because it begins anew at each ESC (`resynchronises`); so it does at a byte
+-- Parts give the events of their stream, because it begins again at each ESC (`resynchronises`); so it does at a byte
 -- that breaks a character.
 use Rattle.memchr.specs.Find.{NoneBefore, Nowhere, Passes, is_byte}
 use Rattle.std.proofs.lemmas.List.Sums.{passes_at_first, position_or_len_is}
@@ -80,7 +80,7 @@ escape_after from stream some more = omega (arith, some, more)
 
 -- ---- parts of a size
 
--- the parts after some bytes are those of what remains
+-- The parts after some bytes are those of what remains.
 parts_after-drop : (size skip : ℕ) (stream : List ℕ)
     → parts_after size skip stream ≡ parts_after size 0 (drop skip stream)
 parts_after-drop size zero stream = refl
@@ -98,7 +98,7 @@ first_part size stream j more = search (rules, arith, parts_after-drop, drop-les
 take-at_least : (n : ℕ) (stream : List ℕ) → take (min (length stream) n) stream ≡ take n stream
 take-at_least n stream = search (rules, arith, take_all)
 
--- as `next` takes it off
+-- The first part of a stream is the one that `next` takes off.
 pub next_part : (size : ℕ) (stream : List ℕ) {cut end : ℕ} → 0 < size → 0 < length stream
     → cut ≡ next_escape size stream → end ≡ min (length stream) (cut + 1)
     → parts_after size 0 stream
@@ -140,14 +140,14 @@ ends_with_escape limit part =
 
 -- ---- a stream goes on after a broken character as one that begins with the byte that broke it
 
--- the next byte is the first of those that are unread
+-- The byte that broke a character is the first one to be read after it.
 outcome_from-broken : (limit : Option ℕ) (place : Place) (b : ℕ) (unread more : List ℕ) → IsPlace place
     → breaks (open_at place) (b ∷ unread) ≡ true
     → outcome_from limit place (b ∷ more)
     ≡ report (Print replacement ∷ []) (outcome_from limit (InText []) (b ∷ more))
 outcome_from-broken limit place b unread more is broken = search (rules, arith, and_parts, waits-broken, not-true)
 
--- the stream goes on as one that begins with what is unread
+-- After a broken character, the stream goes on as one that begins with what is unread.
 outcome-broken : (limit : Option ℕ) (stream unread more : List ℕ) → breaks (open_character stream) unread ≡ true
     → outcome limit (stream ++ (unread ++ more))
     ≡ report (events limit stream ++ Print replacement ∷ []) (outcome limit (unread ++ more))

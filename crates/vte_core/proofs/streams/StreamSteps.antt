@@ -1,5 +1,5 @@
 -- A stream of any bytes, from its prefix: each byte leads from a place to a place (`arrives`), so what a stream gives
--- stays as it is whatever follows, and it begins anew where all places lead to the same.
+-- stays as it is whatever follows, and it begins again when all places lead to the same.
 use Rattle.vte_core.specs.Laws.{Resyncs, ResyncsAfter, Grows, OpensSilently}
 use Rattle.vte_core.proofs.Common.{◌≡◌, ℕ, ◌+◌, ◌≤◌, inl, inr, Option, None, List, [], ◌∷◌, ◌++◌, arith, open_data_count, drop, length, refl, ap, sym, ◌∙◌, append_assoc, All, All-append, All-nil, Cancel, class_of, IsBounded, AreFromOneByte, Event, Place, InText, AtEscape, open_at, events_from, IsAfter, added, events, open_character, escape, BytesLead, InSystemCommand, left_at, Some, CountsData, ToClose, CommandToClose, ◌≢◌, ◌<◌, true, length-append, cases_lt, nat_tests, character_event, is_control_character, is_well_formed, scalar_of, IsOutsideRuns, PrintsNoAscii, rules}
 use Rattle.vte_core.proofs.places.PartsToStream.{events-after_nothing, outcome_from-escape, bytes_lead-byte, bytes_lead-escape, bytes_lead-nothing, bytes_lead-append, cancel_is_no_escape}
@@ -21,7 +21,7 @@ left-fits limit _ = tt
 abbrev size_at : Option ℕ → Place → ℕ
 size_at limit place = open_data_count (left_at limit place)
 
--- the bytes report events of a bounded size after the place, and lead to a next place
+-- The bytes report events of a bounded size after the place, and lead to a next place.
 pub record Arrives (limit size : Option ℕ) (place : Place) (bytes : List ℕ) : Type 0 where
   pub reported : List Event
   pub next : Place
@@ -34,7 +34,7 @@ brief_bounded : (limit : Option ℕ) (reported : List Event) → AreFromOneByte 
     → All (IsBounded limit) reported
 brief_bounded limit reported brief = search (rules, arith)
 
--- the pieces that are left fit into the size at each place on the way
+-- The bytes arrive at a place, if the pieces that are left fit into the size at each place on the way.
 arrives : (limit size : Option ℕ) (place : Place) (bytes : List ℕ) → IsPlace place
     → ((on_way : Place) → (limit ≡ None → size_at limit on_way ≤ size_at limit place + length bytes)
     → FitsLeft size (left_at limit on_way)) → Arrives limit size place bytes
@@ -70,7 +70,7 @@ reported_by_stream {limit} {stream} is r =
     ap (λ es. drop (length es) (events limit stream)) (sym (events-empty limit))
     ∙ added-reads after-nothing r is
 
--- each stream leads to a place
+-- The stream leads to a place, with events of bounded size.
 pub record LeadsTo (limit : Option ℕ) (stream : List ℕ) : Type 0 where
   pub place : Place
   pub is_place : IsPlace place
@@ -88,7 +88,7 @@ leads_to {limit} {stream} =
       bounded = rw (reported_by_stream a.is_place a.reads) a.bounded;
     }
 
--- ---- the laws: events only grow, and a stream begins anew at ESC and after CAN and SUB
+-- ---- the laws: events only grow, and a stream begins again at ESC and after CAN and SUB
 
 pub events_grow : (limit : Option ℕ) → Grows limit
 events_grow limit stream more =
@@ -103,7 +103,7 @@ grows_after : {limit : Option ℕ} (stream : List ℕ) {bytes : List ℕ} (more 
     → events limit (stream ++ (bytes ++ more)) ≡ events limit (stream ++ bytes) ++ events_from limit next more
 grows_after {limit} stream {bytes} more a is reads = search (rules, arith, append_assoc, after-events, after-reads)
 
--- where the byte leads to a text between characters, what follows begins as a new stream
+-- After CAN or SUB, what follows is read as a new stream.
 resyncs_after : (limit : Option ℕ) (end : ℕ) → class_of end ≡ Cancel → ResyncsAfter limit end
 resyncs_after limit end e stream more =
     let a = leads_to in
@@ -189,10 +189,9 @@ counts_data stream bytes =
 
 -- ---- events that no run reports
 
--- A control, and a character of two bytes or more only where its event is no printed one. Such a character is never
--- ASCII.
+-- No run reports a control, nor a longer character whose event is no printed one. Such a character is never ASCII.
 
--- a sequence of two bytes or more is no character of ASCII
+-- A sequence of two bytes or more is no character of ASCII.
 pub prints_no_ascii : (p : List ℕ) → is_well_formed p ≡ true → 1 < length p → 0x80 ≤ scalar_of p
 prints_no_ascii p well long = elim (cases_lt (scalar_of p) 0x80) [
   | inl low ↦

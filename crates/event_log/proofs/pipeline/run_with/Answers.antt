@@ -4,12 +4,12 @@ use Rattle.event_log.proofs.Common.{◌≡◌, ◌<◌, inl, inr, refl, Ok, Err,
 use Rattle.event_log.proofs.Progress.{come_first, come_more, come_to_front, come_to_end}
 use Rattle.event_log.proofs.pipeline.run_with.Goals as goal
 
--- Without an error, what is said of an `Ok` holds.
+-- If the result isn't an error, what is said of an `Ok` holds.
 at_ok : {T E P : Type 0} (r : Result T E) → is_err r ≡ false → OnOk r P → P
 at_ok (Ok x) e h = h
 at_ok (Err x) e h = absurd (let f : ⊥ = cc in f)
 
--- At first nothing is read.
+-- Before the first read, nothing was read.
 pub loop-init : goal.loop-init
 loop-init g c = record {
   reads = record { since = _; parsed = c.new-parser.ensures };
@@ -46,7 +46,7 @@ loop-preserved g c =
           (λ whole h. at_ok chunk.result works (chunk.ensures.writes whole h));
     }
 
--- As many reads were made as there may be.
+-- The loop also ends after as many reads as there may be.
 pub returns-clause-texts : goal.returns-clause-texts
 returns-clause-texts g c = λ input held e f.
     let h = c.loop.invariant.come input held e f in

@@ -9,7 +9,7 @@ tells : (failed : Bool) (inside given : Bor (List ℕ)) → failed ≡ false →
 tells true inside given works same = cc
 tells false inside given works same = ap (λ bytes. Some bytes.now) same
 
--- What is told is what was written.
+-- The bytes that `bytes_unless` gives, if any, are those that it was given.
 are_told : (refused : Bool) (bytes written : List ℕ) → bytes_unless refused bytes ≡ Some written → bytes ≡ written
 are_told true bytes written e = cc
 are_told false bytes written e = cc

@@ -12,14 +12,18 @@ returns c =
     let room = read.new.room in
     let kinds = c.new-room.ensures.kinds in
     let stops = c.new-room.ensures.stops in
+    -- The call reads from the first m bytes: all of them, or as many as 32 bits can count.
     let whole : take m bytes ++ drop m bytes ≡ bytes = take-append-drop m bytes in
     let within : read.result ≤ length (take m bytes) = read.ensures.within in
+    -- So the count that it returns isn't that of a call without room.
     let count : fed_count read.result ≡ read.result =
     counted read.result (omega (arith, within, length-take m bytes, c.min-end.ensures)) in
+    -- `read_into` ensures this of the first m bytes, whatever follows: here the other bytes, and `rest`.
     let feeds =
     λ (given : List Event) (stream rest : List ℕ)
     (h : HasReported c.args.kinds c.args.parser.now given stream (bytes ++ rest)).
     read.ensures.feeds given stream (drop m bytes ++ rest) (rw (kinds, ← append_assoc (take m bytes), whole) h) in
+    -- The caller's counts, records and data are those of the room, whose slices are the caller's.
     let are =
     λ (given : List Event) (stream rest : List ℕ)
     (h : HasReported c.args.kinds c.args.parser.now given stream (bytes ++ rest)).
@@ -32,6 +36,7 @@ returns c =
     record {
       enough = λ most size. sym count;
       within = omega (arith, count, within, length-take m bytes);
+      -- What was reported of the first m bytes is reported of all, of which the others are still unread.
       exact = λ given stream rest h.
           let a = are given stream rest h in
           let reports = rw kinds at ((feeds given stream rest h).reports (drop m bytes)) in
@@ -43,6 +48,7 @@ returns c =
           rw (a.same_count, a.same_used, a.same_records, a.same_area)
           (rw whole at ((feeds given stream rest h).encodes (drop m bytes)));
       room = (omega (arith, c.min.ensures, c.events-1.given.1.0), omega (arith, c.min-2.ensures, c.area-1.given.1.0));
+      -- On this path there is enough room, so neither of these two cases is possible.
       too_few = λ few. record {
         says = search rules;
         events = search rules;
@@ -57,6 +63,7 @@ returns c =
         same = search rules;
         unwritten = search rules;
       };
+      -- If there is a byte and no record stops, at least one byte is read.
       progress = λ given stream rest h most size others some.
           let a = are given stream rest h in
           let there : 0 < length (take m bytes) = omega (arith, c.min-end.ensures, length-take m bytes, some) in
@@ -64,6 +71,7 @@ returns c =
       first = λ given stream rest h.
           let a = are given stream rest h in
           rw (a.same_count, a.same_records, ← stops) (feeds given stream rest h).first;
+      -- A prefix of the bytes that were read is also one of the first m bytes.
       until = λ stream reads not_text not_data i earlier.
           let front = take-take i m bytes (omega (arith, count, within, length-take m bytes)) in
           rw (kinds, stops, front) at (read.ensures.stops stream reads

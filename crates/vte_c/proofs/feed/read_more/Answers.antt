@@ -12,15 +12,18 @@ returns c =
     let bytes = c.args.bytes.now in
     let rest : List ℕ = drop c.args.from bytes in
     let size = length-drop c.args.from bytes in
+    -- The parser receives the rest of the bytes, from `from` on.
     let unread : take (length bytes - c.args.from) rest ≡ rest =
     take_all (length bytes - c.args.from) rest (omega arith) in
     let returned = rw unread at call.ensures.returns in
     let begins : c.args.from ≤ length bytes = omega (arith, c.requires.within) in
+    -- The steps use these laws of `vte_core`.
     let laws : Laws = record {
       units = c.early_stops.ensures.units usual_limit;
       goes_on = c.early_stops.ensures.goes_on usual_limit;
       silent = c.opens_silently.ensures usual_limit;
     } in
+    -- The record of the run is written after what the parser reported.
     let written = c.add_run.ensures.written in
     record {
       within = omega (arith, returned.is_run.within, c.requires.within);

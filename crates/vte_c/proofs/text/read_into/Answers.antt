@@ -23,17 +23,20 @@ loop-count-preserved c =
     let m = c.min-size.result in
     let rest = drop n bytes in
     let left = length-drop n bytes in
+    -- The next chunk is the first m of the unread bytes.
     let unread : take (length bytes - n) rest ≡ rest = take_all (length bytes - n) rest (omega arith) in
     let chunk = take m (take (length bytes - n) rest) in
     let at_least : m ≤ length rest = omega (arith, c.min-size.ensures, length-take (length bytes - n) rest) in
     let size : length chunk ≡ m = rw unread (omega (arith, length-take m rest)) in
     let room = text_room_of c.loop-count.room in
+    -- The chunk isn't empty, and its text fits, with eight bytes for each of its own.
     let some : 0 < m = omega (arith, c.min-size.ensures, c.left.ensures, c.left-in-loop-count.ensures) in
     let fits : room.used + 8 * length chunk ≤ room.size =
     omega (arith, c.min-size.ensures, c.left.ensures, c.left-in-loop-count.ensures) in
     record {
       within = omega (arith, size, at_least);
       begins = λ none. absurd (omega arith);
+      -- So the text is written after that of the bytes before the chunk.
       written = λ stream reads.
           let h = c.loop-count.invariant.written stream reads in
           written_more chunk c.requires.starts.fits

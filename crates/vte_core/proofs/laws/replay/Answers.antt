@@ -11,11 +11,11 @@ now_of chunk = chunk.now
 pub new_with_size-parser-requires : goal.new_with_size-parser-requires
 new_with_size-parser-requires g c = omega arith
 
--- No piece is read, and no event is given.
+-- At first, no piece is read, and no event is given.
 pub loop-chunk-init : goal.loop-chunk-init
 loop-chunk-init g c = search (rules, arith, events-empty)
 
--- A piece more: its events are added to those of the pieces before.
+-- After one more piece, its events are added to those of the pieces before.
 pub loop-chunk-preserved : goal.loop-chunk-preserved
 loop-chunk-preserved g c =
     let limit = Some g.row.OSC_RAW_BUF_SIZE in

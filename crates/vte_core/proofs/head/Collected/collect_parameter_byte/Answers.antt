@@ -6,7 +6,7 @@ use Rattle.vte_core.proofs.head.Collected.collect_parameter_byte.Goals as goal
 pub returns-in-Some-clause-counts : goal.returns-in-Some-clause-counts
 returns-in-Some-clause-counts c = search (rules, arith, counts-digit)
 
--- what no digit is
+-- A byte of the parameters that is no digit is a separator.
 left_is_separator : (separator parameter : Bool) → (separator ≡ false → parameter ≡ false) → parameter ≡ true
     → separator ≡ true
 left_is_separator true parameter other is = refl

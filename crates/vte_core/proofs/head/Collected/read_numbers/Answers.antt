@@ -6,7 +6,7 @@ use Rattle.vte_core.proofs.fields.Heads.{counts-digit, counts-separator}
 use Rattle.vte_core.proofs.head.Collected.read_numbers.Goals.{in-Some, in_default+then-several+then-byte-eq59}
 use Rattle.vte_core.proofs.head.Collected.read_numbers.Goals as goal
 
--- No byte is read.
+-- At first, no byte is read.
 pub loop-position-init : goal.loop-position-init
 loop-position-init c = search (rules, arith, progress_after-none, reads_head-nothing)
 
@@ -18,7 +18,7 @@ loop-position-preserved c =
     let held = c.loop-position.self in
     record {
       reads = elim c.match-digit_of.branch [
-        -- A digit.
+        -- The byte is a digit.
         | in-Some w ↦
             let is = rw w.in-Some.is at c.digit_of.ensures in
             rw (w.self-is, w.number-is)
@@ -27,7 +27,7 @@ loop-position-preserved c =
             (λ text k.
             counts-digit c.byte_at-byte.result k is.0 is.1 refl refl
             (omega (arith, w.min-number.ensures, is.2))) v.reads)
-        -- A separator.
+        -- The byte is a separator.
         | in_default+then-several+then-byte-eq59 w ↦
             let settled = w.settle_number.ensures in
             let is : c.byte_at-byte.result ≡ 59 = w.if-byte-eq59.true in
@@ -55,6 +55,6 @@ loop-position-preserved c =
 pub returns-then-position-from-clause-reads : goal.returns-then-position-from-clause-reads
 returns-then-position-from-clause-reads c = search (rules, arith, progress_after-more)
 
--- None was: it stays.
+-- If no byte was read, the progress stays.
 pub returns-else-position-from-clause-reads : goal.returns-else-position-from-clause-reads
 returns-else-position-from-clause-reads c = search (rules, arith, progress_after-none)

@@ -22,7 +22,7 @@ returns-then-is_printed_pair-clause-run c =
     (omega (arith, second.0)) c.requires.looked_at second.1 lead.0 c.if-first-lt224.true
     (pair.0 refl).0 (pair.0 refl).1
 
--- A character of three bytes, all in their ranges.
+-- A character of three bytes, each in its range, is a run.
 pub returns-then-is_continuation-clause-run : goal.returns-then-is_continuation-clause-run
 returns-then-is_continuation-clause-run c =
     let third = c.in_ok-get_byte.ensures in
@@ -31,7 +31,7 @@ returns-then-is_continuation-clause-run c =
     third.1 c.if-first-lt224.false c.if-first-lt240.true
     (sym c.may_begin_three.ensures ∙ c.if-may_begin_three.true) (sym c.if-is_continuation.ensures)
 
--- A character of four bytes, all in their ranges.
+-- A character of four bytes, each in its range, is a run.
 pub returns-then-is_continuation-3-clause-run : goal.returns-then-is_continuation-3-clause-run
 returns-then-is_continuation-3-clause-run c =
     let third = c.in_ok-get_byte-2.ensures in
@@ -73,10 +73,10 @@ returns-else-is_printed_pair-clause-ended c none =
     ∙ c.is_printed_pair.ensures.1
     (ap (is_in (from_to 0x80 0xbf)) second ∙ continues, λ first. omega (arith, second, plain first))))
 
--- Of three bytes, the third does not continue or the second does not fit the first.
+-- Of three bytes, the third doesn't continue the character, or the second doesn't fit the first.
 pub returns-else-may_begin_three-clause-ended : goal.returns-else-may_begin_three-clause-ended
 returns-else-may_begin_three-clause-ended c none = search (rules, arith, no_run-three)
 
--- Of four bytes, the fourth or third does not continue or the second does not fit the first.
+-- Of four bytes, the fourth or third doesn't continue the character, or the second doesn't fit the first.
 pub returns-else-may_begin_four-clause-ended : goal.returns-else-may_begin_four-clause-ended
 returns-else-may_begin_four-clause-ended c none = search (rules, arith, no_run-four, fourth-misfits)

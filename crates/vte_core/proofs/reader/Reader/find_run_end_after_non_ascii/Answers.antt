@@ -23,7 +23,7 @@ loop-end-preserved-then-is_printed_ascii g c =
       singly = λ short near. omega (arith, far, all, short, near);
     }
 
--- What else a run goes on by.
+-- The run goes on by something other than printed ASCII.
 pub loop-end-preserved : goal.loop-end-preserved
 loop-end-preserved g c =
     let v = c.loop-end.invariant in

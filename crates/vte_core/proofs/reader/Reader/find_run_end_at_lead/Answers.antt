@@ -4,7 +4,7 @@ use Rattle.vte_core.proofs.bytes.Runs.{run-append}
 use Rattle.vte_core.proofs.dividing.Utf8Agrees.{run-two, run-three}
 use Rattle.vte_core.proofs.reader.Reader.find_run_end_at_lead.Goals as goal
 
--- A character of two bytes.
+-- A character of two bytes is a run.
 pub returns-then-is_printed_pair-clause-run : goal.returns-then-is_printed_pair-clause-run
 returns-then-is_printed_pair-clause-run g c = λ _.
     let bytes = c.args.input.bytes.now in
@@ -17,7 +17,7 @@ returns-then-is_printed_pair-clause-run g c = λ _.
     (omega (arith, second.0)) c.requires.looked_at second.1 c.requires.lead c.if-first-lt224.true
     (pair.0 refl).0 (pair.0 refl).1) rest.scans.passed
 
--- A character of three.
+-- A character of three bytes is a run.
 pub returns-in-Some-2-clause-run : goal.returns-in-Some-2-clause-run
 returns-in-Some-2-clause-run g c = λ _.
     let bytes = c.args.input.bytes.now in

@@ -18,7 +18,7 @@ loop-end-preserved-then-is_printed_ascii c =
       count = omega (arith, v.count, ascii.count, c.byte_at-byte.ensures.count);
     }
 
--- What else a run goes on by.
+-- The run goes on by something other than printed ASCII.
 pub loop-end-preserved : goal.loop-end-preserved
 loop-end-preserved c =
     let v = c.loop-end.invariant in

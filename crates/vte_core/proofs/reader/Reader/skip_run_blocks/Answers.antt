@@ -51,6 +51,7 @@ loop-window-preserved-then-plain-most c =
     let early : 3 ≤ c.loop-window.at = omega (arith, v.low, c.requires.before) in
     let fits = c.continues_run.ensures c.if-not-continues_run.false in
     let ascii = c.skip_ascii_blocks-at.ensures in
+    -- Larger blocks are tried only after some blocks of ASCII, so not in the first round.
     let past : c.args.from < c.loop-window.at = elim c.if-is_ascii.branch [
       | else-is_ascii w ↦ absurd (omega (arith, w.plain-is, c.if-plain-most.true))
       | then-is_ascii w ↦ elim (cases_lt c.args.from c.loop-window.at) [
@@ -64,11 +65,13 @@ loop-window-preserved-then-plain-most c =
     record {
       low = omega (arith, v.low, ascii.low);
       high = ascii.high;
+      -- The window leads on from the bytes before it, and the larger blocks of ASCII from the window.
       leads =
           trails-ascii c.args.input.bytes.now c.args.from (c.loop-window.at + 16)
           c.skip_ascii_blocks-at.result (omega (arith, v.low)) ascii.low ascii.high
           (trails-block c.args.layout c.args.input.bytes.now c.in-Some.window c.args.from c.loop-window.at early v.low
           window fits v.leads 16 (omega arith)) ascii.closed ascii.plain;
+      -- Without layout, larger blocks are never tried, as `most` is then out of reach.
       kept = λ none. elim c.if-layout.branch [
         | then-layout w ↦ absurd (false≢true (sym none ∙ w.if-layout.true))
         | else-layout w ↦ elim c.if-is_ascii.branch [
@@ -111,21 +114,26 @@ returns-then-at-from-clause-scans c =
           );
     }
 
+-- The run ends with its last whole character, before the bytes that are still open.
 pub returns-clause-scans : goal.returns-clause-scans
 returns-clause-scans c =
     let v = c.loop-window.invariant in
     let bytes = c.args.input.bytes.now in
     let text = drop c.args.from bytes in
     let at = c.loop-window.at in
+    -- At least one block was read.
     let whole : c.args.from + 16 ≤ at = v.whole (omega (arith, v.low, c.if-at-from.false)) in
+    -- The bytes before those that are still open are a run that may have layout.
     let last =
     run-before-open bytes c.args.from at (omega (arith, whole)) v.high v.leads c.count_open_bytes-2.result
     c.count_open_bytes-2.ensures.value in
+    -- If layout isn't kept, no byte of the blocks is below 20.
     let kept : c.args.layout ≡ false → Each (λ byte. 0x20 ≤ byte) text 0 (at - c.args.from) =
     λ none k _ low.
     subst (λ byte. 0x20 ≤ byte) (sym (get_or-drop c.args.from bytes k 0))
     (v.kept none (c.args.from + k) (omega arith) (omega (arith, low))) in
     let at_least : looked c.loop-window.self ≤ looked c.get_window.new.self = search rules in
+    -- So the bytes before those that are open are a run, whether layout is kept or not (`run-kept`).
     record {
       low = omega (arith, whole, last.0);
       high = omega (arith, v.high);

@@ -33,21 +33,25 @@ returns c = λ all.
     let s : ℕ = c.args.two_back in
     let f : ℕ = c.args.one_back in
     let b : ℕ = c.args.byte in
+    -- These are the tests of the code, by name.
     let low : Bool = nat_le 0x80 b && nat_lt b 0xa0 in
     let lowest : Bool = nat_le 0x80 b && nat_lt b 0x90 in
     let e0 : Bool = (nat_eq f 0xe0 || nat_eq f 0xc2) && low in
     let ed : Bool = nat_eq f 0xed && not low in
     let f0 : Bool = nat_eq f 0xf0 && lowest in
     let f4 : Bool = nat_eq f 0xf4 && not lowest in
+    -- All of them pass: the byte is a continuation exactly if a character is open, and no exception applies.
     let is =
     passes (nat_le 1 c.max-is_open.result) c.is_continuation.result
     (nat_eq b 0xc0 || nat_eq b 0xc1)
     ((nat_lt b 0x20 || nat_le 0xf5 b) && not (c.is_layout.result && c.args.layout))
     (((e0 || ed) || f0) || f4) all in
+    -- So none of the four exceptions applies by itself.
     let third = or_parts ((e0 || ed) || f0) f4 is.is_excluded in
     let second = or_parts (e0 || ed) f0 third.0 in
     let first = or_parts e0 ed second.0 in
     let continues = c.is_continuation.ensures in
+    -- Therefore the byte fits after the three before it (`Fits`), and each state that they allow leads on.
     record {
       leads = leads t s f b (record {
         none_open = λ no_more. grind (arith, nat_tests, is.is_opened, no_more, continues);

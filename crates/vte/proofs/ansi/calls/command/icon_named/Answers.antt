@@ -4,7 +4,7 @@ use Rattle.std.specs.Result.{result_ok}
 use Rattle.vte_types.specs.CursorIcon.{icon_of}
 use Rattle.vte.proofs.ansi.calls.command.icon_named.Goals as goal
 
--- what was found, whatever the error
+-- `ok_or` keeps what was found, whatever the error.
 ok_or-found : {A E : Type 0} (found : Option A) (error : E) → result_ok (ok_or found error) ≡ found
 ok_or-found None error = refl
 ok_or-found (Some x) error = refl

@@ -5,7 +5,7 @@ use Rattle.vte.proofs.Common.{◌≡◌, ◌<◌, ℕ, List, Option, Some, None,
 use Rattle.std.specs.Prelude.{◌&&◌, if◌then◌else◌}
 use Rattle.vte.proofs.ansi.calls.numbers.parse_number.Given as goal
 
--- the number that digits write after those of another
+-- The number that further digits write after `number`, if all are digits and it is below 256.
 abbrev pub number_after : ℕ → List ℕ → Option ℕ
 number_after number digits =
     if all_ascii_digits digits && nat_lt (digits_value_after 10 number digits) 256

@@ -35,7 +35,7 @@ loop-position-preserved-then-begins_update c =
           (rw (sequence_at e) at (sym c.begins_update.ensures.value ∙ c.if-begins_update.true)));
     }
 
--- Any other sequence.
+-- Any other sequence at the ESC changes nothing.
 pub loop-position-preserved : goal.loop-position-preserved
 loop-position-preserved c =
     let before = c.loop-position.invariant in
@@ -66,7 +66,7 @@ returns-then-ends_update c = λ held more e none.
     seen-end at.inside at.seen
     (rw (sequence_at e) at (sym c.ends_update.ensures.value ∙ c.if-ends_update.true))
 
--- No ESC is left, so no end either.
+-- If no ESC is left, there is no end-update either.
 pub returns : goal.returns
 returns c = λ held more e none.
     let before = c.loop-position.invariant in

@@ -9,21 +9,21 @@ use Rattle.vte_core.proofs.fields.PlaceOfState.{is_at-escape, is_at-text_begun}
 use Rattle.vte_core.proofs.places.PlaceLeads.{escape-key, escape-end}
 use Rattle.vte_core.proofs.parser.machine.Machine.begin_or_dispatch.Goals as goal
 
--- `P`: a device control string.
+-- `P` begins a device control string.
 pub returns-then-byte-eq80-clause-takes : goal.returns-then-byte-eq80-clause-takes
 unfolding sequence_kind
 returns-then-byte-eq80-clause-takes g c = λ s.
     takes-byte refl (record { fields = c.begin_head.ensures.head (is_at-escape _ s) })
     (escape-key DeviceControl (class-final _ c.requires.ends) (rw c.if-byte-eq80.true refl) refl)
 
--- `]`: a command.
+-- `]` begins a command.
 pub returns-then-byte-eq93-clause-takes : goal.returns-then-byte-eq93-clause-takes
 unfolding sequence_kind
 returns-then-byte-eq93-clause-takes g c = λ s.
     takes-byte refl (record { fields = c.clear.ensures.holds })
     (escape-key SystemCommand (class-final _ c.requires.ends) (rw c.if-byte-eq93.true refl) refl)
 
--- `X`, `^` and `_`: an ignored string.
+-- `X`, `^` and `_` begin an ignored string.
 pub returns-then-begins_ignored_string-clause-takes : goal.returns-then-begins_ignored_string-clause-takes
 returns-then-begins_ignored_string-clause-takes g c = λ s.
     let key =

@@ -11,7 +11,7 @@ use Rattle.vte_core.proofs.positions.TextRuns.{advances-text}
 use Rattle.vte_core.proofs.dividing.Utf8Agrees.{run-four}
 use Rattle.vte_core.proofs.parser.machine.Machine.complete_four.Goals as goal
 
--- Over plain numbers, where `omega` has little to read.
+-- `omega` proves these over plain numbers, so that it has little to read.
 lead_of_three : (first : ℕ) → 0xf0 ≤ first → 0xe0 ≤ first
 lead_of_three first low = omega arith
 
@@ -29,9 +29,9 @@ returns-then-not-may_begin_four-clause-advances g c =
     let misfits = sym c.may_begin_four.ensures ∙ c.if-not-may_begin_four.true in
     -- The first byte is a lead byte, C2 to F4, so the call goes on by a character.
     advances-first r.may_read (lead_of_two _ r.lead.low) r.lead.high
-    -- No byte more belongs to it (`goes-nowhere`), and the next one breaks it.
+    -- No further byte belongs to the character (`goes-nowhere`), and the next one breaks it.
     (completes-broken (goes-nowhere c.args.self.now (unfinished-some _ _))
-    -- So the definition says, and U+FFFD is what the code printed.
+    -- The definition says so, and the code printed U+FFFD.
     (λ more. second-broken c.args.first c.args.second more misfits) r.may_read.begun c.print_char.ensures.value
     -- The next byte is within the call, and the one that was read.
     r.within r.looked_at)
@@ -93,7 +93,7 @@ report_text-requires-clause-run g c =
     (subst (λ position. IsRun g.P.CountedPerform.layout bytes position c.find_run_end_after_non_ascii-end.result) past
     rest.scans.passed)
 
--- In runs, it is reported with the run that it begins.
+-- In runs, the character is reported with the run that it begins.
 pub returns-then-IN_RUNS-clause-advances : goal.returns-then-IN_RUNS-clause-advances
 returns-then-IN_RUNS-clause-advances g c =
     let r = c.requires in

@@ -4,7 +4,7 @@ use Rattle.vte_core.proofs.bytes.Scalars.{second-broken, third-broken, spells-th
 use Rattle.vte_core.proofs.positions.Characters.{completes-all, completes-broken, completes-whole, goes-nowhere, goes-second, unfinished-some}
 use Rattle.vte_core.proofs.parser.machine.Machine.complete_three.Goals as goal
 
--- Over plain numbers, where `omega` has little to read.
+-- `omega` proves this over plain numbers, so that it has little to read.
 counted : (from : ℕ) → from + 2 ≡ from + 1 + 1
 counted from = omega arith
 

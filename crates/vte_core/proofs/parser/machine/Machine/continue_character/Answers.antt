@@ -7,25 +7,25 @@ pub loop-position-init : goal.loop-position-init
 loop-position-init g c =
     record { goes = goes-nowhere c.args.self.now c.requires.inside; same = refl; spends = search rules }
 
--- A byte more.
+-- After one more byte that continues the character, the loop goes on.
 pub loop-position-preserved : goal.loop-position-preserved
 loop-position-preserved g c = search (rules, arith, goes-more)
 
--- It ends the character.
+-- The byte ends the character.
 pub returns-in-Whole-clause-completes : goal.returns-in-Whole-clause-completes
 returns-in-Whole-clause-completes g c =
     let v = c.loop-position.invariant in
     completes-whole v.goes c.in-Whole.ensures refl (rw v.same at c.report_character.ensures.value)
     (omega (arith, c.loop-position-test.true, c.len-position-end.ensures)) c.byte_at.ensures.value refl
 
--- It breaks the character.
+-- The byte breaks the character.
 pub returns-in-Broken-clause-completes : goal.returns-in-Broken-clause-completes
 returns-in-Broken-clause-completes g c =
     let v = c.loop-position.invariant in
     completes-broken v.goes c.in-Broken.ensures refl (rw v.same at c.print_char.ensures.value)
     (omega (arith, c.loop-position-test.true, c.len-position-end.ensures)) c.byte_at.ensures.value
 
--- No byte is left.
+-- If no byte is left, the character stays open.
 pub returns-clause-completes : goal.returns-clause-completes
 returns-clause-completes g c =
     let v = c.loop-position.invariant in rw v.same (completes-all v.goes (omega arith) (omega arith))

@@ -4,7 +4,7 @@ use Rattle.vte_core.proofs.positions.HeadStretches.{advances-control_sequence, C
 use Rattle.vte_core.proofs.positions.Stretches.{advances-then}
 use Rattle.vte_core.proofs.parser.machine.Machine.continue_control_sequence.Goals as goal
 
--- Numbers and a final byte.
+-- After the numbers comes a final byte.
 pub returns-then-is_final : goal.returns-then-is_final
 returns-then-is_final g c =
     let read = c.read_numbers-head.ensures in
@@ -26,7 +26,7 @@ pub returns-then-is_none-clause-advances : goal.returns-then-is_none-clause-adva
 returns-then-is_none-clause-advances g c =
     advances-head ControlHead c.requires.begun c.read_numbers-head.ensures.reads.head c.requires.may_go_on refl
 
--- Numbers and more of the head.
+-- After the numbers comes more of the head.
 pub returns-clause-advances : goal.returns-clause-advances
 returns-clause-advances g c =
     advances-then

@@ -10,7 +10,7 @@ use Rattle.vte_core.proofs.parser.machine.Machine.drive_to_run.Goals as goal
 pub loop-position-init : goal.loop-position-init
 loop-position-init g c = search (rules, arith)
 
--- In a text: what the search has found is a run of text, and the machine is between characters.
+-- In a text, the search has found a run of text, and the machine is between characters.
 pub returns-then-end-position-clause-comes : goal.returns-then-end-position-clause-comes
 returns-then-end-position-clause-comes g c =
     let v = c.loop-position.invariant in
@@ -19,7 +19,7 @@ returns-then-end-position-clause-comes g c =
     comes-to_run (has-text settled (omega arith) found.scans.high found.scans.passed found.ended) (omega arith)
     (sym c.terminated.ensures ∙ c.if-not-terminated.true) v.is_at_position
 
--- In data: what it has found is put.
+-- In data, the search has found data that are put.
 pub returns-then-end-position-2-clause-comes : goal.returns-then-end-position-2-clause-comes
 returns-then-end-position-2-clause-comes g c =
     let v = c.loop-position.invariant in
@@ -27,7 +27,7 @@ returns-then-end-position-2-clause-comes g c =
     comes-to_run (has-data c.in-DeviceData.is (omega arith) found.high found.passed found.ended) (omega arith)
     (sym c.terminated.ensures ∙ c.if-not-terminated.true) v.is_at_position
 
--- In a text that begins with no run: what is read there is reported by none.
+-- In a text that begins with no run, what is read belongs to no run.
 pub loop-position-preserved-else-end-position : goal.loop-position-preserved-else-end-position
 loop-position-preserved-else-end-position g c =
     let v = c.loop-position.invariant in
@@ -40,7 +40,7 @@ loop-position-preserved-else-end-position g c =
       spends = search rules;
     }
 
--- In data, before a byte that is not put: the same.
+-- In data, before a byte that isn't put, what is read belongs to no run either.
 pub loop-position-preserved-else-end-position-2 : goal.loop-position-preserved-else-end-position-2
 loop-position-preserved-else-end-position-2 g c =
     let v = c.loop-position.invariant in
@@ -92,7 +92,7 @@ returns-in_err-position-in_default g c =
           (v.is_at_position stream h)));
     }
 
--- No run: the performer was terminated, or all bytes are read.
+-- Without a run, either the performer was terminated or all bytes are read.
 pub returns-clause-comes : goal.returns-clause-comes
 returns-clause-comes g c =
     let v = c.loop-position.invariant in

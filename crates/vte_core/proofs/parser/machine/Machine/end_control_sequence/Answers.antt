@@ -7,7 +7,7 @@ use Rattle.vte_core.proofs.places.PlaceLeads.{control-dispatched, control-silent
 use Rattle.vte_core.proofs.fields.PlaceOfState.{is_at-text_begun}
 use Rattle.vte_core.proofs.parser.machine.Machine.end_control_sequence.Goals as goal
 
--- An ill-shaped head.
+-- An ill-shaped head reports nothing.
 pub returns-in-IllShaped-clause-takes : goal.returns-in-IllShaped-clause-takes
 returns-in-IllShaped-clause-takes g c = λ head s.
     let ill = ill_shaped-now (rw c.in-IllShaped.is at s) in
@@ -19,7 +19,7 @@ returns-in-IllShaped-clause-takes g c = λ head s.
       leads = control-silent (class-final _ c.requires.final_byte) ill;
     }
 
--- A whole one.
+-- A well-shaped head is dispatched.
 pub returns-clause-takes : goal.returns-clause-takes
 returns-clause-takes g c = λ head s.
     let ready = c.end_head-ignore.ensures c.args.progress head (head-holds c.in_default.not-IllShaped s) in

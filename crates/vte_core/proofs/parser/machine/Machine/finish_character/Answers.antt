@@ -6,18 +6,19 @@ use Rattle.vte_core.proofs.positions.Progress.{settled-same_state, settled-nothi
 use Rattle.vte_core.proofs.parser.machine.Machine.finish_character.Goals as goal
 
 -- A text without an open character.
-pub returns-then-is_nothing-clause-stands_at : goal.returns-then-is_nothing-clause-stands_at
-returns-then-is_nothing-clause-stands_at g c = search (rules, arith, starts-at, settled-same_state, settled-nothing)
+pub returns-then-is_nothing-clause-is_at_position : goal.returns-then-is_nothing-clause-is_at_position
+returns-then-is_nothing-clause-is_at_position g c =
+    search (rules, arith, starts-at, settled-same_state, settled-nothing)
 
 -- An open character: what completes it begins inside it.
-pub returns-else-is_nothing-clause-stands_at : goal.returns-else-is_nothing-clause-stands_at
-returns-else-is_nothing-clause-stands_at g c =
+pub returns-else-is_nothing-clause-is_at_position : goal.returns-else-is_nothing-clause-is_at_position
+returns-else-is_nothing-clause-is_at_position g c =
     λ stream h.
     c.continue_character.ensures.completes.is_at_position _ stream c.args.self.now c.in-Text.is (starts-inside h)
 
--- Outside a text.
-pub returns-in_default-clause-stands_at : goal.returns-in_default-clause-stands_at
-returns-in_default-clause-stands_at g c = λ stream h. starts-at (settled-outside _ c.in_default.not-Text) h
+-- Outside a text no character is open, so the call is at its start.
+pub returns-in_default-clause-is_at_position : goal.returns-in_default-clause-is_at_position
+returns-in_default-clause-is_at_position g c = λ stream h. starts-at (settled-outside _ c.in_default.not-Text) h
 
 -- The same three, of what is reported by no run.
 pub returns-then-is_nothing-clause-outside_runs : goal.returns-then-is_nothing-clause-outside_runs

@@ -5,7 +5,7 @@ use Rattle.vte_core.proofs.fields.Heads.{dispatched-ready, head-holds, ill_shape
 use Rattle.vte_core.proofs.places.PlaceLeads.{device-well_shaped, device-ill_shaped}
 use Rattle.vte_core.proofs.parser.machine.Machine.hook.Goals as goal
 
--- An ill-shaped head.
+-- After an ill-shaped head, the string is ignored.
 pub returns-in-IllShaped-clause-takes : goal.returns-in-IllShaped-clause-takes
 returns-in-IllShaped-clause-takes g c = λ head s.
     let ill = ill_shaped-now (rw c.in-IllShaped.is at s) in
@@ -17,7 +17,7 @@ returns-in-IllShaped-clause-takes g c = λ head s.
       leads = device-ill_shaped (class-final _ c.requires) ill;
     }
 
--- A whole one.
+-- A well-shaped head is reported by `Hook`.
 pub returns-clause-takes : goal.returns-clause-takes
 returns-clause-takes g c = λ head s.
     let f = c.end_head-ignore.ensures c.args.progress head (head-holds c.in_default.not-IllShaped s) in

@@ -47,7 +47,7 @@ returns-then-is_plain_control-clause-takes g c =
     (λ holds. takes-byte c.execute_control.ensures.value (is_at-by c.requires.begun holds)
     (byte-executed refl is)))
 
--- What is left is DEL and 80 to FF, which is dropped.
+-- The bytes that are left are DEL and 80..FF, which are dropped.
 pub returns-else-is_plain_control-clause-takes : goal.returns-else-is_plain_control-clause-takes
 returns-else-is_plain_control-clause-takes g c = search (rules, arith, takes_bytes-dropped)
 

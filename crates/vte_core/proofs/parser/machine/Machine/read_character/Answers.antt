@@ -35,7 +35,7 @@ returns-then-first-lt224-clause-advances g c =
     (λ more. (spells.is_whole, c.character_of_two.ensures))
     r.may_read.begun c.report_character.ensures.value (omega arith) c.byte_at-second.ensures.value refl)
 
--- Three bytes.
+-- A first byte below F0 begins a character of three bytes.
 pub returns-then-first-lt240-clause-advances : goal.returns-then-first-lt240-clause-advances
 returns-then-first-lt240-clause-advances g c =
     advances-first c.requires.may_read c.requires.lead c.requires.fits c.complete_three.ensures.completes

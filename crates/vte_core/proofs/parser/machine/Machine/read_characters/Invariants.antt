@@ -3,7 +3,7 @@ use Rattle.vte_core.proofs.Common.{◌≡◌, ◌+◌, ◌-◌, ◌*◌, ◌<◌
 use Rattle.vte_core.specs.machine.Prelude.{MayReadByte}
 use Rattle.vte_core.proofs.parser.machine.Machine.read_characters.Given as goal
 
--- the call that reads these bytes
+-- The call that reads these bytes.
 abbrev pub call_at : (g : goal.Over) → List ℕ → ChunkCall g.P.CountedPerform.Value
 call_at g bytes =
     chunk_call false g.P.CountedPerform.step g.P.CountedPerform.is_terminated g.B.Buffer.limit bytes
@@ -18,9 +18,9 @@ invariant-loop-next g l = record {
   within : l.position < length l.prefix.bytes.now;
   same : (k : ℕ) → k < length l.prefix.bytes.now → slice_index l.prefix.bytes.now k ≡ slice_index l.input.bytes.now k;
   low : l.from ≤ l.position;
-  -- three looks per byte that was read, one at this one, and one per byte up to where the prefix was searched
+  -- Three looks per byte that was read, one at this byte, and one per byte up to where the prefix was searched.
   count : looked l.reader + 4 * l.from ≤ looked l.fn.reader + 3 * l.position + length l.prefix.bytes.now + 1;
-  -- if the search found an ESC there, it has looked no further
+  -- If the search found an ESC at k, it has looked no further.
   escape : (k : ℕ) → l.position ≤ k → k < length l.prefix.bytes.now → slice_index l.input.bytes.now k ≡ 0x1b
       → looked l.reader + 4 * l.from ≤ looked l.fn.reader + 3 * l.position + k + 2;
   at_least : looked l.fn.reader + l.position + 1 ≤ looked l.reader + l.from;

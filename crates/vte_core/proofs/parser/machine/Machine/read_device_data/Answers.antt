@@ -8,7 +8,7 @@ use Rattle.vte_core.proofs.parser.machine.Machine.read_device_data.Goals as goal
 pub loop-position-init : goal.loop-position-init
 loop-position-init g c = search (rules, arith, advances-nothing, settled-same_state)
 
--- One data byte, after which a call that may stop was not stopped.
+-- After one more data byte, a call that may stop wasn't stopped.
 pub loop-position-preserved : goal.loop-position-preserved
 loop-position-preserved g c =
     let v = c.loop-position.invariant in
@@ -24,7 +24,7 @@ loop-position-preserved g c =
       spends = search rules;
     }
 
--- One data byte, after which the call stops.
+-- After one more data byte, the call stops.
 pub returns-then-terminated-clause-advances : goal.returns-then-terminated-clause-advances
 returns-then-terminated-clause-advances g c =
     let v = c.loop-position.invariant in

@@ -7,11 +7,11 @@ use Rattle.vte_core.proofs.parser.machine.Machine.read_escape.Goals as goal
 pub loop-position-init : goal.loop-position-init
 loop-position-init g c = search (rules, arith, advances-nothing, settled-same_state)
 
--- ESC once more.
+-- After ESC, another ESC changes nothing.
 pub loop-position-preserved : goal.loop-position-preserved
 loop-position-preserved g c = search (rules, arith, advances-then, advances-again)
 
--- `[` and what follows.
+-- `[` begins a control sequence, whose head is read next.
 pub returns-then-byte-eq91-clause-advances : goal.returns-then-byte-eq91-clause-advances
 returns-then-byte-eq91-clause-advances g c =
     let v = c.loop-position.invariant in
@@ -21,7 +21,7 @@ returns-then-byte-eq91-clause-advances g c =
     (omega arith) c.byte_at-byte.ensures.value v.may_go_on c.if-byte-eq91.true refl c.begin_head.ensures.head)
     c.read_rest_of_head.ensures.advances)
 
--- Any other byte.
+-- Any other byte is read by `read_after_escape`.
 pub returns-then-byte-ne-ESCAPE-clause-advances : goal.returns-then-byte-ne-ESCAPE-clause-advances
 returns-then-byte-ne-ESCAPE-clause-advances g c =
     let v = c.loop-position.invariant in

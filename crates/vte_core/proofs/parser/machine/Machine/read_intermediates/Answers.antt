@@ -21,7 +21,7 @@ loop-position-preserved g c =
     let parser = c.loop-position.self in
     record {
       advances = advances-then v.advances (elim c.if-is_intermediate.branch [
-        -- An intermediate.
+        -- The byte is an intermediate.
         | then-is_intermediate w ↦
             let is = class-intermediate _ (sym c.is_intermediate.ensures ∙ w.if-is_intermediate.true) in
             rw w.self-is

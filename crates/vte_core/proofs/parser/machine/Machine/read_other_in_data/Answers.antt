@@ -14,7 +14,7 @@ returns-clause-advances g c =
     let parser = c.args.self.now in
     let r = c.requires.may_read in
     elim c.if-byte-eq-STRING_TERMINATOR.branch [
-      -- ST.
+      -- The byte is ST.
       | then-byte-eq-STRING_TERMINATOR w ↦
           let is = w.if-byte-eq-STRING_TERMINATOR.true in
           rw (w.self-is, w.performer-is)

@@ -39,7 +39,7 @@ returns-in-Some-clause-advances g c =
           rw (w.self-is, w.performer-is)
           (advances-past_head ControlHead c.requires.begun read.reads.head next c.requires.may_go_on
           w.end_body.ensures.takes w.end_body.ensures.handles.settled)
-      -- A control.
+      -- The byte is a control.
       | else-ends_body+then-is_plain_control w ↦
           let is = class-control _ (sym w.is_plain_control.ensures ∙ w.if-is_plain_control.true) in
           rw (w.self-is, w.performer-is)

@@ -1,4 +1,4 @@
--- In a round the call may first print a run of ASCII (`reached`), and then is_at before a byte (`at`), which it reads
+-- In a round the call may first print a run of ASCII (`reached`), and then is before a byte (`at`), which it reads
 -- by one of three branches, of which two join (`read`).
 use Rattle.vte_core.proofs.Common.{◌<◌, length, sym, ◌∙◌, arith, rules, Advances, Text, Nothing}
 use Rattle.vte_core.specs.machine.Prelude.{MayReadByte}
@@ -11,7 +11,7 @@ use Rattle.vte_core.proofs.parser.machine.Machine.read_runs.Invariants.{call_at}
 use Rattle.vte_core.proofs.parser.machine.Machine.read_runs.Goals.{Joined-is_printed_ascii, then-is_printed_ascii+in-Some, else-is_printed_ascii, Joined-byte-lt160, then-byte-lt160+else-byte-eq-ESCAPE, else-byte-lt160+then-is_lead}
 use Rattle.vte_core.proofs.parser.machine.Machine.read_runs.Goals as goal
 
--- the call has come past the run of ASCII, if there was one
+-- The call has come past the run of ASCII, if there was one.
 reached : (g : Over) (c : Joined-is_printed_ascii g)
     → Advances ⊥ (call_at g c.args.input.bytes.now) (g.P.CountedPerform.value_of c.args.performer.now)
     (g.P.CountedPerform.value_of c.if-is_printed_ascii.performer) c.args.from c.if-is_printed_ascii.position
@@ -27,7 +27,7 @@ reached g c =
       | else-is_printed_ascii w ↦ rw (w.performer-is, w.position-is) v.advances
     ]
 
--- the byte before which it is then
+-- The call may read the byte after the run of ASCII.
 at : (g : Over) (c : Joined-is_printed_ascii g) → MayReadByte (call_at g c.args.input.bytes.now)
     (g.P.CountedPerform.value_of c.if-is_printed_ascii.performer) (Text Nothing) c.loop-position.self
     c.if-is_printed_ascii.position c.if-is_printed_ascii.byte
@@ -83,7 +83,7 @@ read_sequence-requires-clause-may_read g c =
     let here = at g (goal.at.read_sequence-requires-clause-may_read g c).Joined-is_printed_ascii in
     record { begun = here.begun; may_go_on = here.may_go_on; within = here.within }
 
--- ESC: the run, if any, and the escape sequence.
+-- At an ESC, the run, if any, comes first, and then the escape sequence.
 pub returns-then-byte-eq-ESCAPE-clause-advances : goal.returns-then-byte-eq-ESCAPE-clause-advances
 returns-then-byte-eq-ESCAPE-clause-advances g c =
     advances-then (reached g (goal.at.returns-then-byte-eq-ESCAPE-clause-advances g c).Joined-is_printed_ascii)
@@ -116,8 +116,8 @@ returns-then-terminated-clause-advances g c =
     advances-then (reached g joins.Joined-is_printed_ascii)
     (read g joins.Joined-byte-lt160 (at g joins.Joined-is_printed_ascii))
 
--- A round that goes on after these. Only a longer character can change the state, and does so only with the last bytes
--- of the call.
+-- The loop goes on after such a round. Only a longer character can change the state, and does so only with the last
+-- bytes of the call.
 pub loop-position-preserved : goal.loop-position-preserved
 loop-position-preserved g c =
     let joins = goal.at.loop-position-preserved g c in

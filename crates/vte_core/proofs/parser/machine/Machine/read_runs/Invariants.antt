@@ -2,7 +2,7 @@
 use Rattle.vte_core.proofs.Common.{◌≡◌, ◌+◌, ◌-◌, ◌*◌, ◌<◌, ◌≤◌, not, eqb, List, ℕ, length, Text, Nothing, looked, Advances, MayGoOn, ChunkCall, chunk_call}
 use Rattle.vte_core.proofs.parser.machine.Machine.read_runs.Given as goal
 
--- the call that reads these bytes
+-- The call that reads these bytes.
 abbrev pub call_at : (g : goal.Over) → List ℕ → ChunkCall g.P.CountedPerform.Value
 call_at g bytes =
     chunk_call (not (eqb g.row.MAY_STOP 0)) g.P.CountedPerform.step g.P.CountedPerform.is_terminated

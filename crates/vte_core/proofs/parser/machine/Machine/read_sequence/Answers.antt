@@ -4,7 +4,7 @@ use Rattle.vte_core.proofs.positions.Progress.{place-settled_text}
 use Rattle.vte_core.proofs.positions.Stretches.{advances-byte, advances-escape, advances-then, takes_bytes-escape, advances-bracket}
 use Rattle.vte_core.proofs.parser.machine.Machine.read_sequence.Goals as goal
 
--- the machine at the ESC
+-- The machine after the ESC.
 abbrev escaped : {B : Type 0} → Machine B → Collected → Machine B
 escaped before collected = record { state = Escape; collected = collected; command = before.command }
 

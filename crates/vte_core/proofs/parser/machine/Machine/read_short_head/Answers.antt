@@ -5,7 +5,7 @@ use Rattle.vte_core.proofs.positions.Stretches.{advances-then}
 use Rattle.vte_core.proofs.fields.Heads.{holds-parameter}
 use Rattle.vte_core.proofs.parser.machine.Machine.read_short_head.Goals as goal
 
--- A number and a final byte.
+-- After the number comes a final byte.
 pub returns-then-is_final : goal.returns-then-is_final
 returns-then-is_final g c =
     let read = c.read_numbers-head.ensures in
@@ -22,7 +22,7 @@ pub end_control_sequence-requires-clause-no_overflow : goal.end_control_sequence
 end_control_sequence-requires-clause-no_overflow g c =
     let next = rw c.in-Some.is at c.read_numbers-head.ensures.reads.next in search rules
 
--- A number and `;`.
+-- After the number comes `;`.
 pub returns-then-byte-eq59-clause-advances : goal.returns-then-byte-eq59-clause-advances
 unfolding class_of
 returns-then-byte-eq59-clause-advances g c =
@@ -38,7 +38,7 @@ returns-then-byte-eq59-clause-advances g c =
     c.requires.may_read.may_go_on refl)
     c.read_more_numbers.ensures.advances
 
--- A number and more of the head.
+-- After the number comes more of the head.
 pub returns-clause-advances : goal.returns-clause-advances
 returns-clause-advances g c =
     advances-then

@@ -3,12 +3,12 @@
 use Rattle.vte_core.proofs.Common.{◌≡◌, ◌+◌, ◌-◌, ◌*◌, ◌<◌, ◌≤◌, ℕ, true, List, Machine, length, slice_index, Text, Nothing, looked, Advances, MayGoOn, ChunkCall, chunk_call}
 use Rattle.vte_core.proofs.parser.machine.Machine.read_until_stop.Given as goal
 
--- the call that reads these bytes
+-- The call that reads these bytes.
 abbrev pub call_at : (g : goal.Over) → List ℕ → ChunkCall g.P.CountedPerform.Value
 call_at g bytes =
     chunk_call true g.P.CountedPerform.step g.P.CountedPerform.is_terminated g.B.Buffer.limit bytes
 
--- where the call is_at, and what it has cost: `prefix` is what may be read before the next search
+-- The position of the call, and what it has cost: `prefix` is what may be read before the next search.
 pub record IsInText {B : Type 0} (g : goal.Over) (bytes prefix : List ℕ) (old value : g.P.CountedPerform.Value)
     (from position : ℕ) (before parser : Machine B) (start looks : ℕ) : Type 0 where
   pub advances : Advances ⊥ (call_at g bytes) old value from position before parser

@@ -3,7 +3,7 @@ use Rattle.vte.proofs.Common.{◌≡◌, ◌+◌, ◌-◌, length, take, drop, a
 use Rattle.vte.proofs.turns.EngineTurns.{engine_reads-all, reached-refused, next-at, reaches-more, reaches-nothing, engine_reads-until, rest-size}
 use Rattle.vte.proofs.ansi.updates.engine.Engine.read.Goals as goal
 
--- Before the first turn nothing is read.
+-- Before the first turn, nothing is read.
 pub loop-turn-init : goal.loop-turn-init
 loop-turn-init g c =
     record {
@@ -12,7 +12,7 @@ loop-turn-init g c =
       reaches = λ s at. reaches-nothing _ s c.args.bytes.now (next-at at);
     }
 
--- One more turn, after which bytes are left.
+-- After one more turn, bytes are left.
 pub loop-turn-preserved : goal.loop-turn-preserved
 loop-turn-preserved g c =
     let before = c.loop-turn.invariant in
@@ -60,7 +60,7 @@ returns-in-Err g c =
     (omega (arith, c.loop-turn.invariant.within, c.in-Err.ensures.within, size))
     (rw left at c.in-Err.ensures.lacks)
 
--- As many turns as bytes have read all of them.
+-- After as many turns as there are bytes, all bytes are read.
 pub returns : goal.returns
 returns g c =
     engine_reads-all c.args.bytes.now c.loop-turn.invariant.reaches

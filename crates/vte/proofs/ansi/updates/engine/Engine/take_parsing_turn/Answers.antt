@@ -1,12 +1,12 @@
 -- Slices in which no update begins add up to a longer prefix (`parsing-more`). The turn ends with the slice in which
--- one begins, with the last byte, or where memory is refused.
+-- one begins, with the last byte, or when memory is refused.
 use Rattle.vte.proofs.Common.{refl, sym, arith, ◌∙◌}
 use Rattle.vte.proofs.turns.Slices.{begin-whole, parsing-all, parsing-ends, parsing-more, parsing-nothing, slice_size}
 use Rattle.vte.proofs.turns.EngineTurns.{kept-next, next-at, slice_parsed}
 use Rattle.vte.proofs.ansi.updates.engine.Engine.take_parsing_turn.Goals as goal
 use Rattle.vte.proofs.ansi.updates.engine.Engine.take_parsing_turn.Goals.{then-begins-via-then-begins, then-begins-via-else-begins+then-read-bytes}
 
--- Before the first slice nothing is read.
+-- Before the first slice, nothing is read.
 pub loop-slice-init : goal.loop-slice-init
 loop-slice-init g c =
     record {
@@ -41,7 +41,7 @@ returns-then-begins-clause-parsed g c = λ s at.
                 w.if-begins.true;
             refused = tt;
           }
-      -- None does, and all bytes are read.
+      -- No update begins in the slice, and all bytes are read.
       | then-begins-via-else-begins+then-read-bytes w ↦
           record {
             parsed = parsing-all _ s c.args.bytes.now (parsing-more _ s c.args.bytes.now _ o refl e w.if-begins.false)

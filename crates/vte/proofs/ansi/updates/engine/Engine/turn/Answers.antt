@@ -25,7 +25,7 @@ returns-clause-turned g c = λ s at.
     let here : EngineIsAtKeepingMemory view c.args.self.now c.if-pending-2.self
     (g.H.Handler.value_of c.if-pending-2.handler)
     (stop_if_due m pending s) = elim c.if-pending-2.branch [
-      -- Stopped first.
+      -- The update is stopped first.
       | then-pending-2 w ↦
           let stopped : is_stopped pending s ≡ true = elim w.then-pending-2.branch [
             | then-pending-2-via-then-pending-2 v ↦ rw v.if-pending-2.true refl

@@ -1,4 +1,4 @@
-"""Calls at the edges of what the headers allow: no bytes, NULL for none, less than the least room,
+"""Calls at the edges of what the headers allow: no bytes, NULL for none, too little room,
 kinds that don't exist, tables of any size."""
 import mmap
 from ctypes import c_char

@@ -16,6 +16,8 @@ def failures(text, run=True, name="page.md"):
                 words_by_file=lambda: [{"one", "two", "rt"}, {"three"}],
                 source_lines=lambda: {"f();", "g(1);"}, sources=lambda: {Path("a.rt"): "f();\n h"},
                 is_in_history=lambda commit: commit == "abc1234")
+    if not name.endswith(".md"):
+        return [it for _, it in tool.parts["failures_of_comments"](text)]
     page = tool.parts["Page"](write(name, text))
     return [it for _, it in tool.parts["failures"](page, run)]
 
@@ -55,10 +57,29 @@ def test_pages(page, failure, monkeypatch):
     assert failures(page, run=False) == [it for it in found if "commands failed" not in it]
 
 
+def test_comments_of_sources():
+    source = "-- `four`\nf();  // `four`\n/// `one` `four`\n# `four`\nf(`four`) --four\n"
+    assert failures(source, name="a.rt") == ["no source file contains four"] * 4
+
+
 def test_each_module_is_named():
     wanted = ["this module has no name here: crates/a/specs/Two.antt"]
     assert failures("`one`", name="REVIEWING.md") == wanted
     assert failures("# `Two`", name="REVIEWING.md") == ["no source file contains Two"]
+
+
+@pytest.mark.parametrize("page, examples, wanted", [
+    ("`bell` `put_tab(1)`", "Bell (PutTab 1)", []),
+    ("`bell`, put_tab, `put_tabs`", "Bell", [
+        "this call has no name here: put_tab",
+        "crates/vte/specs/CallExamples.antt doesn't have PutTab"])])
+def test_each_call_is_named_and_has_an_example(page, examples, wanted):
+    tool = Tool("check_docs")
+    write(tool.parts["EXAMPLES"], examples)
+    methods = "".join(f"    /// It.\n    fn {it} {{}}\n" for it in (
+        "bell(&mut self)", "newline(&mut self)", "put_tab(&mut self, count: u16)"))
+    write(tool.parts["TRAIT"], methods + "pub trait HandlerText {}")
+    assert list(tool.parts["failures_of_calls"](page)) == wanted
 
 
 # a page, and what is wrong with it. `Two` of b imports both `One`

@@ -131,7 +131,7 @@ impl CallVisitor for CallChecksum {
 
     #[inline]
     fn visit_attribute(&mut self, attribute: Attr) {
-        self.checksum.fold(place_of(&attribute));
+        self.checksum.fold(index_of(&attribute));
         match attribute {
             Attr::Foreground(color) | Attr::Background(color) => self.fold_color(color),
             Attr::UnderlineColor(color) => {
@@ -152,7 +152,7 @@ impl CallVisitor for CallChecksum {
         }
     }
 
-    // The icon alone doesn't count: on the other side its places are those of another crate.
+    // The icon alone doesn't count: on the other side its numbers are those of another crate.
     fn visit_icon(&mut self, _icon: CursorIcon) {}
 
     fn visit_behavior(&mut self, behavior: KeyboardModesApplyBehavior) {
@@ -165,8 +165,8 @@ impl CallVisitor for CallChecksum {
     }
 }
 
-/// The place of an attribute's variant in its declaration.
-fn place_of(attribute: &Attr) -> u64 {
+/// The index of an attribute's variant in its declaration.
+fn index_of(attribute: &Attr) -> u64 {
     match attribute {
         Attr::Reset => 0,
         Attr::Bold => 1,

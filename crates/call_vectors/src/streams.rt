@@ -30,20 +30,20 @@ pub(crate) fn is_shown(alloc: Global, vector: &Vector<'_>) -> io::Result<bool> {
         );
         same = same && memory.is_used_up() && makes(processor, lines, stream, length, calls)?;
     }
-    for place in 0..stream.len().min(MAX_CUT) {
-        let (front, back) = stream.split_at(place);
+    for cut in 0..stream.len().min(MAX_CUT) {
+        let (front, back) = stream.split_at(cut);
         same = same && makes_in_two(alloc, front, back, calls)?;
     }
     Ok(same)
 }
 
-/// Returns whether the bytes of a vector make its prints and attributes, cut at every place with a
-/// stop there, and the promises about held bytes are kept after each call.
+/// Returns whether the bytes of a vector make its prints and attributes, cut at every position with
+/// a stop there, and the promises about held bytes are kept after each call.
 pub(crate) fn is_shown_with_stops(alloc: Global, vector: &Vector<'_>) -> io::Result<bool> {
     let (stream, calls) = (vector.bytes(alloc)?, vector.calls(alloc)?);
     let mut same = true;
-    for place in 0..=stream.len().min(MAX_CUT) {
-        same = same && makes_with_stop(alloc, stream.as_slice(), place, calls.as_str())?;
+    for cut in 0..=stream.len().min(MAX_CUT) {
+        same = same && makes_with_stop(alloc, stream.as_slice(), cut, calls.as_str())?;
     }
     Ok(same)
 }
@@ -75,8 +75,8 @@ fn makes_in_two(alloc: Global, front: &[u8], back: &[u8], calls: &str) -> io::Re
 }
 
 /// Returns whether a stream that is cut in two, with a stop there, makes the prints and attributes.
-fn makes_with_stop(alloc: Global, stream: &[u8], place: usize, calls: &str) -> io::Result<bool> {
-    let Some((front, back)) = stream.split_at_checked(place) else {
+fn makes_with_stop(alloc: Global, stream: &[u8], cut: usize, calls: &str) -> io::Result<bool> {
+    let Some((front, back)) = stream.split_at_checked(cut) else {
         return Ok(false);
     };
     let mut processor = new_processor(alloc, Answers::Counting)?;

@@ -17,7 +17,7 @@ pub use Rattle.vte_core.specs.EventBounds.{IsBounded, AreFromOneByte}
 pub use Rattle.vte_core.specs.EarlyStop.{IsStart, StopsExactly, breaks_at, resumed_stream}
 unfoldable pub use Rattle.vte_core.specs.EarlyStop.{reported_before}
 pub use Rattle.vte_core.specs.Event.{CsiDispatch, EscDispatch, Event, Execute, Hook, OscDispatch, Print, replacement, after}
-pub use Rattle.vte_core.specs.Parameters.{AreGroups, count_of, greatest_number, semicolon}
+pub use Rattle.vte_core.specs.Parameters.{AreGroups, count_of, greatest_number, semicolon, IsFilled, AreSmall, IsSmallNumber}
 unfoldable pub use Rattle.vte_core.specs.Parameters.{shown}
 pub use Rattle.vte_core.specs.Parser.{HasRead}
 pub use Rattle.vte_core.specs.EarlyStopLaws.{GoesOnFromPositions, ReportsUnits}
@@ -28,6 +28,7 @@ pub use Rattle.event_log.specs.Lines.{blank, line_feed}
 unfoldable pub use Rattle.event_log.specs.Lines.{flag_field, hex_byte, hex_character, hex_digit, hex_field, hex_length, line_of, pieces_fields, sequence_fields, six_hex_digits}
 unfoldable pub use Rattle.event_log.specs.Plain.{plain_text_of}
 pub use Rattle.event_log.specs.machine.Progress.{AddsUpTo, HasKept, HasReadSome, HasWritten}
-pub use Rattle.event_log.specs.Record.{BeginsLine, EndsLine, ExtendsLine, Record, empty_record, has_room_after, record_in, is_to_be_written, most_bytes, record_with_event}
+pub use Rattle.event_log.specs.machine.Line.{BeginsLine, EndsLine, ExtendsLine}
+pub use Rattle.event_log.specs.Record.{Record, empty_record, has_room_after, record_in, is_to_be_written, capacity, record_with_event}
 unfoldable pub use Rattle.event_log.specs.Record.{record_with_text}
 pub use Rattle.event_log.specs.declared.lines.Lines.{Lines}

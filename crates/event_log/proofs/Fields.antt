@@ -6,29 +6,36 @@ use Rattle.std.proofs.lemmas.Slice.Eq.{bytes_eq-Decides}
 use Rattle.event_log.specs.declared.lines.short.TheConstants.{HEX_PAIRS}
 
 -- Two texts have room one after the other exactly if they have room together.
-fit_together : (f fb fc : Bool) (a s b t : List ℕ) → fb ≡ (f && has_room_after a s) → fc ≡ (fb && has_room_after b t)
-    → (IsTrue fb → b ≡ a ++ s) → fc ≡ (f && has_room_after a (s ++ t))
-fit_together false fb fc a s b t h k e = rw (k, h)
-fit_together true true fc a s b t h k e = simp length-append
-    (let l = ap length (e refl) ∙ length-append a s in grind (arith, nat_tests))
-fit_together true false fc a s b t h k e = simp length-append (grind (arith, nat_tests))
+fit_together : (before between both : Bool) (bytes first reached second : List ℕ)
+    → between ≡ (before && has_room_after bytes first) → both ≡ (between && has_room_after reached second)
+    → (IsTrue between → reached ≡ bytes ++ first) → both ≡ (before && has_room_after bytes (first ++ second))
+fit_together false between both bytes first reached second one other appended = rw (other, one)
+fit_together true true both bytes first reached second one other appended = simp length-append
+    (let sizes = ap length (appended refl) ∙ length-append bytes first in grind (arith, nat_tests))
+fit_together true false both bytes first reached second one other appended =
+    simp length-append (grind (arith, nat_tests))
 
 -- A line that doesn't fit doesn't fit with more either.
-fitted_before : (fb fc r : Bool) → fc ≡ (fb && r) → IsTrue fc → IsTrue fb
-fitted_before true fc r h e = refl
-fitted_before false fc r h e = sym h ∙ e
+fitted_before : (between both has_room : Bool) → both ≡ (between && has_room) → IsTrue both → IsTrue between
+fitted_before true both has_room is fits = refl
+fitted_before false both has_room is fits = sym is ∙ fits
 
-pub extends_then : {a b c : Lines} {s t : List ℕ} → ExtendsLine a s b → ExtendsLine b t c → ExtendsLine a (s ++ t) c
-extends_then {a} {b} {c} {s} {t} h k = record {
-  start = k.start ∙ h.start;
-  fits = fit_together a.fits b.fits c.fits a.bytes.items s b.bytes.items t h.fits k.fits h.appended;
-  appended = λ e. k.appended e ∙ ap (λ (x : List ℕ). x ++ t) (h.appended (fitted_before _ _ _ k.fits e))
-      ∙ append_assoc a.bytes.items s t;
+pub extends_then : {old mid new : Lines} {first second : List ℕ} → ExtendsLine old first mid
+    → ExtendsLine mid second new → ExtendsLine old (first ++ second) new
+extends_then {old} {mid} {new} {first} {second} one other = record {
+  start = other.start ∙ one.start;
+  fits =
+      fit_together old.fits mid.fits new.fits old.bytes.items first mid.bytes.items second one.fits other.fits
+      one.appended;
+  appended = λ fits. other.appended fits
+      ∙ ap (λ (bytes : List ℕ). bytes ++ second) (one.appended (fitted_before _ _ _ other.fits fits))
+      ∙ append_assoc old.bytes.items first second;
   kept = (
-    h.kept.0 ++ k.kept.0,
-    k.kept.1 ∙ ap (λ (x : List ℕ). x ++ k.kept.0) h.kept.1 ∙ append_assoc a.bytes.items h.kept.0 k.kept.0,
+    one.kept.0 ++ other.kept.0,
+    other.kept.1 ∙ ap (λ (bytes : List ℕ). bytes ++ other.kept.0) one.kept.1
+        ∙ append_assoc old.bytes.items one.kept.0 other.kept.0,
   );
-  lost = k.lost ∙ h.lost;
+  lost = other.lost ∙ one.lost;
 }
 
 -- ---- decimal digits

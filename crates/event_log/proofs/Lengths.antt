@@ -1,6 +1,6 @@
 -- How long the text of an event is, part by part, and how many events bytes add: at most two each. So the text of bytes
 -- is at most eight times as long as they are, and fits where it is collected.
-use Rattle.event_log.proofs.Common.{◌≡◌, ℕ, ◌+◌, ◌-◌, ◌*◌, ◌<◌, ◌≤◌, max, Bool, true, false, if◌then◌else◌, List, [], ◌∷◌, ◌++◌, length, map, refl, usual_limit, length-append, arith, All, flat_map, concat, join_with_byte, decimal, length-decimal-le, All-head, All-tail, length-encode, len_utf8_bounds, IsBounded, AreFromOneByte, Event, Print, Execute, Hook, OscDispatch, CsiDispatch, EscDispatch, AreGroups, semicolon, count_of, greatest_number, shown, added, is_layout, group_text, hex_byte, hex_character, six_hex_digits, hex_length, hex_field, flag_field, pieces_fields, sequence_fields, line_of, plain_text_of, inl, inr, zero, suc, drop, ap, ◌∙◌, cases_Bool, StopsExactly, breaks_at, reported_before, resumed_stream, replacement, HasRead, after, GoesOnFromPositions, ReportsUnits, Parser, hex_digit, AddsUpTo, HasKept, Record, empty_record, is_to_be_written, record_with_event, record_with_text, sym, append_assoc, encode_ascii, encodes-chars, IsUtf8, chars, run_event, most_bytes}
+use Rattle.event_log.proofs.Common.{◌≡◌, ℕ, ◌+◌, ◌-◌, ◌*◌, ◌<◌, ◌≤◌, max, Bool, true, false, if◌then◌else◌, List, [], ◌∷◌, ◌++◌, length, map, refl, usual_limit, length-append, arith, All, flat_map, concat, join_with_byte, decimal, length-decimal-le, All-head, All-tail, length-encode, len_utf8_bounds, IsBounded, AreFromOneByte, Event, Print, Execute, Hook, OscDispatch, CsiDispatch, EscDispatch, AreGroups, semicolon, count_of, shown, added, is_layout, group_text, hex_byte, hex_character, six_hex_digits, hex_length, hex_field, flag_field, pieces_fields, sequence_fields, line_of, plain_text_of, inl, inr, zero, suc, drop, ap, ◌∙◌, cases_Bool, StopsExactly, breaks_at, reported_before, resumed_stream, replacement, HasRead, after, GoesOnFromPositions, ReportsUnits, Parser, hex_digit, AddsUpTo, HasKept, Record, empty_record, is_to_be_written, record_with_event, record_with_text, sym, append_assoc, encode_ascii, encodes-chars, IsUtf8, chars, run_event, capacity, AreSmall, IsSmallNumber, IsFilled}
 use Rattle.std.proofs.Common.{length-drop}
 use Rattle.std.proofs.lemmas.List.Sums.{sum_by-cons}
 use Rattle.vte_core.proofs.EarlyStops.{added-append}
@@ -12,123 +12,120 @@ use Rattle.vte_core.proofs.bytes.Runs.{layout-is_ascii}
 
 -- ---- fields
 
-length_hex_character : (least c : ℕ) → length (hex_character least c) ≤ 6
+length-hex_character : (least c : ℕ) → length (hex_character least c) ≤ 6
 unfolding hex_character six_hex_digits hex_byte
-length_hex_character least c = omega (arith, length-drop (6 - max least (hex_length c)) (six_hex_digits c))
+length-hex_character least c = omega (arith, length-drop (6 - max least (hex_length c)) (six_hex_digits c))
 
-length_hex_bytes : (bytes : List ℕ) → length (flat_map hex_byte bytes) ≡ 2 * length bytes
+length-hex_bytes : (bytes : List ℕ) → length (flat_map hex_byte bytes) ≡ 2 * length bytes
 unfolding hex_byte
-length_hex_bytes [] = refl
-length_hex_bytes (b ∷ bytes) = omega (arith, length_hex_bytes bytes)
+length-hex_bytes [] = refl
+length-hex_bytes (b ∷ bytes) = omega (arith, length-hex_bytes bytes)
 
-length_hex_field : (bytes : List ℕ) → length (hex_field bytes) ≤ 2 + 2 * length bytes
+length-hex_field : (bytes : List ℕ) → length (hex_field bytes) ≤ 2 + 2 * length bytes
 unfolding hex_field
-length_hex_field [] = omega arith
-length_hex_field (b ∷ bytes) = omega (arith, length_hex_bytes (b ∷ bytes))
+length-hex_field [] = omega arith
+length-hex_field (b ∷ bytes) = omega (arith, length-hex_bytes (b ∷ bytes))
 
-length_flag_field : (flag : Bool) → length (flag_field flag) ≤ 6
+length-flag_field : (flag : Bool) → length (flag_field flag) ≤ 6
 unfolding flag_field
-length_flag_field true = omega arith
-length_flag_field false = omega arith
+length-flag_field true = omega arith
+length-flag_field false = omega arith
 
-length_pieces : (pieces : List (List ℕ))
+length-pieces : (pieces : List (List ℕ))
     → length (flat_map hex_field pieces) ≤ 2 * length pieces + 2 * length (concat pieces)
-length_pieces [] = omega arith
-length_pieces (p ∷ pieces) = simp length-append (omega (arith, length_hex_field p, length_pieces pieces))
+length-pieces [] = omega arith
+length-pieces (p ∷ pieces) = simp length-append (omega (arith, length-hex_field p, length-pieces pieces))
 
-abbrev IsSmallNumber : ℕ → Type 0
-IsSmallNumber number = number ≤ greatest_number
-
-length_numbers : (group : List ℕ) → All IsSmallNumber group → length (group_text group) ≤ 6 * length group
-length_numbers [] small = omega arith
-length_numbers (x ∷ []) small =
+length-numbers : (group : List ℕ) → All IsSmallNumber group → length (group_text group) ≤ 6 * length group
+length-numbers [] small = omega arith
+length-numbers (x ∷ []) small =
     let here = All-head IsSmallNumber x [] small in
     length-decimal-le 6 x (omega arith) (omega arith) (omega arith)
-length_numbers (x ∷ y ∷ group) small =
+length-numbers (x ∷ y ∷ group) small =
     let here = All-head IsSmallNumber x (y ∷ group) small in
     let few : length (decimal x) ≤ 5 = length-decimal-le 5 x (omega arith) (omega arith) (omega arith) in
-    simp length-append (omega (arith, length_numbers (y ∷ group) (All-tail IsSmallNumber x (y ∷ group) small)))
+    simp length-append (omega (arith, length-numbers (y ∷ group) (All-tail IsSmallNumber x (y ∷ group) small)))
 
-length_shown : (groups : List (List ℕ)) → AreGroups groups → length (shown groups) ≤ 224
+length-shown : (groups : List (List ℕ)) → AreGroups groups → length (shown groups) ≤ 224
 unfolding shown
-length_shown groups h = omega (arith, joined groups h.filled h.small, h.at_most)
+length-shown groups h = omega (arith, joined groups h.filled h.small, h.at_most)
   where
-    joined : (groups : List (List ℕ)) → All (λ group. 0 < length group) groups → All (All IsSmallNumber) groups
+    joined : (groups : List (List ℕ)) → All IsFilled groups → All AreSmall groups
         → length (join_with_byte semicolon (map group_text groups)) ≤ 7 * count_of groups
     joined [] filled small = omega arith
     joined (x ∷ []) filled small =
-        omega (arith, length_numbers x (All-head (All IsSmallNumber) x [] small), sum_by-cons length x [])
+        omega (arith, length-numbers x (All-head AreSmall x [] small), sum_by-cons length x [])
     joined (x ∷ y ∷ groups) filled small =
-        let some : 0 < length x = All-head (λ group. 0 < length group) x (y ∷ groups) filled in
+        let some : 0 < length x = All-head IsFilled x (y ∷ groups) filled in
         simp length-append (omega (
           arith,
-          length_numbers x (All-head (All IsSmallNumber) x (y ∷ groups) small),
-          joined (y ∷ groups) (All-tail (λ group. 0 < length group) x (y ∷ groups) filled)
-              (All-tail (All IsSmallNumber) x (y ∷ groups) small),
+          length-numbers x (All-head AreSmall x (y ∷ groups) small),
+          joined (y ∷ groups) (All-tail IsFilled x (y ∷ groups) filled)
+              (All-tail AreSmall x (y ∷ groups) small),
           sum_by-cons length x (y ∷ groups),
         ))
 
 -- ---- lines
 
-length_line_of_character : (c : ℕ) → length (line_of (Print c)) ≤ 13
+length-line_of_character : (c : ℕ) → length (line_of (Print c)) ≤ 13
 unfolding line_of
-length_line_of_character c = simp length-append (omega (arith, length_hex_character 4 c))
+length-line_of_character c = simp length-append (omega (arith, length-hex_character 4 c))
 
-length_line : (event : Event) → IsBounded usual_limit event → length (line_of event) ≤ 2200
+length-line : (event : Event) → IsBounded usual_limit event → length (line_of event) ≤ 2200
 unfolding line_of hex_byte sequence_fields pieces_fields
-length_line (Print c) h = omega (arith, length_line_of_character c)
-length_line (Hook groups intermediates ignore final) h =
+length-line (Print c) h = omega (arith, length-line_of_character c)
+length-line (Hook groups intermediates ignore final) h =
     simp length-append
     (omega (
       arith,
-      length_shown groups h.0,
-      length_hex_field intermediates,
-      length_flag_field ignore,
-      length_hex_character 2 final,
+      length-shown groups h.0,
+      length-hex_field intermediates,
+      length-flag_field ignore,
+      length-hex_character 2 final,
     ))
-length_line (CsiDispatch groups intermediates ignore final) h =
+length-line (CsiDispatch groups intermediates ignore final) h =
     simp length-append
     (omega (
       arith,
-      length_shown groups h.0,
-      length_hex_field intermediates,
-      length_flag_field ignore,
-      length_hex_character 2 final,
+      length-shown groups h.0,
+      length-hex_field intermediates,
+      length-flag_field ignore,
+      length-hex_character 2 final,
     ))
-length_line (OscDispatch pieces bell) h =
+length-line (OscDispatch pieces bell) h =
     let count : length (decimal (length pieces)) ≤ 2 =
     length-decimal-le 2 (length pieces) (omega arith) (omega arith) (omega arith) in
-    simp length-append (omega (arith, length_flag_field bell, length_pieces pieces))
-length_line (EscDispatch intermediates ignore byte) h =
-    simp length-append (omega (arith, length_hex_field intermediates, length_flag_field ignore))
-length_line _ h = omega arith
+    simp length-append (omega (arith, length-flag_field bell, length-pieces pieces))
+length-line (EscDispatch intermediates ignore byte) h =
+    simp length-append (omega (arith, length-hex_field intermediates, length-flag_field ignore))
+length-line _ h = omega arith
 
 -- At most two lines are reported up to the next start, the second for a character or a control.
 lines_are_small : IsSmall line_of
 unfolding line_of hex_byte
 lines_are_small [] h = omega arith
-lines_are_small (event ∷ []) h = simp length-append (omega (arith, length_line event h))
+lines_are_small (event ∷ []) h = simp length-append (omega (arith, length-line event h))
 lines_are_small (event ∷ Print c ∷ []) h =
-    simp length-append (omega (arith, length_line event h.0, length_hex_character 4 c))
-lines_are_small (event ∷ Execute byte ∷ []) h = simp length-append (omega (arith, length_line event h.0))
+    simp length-append (omega (arith, length-line event h.0, length-hex_character 4 c))
+lines_are_small (event ∷ Execute byte ∷ []) h = simp length-append (omega (arith, length-line event h.0))
 lines_are_small (event ∷ last ∷ []) h = absurd h.1
 lines_are_small (event ∷ last ∷ more ∷ events) h = absurd h
 
 -- ---- plain text
 
-length_layout : (byte : ℕ) (is : Bool) → length (if is then byte ∷ [] else []) ≤ 4
-length_layout byte true = omega arith
-length_layout byte false = omega arith
+length-layout : (byte : ℕ) (is : Bool) → length (if is then byte ∷ [] else []) ≤ 4
+length-layout byte true = omega arith
+length-layout byte false = omega arith
 
-length_text : (event : Event) → length (plain_text_of event) ≤ 4
+length-text : (event : Event) → length (plain_text_of event) ≤ 4
 unfolding plain_text_of
-length_text (Print c) = omega (arith, length-encode c, (len_utf8_bounds c).1)
-length_text (Execute byte) = length_layout byte (is_layout byte)
-length_text _ = omega arith
+length-text (Print c) = omega (arith, length-encode c, (len_utf8_bounds c).1)
+length-text (Execute byte) = length-layout byte (is_layout byte)
+length-text _ = omega arith
 
-length_texts : (events : List Event) → length (flat_map plain_text_of events) ≤ 4 * length events
-length_texts [] = omega arith
-length_texts (event ∷ events) = simp length-append (omega (arith, length_text event, length_texts events))
+length-texts : (events : List Event) → length (flat_map plain_text_of events) ≤ 4 * length events
+length-texts [] = omega arith
+length-texts (event ∷ events) = simp length-append (omega (arith, length-text event, length-texts events))
 
 -- ---- what bytes add
 
@@ -155,11 +152,12 @@ events_grow_slowly brief stream (b ∷ bytes) =
 pub text_grows_slowly : AreBrief → (stream bytes : List ℕ)
     → length (flat_map plain_text_of (added usual_limit stream bytes)) ≤ 8 * length bytes
 text_grows_slowly brief stream bytes =
-    omega (arith, length_texts (added usual_limit stream bytes), events_grow_slowly brief stream bytes)
+    omega (arith, length-texts (added usual_limit stream bytes), events_grow_slowly brief stream bytes)
 
 -- ---- a recorder that is asked at each start loses no line
 
--- Unless it is terminated, at most half of its room is in use, and the lines up to the next start fit into the rest.
+-- Unless it is terminated, at most half of its capacity is in use, and the lines up to the next start fit into the
+-- rest.
 
 -- The line of a replacement character is short.
 short_replacement : is_to_be_written (record_with_event line_of empty_record (Print replacement)) ≡ false
@@ -179,7 +177,7 @@ reads_some {stream} {bytes} {n = zero} empty s some =
     ])
 reads_some {n = suc n} empty s some = omega arith
 
--- At a start where the recorder isn't terminated, at most half of the room is in use.
+-- At a start where the recorder isn't terminated, at most half of the capacity is in use.
 pub kept_lines : {whole : List ℕ → List ℕ} {n : ℕ} {parser parser_then : Parser 1024} {old new : Record}
     (unread : List ℕ)
     → GoesOnFromPositions usual_limit → ReportsUnits usual_limit → old ≡ empty_record
@@ -229,26 +227,26 @@ after-more step event_of [] c old new e = ap (λ v. step v (event_of c)) e
 after-more step event_of (x ∷ cs) c old new e = after-more step event_of cs c (step old (event_of x)) new e
 
 -- If a run has room, it is taken as its characters are, one after another.
-pub takes_run : (held : Record) (text : List ℕ) → IsUtf8 text → length held.bytes + length text ≤ most_bytes
+pub takes_run : (held : Record) (text : List ℕ) → IsUtf8 text → length held.bytes + length text ≤ capacity
     → record_with_text held text ≡ after (record_with_event plain_text_of) held (map (run_event true) (chars text))
-takes_run held text utf8 room =
+takes_run held text utf8 fits =
     takes_all plain_text_of held text (map (run_event true) (chars text))
-    (sym (text_of_run (chars text) ∙ encodes-chars text utf8)) room
+    (sym (text_of_run (chars text) ∙ encodes-chars text utf8)) fits
 
 -- If all bytes of a chunk were read, its text is taken.
 pub kept_text : {whole : List ℕ → List ℕ} {unread : List ℕ} {parser parser_then : Parser 1024} {held held_then : Record}
     (chunk rest : List ℕ)
     → AreBrief → (h : HasKept plain_text_of whole held parser unread) → chunk ++ rest ≡ unread
-    → length held.bytes + 8 * length chunk ≤ most_bytes
+    → length held.bytes + 8 * length chunk ≤ capacity
     → held_then ≡ after (record_with_event plain_text_of) held (added usual_limit h.adds_up.since chunk)
     → HasRead parser_then (h.adds_up.since ++ chunk)
     → HasKept plain_text_of whole held_then parser_then rest
-kept_text {held} chunk rest brief h parts room performed parsed =
+kept_text {held} chunk rest brief h parts fits performed parsed =
     let since = h.adds_up.since in
     let reported = added usual_limit since chunk in
     let taken =
     all_taken plain_text_of held.bytes held.lost reported
-    (omega (arith, room, text_grows_slowly brief since chunk)) in
+    (omega (arith, fits, text_grows_slowly brief since chunk)) in
     kept_by reported (since ++ chunk) h
     (λ more. rw (← parts, append_assoc chunk rest more) (added-append usual_limit since chunk (rest ++ more)))
     parsed

@@ -3,7 +3,7 @@
 use Rattle.event_log.proofs.Common.{◌≡◌, ℕ, ◌+◌, ◌<◌, ◌≤◌, ◌⊎◌, Bool, true, List, [], ◌++◌, length, Option, Some, None, IfSome, inl, inr, refl, sym, ap, ◌∙◌, usual_limit, append_assoc, append-nil, length-append, arith, flat_map, Event, HasRead, events, Parser, AddsUpTo, HasWritten}
 use Rattle.std.specs.Io.KnownBytes.{Appends, Consumes, IsAtEnd, Keeps}
 use Rattle.event_log.specs.Device.{KeepsWhereKnown}
-use Rattle.event_log.specs.Run.{WritesAll, WritesPrefix, most_reads}
+use Rattle.event_log.specs.Run.{WritesAll, WritesPrefix, max_reads}
 use Rattle.vte_core.proofs.streams.After.{added-nothing}
 use Rattle.event_log.proofs.Records.{adds_up_at_first}
 
@@ -144,7 +144,7 @@ module _ {text_of : Event → List ℕ} {input held : List ℕ} {parser : Parser
   -- A read that fails ends a run, and so do as many reads as there may be.
   pub come_to_front : {reads : ℕ} {to_come_then : Option (List ℕ)} {failed : Bool}
       → HasReadPart text_of input held reads parser to_come taken
-      → KeepsWhereKnown to_come to_come_then → (failed ≡ true) ⊎ (most_reads ≤ reads)
+      → KeepsWhereKnown to_come to_come_then → (failed ≡ true) ⊎ (max_reads ≤ reads)
       → WritesPrefix (means text_of) input held to_come_then taken failed
   come_to_front {to_come_then} h keeps cause = record {
     stream = h.stream;

@@ -1,6 +1,6 @@
 -- What a record holds after texts, and a collector from call to call. A record holds the texts of all events if there
 -- is room at each start: by induction over the places, from one start to the next.
-use Rattle.event_log.proofs.Common.{◌≡◌, ℕ, zero, suc, ◌+◌, ◌<◌, ◌≤◌, Bool, false, List, [], ◌∷◌, ◌++◌, length, inl, inr, refl, sym, ap, subst, ◌∙◌, usual_limit, append_assoc, append-nil, length-append, arith, take-append_seam, cases_Bool, le-leb, nat_tests, flat_map-append, flat_map, AreFromOneByte, IsStart, reported_before, Event, after, ReportsUnits, Record, BeginsLine, ExtendsLine, EndsLine, has_room_after, record_in, is_to_be_written, most_bytes, record_with_event, record_with_text, Lines, ◌-◌, take, drop, length-drop, take_all, HasRead, added, Parser, AddsUpTo, HasKept, HasReadSome}
+use Rattle.event_log.proofs.Common.{◌≡◌, ℕ, zero, suc, ◌+◌, ◌<◌, ◌≤◌, Bool, false, List, [], ◌∷◌, ◌++◌, length, inl, inr, refl, sym, ap, subst, ◌∙◌, usual_limit, append_assoc, append-nil, length-append, arith, take-append_seam, cases_Bool, le-leb, nat_tests, flat_map-append, flat_map, AreFromOneByte, IsStart, reported_before, Event, after, ReportsUnits, Record, BeginsLine, ExtendsLine, EndsLine, has_room_after, record_in, is_to_be_written, capacity, record_with_event, record_with_text, Lines, ◌-◌, take, HasRead, added, Parser, AddsUpTo, HasKept, HasReadSome}
 use Rattle.vte_core.proofs.streams.After.{after_events-append}
 
 -- ---- one text
@@ -13,33 +13,36 @@ same_record : {b c : List ℕ} {l m : Bool} → b ≡ c → l ≡ m → record_o
 same_record e f = cc
 
 -- A text is taken if there is room for it.
-with_text_taken : (held : Record) (text : List ℕ) → length held.bytes + length text ≤ most_bytes
+with_text_taken : (held : Record) (text : List ℕ) → length held.bytes + length text ≤ capacity
     → record_with_text held text ≡ record_of (held.bytes ++ text) held.lost
 unfolding record_with_text
 with_text_taken held text fits = rw (le-leb _ _ fits) refl
 
 -- A line that begins, is written and ends is taken if there is room for it.
-pub takes_line : {a b c d : Lines} {line : List ℕ} → BeginsLine a b → ExtendsLine b line c → EndsLine c d
-    → record_in d ≡ record_with_text (record_in a) line
+pub takes_line : {old begun written ended : Lines} {line : List ℕ} → BeginsLine old begun
+    → ExtendsLine begun line written → EndsLine written ended
+    → record_in ended ≡ record_with_text (record_in old) line
 unfolding record_with_text
-takes_line {a} {b} {c} {d} {line} h k e =
-    let room : c.fits ≡ has_room_after a.bytes.items line = rw (k.fits, h.fits, h.bytes) refl in
-    elim (cases_Bool c.fits) [
+takes_line {old} {begun} {written} {ended} {line} begins extends ends =
+    let fitting : written.fits ≡ has_room_after old.bytes.items line =
+    rw (extends.fits, begins.fits, begins.bytes) refl in
+    elim (cases_Bool written.fits) [
       | inl fits ↦
-          let bytes = rw fits at e.bytes in
-          let lost = rw fits at e.lost in
-          let whole = k.appended fits in
-          rw (sym room ∙ fits) cc
+          let bytes = rw fits at ends.bytes in
+          let lost = rw fits at ends.lost in
+          let whole = extends.appended fits in
+          rw (sym fitting ∙ fits) cc
       | inr none ↦
-          let bytes = rw (none, k.start, h.start, k.kept.1, h.bytes, take-append_seam) at e.bytes in
-          rw (sym room ∙ none) (same_record bytes (rw none at e.lost))
+          let bytes =
+          rw (none, extends.start, begins.start, extends.kept.1, begins.bytes, take-append_seam) at ends.bytes in
+          rw (sym fitting ∙ none) (same_record bytes (rw none at ends.lost))
     ]
 
 -- ---- the texts of events
 
 -- If all texts have room, they are all taken.
 pub all_taken : (text_of : Event → List ℕ) (bytes : List ℕ) (lost : Bool) (events : List Event)
-    → length bytes + length (flat_map text_of events) ≤ most_bytes
+    → length bytes + length (flat_map text_of events) ≤ capacity
     → after (record_with_event text_of) (record_of bytes lost) events
     ≡ record_of (bytes ++ flat_map text_of events) lost
 all_taken text_of bytes lost [] fits = same_record (sym (append-nil bytes)) refl
@@ -54,7 +57,7 @@ all_taken text_of bytes lost (event ∷ more) fits =
 -- A text is taken as the texts of events are, one after another, if there is room for it.
 pub takes_all : (text_of : Event → List ℕ) (held : Record) (text : List ℕ) (events : List Event)
     → text ≡ flat_map text_of events
-    → length held.bytes + length text ≤ most_bytes
+    → length held.bytes + length text ≤ capacity
     → record_with_text held text ≡ after (record_with_event text_of) held events
 takes_all text_of held text events spelt fits =
     with_text_taken held text (omega arith)
@@ -64,16 +67,16 @@ takes_all text_of held text events spelt fits =
 -- ---- a collector that has room at each start
 
 -- The texts of what is reported from one start to the next have at most the bytes of a line and of a character's line.
-abbrev most_of_unit : ℕ
-most_of_unit = 2213
+abbrev max_of_unit : ℕ
+max_of_unit = 2213
 
 abbrev pub IsSmall : (Event → List ℕ) → Type 0
 IsSmall text_of = (events : List Event) → AreFromOneByte usual_limit events
-    → length (flat_map text_of events) ≤ most_of_unit
+    → length (flat_map text_of events) ≤ max_of_unit
 
 -- There is room for what is reported up to the next start.
 abbrev HasRoomForUnit : Record → Type 0
-HasRoomForUnit held = length held.bytes + most_of_unit ≤ most_bytes
+HasRoomForUnit held = length held.bytes + max_of_unit ≤ capacity
 
 pub half_has_room : (held : Record) → is_to_be_written held ≡ false → HasRoomForUnit held
 half_has_room held asked = grind (arith, nat_tests)
@@ -133,10 +136,6 @@ adds_up_at_first h unread = record {
   parsed = h.parsed;
   goes_on = λ more. refl;
 }
-
--- A slice from n on is what follows n bytes.
-pub cut_from : (n : ℕ) (bytes : List ℕ) → take (length bytes - n) (drop n bytes) ≡ drop n bytes
-cut_from n bytes = take_all (length bytes - n) (drop n bytes) (omega (arith, length-drop n bytes))
 
 -- A call reported events, whose texts were all taken, and the parser goes on from another stream.
 pub kept_by : {text_of : Event → List ℕ} {whole : List ℕ → List ℕ} {unread unread_then : List ℕ}

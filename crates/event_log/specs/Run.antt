@@ -15,8 +15,8 @@ abbrev pub stripped_text : List ℕ → List ℕ
 stripped_text stream = plain_text (events usual_limit stream)
 
 -- The maximum number of reads of a run.
-abbrev pub most_reads : ℕ
-most_reads = 2 ^ 64 - 1
+abbrev pub max_reads : ℕ
+max_reads = 2 ^ 64 - 1
 
 -- The whole input was read, and its meaning was written after what the writer held.
 pub record WritesAll (meaning : List ℕ → List ℕ) (input held : List ℕ)
@@ -34,7 +34,7 @@ pub record WritesPrefix (meaning : List ℕ → List ℕ) (input held : List ℕ
   pub parts : input ≡ stream ++ rest
   pub left : IfSome to_come (λ bytes. bytes ≡ rest)
   pub written : taken ≡ Some (held ++ meaning stream)
-  pub cause : (failed ≡ true) ⊎ (most_reads ≤ length stream)
+  pub cause : (failed ≡ true) ⊎ (max_reads ≤ length stream)
 
 -- How a run leaves a reader and a writer whose bytes were known when it began.
 abbrev pub WritesExactly : (List ℕ → List ℕ) → Result (Unit {0}) Fault → (input held : List ℕ)

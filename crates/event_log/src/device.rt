@@ -14,19 +14,19 @@ pub trait Source {
 
     ghost has_failed: { Self → Bool };
 
-    /// Moves the next bytes to the front of `room` and returns their number, which is 0 for a
-    /// non-empty `room` only at the end.
+    /// Moves the next bytes to the front of `buffer` and returns their number, which is 0 for a
+    /// non-empty `buffer` only at the end.
     ///
     /// # Errors
     ///
     /// Fails if the source has failed. Then no byte was taken.
-    fn read(&mut self, room: &mut [u8]) -> Result<usize, ()>
+    fn read(&mut self, buffer: &mut [u8]) -> Result<usize, ()>
         ensures fails { is_err result ≡ has_failed self.new }
         ensures stays { IsTrue (has_failed self.old) → IsTrue (has_failed self.new) }
-        ensures bound { IfOk result (λ count. count ≤ length room.new) }
+        ensures bound { IfOk result (λ count. count ≤ length buffer.new) }
         ensures moves { IfOk result (λ count.
-            Consumes (to_come self.old) (to_come self.new) (take count room.new)) }
-        ensures end { IfOk result (λ count. count ≡ 0 → 0 < length room.new
+            Consumes (to_come self.old) (to_come self.new) (take count buffer.new)) }
+        ensures end { IfOk result (λ count. count ≡ 0 → 0 < length buffer.new
             → IsAtEnd (to_come self.new)) }
         ensures none_taken { OnErr result (KeepsWhereKnown (to_come self.old) (to_come self.new)) };
 }
@@ -94,11 +94,11 @@ impl<D: Read> Source for Device<D> {
 
     ghost has_failed = { λ device. device_failed device };
 
-    fn read(&mut self, room: &mut [u8]) -> Result<usize, ()> {
+    fn read(&mut self, buffer: &mut [u8]) -> Result<usize, ()> {
         if self.error.is_some() {
             return Err(());
         }
-        match self.inner.read(room) {
+        match self.inner.read(buffer) {
             Ok(count) => Ok(count),
             Err(error) => {
                 self.error = Some(error);

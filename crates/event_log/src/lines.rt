@@ -1,6 +1,7 @@
 //! Lines of text, each appended whole or not at all.
 ghost use Rattle.std.specs.Prelude.{◌≡◌, ◌+◌, [], false, length};
-ghost use Rattle.event_log.specs.Record.{BeginsLine, EndsLine, ExtendsLine, empty_record, record_in, is_to_be_written, most_bytes, record_with_text};
+ghost use Rattle.event_log.specs.Record.{capacity, empty_record, is_to_be_written, record_in, record_with_text};
+ghost use Rattle.event_log.specs.machine.Line.{BeginsLine, EndsLine, ExtendsLine};
 
 mod fields;
 mod short;
@@ -9,7 +10,7 @@ use arrayvec::ArrayVec;
 pub(crate) use short::{line_of_execute, line_of_put};
 
 /// The size of a buffer for lines.
-const ROOM: usize = 8192;
+const CAPACITY: usize = 8192;
 
 /// A buffer of 8,192 bytes for lines, each appended whole or not at all.
 ///
@@ -18,7 +19,7 @@ const ROOM: usize = 8192;
 /// Once a line was dropped, [`lost`](Self::lost) is true until [`clear`](Self::clear).
 #[derive(Drop)]
 pub struct Lines {
-    bytes: ArrayVec<u8, ROOM>,
+    bytes: ArrayVec<u8, CAPACITY>,
     // the start of the line that is being written, and whether all of it has fitted so far
     start: usize,
     fits: bool,
@@ -54,17 +55,17 @@ impl Lines {
     }
 
     /// Returns the number of bytes that still fit.
-    pub(crate) fn room(&self) -> usize
-        ensures { length (record_in self.now).bytes + result ≡ most_bytes }
+    pub(crate) fn remaining_capacity(&self) -> usize
+        ensures { length (record_in self.now).bytes + result ≡ capacity }
     {
-        ROOM - self.bytes.len()
+        CAPACITY - self.bytes.len()
     }
 
-    /// Returns whether more than half of the room is in use, so that the lines should be written.
+    /// Returns whether more than half of the capacity is in use: then the lines should be written.
     pub(crate) fn is_more_than_half_full(&self) -> bool
         ensures { result ≡ is_to_be_written (record_in self.now) }
     {
-        self.bytes.len() > ROOM / 2
+        self.bytes.len() > CAPACITY / 2
     }
 
     /// Returns whether a line was dropped since the last `clear`.

@@ -67,15 +67,15 @@ fn run_with<C: Collector, R: Source, W: Sink>(
 {
     laws::empty_stream();
     let mut parser = RunParser::new();
-    let mut room = [0; CHUNK];
+    let mut buffer = [0; CHUNK];
     for _ in 0..u64::MAX {
-        let Ok(count) = reader.read(&mut room) else {
+        let Ok(count) = reader.read(&mut buffer) else {
             return Err(Fault::Read);
         };
         if count == 0 {
             return Ok(());
         }
-        if write_chunk(&mut parser, collector, writer, &room[..count]).is_err() {
+        if write_chunk(&mut parser, collector, writer, &buffer[..count]).is_err() {
             return Err(Fault::Write);
         }
     }

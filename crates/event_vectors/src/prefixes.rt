@@ -45,8 +45,8 @@ fn assert_prefixes(rt: &(impl Abort + AllocGlobal), vector: &LinesVector) -> Res
     if bytes.len() > BROKEN_OFF {
         return Ok(());
     }
-    for place in 0..=bytes.len() {
-        let (prefix, _) = bytes.split_at(place);
+    for end in 0..=bytes.len() {
+        let (prefix, _) = bytes.split_at(end);
         assert_resyncs(rt, vector.size, prefix, [b"\x18", b"\x18z"], "print 007a\n")?;
         assert_resyncs(
             rt,

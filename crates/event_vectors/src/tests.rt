@@ -135,14 +135,14 @@ fn vectors_in_runs(rt: HostRuntime) -> Result<(), Fail> {
 /// Streams of at most this many bytes are cut in every way.
 const CUT_IN_EVERY_WAY: u32 = 12;
 
-/// The chunks of a stream that is cut after byte `place` if bit `place` of `cuts` is set.
+/// The chunks of a stream that is cut after byte `index` if bit `index` of `cuts` is set.
 fn cut<'a>(alloc: Global, bytes: &'a [u8], cuts: u32) -> Result<Vec<&'a [u8]>, AllocError> {
     let mut chunks = Vec::new(alloc);
     let mut rest = bytes;
     let mut length = 0usize;
-    for place in 0..CUT_IN_EVERY_WAY {
+    for index in 0..CUT_IN_EVERY_WAY {
         length = length.saturating_add(1);
-        if cuts >> place & 1 == 1 {
+        if cuts >> index & 1 == 1 {
             let (chunk, back) = rest.split_at(length.min(rest.len()));
             chunks.push(chunk)?;
             rest = back;

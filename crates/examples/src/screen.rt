@@ -190,8 +190,8 @@ impl Screen {
 fn set_characters(cells: &mut [Cell], bytes: &[u8], style: Style)
     requires { length cells.old ≡ length bytes.now }
 {
-    for (place, byte) in bytes.iter().enumerate() {
-        cells[place].show(char::from(*byte), style);
+    for (index, byte) in bytes.iter().enumerate() {
+        cells[index].show(char::from(*byte), style);
     }
 }
 
@@ -202,10 +202,10 @@ fn take_characters(cells: &mut [Cell], characters: &mut Chars<'_>, style: Style)
     ensures { result ≤ length cells.old }
 {
     let count = cells.len();
-    for (place, cell) in cells.iter_mut().enumerate() {
+    for (index, cell) in cells.iter_mut().enumerate() {
         match characters.next() {
             Some(character) => cell.show(character, style),
-            None => return place,
+            None => return index,
         }
     }
     count

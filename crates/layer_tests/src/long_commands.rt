@@ -62,8 +62,8 @@ fn read<A: Allocator>(
 fn command<A: Allocator>(alloc: A, begin: &[u8], count: usize) -> Result<Vec<u8, A>, AllocError> {
     let mut stream = Vec::new(alloc);
     stream.extend_from_slice(begin)?;
-    for place in 0..count {
-        stream.push(if place == count / 2 { b';' } else { b'a' })?;
+    for index in 0..count {
+        stream.push(if index == count / 2 { b';' } else { b'a' })?;
     }
     stream.push(b'\x07')?;
     Ok(stream)

@@ -136,8 +136,8 @@ fn color_texts(rt: HostRuntime) -> Result<(), Fail> {
 fn camel_case(alloc: Global, keyword: &str) -> Result<String, AllocError> {
     let mut camel = String::new(alloc);
     for word in keyword.split('-') {
-        for (place, letter) in word.chars().enumerate() {
-            camel.push(if place == 0 {
+        for (index, letter) in word.chars().enumerate() {
+            camel.push(if index == 0 {
                 letter.to_ascii_uppercase()
             } else {
                 letter

@@ -22,14 +22,14 @@ impl Source for ChunkReader<'_, '_> {
 
     ghost has_failed = { λ reader. false };
 
-    fn read(&mut self, room: &mut [u8]) -> Result<usize, ()> {
+    fn read(&mut self, buffer: &mut [u8]) -> Result<usize, ()> {
         let chunks = self.chunks;
         for index in self.given..chunks.len() {
             self.given = index.saturating_add(1);
             let chunk = chunks[index];
             if !chunk.is_empty() {
-                let count = chunk.len().min(room.len());
-                room[..count].copy_from_slice(&chunk[..count]);
+                let count = chunk.len().min(buffer.len());
+                buffer[..count].copy_from_slice(&chunk[..count]);
                 return Ok(count);
             }
         }

@@ -6,7 +6,7 @@ use vte::ansi::{
     ScpCharPath, ScpUpdateMode, StandardCharset, TabulationClearMode,
 };
 
-/// An enum whose values have numbers: their places, or what a sequence names them by.
+/// An enum whose values have numbers: their indices, or what a sequence names them by.
 pub trait Variant: fmt::Debug {
     fn number(self) -> u64;
 }

@@ -3,7 +3,7 @@
 use Rattle.std.specs.Prelude.{◌≡◌, ◌⊎◌, ℕ, ◌+◌, ◌-◌, ◌<◌, ◌≤◌, Bool, true, false, List, length, IsOk, IfErr, IfOk, Result, Ok, Err}
 use Rattle.vte_core.specs.declared.parser.refused.Refused.{Refused}
 use Rattle.vte.specs.Memory.{HasMemory, KeepsMemory}
-use Rattle.vte.specs.Processor.{Meaning, State, most_held}
+use Rattle.vte.specs.Processor.{Meaning, State, max_held}
 use Rattle.vte.specs.ProcessorCalls.{IsAt, ReadsInTurns, ProcessorPredicate, StopsSync, held_of}
 use Rattle.vte.specs.Refusal.{HasTaken}
 use Rattle.vte.specs.Views.{EngineHasMemory, EngineHasParsedAndHolds, EngineView, long_engine_view}
@@ -24,7 +24,7 @@ pub record LacksMemoryForSome {P B T A W : Type 0} (view : EngineView P B T W)
   pub more : ℕ
   pub within : more ≤ left
   -- A turn asks for memory for at most a slice, or for all bytes if they fit the hold.
-  pub at_most : (more ≤ SLICE) ⊎ (length (held_of engine.hold) + more ≤ most_held)
+  pub at_most : (more ≤ SLICE) ⊎ (length (held_of engine.hold) + more ≤ max_held)
   pub lacks : (stream : List ℕ) → view.parser.has_read engine.parser stream
       → ¬ EngineHasMemory view engine stream (length (held_of engine.hold) + more)
 
@@ -40,13 +40,13 @@ pub record Reserves {P B T A W : Type 0} (view : EngineView P B T W)
       → EngineHasParsedAndHolds view new parsed held timeout
       → EngineHasMemory view new parsed (length held + more)
   pub keeps_memory : KeepsMemory (EngineHasMemory view old) (EngineHasMemory view new)
-  -- It says the same of the last command's data.
+  -- `command_lost_data` answers as before.
   pub lost : view.parser.lost new.parser ≡ view.parser.lost old.parser
   -- On `false`, there isn't.
   pub lacks : result ≡ false → (stream : List ℕ) → view.parser.has_read new.parser stream
       → ¬ EngineHasMemory view new stream (length (held_of new.hold) + more)
 
--- These two, of a processor without a limit.
+-- `LacksMemoryForSome` and `Reserves`, of a processor without a limit.
 abbrev pub LacksMemoryLong : {T A W : Type 0} → (T → W) → LongProcessor T A → (left : ℕ) → Type 0
 LacksMemoryLong timeout_of processor =
     LacksMemoryForSome (long_engine_view timeout_of) processor.engine

@@ -88,8 +88,8 @@ pub record Turn (V W : Type 0) : Type 0 where
 
 -- The maximum number of held bytes. `vte` has a buffer of 2 MiB, and stops the update when fewer
 -- than two bytes of it would be free.
-abbrev pub most_held : ℕ
-most_held = 2 ^ 21 - 2
+abbrev pub max_held : ℕ
+max_held = 2 ^ 21 - 2
 
 pub data TurnKind : Type 0 where
   -- Outside an update, bytes are parsed.
@@ -105,7 +105,7 @@ pub data TurnKind : Type 0 where
 abbrev pub turn_kind_of : Bool → ℕ → ℕ → TurnKind
 turn_kind_of false zero given = ParsingTurn
 turn_kind_of false (suc held) given = ExpiredTurn
-turn_kind_of true held given = if nat_le (held + given) most_held then HoldTurn else FullTurn
+turn_kind_of true held given = if nat_le (held + given) max_held then HoldTurn else FullTurn
 
 -- The shortest prefix whose last byte begins an update, or all bytes if there is none.
 abbrev pub prefix_to_begin : Option ℕ → List ℕ → List ℕ → List ℕ
@@ -195,12 +195,12 @@ pub record IsInsideUpdate {W : Type 0} (limit : Option ℕ) (meaning : TimeoutMe
   pub pending : AllowsOnly meaning timeout true
   pub begun : EndsInBegin limit parsed ⊎ (begins_with begin_update held ≡ true)
 
--- The hold contains no end-update, and has at most `most_held` bytes. If the timeout is steady,
+-- The hold contains no end-update, and has at most `max_held` bytes. If the timeout is steady,
 -- nothing is held outside an update.
 pub record HoldsWell {W : Type 0} (limit : Option ℕ) (meaning : TimeoutMeaning W)
     (parsed held : List ℕ) (timeout : W) : Type 0 where
   pub no_end : after_last_end held ≡ None
-  pub fits : length held ≤ most_held
+  pub fits : length held ≤ max_held
   pub steady : IsSteady meaning → IsOutsideUpdate meaning held timeout
       ⊎ IsInsideUpdate limit meaning parsed held timeout
 

@@ -9,7 +9,7 @@ use Rattle.vte_core.specs.declared.parser.Parser.{Parser}
 use Rattle.vte_handler.specs.Handler.{after}
 use Rattle.vte_handler.specs.Timeout.{AllowsOnly, IsSteady, TimeoutMeaning}
 use Rattle.vte.specs.Calls.{last_printed, calls}
-use Rattle.vte.specs.Processor.{HoldsWell, HoldsWellAt, Meaning, TakesSteps, State, TakesAllTurns, all_bytes, given_bytes, calls_with_stops, AreInOrder, most_held, stop}
+use Rattle.vte.specs.Processor.{HoldsWell, HoldsWellAt, Meaning, TakesSteps, State, TakesAllTurns, all_bytes, given_bytes, calls_with_stops, AreInOrder, max_held, stop}
 use Rattle.vte.specs.Synchronized.{after_last_end}
 use Rattle.vte.specs.declared.ansi.updates.hold.SyncState.{SyncState}
 use Rattle.vte.specs.declared.ansi.laws.replays.Step.{Step}
@@ -159,13 +159,13 @@ pub record IsCopyOfProcessor {T W : Type 0} (is_clone : T → T → Type 0) (tim
   pub agrees : timeout_of second ≡ timeout_of first
       → (parsed held : List ℕ) (timeout : W) → Agrees parsed held timeout
       → CopyAgrees parsed held timeout
-  -- It says the same of the last command's data.
+  -- `command_lost_data` of the copy answers as that of the processor.
   pub lost : copy.lost ≡ parser.lost
 
 -- `sync_bytes_count`
 pub record CountsHeld (held : List ℕ) (result : ℕ) : Type 0 where
   pub count : result ≡ length held
-  pub fits : result ≤ most_held
+  pub fits : result ≤ max_held
   pub no_end : after_last_end held ≡ None
 
 -- `command_lost_data`: of the command that is open after the parsed bytes

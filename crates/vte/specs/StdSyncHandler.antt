@@ -28,5 +28,5 @@ pending_meaning =
 pub record ExpiresAfter {Clock : Type 0} (tells : Clock → ℕ → Type 0) (clock : Clock) (nanos : ℕ)
     (expiry : Duration) : Type 0 where
   pub moment : ℕ
-  pub told : tells clock moment
+  pub shown : tells clock moment
   pub sum : as_nanos expiry ≡ min (moment + nanos) max_nanos

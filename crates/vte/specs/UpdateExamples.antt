@@ -8,7 +8,7 @@ use Rattle.vte_types.specs.declared.color.Color.TheVariants as color
 use Rattle.vte_types.specs.declared.color.NamedColor.TheVariants.{Red}
 use Rattle.vte_types.specs.declared.mode.NamedPrivateMode.TheVariants.{ShowCursor, SyncUpdate}
 use Rattle.vte_types.specs.declared.mode.PrivateMode.TheVariants.{Named}
-use Rattle.vte.specs.Processor.{Meaning, State, HoldTurn, FullTurn, calls_with_stops, prefix_to_begin, turn_kind_of, most_held, stop, turn}
+use Rattle.vte.specs.Processor.{Meaning, State, HoldTurn, FullTurn, calls_with_stops, prefix_to_begin, turn_kind_of, max_held, stop, turn}
 use Rattle.vte.specs.StdSyncHandler.{pending_meaning}
 use Rattle.vte.specs.Synchronized.{after_last_end, begin_update, begins_ending_in_last, end_update, from_begin_update, update_ended_call}
 use Rattle.vte.specs.declared.ansi.laws.replays.Step.{Step}
@@ -159,8 +159,8 @@ pub record ShortExamples : Type 0 where
   pub prefix : prefix_to_begin usual_limit (codes "\u{1b}[?25;20") (codes "26hb") ≡ codes "26h"
   pub prefix_without_begin : prefix_to_begin usual_limit [] (codes "ab") ≡ codes "ab"
   -- the hold takes its last byte, and none after it
-  pub fits : turn_kind_of true (most_held - 1) 1 ≡ HoldTurn
-  pub full : turn_kind_of true most_held 1 ≡ FullTurn
+  pub fits : turn_kind_of true (max_held - 1) 1 ≡ HoldTurn
+  pub full : turn_kind_of true max_held 1 ≡ FullTurn
   -- a stop between `x` and `y`, and two stops inside a character of two bytes
   pub with_stop : calls_with_stops usual_limit (begin_update ++ codes "xy") 0 (9 ∷ [])
       ≡ update_begun_call ∷ Input 0x78 ∷ update_ended_call ∷ Input 0x79 ∷ []

@@ -153,8 +153,8 @@ int main(int argc, char **argv) {
     size_t chunk = number_at(argc - 1, argv + 1, 0);
     size_t first = number_at(argc - 1, argv + 1, 1), second = number_at(argc - 1, argv + 1, 2);
     if (vte_version() != VTE_VERSION || vte_parser_size() != sizeof(vte_parser)
-        || vte_event_size() != sizeof(vte_event) || vte_least_events() != VTE_MIN_EVENTS
-        || vte_least_data() != VTE_MIN_DATA || vte_least_text() != VTE_MIN_TEXT) {
+        || vte_event_size() != sizeof(vte_event) || vte_min_events() != VTE_MIN_EVENTS
+        || vte_min_data() != VTE_MIN_DATA || vte_min_text() != VTE_MIN_TEXT) {
         fputs("events: the library is not the one that vte.h describes\n", stderr);
         return 1;
     }

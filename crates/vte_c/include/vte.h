@@ -139,13 +139,13 @@ enum {
 /* Returns what is unfinished, or 0: one of VTE_OPEN_. */
 uint8_t vte_is_open(const vte_parser *parser);
 
-/* The version of the library, the sizes of its two structs, and its least room. */
+/* The version of the library, the sizes of its two structs, and its minimum room. */
 uint32_t vte_version(void);
 size_t vte_parser_size(void);
 size_t vte_event_size(void);
-size_t vte_least_events(void);
-size_t vte_least_data(void);
-size_t vte_least_text(void);
+size_t vte_min_events(void);
+size_t vte_min_data(void);
+size_t vte_min_text(void);
 
 /* ---- texts, groups and pieces ---- */
 

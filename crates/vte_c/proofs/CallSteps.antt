@@ -1,6 +1,6 @@
 -- A call goes on (`ReadsOn`) by calls of the parser, whose events are written as long as there is room, and by the runs
 -- that these return. One step after another is a longer one (`goes-then`).
-use Rattle.vte_c.proofs.Common.{AreCharacters, Bool, ComesTo, DataRun, Event, ReadsOn, GoesOnFromPositions, HasReadOn, HasEntries, HasRead, NoRecordStops, InInput, IsRunOfKind, usual_limit, IsRunAt, List, OpensSilently, Parser, Print, Put, Room, Run, Single, Starts, StopsAtNone, ReportsUnits, TextRun, [], added, after, ap, append-nil, arith, breaks_at, cases_Bool, cases_lt, chars, data_of, drop, drop-drop, false, false≢true, filter-append, flat_map, flat_map-append, has, if◌then◌else◌, inl, inr, is_full, is_stop, entry_events, event_kind, len_utf8_bounds, length, length-append, length-drop, length-encode, map, nat_tests, refl, replacement, reported, resumed, events_of_run, run_kind, run_record, resumed_stream, subst, sym, take, reported_before, true, room_with_event, with_entries, with_run, with_taken, with_wanted, zero-add, ℕ, ◌++◌, ◌+◌, ◌-◌, ◌<◌, ◌∙◌, ◌∷◌, ◌≡◌, ◌≤◌}
+use Rattle.vte_c.proofs.Common.{AreCharacters, Bool, ComesTo, DataRun, Event, ReadsOn, GoesOnFromPositions, HasReadOn, HasEntries, HasRead, NoRecordStops, InInput, IsRunOfKind, usual_limit, IsRunAt, List, OpensSilently, Parser, Print, Put, Buffers, Run, Single, Starts, StopsAtNone, ReportsUnits, TextRun, [], added, after, ap, append-nil, arith, breaks_at, cases_Bool, cases_lt, chars, data_of, drop, drop-drop, false, false≢true, filter-append, flat_map, flat_map-append, has, if◌then◌else◌, inl, inr, is_full, is_stop, entry_events, event_kind, len_utf8_bounds, length, length-append, length-drop, length-encode, map, nat_tests, refl, replacement, reported, resumed, events_of_run, run_kind, run_record, resumed_stream, subst, sym, take, reported_before, true, buffers_with_event, with_entries, with_run, with_taken, with_wanted, zero-add, ℕ, ◌++◌, ◌+◌, ◌-◌, ◌<◌, ◌∙◌, ◌∷◌, ◌≡◌, ◌≤◌}
 use Rattle.vte_core.proofs.streams.After.{added-nothing}
 use Rattle.vte_core.specs.AdvanceToRun.{IsLongestRun, ReturnsRun, run_bytes, run_events, taken_bytes}
 use Rattle.vte_core.specs.declared.reader.run.Run.{Run as Returned}
@@ -8,7 +8,7 @@ use Rattle.vte_core.specs.declared.reader.run.Taken.{Taken}
 use Rattle.vte_core.specs.declared.reader.run.Taken.TheVariants.{Text, Data, Nothing}
 use Rattle.vte_core.proofs.EarlyStops.{passed-at}
 use Rattle.vte_c.proofs.Continuations.{no_event_stops-entries, no_event_stops-append, no_event_stops-before, no_event_stops-earlier, no_event_stops-front, no_event_stops-reported, no_event_stops-run, continues-added, continues-call, continues-nothing, continues-then}
-use Rattle.vte_c.proofs.Rooms.{event_passed, event_written, entries-nothing, entries-run, entries-then, entries-unit_more, entries_of, paused_after, resumed_free, resumed_same, unmet, unpaused}
+use Rattle.vte_c.proofs.Buffers.{event_passed, event_written, entries-nothing, entries-run, entries-then, entries-unit_more, entries_of, paused_after, resumed_free, resumed_same, unmet, unpaused}
 
 -- ---- a run of the input
 
@@ -25,11 +25,12 @@ run_reported : (kinds : ℕ) (wanted : Bool) (run : Run) (bytes : List ℕ) → 
 run_reported kinds wanted TextRun bytes is = each_reported kinds wanted Print (λ c. is) (chars bytes)
 run_reported kinds wanted DataRun bytes is = each_reported kinds wanted Put (λ b. is) bytes
 
-run_stops : (room : Room) (run : Run) → StopsAtNone room → is_stop room.kinds room.stops (run_kind run) ≡ false
-run_stops room TextRun none = none.0
-run_stops room DataRun none = none.1
+run_stops : (buffers : Buffers) (run : Run) → StopsAtNone buffers
+    → is_stop buffers.kinds buffers.stops (run_kind run) ≡ false
+run_stops buffers TextRun none = none.0
+run_stops buffers DataRun none = none.1
 
-goes-run : {old new : Room} {since bytes : List ℕ} (run : Run) {from size : ℕ} → is_full old ≡ false
+goes-run : {old new : Buffers} {since bytes : List ℕ} (run : Run) {from size : ℕ} → is_full old ≡ false
     → new ≡ with_wanted old (run_record (run_kind run) from size) → IsRunAt bytes run from size
     → added usual_limit since (take size (drop from bytes)) ≡ events_of_run run (take size (drop from bytes))
     → ReadsOn old new since (since ++ take size (drop from bytes)) bytes from size
@@ -64,16 +65,16 @@ events-singles : (input : List ℕ) (events : List Event) → flat_map (entry_ev
 events-singles input [] = refl
 events-singles input (event ∷ events) = ap (λ (es : List Event). event ∷ es) (events-singles input events)
 
--- Before the first byte at most U+FFFD is given, for a character that it breaks, and that doesn't fill the room.
-goes_on_at_first : (old : Room) (broken : Bool) → Starts old
-    → NoRecordStops old.stops (after room_with_event old (if broken then Print replacement ∷ [] else [])).events
-    → is_full (after room_with_event old (if broken then Print replacement ∷ [] else [])) ≡ false
+-- Before the first byte at most U+FFFD is given, for a character that it breaks, and that doesn't fill the buffers.
+goes_on_at_first : (old : Buffers) (broken : Bool) → Starts old
+    → NoRecordStops old.stops (after buffers_with_event old (if broken then Print replacement ∷ [] else [])).events
+    → is_full (after buffers_with_event old (if broken then Print replacement ∷ [] else [])) ≡ false
 goes_on_at_first old false starts others = grind (arith, nat_tests)
 goes_on_at_first old true starts others =
-    -- U+FFFD has at most four bytes of data, and its event doesn't pause the room.
+    -- U+FFFD has at most four bytes of data, and its event doesn't pause the writer.
     let small : length (data_of (Print replacement)) ≤ 4 =
     omega (arith, length-encode replacement, (len_utf8_bounds replacement).1) in
-    let next : Room = room_with_event old (Print replacement) in
+    let next : Buffers = buffers_with_event old (Print replacement) in
     let going : next.paused ≡ false = paused_after old (Print replacement) refl ∙ starts.paused in
     let same : resumed next ≡ next = resumed_same next going in
     elim (cases_Bool (has old.kinds 0)) [
@@ -82,7 +83,7 @@ goes_on_at_first old true starts others =
           sym same
           ∙ event_written old (Print replacement) starts.paused
           (record {
-            events = omega (arith, starts.most, starts.count);
+            events = omega (arith, starts.capacity, starts.count);
             data_fits = omega (arith, starts.size, starts.used);
           }) wanted in
           let other : has old.stops 0 ≡ false = (rw (is, starts.events) at others).0 in
@@ -98,17 +99,17 @@ pub record Laws : Type 0 where
   pub goes_on : GoesOnFromPositions usual_limit
   pub silent : OpensSilently usual_limit
 
-module _ (old new : Room) (since bytes : List ℕ) (from n : ℕ) (laws : Laws) (free : is_full old ≡ false)
-    (s : ComesTo room_with_event is_full old usual_limit since (drop from bytes) new n) where
+module _ (old new : Buffers) (since bytes : List ℕ) (from n : ℕ) (laws : Laws) (free : is_full old ≡ false)
+    (s : ComesTo buffers_with_event is_full old usual_limit since (drop from bytes) new n) where
   abbrev given_at : ℕ → List Event
   given_at i = reported_before usual_limit since (drop from bytes) i
 
-  -- All that was given is written, since the room wasn't full at any start that the call came to.
+  -- All that was given is written, since the buffers weren't full at any start that the call came to.
   given_written : (i : ℕ) → i ≤ n
-      → HasEntries old (resumed (after room_with_event old (given_at i))) bytes (entries_of old (given_at i))
+      → HasEntries old (resumed (after buffers_with_event old (given_at i))) bytes (entries_of old (given_at i))
   given_written i come =
-      passed-at (λ events. HasEntries old (resumed (after room_with_event old events)) bytes (entries_of old events))
-      (λ events. is_full (after room_with_event old events) ≡ false)
+      passed-at (λ events. HasEntries old (resumed (after buffers_with_event old events)) bytes (entries_of old events))
+      (λ events. is_full (after buffers_with_event old events) ≡ false)
       since (drop from bytes) laws.units (rw (resumed_same old (unpaused old free)) (entries-nothing old bytes)) free
       (entries-unit_more bytes old)
       i (omega (arith, s.within)) (λ j earlier. s.earlier j (omega arith))
@@ -120,7 +121,7 @@ module _ (old new : Room) (since bytes : List ℕ) (from n : ℕ) (laws : Laws) 
     continues = continues-call laws.goes_on since (drop from bytes) n;
     shows = events-singles bytes (reported old.kinds (given_at n));
     holds =
-        subst (λ (r : Room). HasEntries old (resumed r) bytes (entries_of old (given_at n))) (sym s.performed)
+        subst (λ (r : Buffers). HasEntries old (resumed r) bytes (entries_of old (given_at n))) (sym s.performed)
         (given_written n (omega arith));
     before = λ none.
         no_event_stops-before (is_stop old.kinds old.stops) none.0 since (drop from bytes) n s.within laws.silent
@@ -129,22 +130,22 @@ module _ (old new : Room) (since bytes : List ℕ) (from n : ℕ) (laws : Laws) 
         (rw (events-singles bytes (reported old.kinds (given_at i))) at
         (no_event_stops-entries old.stops bytes old.used (entries_of old (given_at i))
         (unmet (given_written i (omega arith))
-        (resumed_free (after room_with_event old (given_at i)) (s.earlier i earlier start))))));
+        (resumed_free (after buffers_with_event old (given_at i)) (s.earlier i earlier start))))));
   }
 
--- ---- one step after the other, if the room is not full in between
+-- ---- one step after the other, if the buffers aren't full in between
 
-goes-nothing : {room : Room} {since bytes : List ℕ} {from : ℕ} → ReadsOn room room since since bytes from 0
-goes-nothing {room} {since} {bytes} {from} = record {
+goes-nothing : {buffers : Buffers} {since bytes : List ℕ} {from : ℕ} → ReadsOn buffers buffers since since bytes from 0
+goes-nothing {buffers} {since} {bytes} {from} = record {
   given = [];
   entries = [];
   continues = continues-nothing since (drop from bytes);
   shows = refl;
-  holds = entries-nothing room bytes;
+  holds = entries-nothing buffers bytes;
   before = λ none i earlier. absurd (omega arith);
 }
 
-goes-then : {old mid new : Room} {since next last bytes : List ℕ} {from n m : ℕ}
+goes-then : {old mid new : Buffers} {since next last bytes : List ℕ} {from n m : ℕ}
     (a : ReadsOn old mid since next bytes from n)
     → is_full mid ≡ false → from + n + m ≤ length bytes → ReadsOn mid new next last bytes (from + n) m
     → ReadsOn old new since last bytes from (n + m)
@@ -153,8 +154,8 @@ goes-then {old} {mid} {since} {bytes} {from} {n} {m} a free within b =
     let size = length-drop from bytes in
     -- The second step begins n bytes after the first, with the same kinds and stops.
     let rest : drop (from + n) bytes ≡ drop n unread = sym (drop-drop n from bytes) in
-    let kinds : mid.kinds ≡ old.kinds = ap (λ (r : Room). r.kinds) a.holds.room in
-    let stops : mid.stops ≡ old.stops = ap (λ (r : Room). r.stops) a.holds.room in
+    let kinds : mid.kinds ≡ old.kinds = ap (λ (r : Buffers). r.kinds) a.holds.written in
+    let stops : mid.stops ≡ old.stops = ap (λ (r : Buffers). r.stops) a.holds.written in
     record {
       given = a.given ++ b.given;
       entries = a.entries ++ b.entries;
@@ -170,7 +171,7 @@ goes-then {old} {mid} {since} {bytes} {from} {n} {m} a free within b =
             let place : n + k ≡ i = omega arith in
             let front = a.continues.prefixes k (omega (arith, within)) in
             let stop : ℕ → Bool = is_stop old.kinds old.stops in
-            -- The room wasn't full after the first step, so none of its events stops.
+            -- The buffers weren't full after the first step, so none of its events stops.
             let given_without_stop =
             no_event_stops-reported old.kinds old.stops a.given
             (rw a.shows at (no_event_stops-entries old.stops bytes old.used a.entries (unmet a.holds free))) in
@@ -183,11 +184,11 @@ goes-then {old} {mid} {since} {bytes} {from} {n} {m} a free within b =
       ];
     }
 
-pub gone-nothing : {old : Room} {parser : Parser 1024} {since bytes : List ℕ} → HasRead parser since
+pub gone-nothing : {old : Buffers} {parser : Parser 1024} {since bytes : List ℕ} → HasRead parser since
     → HasReadOn old old parser since bytes 0 0
 gone-nothing {since} reads = record { next = since; reads = reads; goes = goes-nothing }
 
-pub gone-then : {old mid new : Room} {parser last : Parser 1024} {since bytes : List ℕ} {n m : ℕ}
+pub gone-then : {old mid new : Buffers} {parser last : Parser 1024} {since bytes : List ℕ} {n m : ℕ}
     (a : HasReadOn old mid parser since bytes 0 n)
     → is_full mid ≡ false → n + m ≤ length bytes → HasReadOn mid new last a.next bytes n m
     → HasReadOn old new last since bytes 0 (n + m)
@@ -198,15 +199,15 @@ gone-then a free within b =
 
 -- A run that has no bytes isn't there.
 no_run : (bytes : List ℕ) (end : ℕ) (taken : Taken) → IsLongestRun bytes end taken → length (taken_bytes taken) ≡ 0
-    → (room : Room) (start : ℕ)
-    → with_taken room start taken ≡ resumed room
-no_run bytes end (Text text) whole none room start = absurd (omega (arith, whole.0, none))
-no_run bytes end (Data those) whole none room start = absurd (omega (arith, whole.0, none))
-no_run bytes end Nothing whole none room start = refl
+    → (buffers : Buffers) (start : ℕ)
+    → with_taken buffers start taken ≡ resumed buffers
+no_run bytes end (Text text) whole none buffers start = absurd (omega (arith, whole.0, none))
+no_run bytes end (Data those) whole none buffers start = absurd (omega (arith, whole.0, none))
+no_run bytes end Nothing whole none buffers start = refl
 
-module _ (old mid new : Room) (since bytes : List ℕ) (from : ℕ) (run : Returned) {HasReadBefore : List ℕ → Type 0}
+module _ (old mid new : Buffers) (since bytes : List ℕ) (from : ℕ) (run : Returned) {HasReadBefore : List ℕ → Type 0}
     (laws : Laws) (free : is_full old ≡ false) (begins : from ≤ length bytes)
-    (r : ReturnsRun room_with_event is_full old mid usual_limit HasReadBefore (drop from bytes) run)
+    (r : ReturnsRun buffers_with_event is_full old mid usual_limit HasReadBefore (drop from bytes) run)
     (before : HasReadBefore since) where
   abbrev after_call : List ℕ
   after_call = resumed_stream since (drop from bytes) run.start

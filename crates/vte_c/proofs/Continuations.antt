@@ -3,6 +3,7 @@
 use Rattle.vte_c.proofs.Common.{AreFirst, Continues, Event, GoesOnFromPositions, List, Print, [], add_assoc, added, ap, append-nil, append_assoc, arith, breaks, usual_limit, breaks_at, cases_Bool, drop, drop-drop, inl, inr, length, length-drop, open_character, refl, replacement, resumed_stream, suc, sym, take, take-add, take-append-drop, reported_before, true, zero, zero-add, ℕ, ◌++◌, ◌+◌, ◌∙◌, ◌∷◌, ◌≡◌, ◌≤◌, NoEventStops, Bool, DataRun, NoKindStops, NoRecordStops, InInput, IsStart, Entry, OpensSilently, Put, Run, Single, TextRun, VteEvent, add-one, chars, false, flat_map, get_or, has, has_kind, if◌then◌else◌, is_stop, entry_data, entry_events, event_kind, map, or_parts, records_from, reported, events_of_run, run_kind, take_more, ◌-◌, ◌<◌}
 use Rattle.vte_core.proofs.EarlyStops.{added-append}
 use Rattle.vte_core.proofs.streams.After.{added-nothing}
+use Rattle.vte_core.proofs.Shapes.{breaks-next}
 
 -- ---- some events are the first of others (`AreFirst`)
 
@@ -50,11 +51,6 @@ continues-added since bytes n = record {
 }
 
 -- ---- a call of the parser
-
--- The next byte alone decides whether a character is broken.
-breaks-next : (opened : List ℕ) (byte : ℕ) (xs ys : List ℕ) → breaks opened (byte ∷ xs) ≡ breaks opened (byte ∷ ys)
-breaks-next [] byte xs ys = refl
-breaks-next (a ∷ opened) byte xs ys = refl
 
 -- A call that stops before that byte has given U+FFFD, which no byte has added so far.
 broken_first : GoesOnFromPositions usual_limit → (stream unread : List ℕ) (k : ℕ)

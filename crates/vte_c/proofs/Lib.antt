@@ -1,8 +1,8 @@
--- From what a call goes on with (`Continuations`) and what it writes (`Rooms`) to calls (`CallSteps`, `Stripping`) and
--- to what their callers find (`ReadBack`); `Common` passes on words.
+-- From what a call goes on with (`Continuations`) and what it writes (`Buffers`) to calls (`CallSteps`, `Stripping`)
+-- and to what their callers find (`ReadBack`); `Common` passes on words.
 pub mod CallSteps
 pub mod Common
 pub mod Continuations
 pub mod ReadBack
-pub mod Rooms
+pub mod Buffers
 pub mod Stripping

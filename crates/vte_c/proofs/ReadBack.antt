@@ -1,10 +1,11 @@
 -- A caller finds in its buffers the records and data of the entries that a call wrote, and reads their events back from
 -- them (`entries_read`, `fed`). More bytes after the input change nothing (`entry_events_later`).
-use Rattle.vte_c.proofs.Common.{AreGroups, AreReadable, Bool, CsiDispatch, DataRun, EscDispatch, Event, Hook, InInput, IsBounded, Entry, List, OscDispatch, Print, Put, Run, usual_limit, Single, TextRun, VteEvent, [], add-zero, ap, append_assoc, arith, cases_Bool, concat, count_byte, count_of, data_of, drop, drop-append_seam, drop-drop, eqb-true, event_in, events_of, false, flag_byte, flat_map, get_or, group_bytes, groups_in, inl, inr, intermediates_in, entry_data, entry_events, kinds_of, length, length-append, map, map-set_same, min, numbers_in, piece_bytes, pieces_in, record_at, records_from, refl, events_of_run, run_kind, run_record, set, sum_by-cons, sym, take, take-append-drop, take-append_seam, take-map, true, two_bytes, with_intermediates, with_loss, without_loss, ℕ, ◌%◌, ◌*◌, ◌++◌, ◌+◌, ◌/◌, ◌==◌, ◌∙◌, ◌∷◌, ◌≡◌, ◌≤◌, Execute, HasGiven, HasReadSaved, Saved, Unhook, added, append-nil, events, has, event_kind, nat_tests, no_room, fed_count, reported, ◌<◌, AreEncoded, Events, HasFed, HasReadOn, HasEntries, HasRead, HasReported, NoRecordStops, IsRunAt, Parser, Room, Starts, drop-append-le, events_in, filter-append, length-drop, length-map, length-take, room_of, take-append-le}
+use Rattle.vte_c.proofs.Common.{AreGroups, AreReadable, Bool, CsiDispatch, DataRun, EscDispatch, Event, Hook, InInput, IsBounded, Entry, List, OscDispatch, Print, Put, Run, usual_limit, Single, TextRun, VteEvent, [], add-zero, ap, append_assoc, arith, cases_Bool, concat, count_byte, count_of, data_of, drop, drop-append_seam, drop-drop, eqb-true, event_in, events_of, false, flag_byte, flat_map, get_or, group_bytes, groups_in, inl, inr, intermediates_in, entry_data, entry_events, kinds_of, length, length-append, map, map-set_same, min, numbers_in, piece_bytes, pieces_in, record_at, records_from, refl, events_of_run, run_kind, run_record, set, sum_by-cons, sym, take, take-append-drop, take-append_seam, take-map, true, two_bytes, with_intermediates, with_loss, without_loss, ℕ, ◌%◌, ◌*◌, ◌++◌, ◌+◌, ◌/◌, ◌==◌, ◌∙◌, ◌∷◌, ◌≡◌, ◌≤◌, Execute, HasGiven, HasReadSaved, Saved, Unhook, added, append-nil, events, has, event_kind, nat_tests, no_room, fed_count, reported, ◌<◌, AreEncoded, EventWriter, HasFed, HasReadOn, HasEntries, HasRead, HasReported, NoRecordStops, IsRunAt, Parser, Buffers, Starts, drop-append-le, events_in, filter-append, length-drop, length-map, length-take, buffers_of, take-append-le, all_kinds}
 use Rattle.std.specs.Char.{encode_utf8}
 use Rattle.vte_core.proofs.bytes.Runs.{chars-encode}
-use Rattle.vte_c.proofs.Rooms.{few_groups, length_numbers, length-records}
+use Rattle.vte_c.proofs.Buffers.{length-groups, length-two_bytes, length-records}
 use Rattle.vte_core.proofs.streams.After.{added-nothing}
+use Rattle.std.specs.Prelude.{◌-◌, ◌^◌}
 
 -- ---- events read back from records and data
 
@@ -21,7 +22,7 @@ read_numbers (n ∷ numbers) back =
     rw (number, read_numbers numbers back) refl
 
 drop_numbers : (numbers back : List ℕ) → drop (2 * length numbers) (flat_map two_bytes numbers ++ back) ≡ back
-drop_numbers numbers back = rw (← length_numbers numbers) (drop-append_seam (flat_map two_bytes numbers) back)
+drop_numbers numbers back = rw (← length-two_bytes numbers) (drop-append_seam (flat_map two_bytes numbers) back)
 
 read_groups : (groups : List (List ℕ)) (back : List ℕ) → count_of groups ≤ 255
     → groups_in (length groups) (flat_map group_bytes groups ++ back) ≡ groups
@@ -37,15 +38,15 @@ read_groups (group ∷ groups) back small =
 groups_read : (groups : List (List ℕ)) (back : List ℕ) → AreGroups groups
     → groups_in (count_byte (length groups)) (flat_map group_bytes groups ++ back) ≡ groups
 groups_read groups back h =
-    let at_most : count_byte (length groups) ≡ length groups = omega (arith, few_groups groups h) in
+    let at_most : count_byte (length groups) ≡ length groups = omega (arith, length-groups groups h) in
     rw at_most (read_groups groups back (omega (arith, h.at_most)))
 
-read_pieces : (pieces : List (List ℕ)) (back : List ℕ) → length (concat pieces) ≤ 4294967295
+read_pieces : (pieces : List (List ℕ)) (back : List ℕ) → length (concat pieces) ≤ 2 ^ 32 - 1
     → pieces_in (length pieces) (flat_map piece_bytes pieces ++ back) ≡ pieces
 read_pieces [] back small = refl
 read_pieces (piece ∷ pieces) back small =
     let all = length-append piece (concat pieces) in
-    let at_least : min (length piece) 4294967295 ≡ length piece = omega arith in
+    let at_least : min (length piece) (2 ^ 32 - 1) ≡ length piece = omega arith in
     let n : ℕ = length piece in
     let size : n % 256 + 256 * ((n / 256) % 256) + 65536 * ((n / 65536) % 256) + 16777216 * (n / 16777216) ≡ n =
     omega arith in
@@ -71,23 +72,24 @@ read_intermediates event (a ∷ []) at_most = refl
 read_intermediates event (a ∷ b ∷ []) at_most = refl
 read_intermediates event (a ∷ b ∷ c ∷ more) at_most = absurd (omega arith)
 
--- An event is read back if its data is at its place in the area.
-read_single : (input area back : List ℕ) (place : ℕ) (event : Event) → IsBounded usual_limit event
-    → drop place area ≡ data_of event ++ back
-    → events_of input area (record_at place (Single event)) ≡ event ∷ []
+-- An event is read back if its data is at its offset in the area.
+read_single : (input area back : List ℕ) (offset : ℕ) (event : Event) → IsBounded usual_limit event
+    → drop offset area ≡ data_of event ++ back
+    → events_of input area (record_at offset (Single event)) ≡ event ∷ []
 unfolding events_of event_in
-read_single input area back place (Print c) h e = rw (e, take-append_seam (encode_utf8 c) back, chars-encode c h.0) refl
-read_single input area back place (Hook groups ints ignore final) h e =
+read_single input area back offset (Print c) h e =
+    rw (e, take-append_seam (encode_utf8 c) back, chars-encode c h.0) refl
+read_single input area back offset (Hook groups ints ignore final) h e =
     rw (e, groups_read groups back h.0, read_intermediates _ ints h.1, read_flag ignore) refl
-read_single input area back place (Put byte) h e = rw e refl
-read_single input area back place (OscDispatch pieces bell) h e =
+read_single input area back offset (Put byte) h e = rw e refl
+read_single input area back offset (OscDispatch pieces bell) h e =
     let at_most : count_byte (length pieces) ≡ length pieces = omega (arith, h.0) in
     rw (e, at_most, read_pieces pieces back (omega (arith, h.1)), read_bell bell) refl
-read_single input area back place (CsiDispatch groups ints ignore final) h e =
+read_single input area back offset (CsiDispatch groups ints ignore final) h e =
     rw (e, groups_read groups back h.0, read_intermediates _ ints h.1, read_flag ignore) refl
-read_single input area back place (EscDispatch ints ignore byte) h e =
+read_single input area back offset (EscDispatch ints ignore byte) h e =
     rw (read_intermediates _ ints h.0, read_flag ignore) refl
-read_single input area back place _ h e = refl
+read_single input area back offset _ h e = refl
 
 -- ---- entries one after another
 
@@ -99,19 +101,19 @@ unfolding events_of
 read_run input area TextRun start size = refl
 read_run input area DataRun start size = refl
 
-read_entries : (input area back : List ℕ) (place : ℕ) (entries : List Entry) → AreReadable input entries
-    → drop place area ≡ flat_map entry_data entries ++ back
-    → flat_map (events_of input area) (records_from place entries) ≡ flat_map (entry_events input) entries
-read_entries input area back place [] are e = refl
-read_entries input area back place (InInput run start size ∷ entries) are e =
-    rw (add-zero place, read_run input area run start size, read_entries input area back place entries are.1 e) refl
-read_entries input area back place (Single event ∷ entries) are e =
+read_entries : (input area back : List ℕ) (offset : ℕ) (entries : List Entry) → AreReadable input entries
+    → drop offset area ≡ flat_map entry_data entries ++ back
+    → flat_map (events_of input area) (records_from offset entries) ≡ flat_map (entry_events input) entries
+read_entries input area back offset [] are e = refl
+read_entries input area back offset (InInput run start size ∷ entries) are e =
+    rw (add-zero offset, read_run input area run start size, read_entries input area back offset entries are.1 e) refl
+read_entries input area back offset (Single event ∷ entries) are e =
     let parts = append_assoc (data_of event) (flat_map entry_data entries) back in
     let rest : List ℕ = flat_map entry_data entries ++ back in
-    let left : drop (place + length (data_of event)) area ≡ rest =
-    rw (← drop-drop (length (data_of event)) place area, e, parts) (drop-append_seam (data_of event) rest) in
-    let others = read_entries input area back (place + length (data_of event)) entries are.1 left in
-    rw (read_single input area rest place event are.0 (rw parts at e), others) refl
+    let left : drop (offset + length (data_of event)) area ≡ rest =
+    rw (← drop-drop (length (data_of event)) offset area, e, parts) (drop-append_seam (data_of event) rest) in
+    let others = read_entries input area back (offset + length (data_of event)) entries are.1 left in
+    rw (read_single input area rest offset event are.0 (rw parts at e), others) refl
 
 -- Whether a command lost data isn't read.
 events_without_loss : (input area : List ℕ) (event : VteEvent)
@@ -140,14 +142,14 @@ loss_plain event command =
     rw (command, flag) refl
 
 -- Writing whether a command lost data later doesn't change what is read.
-pub loss_unseen : (records : List VteEvent) (count place : ℕ) (default : VteEvent)
-    → (get_or records place default).kind ≡ 5
-    → map without_loss (take count (set records place (with_loss (get_or records place default))))
+pub loss_unseen : (records : List VteEvent) (count offset : ℕ) (default : VteEvent)
+    → (get_or records offset default).kind ≡ 5
+    → map without_loss (take count (set records offset (with_loss (get_or records offset default))))
     ≡ map without_loss (take count records)
-loss_unseen records count place default command =
-    let event : VteEvent = get_or records place default in
-    sym (take-map without_loss count (set records place (with_loss event)))
-    ∙ ap (take count) (map-set_same without_loss records place (with_loss event) default (loss_plain event command))
+loss_unseen records count offset default command =
+    let event : VteEvent = get_or records offset default in
+    sym (take-map without_loss count (set records offset (with_loss event)))
+    ∙ ap (take count) (map-set_same without_loss records offset (with_loss event) default (loss_plain event command))
     ∙ take-map without_loss count records
 
 kind_without_loss : (event : VteEvent) → (without_loss event).kind ≡ event.kind
@@ -175,7 +177,7 @@ pub counted : (n : ℕ) → n < no_room → fed_count n ≡ n
 counted n small = grind (arith, nat_tests)
 
 -- Every event has one of eight kinds.
-is_reported : (event : Event) → has 255 (event_kind event) ≡ true
+is_reported : (event : Event) → has all_kinds (event_kind event) ≡ true
 unfolding has
 is_reported (Print c) = refl
 is_reported (Execute byte) = refl
@@ -186,7 +188,7 @@ is_reported (OscDispatch pieces bell) = refl
 is_reported (CsiDispatch groups ints ignore final) = refl
 is_reported (EscDispatch ints ignore final) = refl
 
-pub all_reported : (events : List Event) → reported 255 events ≡ events
+pub all_reported : (events : List Event) → reported all_kinds events ≡ events
 all_reported [] = refl
 all_reported (event ∷ events) = rw (is_reported event, all_reported events) refl
 
@@ -260,18 +262,18 @@ entry_events_later input more (InInput run start size ∷ entries) are =
 
 -- The buffers then hold just the records and data of the call's entries, so a reader finds their events.
 
-module _ (old new : Events) (input : List ℕ) (entries : List Entry) (starts : Starts (room_of old))
-    (h : HasEntries (room_of old) (room_of new) input entries) (more : List ℕ) where
+module _ (old new : EventWriter) (input : List ℕ) (entries : List Entry) (starts : Starts (buffers_of old))
+    (h : HasEntries (buffers_of old) (buffers_of new) input entries) (more : List ℕ) where
   abbrev encoded : AreEncoded (flat_map (entry_events (input ++ more)) entries) new.count new.used new.events.now
       (input ++ more) new.area.now
   encoded = record {
     entries = entries;
     given = refl;
     readable = readable_later input more entries h.readable;
-    number = omega (arith, ap (λ (r : Room). r.count) h.room, starts.count);
-    recorded = rw (starts.events, starts.used) at (ap (λ (r : Room). r.events) h.room);
-    size = omega (arith, ap (λ (r : Room). r.used) h.room, starts.used);
-    held = rw starts.area at (ap (λ (r : Room). r.area) h.room);
+    number = omega (arith, ap (λ (r : Buffers). r.count) h.written, starts.count);
+    recorded = rw (starts.events, starts.used) at (ap (λ (r : Buffers). r.events) h.written);
+    size = omega (arith, ap (λ (r : Buffers). r.used) h.written, starts.used);
+    held = rw starts.area at (ap (λ (r : Buffers). r.area) h.written);
   }
 
   -- A reader finds the events.
@@ -284,19 +286,20 @@ module _ (old new : Events) (input : List ℕ) (entries : List Entry) (starts : 
 
 -- ---- what a call ensures, and the counts that its caller gets
 
-pub fed : {old new : Events} {parser : Parser 1024} {saved : Saved} {given : List Event} {stream bytes rest : List ℕ}
-    {n : ℕ} → Starts (room_of old)
-    → {before : Saved} (h : HasReported (room_of old).kinds before given stream (bytes ++ rest))
-    → HasReadOn (room_of old) (room_of new) parser h.since bytes 0 n
+pub fed : {old new : EventWriter} {parser : Parser 1024} {saved : Saved} {given : List Event}
+    {stream bytes rest : List ℕ}
+    {n : ℕ} → Starts (buffers_of old)
+    → {before : Saved} (h : HasReported (buffers_of old).kinds before given stream (bytes ++ rest))
+    → HasReadOn (buffers_of old) (buffers_of new) parser h.since bytes 0 n
     → ((since : List ℕ) → HasRead parser since → HasReadSaved saved since)
-    → (NoRecordStops (room_of old).stops (room_of new).events → 0 < length bytes → 0 < n)
+    → (NoRecordStops (buffers_of old).stops (buffers_of new).events → 0 < length bytes → 0 < n)
     → HasFed old new saved given stream bytes rest n
 fed {old} {new} {given} {stream} {bytes} {rest} {n} starts h gone saves further =
     let there = encoded old new bytes gone.goes.entries starts gone.goes.holds in
     let finds = found old new bytes gone.goes.entries starts gone.goes.holds in
     record {
-      events_name = ap (λ (r : Room). r.events_name) gone.goes.holds.room;
-      area_name = ap (λ (r : Room). r.area_name) gone.goes.holds.room;
+      events_name = ap (λ (r : Buffers). r.events_name) gone.goes.holds.written;
+      area_name = ap (λ (r : Buffers). r.area_name) gone.goes.holds.written;
       progress = λ others. further (rw (kinds_without_loss (take new.count new.events.now)) others);
       first =
           rw (← kinds_without_loss (take new.count new.events.now), (there []).recorded, ← starts.used)
@@ -308,23 +311,24 @@ fed {old} {new} {given} {stream} {bytes} {rest} {n} starts h gone saves further 
           (λ later. rw (gone.goes.continues.goes_on later, filter-append, gone.goes.shows) refl));
     }
 
--- The caller's counts, and what its slices hold, are those of the room.
-pub record AreOfRoom (room : Events) (count used : ℕ) (records : List VteEvent) (area : List ℕ) : Type 0 where
-  pub same_count : count ≡ room.count
-  pub same_used : used ≡ room.used
-  pub same_records : records ≡ room.events.now
-  pub same_area : area ≡ room.area.now
+-- The caller's counts, and what its slices hold, are those of the writer.
+pub record AreOfBuffers (writer : EventWriter) (count used : ℕ) (records : List VteEvent) (area : List ℕ) : Type 0 where
+  pub same_count : count ≡ writer.count
+  pub same_used : used ≡ writer.used
+  pub same_records : records ≡ writer.events.now
+  pub same_area : area ≡ writer.area.now
 
 -- A count is at most the length of its slice, which a call leaves as it is.
-pub counts_are : {events : List Event} {input area : List ℕ} {records : List VteEvent} (room : Events) (count used : ℕ)
-    → AreEncoded events room.count room.used room.events.now input room.area.now → records ≡ room.events.now
-    → area ≡ room.area.now
-    → count ≡ min room.count (length records) → used ≡ min room.used (length area)
-    → AreOfRoom room count used records area
-counts_are room count used e records area least_count least_used =
-    let at_most = length-take room.count room.events.now in
-    let small = length-take room.used room.area.now in
-    let each = length-map (take room.count room.events.now) without_loss in
+pub counts_are : {events : List Event} {input area : List ℕ} {records : List VteEvent} (writer : EventWriter)
+    (count used : ℕ)
+    → AreEncoded events writer.count writer.used writer.events.now input writer.area.now → records ≡ writer.events.now
+    → area ≡ writer.area.now
+    → count ≡ min writer.count (length records) → used ≡ min writer.used (length area)
+    → AreOfBuffers writer count used records area
+counts_are writer count used e records area count_is used_is =
+    let at_most = length-take writer.count writer.events.now in
+    let small = length-take writer.used writer.area.now in
+    let each = length-map (take writer.count writer.events.now) without_loss in
     let all = length-records 0 e.entries in
     record {
       same_count = omega (arith, e.number, all, ap length e.recorded, each, ap length records);

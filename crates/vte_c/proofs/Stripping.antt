@@ -1,6 +1,6 @@
 -- Calls of the parser write the text of what they read: a run is written as its characters are, and a chunk that is
 -- short enough has room for its text.
-use Rattle.vte_c.proofs.Common.{Event, HasRead, IsUtf8, List, Parser, TextRoom, [], add-zero, add_assoc, added, after, ap, append-nil, append_assoc, arith, usual_limit, cases_Bool, chars, encodes-chars, false, flat_map-append, inl, inr, le-leb, length, length-append, map, nat_le, nat_tests, plain_text, plain_text_of, refl, sym, take, true, text_room_with, text_room_with_event, ℕ, ◌&&◌, ◌*◌, ◌++◌, ◌+◌, ◌<◌, ◌∙◌, ◌∷◌, ◌≡◌, ◌≤◌}
+use Rattle.vte_c.proofs.Common.{Event, HasRead, IsUtf8, List, Parser, TextBuffer, [], add-zero, add_assoc, added, after, ap, append-nil, append_assoc, arith, usual_limit, cases_Bool, chars, encodes-chars, false, flat_map-append, inl, inr, le-leb, length, length-append, map, nat_le, nat_tests, plain_text, plain_text_of, refl, sym, take, true, text_buffer_with, text_buffer_with_event, ℕ, ◌&&◌, ◌*◌, ◌++◌, ◌+◌, ◌<◌, ◌∙◌, ◌∷◌, ◌≡◌, ◌≤◌}
 use Rattle.vte_core.specs.Text.{run_event}
 use Rattle.event_log.proofs.Lengths.{text_of_run}
 use Rattle.vte_core.proofs.EarlyStops.{added-append}
@@ -8,82 +8,83 @@ use Rattle.vte_core.proofs.streams.After.{added-nothing}
 
 -- ---- texts that have room
 
-abbrev with_all : TextRoom → List ℕ → TextRoom
-with_all room text = record room { text = room.text ++ text; used = room.used + length text }
+abbrev with_all : TextBuffer → List ℕ → TextBuffer
+with_all buffer text = record buffer { text = buffer.text ++ text; used = buffer.used + length text }
 
-with_all-append : (room : TextRoom) (front back : List ℕ)
-    → with_all (with_all room front) back ≡ with_all room (front ++ back)
-with_all-append room front back = rw (append_assoc room.text, add_assoc room.used, length-append front back) refl
+with_all-append : (buffer : TextBuffer) (front back : List ℕ)
+    → with_all (with_all buffer front) back ≡ with_all buffer (front ++ back)
+with_all-append buffer front back = rw (append_assoc buffer.text, add_assoc buffer.used, length-append front back) refl
 
-all_written : (room : TextRoom) (events : List Event) → room.fits ≡ true
-    → room.used + length (plain_text events) ≤ room.size
-    → after text_room_with_event room events ≡ with_all room (plain_text events)
-unfolding text_room_with
-all_written room [] whole fits = simp (append-nil, add-zero)
-all_written room (event ∷ events) whole fits =
+all_written : (buffer : TextBuffer) (events : List Event) → buffer.fits ≡ true
+    → buffer.used + length (plain_text events) ≤ buffer.size
+    → after text_buffer_with_event buffer events ≡ with_all buffer (plain_text events)
+unfolding text_buffer_with
+all_written buffer [] whole fits = simp (append-nil, add-zero)
+all_written buffer (event ∷ events) whole fits =
     let all = length-append (plain_text_of event) (plain_text events) in
-    let first : (room.fits && nat_le (room.used + length (plain_text_of event)) room.size) ≡ true =
+    let first : (buffer.fits && nat_le (buffer.used + length (plain_text_of event)) buffer.size) ≡ true =
     rw whole (le-leb _ _ (omega arith)) in
     rw first
-    (all_written (with_all room (plain_text_of event)) events whole (omega arith)
-    ∙ with_all-append room (plain_text_of event) (plain_text events))
+    (all_written (with_all buffer (plain_text_of event)) events whole (omega arith)
+    ∙ with_all-append buffer (plain_text_of event) (plain_text events))
 
 -- ---- a run
 
-text_room_with-append : (room : TextRoom) (front back : List ℕ)
-    → text_room_with (text_room_with room front) back ≡ text_room_with room (front ++ back)
-unfolding text_room_with
-text_room_with-append room front back = elim (cases_Bool (room.fits && nat_le (room.used + length front) room.size)) [
-  | inl some ↦ rw (some, append_assoc room.text, add_assoc room.used, length-append front back) refl
-  | inr full ↦
-      let none : (room.fits && nat_le (room.used + length (front ++ back)) room.size) ≡ false =
-      grind (arith, nat_tests, length-append) in
-      rw (full, none) refl
-]
+text_buffer_with-append : (buffer : TextBuffer) (front back : List ℕ)
+    → text_buffer_with (text_buffer_with buffer front) back ≡ text_buffer_with buffer (front ++ back)
+unfolding text_buffer_with
+text_buffer_with-append buffer front back =
+    elim (cases_Bool (buffer.fits && nat_le (buffer.used + length front) buffer.size)) [
+      | inl some ↦ rw (some, append_assoc buffer.text, add_assoc buffer.used, length-append front back) refl
+      | inr full ↦
+          let none : (buffer.fits && nat_le (buffer.used + length (front ++ back)) buffer.size) ≡ false =
+          grind (arith, nat_tests, length-append) in
+          rw (full, none) refl
+    ]
 
-some_written : (room : TextRoom) (event : Event) (events : List Event)
-    → after text_room_with_event room (event ∷ events) ≡ text_room_with room (plain_text (event ∷ events))
-some_written room event [] = rw (append-nil (plain_text_of event)) refl
-some_written room event (next ∷ events) =
-    some_written (text_room_with_event room event) next events
-    ∙ text_room_with-append room (plain_text_of event) (plain_text (next ∷ events))
+some_written : (buffer : TextBuffer) (event : Event) (events : List Event)
+    → after text_buffer_with_event buffer (event ∷ events) ≡ text_buffer_with buffer (plain_text (event ∷ events))
+some_written buffer event [] = rw (append-nil (plain_text_of event)) refl
+some_written buffer event (next ∷ events) =
+    some_written (text_buffer_with_event buffer event) next events
+    ∙ text_buffer_with-append buffer (plain_text_of event) (plain_text (next ∷ events))
 
 -- A run is written as its characters are, one after another.
-pub writes_run : (room : TextRoom) (text : List ℕ) → IsUtf8 text → 0 < length text
-    → text_room_with room text ≡ after text_room_with_event room (map (run_event true) (chars text))
-writes_run room text utf8 some =
+pub writes_run : (buffer : TextBuffer) (text : List ℕ) → IsUtf8 text → 0 < length text
+    → text_buffer_with buffer text ≡ after text_buffer_with_event buffer (map (run_event true) (chars text))
+writes_run buffer text utf8 some =
     let spelt : plain_text (map (run_event true) (chars text)) ≡ text =
     text_of_run (chars text) ∙ encodes-chars text utf8 in
     rw spelt at (written (chars text) (rw spelt some))
   where
     written : (cs : List ℕ) → 0 < length (plain_text (map (run_event true) cs))
-        → text_room_with room (plain_text (map (run_event true) cs))
-        ≡ after text_room_with_event room (map (run_event true) cs)
+        → text_buffer_with buffer (plain_text (map (run_event true) cs))
+        ≡ after text_buffer_with_event buffer (map (run_event true) cs)
     written [] none = absurd (omega arith)
-    written (c ∷ cs) some = sym (some_written room (run_event true c) (map (run_event true) cs))
+    written (c ∷ cs) some = sym (some_written buffer (run_event true c) (map (run_event true) cs))
 
 -- ---- chunks
 
--- The first n bytes were read, and the room has all of their text.
-pub record HasTextOf (old new : TextRoom) (stream bytes : List ℕ) (n : ℕ) (parser : Parser 1024) : Type 0 where
+-- The first n bytes were read, and the buffer has all of their text.
+pub record HasTextOf (old new : TextBuffer) (stream bytes : List ℕ) (n : ℕ) (parser : Parser 1024) : Type 0 where
   pub parsed : HasRead parser (stream ++ take n bytes)
   pub holds : new ≡ with_all old (plain_text (added usual_limit stream (take n bytes)))
 
-pub written_nothing : {stream : List ℕ} {parser : Parser 1024} (room : TextRoom) (bytes : List ℕ)
+pub written_nothing : {stream : List ℕ} {parser : Parser 1024} (buffer : TextBuffer) (bytes : List ℕ)
     → HasRead parser stream
-    → HasTextOf room room stream bytes 0 parser
-written_nothing {stream} room bytes parsed =
+    → HasTextOf buffer buffer stream bytes 0 parser
+written_nothing {stream} buffer bytes parsed =
     record {
       parsed = rw (append-nil stream) parsed;
       holds = rw (added-nothing usual_limit stream) (simp (append-nil, add-zero));
     }
 
-pub written_more : {old new later : TextRoom} {stream bytes : List ℕ} {n : ℕ} {parser parser_later : Parser 1024}
+pub written_more : {old new later : TextBuffer} {stream bytes : List ℕ} {n : ℕ} {parser parser_later : Parser 1024}
     (chunk : List ℕ) → old.fits ≡ true
     → length (plain_text (added usual_limit (stream ++ take n bytes) chunk)) ≤ 8 * length chunk
     → HasTextOf old new stream bytes n parser
     → take (n + length chunk) bytes ≡ take n bytes ++ chunk → new.used + 8 * length chunk ≤ new.size
-    → later ≡ after text_room_with_event new (added usual_limit (stream ++ take n bytes) chunk)
+    → later ≡ after text_buffer_with_event new (added usual_limit (stream ++ take n bytes) chunk)
     → HasRead parser_later ((stream ++ take n bytes) ++ chunk)
     → HasTextOf old later stream bytes (n + length chunk) parser_later
 written_more {old} {new} {stream} {bytes} {n} chunk kept slow h parts fits performed parsed =
@@ -93,7 +94,7 @@ written_more {old} {new} {stream} {bytes} {n} chunk kept slow h parts fits perfo
       parsed = rw (parts, ← append_assoc) parsed;
       holds =
           rw (parts, added-append usual_limit stream (take n bytes) chunk, flat_map-append plain_text_of before more)
-          (performed ∙ all_written new more (ap (λ (r : TextRoom). r.fits) h.holds ∙ kept) (omega (arith, fits, slow))
-          ∙ ap (λ (r : TextRoom). with_all r (plain_text more)) h.holds
+          (performed ∙ all_written new more (ap (λ (r : TextBuffer). r.fits) h.holds ∙ kept) (omega (arith, fits, slow))
+          ∙ ap (λ (r : TextBuffer). with_all r (plain_text more)) h.holds
           ∙ with_all-append old (plain_text before) (plain_text more));
     }

@@ -4,12 +4,12 @@ use Rattle.vte_core.specs.Event.{Event}
 use Rattle.vte_core.specs.Saved.{HasReadSaved}
 use Rattle.vte_core.specs.Stream.{added, usual_limit}
 use Rattle.vte_core.specs.declared.parser.saved.Saved.{Saved}
-use Rattle.vte_c.specs.Record.{data_kind, events_in, kinds_in, least_data, least_events, least_text, text_kind}
+use Rattle.vte_c.specs.Record.{data_kind, events_in, kinds_in, min_data, min_events, min_text, text_kind}
 use Rattle.vte_c.specs.Reported.{AreEncoded, NoEventStops, HasStripped, HasReported, NoKindStops, StopsAtKind, is_stop, no_room, fed_count}
 use Rattle.vte_c.specs.declared.event.VteEvent.{VteEvent}
 use Rattle.vte_c.specs.declared.feed.VteCounts.{VteCounts}
 
--- The result says that there was less than the least room, and nothing was read or written.
+-- The result says that there was less than the minimum room, and nothing was read or written.
 pub record FeedsNothing (parser next : Saved) (old_records records : List VteEvent)
     (old_area area : List ℕ) (counts : VteCounts) (result : ℕ) : Type 0 where
   pub says : result ≡ no_room
@@ -23,7 +23,7 @@ pub record Feeds (kinds stops : ℕ) (parser next : Saved) (bytes : List ℕ)
     (old_events events : List VteEvent) (old_area area : List ℕ)
     (counts : VteCounts) (result : ℕ) : Type 0 where
   -- With enough room, the result is how many bytes were read.
-  pub enough : least_events ≤ length old_events → least_data ≤ length old_area
+  pub enough : min_events ≤ length old_events → min_data ≤ length old_area
       → result ≡ fed_count result
   pub within : fed_count result ≤ length bytes
   -- Whatever was given of these kinds before, what is written now comes next, and nothing else.
@@ -37,16 +37,16 @@ pub record Feeds (kinds stops : ℕ) (parser next : Saved) (bytes : List ℕ)
       AreEncoded (events_in counts.events events bytes area)
       counts.events counts.bytes events bytes area
   -- Whatever the parser's bytes are, what was written is in the buffers.
-  pub room : (counts.events ≤ length events) × (counts.bytes ≤ length area)
-  -- With less than the least room nothing is read or written.
-  pub too_few : length old_events < least_events
+  pub fits : (counts.events ≤ length events) × (counts.bytes ≤ length area)
+  -- With less than the minimum room nothing is read or written.
+  pub too_few : length old_events < min_events
       → FeedsNothing parser next old_events events old_area area counts result
-  pub too_little : length old_area < least_data
+  pub too_little : length old_area < min_data
       → FeedsNothing parser next old_events events old_area area counts result
   -- With enough room, it reads at least one byte, unless it writes a record among the stops.
   pub progress : (given : List Event) (stream rest : List ℕ) →
       HasReported kinds parser given stream (bytes ++ rest) →
-      least_events ≤ length old_events → least_data ≤ length old_area →
+      min_events ≤ length old_events → min_data ≤ length old_area →
       NoKindStops stops (kinds_in counts.events events) → 0 < length bytes → 0 < result
   -- If a record among the stops is written, at most one follows it.
   pub first : (given : List Event) (stream rest : List ℕ) →
@@ -63,18 +63,18 @@ pub record Feeds (kinds stops : ℕ) (parser next : Saved) (bytes : List ℕ)
 pub record Strips (parser next : Saved) (bytes old_text text : List ℕ)
     (written result : ℕ) : Type 0 where
   -- With enough room, the result is how many bytes were read.
-  pub enough : least_text ≤ length old_text → result ≡ fed_count result
+  pub enough : min_text ≤ length old_text → result ≡ fed_count result
   pub within : fed_count result ≤ length bytes
   -- With enough room, it reads at least one byte, whatever the parser's bytes are.
-  pub progress : least_text ≤ length old_text → 0 < length bytes → 0 < result
+  pub progress : min_text ≤ length old_text → 0 < length bytes → 0 < result
   -- It stops early only where the text of one more byte may not fit.
   pub fills : (given stream rest : List ℕ) → HasStripped parser given stream (bytes ++ rest) →
-      least_text ≤ length old_text → result < length bytes → length text < written + 8
+      min_text ≤ length old_text → result < length bytes → length text < written + 8
   -- Whatever text was written before, the text written now comes next, and nothing else.
   pub exact : (given stream rest : List ℕ) → HasStripped parser given stream (bytes ++ rest) →
       HasStripped next (given ++ take written text) stream (drop (fed_count result) bytes ++ rest)
   -- Whatever the parser's bytes are, what was written is in the buffer.
-  pub room : written ≤ length text
-  -- With less than the least room the result says so, and nothing is read or written.
-  pub too_little : length old_text < least_text
+  pub fits : written ≤ length text
+  -- With less than the minimum room the result says so, and nothing is read or written.
+  pub too_little : length old_text < min_text
       → (result ≡ no_room) × (written ≡ 0) × (next ≡ parser) × (text ≡ old_text)

@@ -1,9 +1,10 @@
 -- How records of a fixed size, a data area, and the input of a call represent events.
 use Rattle.std.specs.Char.{encode_utf8}
-use Rattle.std.specs.Prelude.{ℕ, suc, ◌+◌, ◌*◌, ◌/◌, ◌%◌, ◌^◌, min, nat_le, Bool, true, false, ◌||◌, List, [], ◌∷◌, ◌++◌, length, take, drop, map, if◌then◌else◌, ◌==◌}
+use Rattle.std.specs.Prelude.{ℕ, suc, ◌+◌, ◌-◌, ◌*◌, ◌/◌, ◌%◌, ◌^◌, min, nat_le, Bool, true, false, ◌||◌, List, [], ◌∷◌, ◌++◌, length, take, drop, map, if◌then◌else◌, ◌==◌}
 use Rattle.std.specs.List.{filter, flat_map}
 use Rattle.std.specs.Str.{chars}
 use Rattle.vte_core.specs.Event.{Event, Print, Execute, Hook, Put, Unhook, OscDispatch, CsiDispatch, EscDispatch}
+use Rattle.vte_core.specs.SystemCommand.{max_pieces}
 use Rattle.vte_c.specs.declared.event.VteEvent.{VteEvent}
 
 -- ---- the data of an event
@@ -26,7 +27,7 @@ four_bytes n = n % 256 ∷ (n / 256) % 256 ∷ (n / 65536) % 256 ∷ n / 1677721
 
 -- A piece: how many bytes it has, then the bytes.
 abbrev pub piece_bytes : List ℕ → List ℕ
-piece_bytes piece = four_bytes (min (length piece) 4294967295) ++ piece
+piece_bytes piece = four_bytes (min (length piece) (2 ^ 32 - 1)) ++ piece
 
 -- A character or a byte that isn't in the input as it is: its UTF-8, the byte. Of a command its
 -- pieces.
@@ -39,29 +40,29 @@ data_of (OscDispatch pieces bell) = flat_map piece_bytes pieces
 data_of _ = []
 
 -- A command with so many pieces, or data of this size, may have lost data.
-abbrev pub has_most : ℕ → ℕ → Bool
-has_most pieces size = nat_le 16 pieces || nat_le 1024 size
+abbrev pub is_at_limit : ℕ → ℕ → Bool
+is_at_limit pieces size = nat_le max_pieces pieces || nat_le 1024 size
 
 abbrev pub may_have_lost : Event → Bool
 may_have_lost (OscDispatch pieces bell) =
-    has_most (length pieces) (length (flat_map piece_bytes pieces))
+    is_at_limit (length pieces) (length (flat_map piece_bytes pieces))
 may_have_lost _ = false
 
 -- The maximum number of data bytes of what one byte of a stream adds: a command, each of whose 16
 -- pieces has its length before it, and a character after it.
-abbrev pub most_added : ℕ
-most_added = 1024 + 4 * 16 + 4
+abbrev pub max_added : ℕ
+max_added = 1024 + 4 * max_pieces + 4
 
--- The least room: how many records the caller's buffer must have, how many data bytes its area, and
--- how many bytes of text the buffer of `vte_strip`.
-abbrev pub least_events : ℕ
-least_events = 4
+-- The minimum room: how many records the caller's buffer must have, how many data bytes its area,
+-- and how many bytes of text the buffer of `vte_strip`.
+abbrev pub min_events : ℕ
+min_events = 4
 
-abbrev pub least_data : ℕ
-least_data = 2112
+abbrev pub min_data : ℕ
+min_data = 2112
 
-abbrev pub least_text : ℕ
-least_text = 16
+abbrev pub min_text : ℕ
+min_text = 16
 
 -- ---- the record of an event
 
@@ -170,6 +171,9 @@ event_kind event = (record_of event).kind
 unfoldable pub has : ℕ → ℕ → Bool
 has kinds kind = (kinds / 2 ^ (kind % 32)) % 2 == 1
 
+abbrev pub all_kinds : ℕ
+all_kinds = 255
+
 -- The events of these kinds.
 abbrev pub reported : ℕ → List Event → List Event
 reported kinds events = filter (λ event. has kinds (event_kind event)) events
@@ -201,16 +205,16 @@ abbrev pub entry_data : Entry → List ℕ
 entry_data (Single event) = data_of event
 entry_data (InInput run start size) = []
 
--- The record of an entry whose data starts at a place.
+-- The record of an entry whose data starts at an offset.
 abbrev pub record_at : ℕ → Entry → VteEvent
-record_at place (Single event) = record (record_of event) { start = place }
-record_at place (InInput run start size) = run_record (run_kind run) start size
+record_at offset (Single event) = record (record_of event) { start = offset }
+record_at offset (InInput run start size) = run_record (run_kind run) start size
 
 -- The records of entries, each of whose data starts where that of the one before it ends.
 abbrev pub records_from : ℕ → List Entry → List VteEvent
-records_from place [] = []
-records_from place (entry ∷ entries) =
-    record_at place entry ∷ records_from (place + length (entry_data entry)) entries
+records_from offset [] = []
+records_from offset (entry ∷ entries) =
+    record_at offset entry ∷ records_from (offset + length (entry_data entry)) entries
 
 -- The events of an entry.
 abbrev pub entry_events : List ℕ → Entry → List Event

@@ -31,7 +31,7 @@ HasReported kinds parser given stream unread = HasGiven (reported kinds) parser 
 abbrev pub HasStripped : Saved → List ℕ → List ℕ → List ℕ → Type 0
 HasStripped parser text stream unread = HasGiven plain_text parser text stream unread
 
--- The result of a call with less than the least room: the largest number of its type.
+-- The result of a call with less than the minimum room: the largest number of its type.
 abbrev pub no_room : ℕ
 no_room = 2 ^ 64 - 1
 

@@ -1,9 +1,9 @@
 //! The performer that writes events into the caller's buffers.
-ghost use Rattle.std.specs.Prelude.{◌≡◌, ◌≤◌, ◌<◌, ◌+◌, ◌-◌, ◌^◌, ◌||◌, ◌++◌, ℕ, List, false, [], ◌∷◌, if◌then◌else◌, length, map, min, nat_lt};
-ghost use Rattle.std.specs.List.{concat, flat_map};
+ghost use Rattle.std.specs.Prelude.{◌≡◌, ◌≤◌, ◌<◌, ◌+◌, ◌-◌, ◌^◌, ◌||◌, ℕ, List, false, [], ◌∷◌, if◌then◌else◌, length, map, min, nat_lt};
+ghost use Rattle.std.specs.List.{flat_map};
 ghost use Rattle.vte_core.specs.Event.{OscDispatch, Print};
 ghost use Rattle.vte_core.specs.AdvanceToRun.{run_bytes};
-ghost use Rattle.vte_c.specs.Record.{data_of, group_bytes, has, has_most, least_data, least_events, most_added, record_of, sequence_record};
+ghost use Rattle.vte_c.specs.Record.{data_of, group_bytes, has, is_at_limit, min_data, min_events, max_added, record_of, sequence_record};
 
 mod data;
 mod pause;
@@ -25,8 +25,8 @@ const MAX_ADDED: usize = MAX_DATA + 4;
 
 /// Returns whether a command has the most pieces, or with their lengths the most data bytes that a
 /// parser with a limit keeps. Any other has lost no data.
-fn has_most(pieces: usize, size: usize) -> bool
-    ensures { result ≡ has_most pieces size }
+fn is_at_limit(pieces: usize, size: usize) -> bool
+    ensures { result ≡ is_at_limit pieces size }
 {
     pieces >= MAX_PIECES || size >= MAX_PIECE_BYTES
 }
@@ -44,10 +44,10 @@ fn bytes_of_one(number: u16) -> [u8; 3]
 /// and of a character. It also is after a command that may have lost data, so that the parser can
 /// be asked whether it has, and after an event of the kinds that stop.
 #[derive(Drop)]
-pub(crate) struct Events<'a> {
+pub(crate) struct EventWriter<'a> {
     events: &'a mut [VteEvent],
     area: &'a mut [u8],
-    // for how many data bytes there is room, each place of which 32 bits hold
+    // for how many data bytes there is room, whose offsets 32 bits hold
     size: usize,
     // how many events and data bytes were written
     count: usize,
@@ -56,20 +56,20 @@ pub(crate) struct Events<'a> {
     kinds: u32,
     stops: u32,
     met: bool,
-    // whether a command came of which the parser wasn't asked yet, and the place of its record
+    // whether a command came of which the parser wasn't asked yet, and the index of its record
     paused: bool,
     command: usize,
-    // from how many events on the room is full: from none on once one that stops was written, in a
-    // pause, and if the area has little room left
+    // from how many events on the buffers are full: from none on once one that stops was written,
+    // in a pause, and if the area has little room left
     full_count: usize,
     ghost size_limit: { size ≡ min (length area.now) (2 ^ 32 - 1) },
     ghost used_limit: { used ≤ size },
     ghost count_limit: { full_count
-        ≡ (if met || paused || nat_lt (size - used) most_added then 0 else length events.now - 1) },
+        ≡ (if met || paused || nat_lt (size - used) max_added then 0 else length events.now - 1) },
 }
 
-impl<'a> Events<'a> {
-    ghost use Rattle.vte_c.specs.machine.Events.{AreCharacters, Holds, Room, Starts, is_full, paused_if, resumed, room_of, room_with_event, with_one, with_record, with_reported, with_run};
+impl<'a> EventWriter<'a> {
+    ghost use Rattle.vte_c.specs.machine.Buffers.{AreCharacters, Holds, Buffers, Starts, is_full, buffers_of, buffers_with_event, with_one, with_record, with_reported, with_run};
 
     /// Creates a performer that has written nothing, and writes into these buffers.
     pub(crate) fn new(
@@ -78,17 +78,17 @@ impl<'a> Events<'a> {
         kinds: u32,
         stops: u32,
     ) -> Self
-        requires most { least_events ≤ length events.old }
-        requires size { least_data ≤ length area.old }
-        ensures starts { Starts (room_of result) }
-        ensures kinds { (room_of result).kinds ≡ kinds }
-        ensures stops { (room_of result).stops ≡ stops }
+        requires most { min_events ≤ length events.old }
+        requires size { min_data ≤ length area.old }
+        ensures starts { Starts (buffers_of result) }
+        ensures kinds { (buffers_of result).kinds ≡ kinds }
+        ensures stops { (buffers_of result).stops ≡ stops }
         ensures same_events { result.events.ghost_name ≡ events.entry.ghost_name }
         ensures same_area { result.area.ghost_name ≡ area.entry.ghost_name }
     {
         let full_count = events.len() - 1;
         let size = area.len().min(u32::MAX as usize);
-        Events {
+        EventWriter {
             events,
             area,
             size,
@@ -106,14 +106,14 @@ impl<'a> Events<'a> {
     /// Returns whether events of a kind are written.
     #[inline(always)]
     fn writes(&self, kind: u8) -> bool
-        ensures { result ≡ has (room_of self.now).kinds kind }
+        ensures { result ≡ has (buffers_of self.now).kinds kind }
     {
         has(self.kinds, kind)
     }
 
     /// Returns whether there may be no room for what one byte adds, or a stop or a pause has come.
     pub(crate) fn is_full(&self) -> bool
-        ensures { result ≡ is_full (room_of self.now) }
+        ensures { result ≡ is_full (buffers_of self.now) }
     {
         self.count >= self.full_count
     }
@@ -134,9 +134,9 @@ impl<'a> Events<'a> {
 
     /// Writes a record, if there is room for it.
     #[inline(always)]
-    #[tactic(auto, unfolding(crate::specs::machine::Events::with_one))]
+    #[tactic(auto, unfolding(crate::specs::machine::Buffers::with_one))]
     fn add_record(&mut self, event: VteEvent)
-        ensures { room_of self.new ≡ with_one (room_of self.old) event }
+        ensures { buffers_of self.new ≡ with_one (buffers_of self.old) event }
     {
         let count = self.count;
         if count < self.events.len() {
@@ -151,9 +151,9 @@ impl<'a> Events<'a> {
 
     /// Writes an event without data.
     #[inline(always)]
-    #[tactic(auto, unfolding(crate::specs::machine::Events::with_one, crate::specs::machine::Events::with_record))]
+    #[tactic(auto, unfolding(crate::specs::machine::Buffers::with_one, crate::specs::machine::Buffers::with_record))]
     fn add_without_data(&mut self, event: VteEvent)
-        ensures { room_of self.new ≡ with_reported (room_of self.old) event [] }
+        ensures { buffers_of self.new ≡ with_reported (buffers_of self.old) event [] }
     {
         if self.writes(event.kind) {
             self.add_record(VteEvent {
@@ -166,18 +166,18 @@ impl<'a> Events<'a> {
     /// Writes an event and its data, if there is room for both.
     #[inline(always)]
     fn add(&mut self, event: VteEvent, bytes: &[u8])
-        ensures { room_of self.new ≡ with_record (room_of self.old) event bytes.now }
+        ensures { buffers_of self.new ≡ with_record (buffers_of self.old) event bytes.now }
     {
         let end = self.write(self.used, bytes);
         self.add_written(event, end);
     }
 
-    /// Writes a run that is in the input, where the parser returned it for the bytes from a place
+    /// Writes a run that is in the input, where the parser returned it for the bytes from an offset
     /// on. Without a run it goes on after a pause, in which the parser returns none.
     #[inline(always)]
     pub(crate) fn add_run(&mut self, from: usize, run: Run<'_>, lost_data: bool)
         requires { from + run.start + length (run_bytes run) < 2 ^ 32 }
-        ensures written { room_of self.new ≡ with_run (room_of self.old) from run.entry }
+        ensures written { buffers_of self.new ≡ with_run (buffers_of self.old) from run.entry }
         ensures utf8 { AreCharacters run.entry.taken }
     {
         let start = (from + run.start) as u32;
@@ -199,8 +199,8 @@ impl<'a> Events<'a> {
     /// Writes a character.
     #[inline(always)]
     fn add_character(&mut self, c: char)
-        ensures { room_of self.new
-            ≡ with_reported (room_of self.old) (record_of (Print c)) (data_of (Print c)) }
+        ensures { buffers_of self.new
+            ≡ with_reported (buffers_of self.old) (record_of (Print c)) (data_of (Print c)) }
     {
         if self.writes(event::TEXT) {
             let mut bytes = [0; 4];
@@ -220,7 +220,7 @@ impl<'a> Events<'a> {
         ignore: bool,
         action: char,
     )
-        ensures { room_of self.new ≡ with_reported (room_of self.old)
+        ensures { buffers_of self.new ≡ with_reported (buffers_of self.old)
             (sequence_record kind params.now intermediates.now ignore action)
             (flat_map group_bytes params.now) }
     {
@@ -236,7 +236,7 @@ impl<'a> Events<'a> {
     /// Writes a sequence with one number.
     #[inline(always)]
     fn add_sequence_with_one(&mut self, kind: u8, number: u16, ignore: bool, action: char)
-        ensures { room_of self.new ≡ with_reported (room_of self.old)
+        ensures { buffers_of self.new ≡ with_reported (buffers_of self.old)
             (sequence_record kind ((number ∷ []) ∷ []) [] ignore action)
             (group_bytes (number ∷ [])) }
     {
@@ -258,7 +258,7 @@ impl<'a> Events<'a> {
         ignore: bool,
         action: char,
     )
-        ensures { room_of self.new ≡ with_reported (room_of self.old)
+        ensures { buffers_of self.new ≡ with_reported (buffers_of self.old)
             (sequence_record kind params.now intermediates.now ignore action)
             (flat_map group_bytes params.now) }
     {
@@ -274,8 +274,8 @@ impl<'a> Events<'a> {
 
     /// Writes an operating system command.
     fn add_command(&mut self, pieces: &[&[u8]], bell_terminated: bool)
-        ensures { room_of self.new
-            ≡ room_with_event (room_of self.old) (OscDispatch (map
+        ensures { buffers_of self.new
+            ≡ buffers_with_event (buffers_of self.old) (OscDispatch (map
             (λ piece. piece.now) pieces.now) bell_terminated) }
     {
         if self.writes(event::OSC) {
@@ -285,17 +285,17 @@ impl<'a> Events<'a> {
                 .with_flag(bell_terminated)
                 .with_count(pieces.len());
             self.add_written(event, end);
-            self.pause_if(has_most(pieces.len(), end - start), command);
+            self.pause_if(is_at_limit(pieces.len(), end - start), command);
         }
     }
 
-    /// Writes the record of an event whose data was written up to a place, if that is in the area.
+    /// Writes the record of an event whose data was written up to `end`, if that is in the area.
     #[inline(always)]
-    #[tactic(auto, unfolding(crate::specs::machine::Events::with_record))]
+    #[tactic(auto, unfolding(crate::specs::machine::Buffers::with_record))]
     fn add_written(&mut self, event: VteEvent, end: usize)
         requires { self.old.used ≤ end }
-        ensures { (room : Room) (text : List ℕ) → Holds room self.old end text →
-            room_of self.new ≡ with_record room event text }
+        ensures { (buffers : Buffers) (text : List ℕ) → Holds buffers self.old end text →
+            buffers_of self.new ≡ with_record buffers event text }
     {
         if end <= self.size && self.count < self.events.len() {
             let start = self.used as u32;
@@ -308,14 +308,14 @@ impl<'a> Events<'a> {
     }
 }
 
-impl Perform for Events<'_> {
-    ghost use Rattle.vte_c.specs.machine.Events.{Room, is_full, room_of, room_with_event};
+impl Perform for EventWriter<'_> {
+    ghost use Rattle.vte_c.specs.machine.Buffers.{Buffers, is_full, buffers_of, buffers_with_event};
 
-    ghost Value = { Room };
+    ghost Value = { Buffers };
 
-    ghost value_of = { room_of };
+    ghost value_of = { buffers_of };
 
-    ghost step = { room_with_event };
+    ghost step = { buffers_with_event };
 
     ghost is_terminated = { is_full };
 

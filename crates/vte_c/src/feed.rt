@@ -5,12 +5,12 @@ ghost use Rattle.vte_core.specs.Event.{Event};
 ghost use Rattle.vte_core.specs.Saved.{HasReadSaved};
 ghost use Rattle.vte_core.specs.Stream.{added, usual_limit};
 ghost use Rattle.vte_c.specs.Calls.{Feeds};
-ghost use Rattle.vte_c.specs.machine.Events.{Starts, is_full, room_of};
+ghost use Rattle.vte_c.specs.machine.Buffers.{Starts, is_full, buffers_of};
 ghost use Rattle.vte_c.specs.machine.Feeding.{NoEventStopsIn, HasFed, HasReadOn, NoRecordStops, StopsAtNone};
 ghost use Rattle.vte_c.specs.Reported.{HasReported};
 
 use crate::event::VteEvent;
-use crate::events::Events;
+use crate::events::EventWriter;
 use vte_core::{Parser, Saved, laws};
 
 /// For how many events there must be room: what two bytes add.
@@ -57,48 +57,49 @@ pub(crate) fn feed(
     // Records have 32 bits for places in the input.
     let end = bytes.len().min(u32::MAX as usize);
     let bytes = &bytes[..end];
-    let mut room = Events::new(events, area, kinds, stops);
-    let read = read_into(parser, bytes, &mut room);
+    let mut writer = EventWriter::new(events, area, kinds, stops);
+    let read = read_into(parser, bytes, &mut writer);
     *counts = VteCounts {
-        events: room.count().min(most),
-        bytes: room.used().min(size),
+        events: writer.count().min(most),
+        bytes: writer.used().min(size),
     };
     read
 }
 
 /// Reads bytes into empty buffers.
-fn read_into(saved: &mut Saved, bytes: &[u8], room: &mut Events<'_>) -> usize
-    requires starts { Starts (room_of room.old) }
+fn read_into(saved: &mut Saved, bytes: &[u8], writer: &mut EventWriter<'_>) -> usize
+    requires starts { Starts (buffers_of writer.old) }
     requires small { length bytes.now < 2 ^ 32 }
     ensures within { result ≤ length bytes.now }
     ensures stops { (stream : List ℕ) → HasReadSaved saved.old stream →
-        StopsAtNone (room_of room.old) → (i : ℕ) → i < result →
-        NoEventStopsIn (room_of room.old) (added usual_limit stream (take i bytes.now)) }
+        StopsAtNone (buffers_of writer.old) → (i : ℕ) → i < result →
+        NoEventStopsIn (buffers_of writer.old) (added usual_limit stream (take i bytes.now)) }
     ensures feeds { (given : List Event) (stream rest : List ℕ) →
-        HasReported (room_of room.old).kinds saved.old given stream (bytes.now ++ rest) →
-        HasFed room.old room.new saved.new given stream bytes.now rest result }
+        HasReported (buffers_of writer.old).kinds saved.old given stream (bytes.now ++ rest) →
+        HasFed writer.old writer.new saved.new given stream bytes.now rest result }
 {
     let mut parser = Parser::new();
     parser.restore(saved);
-    let read = read_all(&mut parser, bytes, room);
+    let read = read_all(&mut parser, bytes, writer);
     parser.save(saved);
     read
 }
 
-/// Reads bytes until they end or the room is full.
-fn read_all(parser: &mut Parser<1024>, bytes: &[u8], room: &mut Events<'_>) -> usize
-    requires starts { Starts (room_of room.old) }
+/// Reads bytes until they end or the buffers are full.
+fn read_all(parser: &mut Parser<1024>, bytes: &[u8], writer: &mut EventWriter<'_>) -> usize
+    requires starts { Starts (buffers_of writer.old) }
     requires small { length bytes.now < 2 ^ 32 }
     ensures within { result ≤ length bytes.now }
     ensures reads_on { (since : List ℕ) → HasRead parser.old since →
-        HasReadOn (room_of room.old) (room_of room.new) parser.new since bytes.now 0 result }
+        HasReadOn (buffers_of writer.old) (buffers_of writer.new) parser.new since bytes.now 0
+        result }
     ensures progress { (since : List ℕ) → HasRead parser.old since →
-        NoRecordStops (room_of room.old).stops (room_of room.new).events →
+        NoRecordStops (buffers_of writer.old).stops (buffers_of writer.new).events →
         0 < length bytes.now → 0 < result }
 {
     let mut position = 0;
-    while position < bytes.len() && !room.is_full() {
-        let read = read_more(parser, bytes, position, room);
+    while position < bytes.len() && !writer.is_full() {
+        let read = read_more(parser, bytes, position, writer);
         if read == 0 {
             return position;
         }
@@ -108,19 +109,26 @@ fn read_all(parser: &mut Parser<1024>, bytes: &[u8], room: &mut Events<'_>) -> u
 }
 
 /// Reads up to a run of text or data, and the run, whose record it writes.
-fn read_more(parser: &mut Parser<1024>, bytes: &[u8], from: usize, room: &mut Events<'_>) -> usize
+fn read_more(
+    parser: &mut Parser<1024>,
+    bytes: &[u8],
+    from: usize,
+    writer: &mut EventWriter<'_>,
+) -> usize
     requires within { from < length bytes.now }
     requires small { length bytes.now < 2 ^ 32 }
-    requires roomy { is_full (room_of room.old) ≡ false }
+    requires has_room { is_full (buffers_of writer.old) ≡ false }
     ensures within { from + result ≤ length bytes.now }
     ensures reads_on { (since : List ℕ) → HasRead parser.old since →
-        HasReadOn (room_of room.old) (room_of room.new) parser.new since bytes.now from result }
-    ensures progress { (since : List ℕ) → HasRead parser.old since → Starts (room_of room.old) →
-        NoRecordStops (room_of room.old).stops (room_of room.new).events → 0 < result }
+        HasReadOn (buffers_of writer.old) (buffers_of writer.new) parser.new since bytes.now from
+        result }
+    ensures progress { (since : List ℕ) → HasRead parser.old since →
+        Starts (buffers_of writer.old) →
+        NoRecordStops (buffers_of writer.old).stops (buffers_of writer.new).events → 0 < result }
 {
     laws::early_stops();
     laws::opens_silently();
-    let run = parser.advance_to_run(room, &bytes[from..]);
-    room.add_run(from, run, parser.command_lost_data());
+    let run = parser.advance_to_run(writer, &bytes[from..]);
+    writer.add_run(from, run, parser.command_lost_data());
     run.end
 }

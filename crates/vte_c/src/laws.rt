@@ -5,7 +5,7 @@ ghost use Rattle.vte_core.specs.Event.{Event};
 ghost use Rattle.vte_core.specs.Saved.{IsZero};
 ghost use Rattle.vte_core.specs.Stream.{events, usual_limit};
 ghost use Rattle.vte_core.specs.declared.parser.saved.Saved.{Saved};
-ghost use Rattle.vte_c.specs.Record.{reported};
+ghost use Rattle.vte_c.specs.Record.{all_kinds, reported};
 ghost use Rattle.vte_c.specs.Reported.{HasStripped, HasReported};
 
 use vte_core::Saved;
@@ -25,8 +25,8 @@ pub fn events_are_reported()
     ensures all { (kinds : ℕ) (parser : Saved) (given : List Event) (stream : List ℕ) →
         HasReported kinds parser given stream [] →
         given ≡ reported kinds (events usual_limit stream) }
-    // Eight kinds are all.
-    ensures every { (events : List Event) → reported 255 events ≡ events }
+    // All kinds are all events.
+    ensures every { (events : List Event) → reported all_kinds events ≡ events }
 {
     vte_core::laws::empty_stream();
     let _ = Saved::new();

@@ -12,11 +12,11 @@ ghost use Rattle.vte_core.specs.Saved.{HasReadSaved};
 ghost use Rattle.vte_core.specs.Stream.{IsFinished, IsUnfinished, usual_limit};
 ghost use Rattle.vte_c.specs.Calls.{Feeds, Strips};
 ghost use Rattle.vte_c.specs.OpenCode.{open_code};
-ghost use Rattle.vte_c.specs.Record.{least_data, least_events, least_text};
+ghost use Rattle.vte_c.specs.Record.{min_data, min_events, min_text};
 
 // cargo instead: pub(crate) mod event;
 // cargo instead: pub(crate) use event::VteEvent;
-// cargo instead: pub(crate) use events::Events;
+// cargo instead: pub(crate) use events::EventWriter;
 // cargo instead: pub(crate) use feed::{VteCounts, MIN_EVENTS, NO_ROOM};
 mod event;
 mod events;
@@ -45,7 +45,7 @@ const EVENT_SIZE: usize = size_of::<VteEvent>();
 ///
 /// It stops early when the buffers are nearly full, and after an event of the kinds `stops`, which
 /// at most one follows: call it again with the rest. If there is room for fewer than
-/// `vte_least_events` events or `vte_least_data` data bytes, it reads nothing and returns
+/// `vte_min_events` events or `vte_min_data` data bytes, it reads nothing and returns
 /// `usize::MAX`.
 #[unsafe(no_mangle)]
 pub extern "C" fn vte_feed(
@@ -66,18 +66,18 @@ pub extern "C" fn vte_feed(
 /// Reads bytes, and writes the text that is left without the sequences. Returns how many bytes were
 /// read.
 ///
-/// It stops early when the buffer is nearly full. If it has room for fewer than `vte_least_text`
+/// It stops early when the buffer is nearly full. If it has room for fewer than `vte_min_text`
 /// bytes, nothing is read, and `usize::MAX` is returned.
 #[unsafe(no_mangle)]
 pub extern "C" fn vte_strip(
     parser: &mut Saved,
     bytes: &[u8],
-    room: &mut [u8],
+    text: &mut [u8],
     written: &mut usize,
 ) -> usize
-    ensures { Strips parser.old parser.new bytes.now room.old room.new written.new result }
+    ensures { Strips parser.old parser.new bytes.now text.old text.new written.new result }
 {
-    text::strip(parser, bytes, room, written)
+    text::strip(parser, bytes, text, written)
 }
 
 /// Returns what is unfinished, or 0.
@@ -123,24 +123,24 @@ pub extern "C" fn vte_event_size() -> usize
 
 /// Returns for how many events there has to be room.
 #[unsafe(no_mangle)]
-pub extern "C" fn vte_least_events() -> usize
-    ensures { result ≡ least_events }
+pub extern "C" fn vte_min_events() -> usize
+    ensures { result ≡ min_events }
 {
     feed::MIN_EVENTS
 }
 
 /// Returns for how many data bytes there has to be room.
 #[unsafe(no_mangle)]
-pub extern "C" fn vte_least_data() -> usize
-    ensures { result ≡ least_data }
+pub extern "C" fn vte_min_data() -> usize
+    ensures { result ≡ min_data }
 {
     feed::MIN_DATA
 }
 
 /// Returns for how many bytes of text there has to be room.
 #[unsafe(no_mangle)]
-pub extern "C" fn vte_least_text() -> usize
-    ensures { result ≡ least_text }
+pub extern "C" fn vte_min_text() -> usize
+    ensures { result ≡ min_text }
 {
     text::MIN_TEXT
 }

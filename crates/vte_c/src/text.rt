@@ -1,8 +1,8 @@
 //! From bytes to the text that is left without the sequences.
-ghost use Rattle.std.specs.Prelude.{◌≡◌, ◌<◌, ◌≤◌, ◌+◌, ◌-◌, ◌++◌, ℕ, List, true, false, drop, length, take};
+ghost use Rattle.std.specs.Prelude.{◌≡◌, ◌<◌, ◌≤◌, ◌+◌, ◌-◌, ◌++◌, ℕ, List, true, false, length};
 ghost use Rattle.vte_c.specs.Calls.{Strips};
 ghost use Rattle.vte_c.specs.Reported.{HasStripped};
-ghost use Rattle.vte_c.specs.machine.Text.{StartsText, StripsMore, TextRoom, text_room_of, text_room_with, text_room_with_event};
+ghost use Rattle.vte_c.specs.machine.TextBuffer.{StartsText, StripsMore, TextBuffer, text_buffer_of, text_buffer_with, text_buffer_with_event};
 
 use crate::feed::NO_ROOM;
 use vte_core::{Params, Parser, Perform, PerformText, Saved, laws};
@@ -15,30 +15,30 @@ const MAX_TEXT: usize = 8;
 
 /// Writes text into the caller's buffer, as long as all of it fits.
 #[derive(Drop)]
-struct Text<'a> {
-    room: &'a mut [u8],
+struct TextWriter<'a> {
+    bytes: &'a mut [u8],
     used: usize,
     // if not, nothing is kept
     fits: bool,
 }
 
-impl Text<'_> {
+impl TextWriter<'_> {
     /// Returns for how many more bytes there is room.
     fn left(&self) -> usize
-        ensures { result ≡ (text_room_of self.now).size - (text_room_of self.now).used }
+        ensures { result ≡ (text_buffer_of self.now).size - (text_buffer_of self.now).used }
     {
-        self.room.len().saturating_sub(self.used)
+        self.bytes.len().saturating_sub(self.used)
     }
 
     /// Writes a text, if there is room for it.
     #[inline(always)]
-    #[tactic(auto, unfolding(crate::specs::machine::Text::text_room_with))]
+    #[tactic(auto, unfolding(crate::specs::machine::TextBuffer::text_buffer_with))]
     fn add(&mut self, text: &[u8])
-        ensures { text_room_of self.new ≡ text_room_with (text_room_of self.old) text.now }
+        ensures { text_buffer_of self.new ≡ text_buffer_with (text_buffer_of self.old) text.now }
     {
-        let (used, size) = (self.used, self.room.len());
+        let (used, size) = (self.used, self.bytes.len());
         if self.fits && used <= size && text.len() <= size - used {
-            self.room[used..used + text.len()].copy_from_slice(text);
+            self.bytes[used..used + text.len()].copy_from_slice(text);
             self.used = used + text.len();
         } else {
             self.used = 0;
@@ -47,14 +47,14 @@ impl Text<'_> {
     }
 }
 
-impl Perform for Text<'_> {
-    ghost Value = { TextRoom };
+impl Perform for TextWriter<'_> {
+    ghost Value = { TextBuffer };
 
-    ghost value_of = { text_room_of };
+    ghost value_of = { text_buffer_of };
 
-    ghost step = { text_room_with_event };
+    ghost step = { text_buffer_with_event };
 
-    ghost is_terminated = { λ room. false };
+    ghost is_terminated = { λ buffer. false };
 
     #[tactic(auto, unfolding(event_log::specs::Plain::plain_text_of))]
     #[inline]
@@ -66,7 +66,7 @@ impl Perform for Text<'_> {
     fn execute(&mut self, byte: u8) {
         match byte {
             b'\t' | b'\n' | b'\r' => self.add(&[byte]),
-            // proof: what has no text adds an empty one, as `text_room_with_event` does.
+            // proof: what has no text adds an empty one, as `text_buffer_with_event` does.
             _ => self.add(b""),
         }
     }
@@ -112,7 +112,7 @@ impl Perform for Text<'_> {
     }
 }
 
-impl PerformText for Text<'_> {
+impl PerformText for TextWriter<'_> {
     ghost layout = { true };
 
     fn keeps_layout(&self) -> bool {
@@ -127,46 +127,46 @@ impl PerformText for Text<'_> {
 
 /// Reads bytes until they end or the buffer is nearly full, and writes their text. Returns how many
 /// were read.
-pub(crate) fn strip(parser: &mut Saved, bytes: &[u8], room: &mut [u8], written: &mut usize) -> usize
-    ensures { Strips parser.old parser.new bytes.now room.old room.new written.new result }
+pub(crate) fn strip(parser: &mut Saved, bytes: &[u8], text: &mut [u8], written: &mut usize) -> usize
+    ensures { Strips parser.old parser.new bytes.now text.old text.new written.new result }
 {
     *written = 0;
-    if room.len() < MIN_TEXT {
+    if text.len() < MIN_TEXT {
         return NO_ROOM;
     }
-    let size = room.len();
-    let mut text = Text {
-        room,
+    let size = text.len();
+    let mut writer = TextWriter {
+        bytes: text,
         used: 0,
         fits: true,
     };
-    let read = read_into(parser, bytes, &mut text);
-    *written = text.used.min(size);
+    let read = read_into(parser, bytes, &mut writer);
+    *written = writer.used.min(size);
     read
 }
 
 /// Reads bytes into an empty buffer, until they end or there may be no room for the text of one
 /// more.
-fn read_into(saved: &mut Saved, bytes: &[u8], room: &mut Text<'_>) -> usize
-    requires starts { StartsText (text_room_of room.old) }
+fn read_into(saved: &mut Saved, bytes: &[u8], writer: &mut TextWriter<'_>) -> usize
+    requires starts { StartsText (text_buffer_of writer.old) }
     ensures within { result ≤ length bytes.now }
     ensures progress { 0 < length bytes.now → 0 < result }
     ensures fills { result < length bytes.now
-        → (text_room_of room.new).size < (text_room_of room.new).used + 8 }
+        → (text_buffer_of writer.new).size < (text_buffer_of writer.new).used + 8 }
     ensures strips { (text stream rest : List ℕ) →
         HasStripped saved.old text stream (bytes.now ++ rest) →
-        StripsMore room.old room.new saved.new text stream bytes.now rest result }
+        StripsMore writer.old writer.new saved.new text stream bytes.now rest result }
 {
     laws::bytes_are_brief();
     let mut parser = Parser::new();
     parser.restore(saved);
     let mut count = 0;
     // The text of a chunk fits whatever its bytes are, so no character needs a stop.
-    while count < bytes.len() && room.left() >= MAX_TEXT {
+    while count < bytes.len() && writer.left() >= MAX_TEXT {
         let unread = &bytes[count..];
-        let size = unread.len().min(room.left() / MAX_TEXT);
+        let size = unread.len().min(writer.left() / MAX_TEXT);
         let chunk = &unread[..size];
-        parser.advance_text(room, chunk);
+        parser.advance_text(writer, chunk);
         count += chunk.len();
     }
     parser.save(saved);

@@ -38,12 +38,12 @@ pub use Rattle.vte_core.specs.LongParser.{MeetsData, open_data_count, open_comma
 pub use Rattle.vte_core.specs.Looks.{looked}
 pub use Rattle.vte_core.specs.OutsideRuns.{AddsOutsideRuns, IsOutsideRuns, PrintsNoAscii, ReportsOutsideRuns}
 pub use Rattle.vte_core.specs.Outcome.{SaysLoss, NothingToClose, ToClose, CharacterToClose, CommandToClose, Outcome, events_before_escape, closing_events, leaves, report, open_bytes}
-pub use Rattle.vte_core.specs.Parameters.{AreGroups, Number, colon, count_of, greatest_number, grouped, is_colon, is_separator, most_numbers, number_of, numbers_of, semicolon, with_number}
+pub use Rattle.vte_core.specs.Parameters.{AreGroups, Number, colon, count_of, greatest_number, grouped, is_colon, is_separator, max_numbers, number_of, numbers_of, semicolon, with_number, IsFilled, AreSmall, IsSmallNumber}
 unfoldable pub use Rattle.vte_core.specs.Parameters.{groups_of, has_too_many_numbers, numbers, shown}
 pub use Rattle.vte_core.specs.CutBefore.{from_first}
 pub use Rattle.vte_core.specs.Stream.{added, cut_at_escape, escape, with_bodies, usual_limit}
 unfoldable pub use Rattle.vte_core.specs.Stream.{events, open_character, outcome}
-pub use Rattle.vte_core.specs.SystemCommand.{IsCommandData, bell, ends_command, has_room, is_data_item, kept_after, most_pieces, system_command_rest}
+pub use Rattle.vte_core.specs.SystemCommand.{IsCommandData, bell, ends_command, has_room, is_data_item, kept_after, max_pieces, system_command_rest}
 unfoldable pub use Rattle.vte_core.specs.SystemCommand.{loses_data, kept_items, pieces_of, system_command_outcome}
 pub use Rattle.vte_core.specs.Text.{HasNoRunAt, is_control_character, is_layout, ends_run, StaysInRun, segments_outcome, run_event}
 unfoldable pub use Rattle.vte_core.specs.Text.{character_event, executed_events, malformed_event, segment_event, text_outcome}
@@ -60,7 +60,8 @@ pub use Rattle.vte_core.specs.declared.utf8.Unfinished.{Unfinished}
 pub use Rattle.vte_core.specs.declared.utf8.Unfinished.TheVariants.{Nothing, One, Three, Two}
 pub use Rattle.vte_core.specs.machine.Scans.{AreIgnored, ArePut, IsIgnored, ArePrintedAscii, IsUtf8Run, IsPrintedAscii, IsRun, PrintsRun, IsRange, Scans}
 pub use Rattle.vte_core.specs.machine.Place.{Leads, BytesLead, AtEscape, InControlSequence, InDeviceData, InDeviceControl, InEscape, InIgnoredString, InSystemCommand, InText, IsAfter, IsSettledPlace, Place, closing_events_at, left_at, rest_outcome}
-pub use Rattle.vte_core.specs.machine.Progress.{SpendsWithin, Advances, ChunkCall, chunk_call, ProgressAt, ProgressInside, IsRefusedInCommand, IsSettled, MayGoOn, ReadsUpTo, ReadsUntilRefused, IsAtPosition, IsInsidePosition}
+pub use Rattle.vte_core.specs.machine.Progress.{Advances, ChunkCall, chunk_call, ProgressAt, ProgressInside, IsRefusedInCommand, IsSettled, MayGoOn, ReadsUpTo, ReadsUntilRefused, IsAtPosition, IsInsidePosition}
+pub use Rattle.vte_core.specs.machine.Costs.{SpendsWithin}
 pub use Rattle.vte_core.specs.machine.ParserFields.{CountsNumbers, HoldsIntermediates, HoldsHead, HasReadWithLimit, IsMarker, SameIntermediates, SameNumbers, numbers_from, HoldsNumbers, IsAtPlace, IsPlaceOfState, HasReadHead, StaysIllShaped, ReadsHead, Carries, bytes_of, may_continue}
 unfoldable pub use Rattle.vte_core.specs.machine.Place.{outcome_from}
 pub use Rattle.vte_core.specs.machine.Store.{Stored, HoldsItems, PiecesEnd, SameItems, cut_data, cut_pieces, ends_after, fitting, pieces_from}

@@ -228,16 +228,16 @@ breaks-no_byte [] = refl
 breaks-no_byte (a ∷ u) = refl
 
 -- Whether unread bytes break a character depends on the next one alone.
-breaks-next : (u : List ℕ) (b : ℕ) (rest : List ℕ) → breaks u (b ∷ rest) ≡ breaks u (b ∷ [])
-breaks-next [] b rest = refl
-breaks-next (a ∷ u) b rest = refl
+pub breaks-next : (u : List ℕ) (b : ℕ) (rest other : List ℕ) → breaks u (b ∷ rest) ≡ breaks u (b ∷ other)
+breaks-next [] b rest other = refl
+breaks-next (a ∷ u) b rest other = refl
 
 pub breaks_at-byte : (stream bytes : List ℕ) {u : List ℕ} (i : ℕ) {b : ℕ} → i < length bytes → b ≡ slice_index bytes i
     → open_character (stream ++ take i bytes) ≡ u
     → breaks_at stream bytes i ≡ breaks u (b ∷ [])
 unfolding breaks_at
 breaks_at-byte stream bytes {u} i within is ends =
-    rw (ends, drop_more bytes i 0 within, is) (breaks-next u (get_or bytes i 0) (drop (i + 1) bytes))
+    rw (ends, drop_more bytes i 0 within, is) (breaks-next u (get_or bytes i 0) (drop (i + 1) bytes) [])
 
 pub breaks_at-settled : (stream bytes : List ℕ) (i : ℕ) → open_character (stream ++ take i bytes) ≡ []
     → breaks_at stream bytes i ≡ false

@@ -1,11 +1,11 @@
 -- Parameters sent back: the text of groups is written from its prefix, and read as the same groups, since digits give
 -- their number back, `:` joins and `;` parts.
-use Rattle.vte_core.proofs.Common.{◌≡◌, ℕ, ◌-◌, ◌≤◌, List, [], ◌∷◌, ◌++◌, length, take, drop, get_or, map, refl, sym, ap, ◌∙◌, arith, decimal, flat_map, join_with_byte, append-nil, take_all, colon, semicolon, shown, Bool, true, false, if◌then◌else◌, All, fold, nat_tests, flat_map-append, All-nil, All-cons, All-head, All-tail, All-append, All-map, fold-append, class_of, is_parameter_text, AreInClass, AreParameters, Number, numbers_from, numbers, number_of, is_colon, is_separator, greatest_number, most_numbers, groups_of, has_too_many_numbers, with_number, count_of, Option, append_assoc, CsiDispatch, sequence_event, head_of, is_well_shaped, sequence_kind, DispatchesShown, BytesLead, InControlSequence, InText, rules}
+use Rattle.vte_core.proofs.Common.{◌≡◌, ℕ, ◌-◌, ◌≤◌, List, [], ◌∷◌, ◌++◌, length, take, drop, get_or, map, refl, sym, ap, ◌∙◌, arith, decimal, flat_map, join_with_byte, append-nil, take_all, colon, semicolon, shown, Bool, true, false, if◌then◌else◌, All, fold, nat_tests, flat_map-append, All-nil, All-cons, All-head, All-tail, All-append, All-map, fold-append, class_of, is_parameter_text, AreInClass, AreParameters, Number, numbers_from, numbers, number_of, is_colon, is_separator, greatest_number, max_numbers, groups_of, has_too_many_numbers, with_number, count_of, Option, append_assoc, CsiDispatch, sequence_event, head_of, is_well_shaped, sequence_kind, DispatchesShown, BytesLead, InControlSequence, InText, rules, IsFilled, AreSmall}
 use Rattle.std.proofs.lemmas.List.Folds.{flat_map-map}
 use Rattle.std.specs.Str.Parse.{AllDigits, digits_value}
 use Rattle.std.proofs.lemmas.Fmt.{decimal_is_IsNumeral}
 use Rattle.std.proofs.lemmas.Str.Parse.{digit_from_value}
-use Rattle.vte_core.proofs.fields.Numbers.{AreSmall, IsFilled, numbered, with_number-begins, with_number-joins, IsNoSeparator, IsSmall, is_digit_no_separator, count_of-grouped, numbers_are}
+use Rattle.vte_core.proofs.fields.Numbers.{numbered, with_number-begins, with_number-joins, IsNoSeparator, IsSmall, is_digit_no_separator, count_of-grouped, numbers_are}
 use Rattle.vte_core.proofs.bytes.Classes.{head_ends_nothing, parameter_is_head}
 use Rattle.vte_core.proofs.places.PlaceLeads.{control-dispatched, control-head, escape-key}
 use Rattle.vte_core.proofs.Shapes.{held-parts, held-well_shaped}
@@ -189,7 +189,7 @@ numbers-shown groups ok =
     ap (numbers_from false []) (shown-spelled groups ok) ∙ spelled_after false [] all in
     numbers_are (shown groups) ∙ ap (drop 1) later
 
-at_most-groups : (groups : List (List ℕ)) → AreParameters groups → length (flat_map in_group groups) ≤ most_numbers
+at_most-groups : (groups : List (List ℕ)) → AreParameters groups → length (flat_map in_group groups) ≤ max_numbers
 at_most-groups groups ok =
     omega (
       arith,

@@ -5,9 +5,9 @@ use Rattle.std.specs.Prelude.{◌≡◌, ℕ, ◌<◌, ◌≤◌, true, false, L
 use Rattle.std.specs.List.{concat}
 use Rattle.vte_core.specs.Class.{IsDeviceData}
 use Rattle.vte_core.specs.Event.{Event, Print, Execute, Hook, Put, Unhook, OscDispatch, CsiDispatch, EscDispatch}
-use Rattle.vte_core.specs.Intermediates.{most_intermediates}
+use Rattle.vte_core.specs.Intermediates.{max_intermediates}
 use Rattle.vte_core.specs.Parameters.{AreGroups}
-use Rattle.vte_core.specs.SystemCommand.{most_pieces}
+use Rattle.vte_core.specs.SystemCommand.{max_pieces}
 use Rattle.vte_core.specs.Text.{is_control_character}
 
 -- The pieces fit into a buffer of this size.
@@ -26,7 +26,7 @@ IsExecuted byte = is_control_character byte ≡ true
 -- A control sequence or a device control string: at least one group, and a final byte among 40..7E.
 abbrev pub HasBoundedFields : List (List ℕ) → List ℕ → ℕ → Type 0
 HasBoundedFields groups intermediates final =
-    AreGroups groups × (length intermediates ≤ most_intermediates) × (final < 0x7f) × (0x40 ≤ final)
+    AreGroups groups × (length intermediates ≤ max_intermediates) × (final < 0x7f) × (0x40 ≤ final)
     × (0 < length groups)
 
 -- The limits of an event. The final byte of an escape sequence is among 30..7E.
@@ -38,11 +38,11 @@ IsBounded limit (Hook groups intermediates ignore final) = HasBoundedFields grou
 IsBounded limit (Put byte) = IsDeviceData byte
 IsBounded limit Unhook = ⊤
 IsBounded limit (OscDispatch pieces bell) =
-    (length pieces ≤ most_pieces) × FitsStore limit pieces × (0 < length pieces)
+    (length pieces ≤ max_pieces) × FitsStore limit pieces × (0 < length pieces)
 IsBounded limit (CsiDispatch groups intermediates ignore final) =
     HasBoundedFields groups intermediates final
 IsBounded limit (EscDispatch intermediates ignore final) =
-    (length intermediates ≤ most_intermediates) × (final < 0x7f) × (0x30 ≤ final)
+    (length intermediates ≤ max_intermediates) × (final < 0x7f) × (0x30 ≤ final)
 
 -- A printed character or an executed byte.
 abbrev pub IsShort : Event → Type 0

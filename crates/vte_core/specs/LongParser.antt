@@ -9,7 +9,7 @@ use Rattle.vte_core.specs.machine.Store.{LacksMemoryAt}
 use Rattle.vte_core.specs.Outcome.{ToClose, CommandToClose}
 use Rattle.vte_core.specs.Parser.{Reading, reading}
 use Rattle.vte_core.specs.Stream.{outcome}
-use Rattle.vte_core.specs.SystemCommand.{IsCommandData, most_pieces}
+use Rattle.vte_core.specs.SystemCommand.{IsCommandData, max_pieces}
 
 -- The parser continues as one that has read the stream; `HasRead` for a parser without a limit.
 abbrev pub HasReadLong : {A : Type 0} → LongParser A → List ℕ → Type 0
@@ -60,7 +60,7 @@ pub record MeetsData (stream : List ℕ) (byte : ℕ) : Type 0 where
   pub pieces : List (List ℕ)
   pub last : List ℕ
   pub lost : Bool
-  pub at_most : length pieces < most_pieces
+  pub at_most : length pieces < max_pieces
   pub is_open : (outcome None stream).left ≡ CommandToClose (pieces ++ last ∷ []) lost
   pub is_data : IsCommandData byte
   pub joins : (outcome None (stream ++ byte ∷ [])).left

@@ -15,8 +15,8 @@ pub record Number : Type 0 where
   pub joined : Bool
   pub value : ℕ
 
-abbrev pub most_numbers : ℕ
-most_numbers = 32
+abbrev pub max_numbers : ℕ
+max_numbers = 32
 
 abbrev pub greatest_number : ℕ
 greatest_number = 0xffff
@@ -57,18 +57,28 @@ grouped numbers = fold with_number [] numbers
 abbrev pub count_of : List (List ℕ) → ℕ
 count_of groups = sum_by length groups
 
+abbrev pub IsSmallNumber : ℕ → Type 0
+IsSmallNumber number = number ≤ greatest_number
+
+abbrev pub AreSmall : List ℕ → Type 0
+AreSmall group = All IsSmallNumber group
+
+-- A group has a number.
+abbrev pub IsFilled : List ℕ → Type 0
+IsFilled group = 0 < length group
+
 -- At most 32 numbers, each up to 65,535, in groups that aren't empty.
 pub record AreGroups (groups : List (List ℕ)) : Type 0 where
-  pub at_most : count_of groups ≤ most_numbers
-  pub small : All (λ group. All (λ number. number ≤ greatest_number) group) groups
-  pub filled : All (λ group. 0 < length group) groups
+  pub at_most : count_of groups ≤ max_numbers
+  pub small : All AreSmall groups
+  pub filled : All IsFilled groups
 
 -- The groups of a parameter text. Only its first 32 numbers count.
 unfoldable pub groups_of : List ℕ → List (List ℕ)
-groups_of text = grouped (take most_numbers (numbers text))
+groups_of text = grouped (take max_numbers (numbers text))
 
 unfoldable pub has_too_many_numbers : List ℕ → Bool
-has_too_many_numbers text = nat_lt most_numbers (length (numbers text))
+has_too_many_numbers text = nat_lt max_numbers (length (numbers text))
 
 -- The text of groups: decimal numbers, with `:` inside a group and `;` between groups.
 unfoldable pub shown : List (List ℕ) → List ℕ

@@ -11,8 +11,8 @@ use Rattle.vte_core.specs.Text.{text_outcome}
 abbrev pub bell : ℕ
 bell = 0x07
 
-abbrev pub most_pieces : ℕ
-most_pieces = 16
+abbrev pub max_pieces : ℕ
+max_pieces = 16
 
 abbrev pub ends_command : ℕ → Bool
 ends_command b = is_cancel (class_of b) || b == bell
@@ -48,7 +48,7 @@ items_of bytes = filter (λ b. nat_le 0x20 b) bytes
 -- The first 16 pieces of the kept items, split at `;`.
 unfoldable pub pieces_of : Option ℕ → List ℕ → List (List ℕ)
 pieces_of limit items =
-    take most_pieces (slice_split (λ b. b == semicolon) (kept_items limit items))
+    take max_pieces (slice_split (λ b. b == semicolon) (kept_items limit items))
 
 -- Whether data bytes among the items are in no piece: those for which there is no room, and those
 -- after the 16th piece.

@@ -10,6 +10,7 @@ pub mod ParserFields
 pub mod Takes
 -- How far a call has come; what each function requires, reads and costs.
 pub mod Progress
+pub mod Costs
 -- Several bytes: data, what a search passes, runs of text.
 pub mod Scans
 pub mod Automaton

@@ -7,7 +7,7 @@
 // proof: The meaning of a performer is one function from a value and an event to a value. What the
 // events of a stream are is defined in specs/, without states; the contract of [`Parser::advance`]
 // says that the performer takes exactly these. [`laws`] has what holds of all streams.
-// proof: Comments that begin with `cargo` say what is_at there in the crate for cargo
+// proof: Comments that begin with `cargo` say what the crate for cargo has there
 // (tools/lib/erasing/marks.py).
 #![tactic(auto)]
 

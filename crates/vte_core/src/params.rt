@@ -5,7 +5,7 @@ ghost use Rattle.std.specs.Iterator.{YieldsFirstRef, item_count, at_most, UpTo};
 ghost use Rattle.std.specs.Iterator.SizeHint.{IsWithinCount};
 ghost use Rattle.std.specs.List.{join_with_byte};
 ghost use Rattle.vte_core.specs.machine.Store.{AreParts, AreFlatGroups, IsTakenOff};
-ghost use Rattle.vte_core.specs.Parameters.{with_number, count_of, colon, shown, AreGroups, most_numbers};
+ghost use Rattle.vte_core.specs.Parameters.{with_number, count_of, colon, shown, AreGroups, max_numbers};
 
 use arrayvec::ArrayVec;
 use std::fmt;
@@ -80,7 +80,7 @@ impl Params {
     /// Returns whether there is no room for another number.
     // cargo: #[inline]
     pub(crate) fn is_full(&self) -> bool
-        ensures { IsTrue result ↔ (most_numbers ≤ count_of self.now) }
+        ensures { IsTrue result ↔ (max_numbers ≤ count_of self.now) }
     {
         self.numbers.is_full()
     }
@@ -88,7 +88,7 @@ impl Params {
     /// Adds a number: to the last group if `joined`, or else as a group of its own.
     #[inline(always)]
     pub(crate) fn push(&mut self, joined: bool, value: u16)
-        requires { count_of self.old < most_numbers }
+        requires { count_of self.old < max_numbers }
         ensures { self.new ≡ with_number self.old (record { joined = joined; value = value }) }
     {
         let length = take_joined(&mut self.lengths, joined);

@@ -1,7 +1,7 @@
 //! The store of an operating system command.
-ghost use Rattle.std.specs.Prelude.{◌≡◌, ◌≢◌, ◌+◌, ◌-◌, ◌≤◌, ◌<◌, List, ℕ, [], ◌∷◌, ◌++◌, length, drop, map, take, false, ◌↔◌, IsTrue, All};
+ghost use Rattle.std.specs.Prelude.{◌≡◌, ◌≢◌, ◌+◌, ◌-◌, ◌≤◌, ◌<◌, List, ℕ, [], ◌∷◌, ◌++◌, length, drop, take, false, ◌↔◌, IsTrue, All};
 ghost use Rattle.std.specs.List.Sorted.{IsNonDecreasing};
-ghost use Rattle.vte_core.specs.machine.Prelude.{ArePieceEnds, HasCapacity, Stored, IsRange, HoldsItems, OscDispatch, ReservesCapacity, SameItems, LooksAtMost, Reports, cut_pieces, most_pieces};
+ghost use Rattle.vte_core.specs.machine.Prelude.{ArePieceEnds, HasCapacity, Stored, IsRange, HoldsItems, OscDispatch, ReservesCapacity, SameItems, LooksAtMost, Reports, cut_pieces, max_pieces};
 
 use crate::buffer::Buffer;
 use crate::reader::{CountedPerform, Granularity, Input, Reader};
@@ -102,8 +102,8 @@ impl<B: Buffer> Store<B> {
     pub(crate) fn take_memory(&mut self, more: usize) -> bool
         ensures same { SameItems self.old self.new }
         ensures memory { self.old.capacity ≤ self.new.capacity }
-        ensures at_most { result ≡ false → length self.new.ends < most_pieces }
-        ensures reserves { length self.new.ends < most_pieces
+        ensures at_most { result ≡ false → length self.new.ends < max_pieces }
+        ensures reserves { length self.new.ends < max_pieces
             → ReservesCapacity B.limit
             (length self.new.bytes) more self.old.capacity self.new.capacity result }
     {
@@ -132,7 +132,7 @@ impl<B: Buffer> Store<B> {
     )
         requires range { IsRange input.bytes.now from to }
         requires data { All (λ b. b ≢ 0x3b) (take (to - from) (drop from input.bytes.now)) }
-        requires memory { length self.old.ends < most_pieces
+        requires memory { length self.old.ends < max_pieces
             → HasCapacity B.limit self.old.capacity (length self.old.bytes) (to - from) }
         ensures holds { (items : List ℕ) → HoldsItems B.limit self.old items → HoldsItems B.limit
             self.new (items ++ take (to - from) (drop from input.entry.bytes.now)) }
@@ -204,7 +204,7 @@ impl<const N: usize> Store<Option<ArrayVec<u8, N>>> {
     /// Holds these parts instead, without the ends if they can't be ends of pieces.
     pub(crate) fn restore(&mut self, bytes: &[u8], ends: &[usize], lost: bool)
         requires fit { length bytes.now ≤ N }
-        requires at_most { length ends.now ≤ most_pieces }
+        requires at_most { length ends.now ≤ max_pieces }
         ensures bytes { self.new.bytes ≡ bytes.now }
         ensures ends { ArePieceEnds bytes.now ends.now → self.new.ends ≡ ends.now }
         ensures lost { self.new.lost ≡ lost }

@@ -1,5 +1,5 @@
 //! Characters of UTF-8, byte by byte.
-ghost use Rattle.std.specs.Prelude.{◌≡◌, ◌+◌, ◌*◌, ◌%◌, ◌<◌, ◌≤◌, ◌↔◌, IsTrue, [], ◌∷◌, true, false};
+ghost use Rattle.std.specs.Prelude.{◌≡◌, ◌+◌, ◌*◌, ◌%◌, ◌<◌, ◌↔◌, IsTrue, [], ◌∷◌, true};
 ghost use Rattle.std.specs.Char.{InScalarRange};
 ghost use Rattle.vte_core.specs.machine.Prelude.{BeginsFour, BeginsThree, BeginsTwo, Carries, bytes_of, is_in, is_truncated, scalar_of, second_range, from_to};
 

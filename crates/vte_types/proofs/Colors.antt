@@ -15,55 +15,56 @@ use Rattle.vte_types.specs.declared.color.NamedColor.TheVariants.{Black, Red, Gr
 
 -- ---- texts
 
-glyph_value : (d : ℕ) → d < 16 → digit_value (digit_glyph false d) ≡ d
-glyph_value d h = digit_value-digit_char d (omega (arith, h))
+digit_value-glyph : (d : ℕ) → d < 16 → digit_value (digit_glyph false d) ≡ d
+digit_value-glyph d h = digit_value-digit_char d (omega (arith, h))
 
-by_values : (high low byte : ℕ) → high < 16 → low < 16 → 16 * high + low ≡ byte
+hex_number-digits : (high low byte : ℕ) → high < 16 → low < 16 → 16 * high + low ≡ byte
     → (if nat_lt high 16 then if nat_lt low 16 then Some (16 * (16 * 0 + high) + low) else None else None) ≡ Some byte
-by_values high low byte h l e =
+hex_number-digits high low byte h l e =
     let a : nat_lt high 16 ≡ true = grind (arith, nat_tests) in
     let b : nat_lt low 16 ≡ true = grind (arith, nat_tests) in
     let same : 16 * (16 * 0 + high) + low ≡ byte = omega arith in
     rw (a, b) (ap Some same)
 
-byte_back : (byte : ℕ) → byte < 256 → hex_number (shown_byte byte) ≡ Some byte
-byte_back byte h =
-    rw (glyph_value (byte / 16) (omega (arith, h)), glyph_value (byte % 16) (omega (arith, h)))
-    (by_values (byte / 16) (byte % 16) byte (omega (arith, h)) (omega (arith, h)) (omega (arith, h)))
+hex_number-shown : (byte : ℕ) → byte < 256 → hex_number (shown_byte byte) ≡ Some byte
+hex_number-shown byte h =
+    rw (digit_value-glyph (byte / 16) (omega (arith, h)), digit_value-glyph (byte % 16) (omega (arith, h)))
+    (hex_number-digits (byte / 16) (byte % 16) byte (omega (arith, h)) (omega (arith, h)) (omega (arith, h)))
 
-pub color_back : (color : Rgb) → color.r < 256 → color.g < 256 → color.b < 256
+pub hex_color_of-shown : (color : Rgb) → color.r < 256 → color.g < 256 → color.b < 256
     → hex_color_of (shown_color color) ≡ Some color
-color_back color r g b = rw (byte_back color.r r, byte_back color.g g, byte_back color.b b) refl
+hex_color_of-shown color r g b =
+    rw (hex_number-shown color.r r, hex_number-shown color.g g, hex_number-shown color.b b) refl
 
 -- ---- named colours
 
 -- The proofs are by cases of the colour.
 
-pub bright_back : (color : NamedColor) → is_bright color ≡ false → dim_of (bright_of color) ≡ color
+pub dim_of-bright : (color : NamedColor) → is_bright color ≡ false → dim_of (bright_of color) ≡ color
 unfolding number_of_color
-bright_back BrightBlack other = cc
-bright_back BrightRed other = cc
-bright_back BrightGreen other = cc
-bright_back BrightYellow other = cc
-bright_back BrightBlue other = cc
-bright_back BrightMagenta other = cc
-bright_back BrightCyan other = cc
-bright_back BrightWhite other = cc
-bright_back BrightForeground other = cc
-bright_back color other = refl
+dim_of-bright BrightBlack other = cc
+dim_of-bright BrightRed other = cc
+dim_of-bright BrightGreen other = cc
+dim_of-bright BrightYellow other = cc
+dim_of-bright BrightBlue other = cc
+dim_of-bright BrightMagenta other = cc
+dim_of-bright BrightCyan other = cc
+dim_of-bright BrightWhite other = cc
+dim_of-bright BrightForeground other = cc
+dim_of-bright color other = refl
 
-pub dim_back : (color : NamedColor) → is_dim color ≡ false → bright_of (dim_of color) ≡ color
+pub bright_of-dim : (color : NamedColor) → is_dim color ≡ false → bright_of (dim_of color) ≡ color
 unfolding number_of_color
-dim_back DimBlack other = cc
-dim_back DimRed other = cc
-dim_back DimGreen other = cc
-dim_back DimYellow other = cc
-dim_back DimBlue other = cc
-dim_back DimMagenta other = cc
-dim_back DimCyan other = cc
-dim_back DimWhite other = cc
-dim_back DimForeground other = cc
-dim_back color other = refl
+bright_of-dim DimBlack other = cc
+bright_of-dim DimRed other = cc
+bright_of-dim DimGreen other = cc
+bright_of-dim DimYellow other = cc
+bright_of-dim DimBlue other = cc
+bright_of-dim DimMagenta other = cc
+bright_of-dim DimCyan other = cc
+bright_of-dim DimWhite other = cc
+bright_of-dim DimForeground other = cc
+bright_of-dim color other = refl
 
 -- Each number has its colour.
 color_rows : List (Row NamedColor)

@@ -10,41 +10,43 @@ use Rattle.vte_types.specs.Words.{after_word, entry_of_word}
 use Rattle.std.proofs.lemmas.Str.{IsUtf8-from_ascii, is_utf8-from_IsUtf8}
 use Rattle.vte_types.specs.CursorIcon.{icons, icon_of}
 
-pub other_word : (text word : List ℕ) → (text ≡ word → ⊥) → bytes_eq text word ≡ false
-other_word text word h = false_from_ne_true _ (λ e. h ((bytes_eq-Decides text word).0 e))
+pub bytes_eq-other : (text word : List ℕ) → (text ≡ word → ⊥) → bytes_eq text word ≡ false
+bytes_eq-other text word h = false_from_ne_true _ (λ e. h ((bytes_eq-Decides text word).0 e))
 
-pub short_word : (text word : List ℕ) → length text < length word → bytes_eq text word ≡ false
-short_word text word h = other_word text word (λ e. let k = ap length e in omega arith)
+pub bytes_eq-shorter : (text word : List ℕ) → length text < length word → bytes_eq text word ≡ false
+bytes_eq-shorter text word h = bytes_eq-other text word (λ e. let k = ap length e in omega arith)
 
-pub long_word : (text word : List ℕ) → length word < length text → bytes_eq text word ≡ false
-long_word text word h = other_word text word (λ e. let k = ap length e in omega arith)
+pub bytes_eq-longer : (text word : List ℕ) → length word < length text → bytes_eq text word ≡ false
+bytes_eq-longer text word h = bytes_eq-other text word (λ e. let k = ap length e in omega arith)
 
-same_first : (a : ℕ) (word text : List ℕ) (t : Bool) → eqb a a ≡ t
+after_word-same_first : (a : ℕ) (word text : List ℕ) (t : Bool) → eqb a a ≡ t
     → cond t (after_word word text) None ≡ after_word word text
-same_first a word text true e = refl
-same_first a word text false e = absurd (grind (arith, nat_tests))
+after_word-same_first a word text true e = refl
+after_word-same_first a word text false e = absurd (grind (arith, nat_tests))
 
-pub word_front : (word rest : List ℕ) → after_word word (word ++ rest) ≡ Some rest
-word_front [] rest = refl
-word_front (a ∷ word) rest = same_first a word (word ++ rest) (eqb a a) refl ∙ word_front word rest
+pub after_word-append : (word rest : List ℕ) → after_word word (word ++ rest) ≡ Some rest
+after_word-append [] rest = refl
+after_word-append (a ∷ word) rest =
+    after_word-same_first a word (word ++ rest) (eqb a a) refl ∙ after_word-append word rest
 
-other_first : (a b : ℕ) (word text : List ℕ) (more : ((rest : List ℕ) → text ≢ word ++ rest)
+after_word-other_first : (a b : ℕ) (word text : List ℕ) (more : ((rest : List ℕ) → text ≢ word ++ rest)
     → after_word word text ≡ None) (t : Bool) → eqb a b ≡ t
     → ((rest : List ℕ) → (b ∷ text) ≢ (a ∷ word) ++ rest) → cond t (after_word word text) None ≡ None
-other_first a b word text more true e h =
+after_word-other_first a b word text more true e h =
     more (λ rest same. h rest (let first : a ≡ b = grind (arith, nat_tests) in cc))
-other_first a b word text more false e h = refl
+after_word-other_first a b word text more false e h = refl
 
-pub other_front : (word text : List ℕ) → ((rest : List ℕ) → text ≢ word ++ rest) → after_word word text ≡ None
-other_front [] text h = absurd (h text refl)
-other_front (a ∷ word) [] h = refl
-other_front (a ∷ word) (b ∷ text) h = other_first a b word text (other_front word text) (eqb a b) refl h
+pub after_word-other : (word text : List ℕ) → ((rest : List ℕ) → text ≢ word ++ rest) → after_word word text ≡ None
+after_word-other [] text h = absurd (h text refl)
+after_word-other (a ∷ word) [] h = refl
+after_word-other (a ∷ word) (b ∷ text) h =
+    after_word-other_first a b word text (after_word-other word text) (eqb a b) refl h
 
-pub after_is : (word text : List ℕ) (r : Option (Bor (List ℕ)))
+pub after_word-is : (word text : List ℕ) (r : Option (Bor (List ℕ)))
     → MatchOption r ((rest : List ℕ) → text ≢ word ++ rest) (λ x. text ≡ word ++ x.now)
     → option_map (λ rest. rest.now) r ≡ after_word word text
-after_is word text None h = sym (other_front word text h)
-after_is word text (Some x) h = sym (ap (after_word word) h ∙ word_front word x.now)
+after_word-is word text None h = sym (after_word-other word text h)
+after_word-is word text (Some x) h = sym (ap (after_word word) h ∙ after_word-append word x.now)
 
 -- ---- a table of words
 
@@ -57,12 +59,12 @@ pub from_row : {A : Type 0} (rows : List (Bor (List ℕ) × A)) (i : ℕ) (d : B
     → i < length rows → t ≡ bytes_eq text (get_or rows i d).0.now
     → entry_of_word (rows_of (drop i rows)) text
     ≡ cond t (Some (get_or rows i d).1) (entry_of_word (rows_of (drop (i + 1) rows)) text)
-from_row rows i d text t within told =
+from_row rows i d text t within is =
     let next : suc i ≡ i + 1 = omega arith in
     ap (λ rows. entry_of_word (rows_of rows) text)
     (drop-cons rows i d within ∙ ap (λ n. get_or rows i d ∷ drop n rows) next)
     ∙ ap (λ t. cond t (Some (get_or rows i d).1) (entry_of_word (rows_of (drop (i + 1) rows)) text))
-    (sym told)
+    (sym is)
 
 -- ---- keywords
 
@@ -93,7 +95,8 @@ other_bytes : {A : Type 0} (rows : List (List ℕ × A)) (text : List ℕ) → h
 other_bytes [] text are not = refl
 other_bytes (row ∷ rows) text are not =
     row_by row.1 (entry_of_word rows text) (bytes_eq text row.0)
-    (other_word text row.0 (λ e. let same = ap is_utf8 e in let is = ascii_is_utf8 row.0 (and_parts _ _ are).0 in cc))
+    (bytes_eq-other text row.0
+    (λ e. let same = ap is_utf8 e in let is = ascii_is_utf8 row.0 (and_parts _ _ are).0 in cc))
     (other_bytes rows text (and_parts _ _ are).1 not)
 
 -- A text that isn't UTF-8 is no keyword.

@@ -103,9 +103,9 @@ export! {
     vte_version: u32;
     vte_parser_size: usize;
     vte_event_size: usize;
-    vte_least_events: usize;
-    vte_least_data: usize;
-    vte_least_text: usize;
+    vte_min_events: usize;
+    vte_min_data: usize;
+    vte_min_text: usize;
 }
 
 /// Ends the program. rustc checks each index; that all are within bounds is proved, so nothing gets

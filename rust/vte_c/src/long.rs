@@ -8,7 +8,7 @@
 
 use crate::border::{slice, slice_mut};
 use crate::memory;
-use crate::proved::vte_c::{event, Events, VteCounts, VteEvent, MIN_EVENTS, NO_ROOM};
+use crate::proved::vte_c::{event, EventWriter, VteCounts, VteEvent, MIN_EVENTS, NO_ROOM};
 use alloc::boxed::Box;
 use alloc::vec::Vec;
 use vte::{skip_to_command, InternalCalls as _, LongParser, Refused};
@@ -29,7 +29,7 @@ pub struct VteLongParser {
     data: Vec<u8>,
 }
 
-/// Makes room for the data of a step, each place of which has 32 bits.
+/// Makes room for the data of a step, whose offsets have 32 bits.
 fn reserve(data: &mut Vec<u8>, size: usize) -> Result<(), Refused> {
     if size <= data.len() {
         return Ok(());
@@ -47,7 +47,7 @@ fn read_more(
     bytes: &[u8],
     from: usize,
     kinds: u32,
-    room: &mut Events<'_>,
+    writer: &mut EventWriter<'_>,
 ) -> Result<usize, Refused> {
     let unread = &bytes[from..];
     if kinds == 1 << event::OSC && !parser.is_open() {
@@ -56,22 +56,22 @@ fn read_more(
             return Ok(count);
         }
     }
-    let run = parser.advance_to_run(room, unread)?;
-    room.add_run(from, run, parser.command_lost_data());
+    let run = parser.advance_to_run(writer, unread)?;
+    writer.add_run(from, run, parser.command_lost_data());
     Ok(run.end)
 }
 
-/// Reads bytes until they end, the room is full, a stop comes or memory is refused. Returns how
+/// Reads bytes until they end, the buffers are full, a stop comes or memory is refused. Returns how
 /// many were read, and whether memory was refused.
 fn read_all(
     parser: &mut LongParser,
     bytes: &[u8],
     kinds: u32,
-    room: &mut Events<'_>,
+    writer: &mut EventWriter<'_>,
 ) -> (usize, bool) {
     let mut position = 0;
-    while position < bytes.len() && !room.is_full() {
-        match read_more(parser, bytes, position, kinds, room) {
+    while position < bytes.len() && !writer.is_full() {
+        match read_more(parser, bytes, position, kinds, writer) {
             Ok(0) => break,
             Ok(read) => position += read,
             Err(refused) => return (position + refused.read, true),
@@ -142,13 +142,13 @@ pub unsafe extern "C" fn vte_long_feed(
         return REFUSED;
     }
     *data = area.as_ptr();
-    let mut room = Events::new(events, area, kinds, stops);
-    let (read, is_refused) = read_all(parser, bytes, kinds, &mut room);
+    let mut writer = EventWriter::new(events, area, kinds, stops);
+    let (read, is_refused) = read_all(parser, bytes, kinds, &mut writer);
     *counts = VteCounts {
-        events: room.count(),
-        bytes: room.used(),
+        events: writer.count(),
+        bytes: writer.used(),
     };
-    match (read, room.count(), is_refused) {
+    match (read, writer.count(), is_refused) {
         (0, 0, true) => REFUSED,
         _ => read,
     }

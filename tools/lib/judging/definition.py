@@ -263,10 +263,10 @@ class Reader:
         kept, pieces = command_pieces(items, house)
         is_cut_short = self.at(stop + 1) != "\\" if last == ESC else last in ENDS
         data = len(items) - items.count(";")
-        most_pieces = 16 if house.pieces is None else min(house.pieces, 16)
+        max_pieces = 16 if house.pieces is None else min(house.pieces, 16)
         rules = {
             "limit": kept < len(items) or data > 1024,
-            "pieces": len(pieces) > most_pieces,
+            "pieces": len(pieces) > max_pieces,
             NEAR + "limit": data > 16,
             NEAR + "pieces": len(pieces) > 4,
             "byte-9c": ST in items + last,

@@ -92,8 +92,8 @@ pub(crate) fn line_of_put(byte: u8) -> [u8; 7]
 pub(super) fn hex_pair(byte: u8) -> [u8; 2]
     ensures { result ≡ hex_byte byte }
 {
-    let place = 2 * usize::from(byte);
-    [HEX_PAIRS[place], HEX_PAIRS[place + 1]]
+    let index = 2 * usize::from(byte);
+    [HEX_PAIRS[index], HEX_PAIRS[index + 1]]
 }
 
 /// How many hex digits a number has, at least one and at most six.

@@ -50,28 +50,28 @@ fn the_lines_of_each_piece_are_flushed(rt: HostRuntime) -> Result<(), Fail> {
     Ok(())
 }
 
-/// A reader that fills `room` with `a`, and notes its size.
+/// A reader that fills `buffer` with `a`, and notes its size.
 #[derive(Drop)]
-struct Rooms {
+struct Sizes {
     left: usize,
-    rooms: Vec<usize>,
+    sizes: Vec<usize>,
     failed: bool,
 }
 
-impl Source for Rooms {
+impl Source for Sizes {
     ghost use Rattle.std.specs.Prelude.{None};
 
     ghost to_come = { λ reader. None };
 
     ghost has_failed = { λ reader. reader.failed };
 
-    fn read(&mut self, room: &mut [u8]) -> Result<usize, ()> {
-        self.failed = self.failed || self.rooms.push(room.len()).is_err();
+    fn read(&mut self, buffer: &mut [u8]) -> Result<usize, ()> {
+        self.failed = self.failed || self.sizes.push(buffer.len()).is_err();
         if self.failed {
             return Err(());
         }
-        let count = self.left.min(room.len());
-        room[..count].fill(b'a');
+        let count = self.left.min(buffer.len());
+        buffer[..count].fill(b'a');
         self.left -= count;
         Ok(count)
     }
@@ -89,9 +89,9 @@ fn each_piece_has_at_most_4096_bytes_and_is_flushed(rt: HostRuntime) {
         (What::Lines, [45_056, 90_112, 110_000]),
         (What::Text, [4096, 8192, 10_000]),
     ] {
-        let mut reader = Rooms {
+        let mut reader = Sizes {
             left: 10_000,
-            rooms: Vec::new(rt.alloc()),
+            sizes: Vec::new(rt.alloc()),
             failed: false,
         };
         let mut writer = Flushes::new(rt.alloc());
@@ -100,7 +100,7 @@ fn each_piece_has_at_most_4096_bytes_and_is_flushed(rt: HostRuntime) {
             What::Text => run_text(&mut reader, &mut writer),
         };
         assert_eq!(rt; result, Ok(()));
-        assert_eq!(rt; reader.rooms.as_slice(), [4096; 4].as_slice());
+        assert_eq!(rt; reader.sizes.as_slice(), [4096; 4].as_slice());
         assert_eq!(rt; writer.at_flushes.as_slice(), at_flushes.as_slice());
     }
 }

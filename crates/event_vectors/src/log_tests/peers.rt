@@ -32,7 +32,7 @@ impl Source for Chunks<'_> {
 
     ghost has_failed = { λ chunks. chunks.failed };
 
-    fn read(&mut self, room: &mut [u8]) -> Result<usize, ()> {
+    fn read(&mut self, buffer: &mut [u8]) -> Result<usize, ()> {
         if self.failed {
             return Err(());
         }
@@ -40,8 +40,8 @@ impl Source for Chunks<'_> {
             self.failed = self.fails;
             return if self.fails { Err(()) } else { Ok(0) };
         };
-        let count = chunk.len().min(room.len());
-        room[..count].copy_from_slice(&chunk[..count]);
+        let count = chunk.len().min(buffer.len());
+        buffer[..count].copy_from_slice(&chunk[..count]);
         self.given = self.given.saturating_add(1);
         Ok(count)
     }

@@ -8,7 +8,7 @@ use Rattle.vte.specs.declared.ansi.processor.Processor.{Processor}
 use Rattle.vte.specs.declared.ansi.calls.joined_text.TheConstants.{TEXT_SIZE}
 use Rattle.vte.specs.declared.ansi.bounded_processor.BoundedProcessor.{BoundedProcessor}
 use Rattle.vte.specs.declared.ansi.long_processor.LongProcessor.{LongProcessor}
-use Rattle.vte.proofs.turns.RefusedTurns.{until_refused-grows}
+use Rattle.vte.proofs.turns.RefusedTurns.{progresses-until_refused}
 
 -- ---- with the usual limit
 
@@ -105,7 +105,7 @@ module _ {T A V W : Type 0} {timeout_of : T → W} {m : Meaning V W} {new : Long
       → HasMemory new s.parsed (length s.held + length bytes) → ⊥
   had_memory read less taken lacks had =
       let t = taken.next in
-      let g = until_refused-grows m taken.takes in
+      let g = progresses-until_refused m taken.takes in
       let counts = counts_data s.parsed g.more in
       let left = rw (← g.parsed_is) at counts.left in
       let sum : length g.more + length t.held ≡ length s.held + read =

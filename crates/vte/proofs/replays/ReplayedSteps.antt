@@ -2,10 +2,10 @@
 -- handler has received their calls. A steady timeout allows one answer in each state, so where the list leads is then a
 -- function of its calls (`replay_only_one`).
 use Rattle.vte.proofs.Common.{◌≡◌, ℕ, ◌+◌, ◌-◌, Bool, List, [], ◌∷◌, ◌++◌, length, take, refl, ap, sym, ◌∙◌, arith, append_assoc, append-nil, Step, Advance, StopSync, Meaning, TakesSteps, State, TakesTurnsUntilRefused, stop, done, turns, ◌<◌, drop, get_or, append_cancel_right, take-append-drop, Bor, drop_more, take_more, HasAdvanced, HoldsWellAt, HasReplayed, HasDelivered, HasTaken, IsSteady, TakesAllTurns, given_bytes, rules}
-use Rattle.vte.proofs.turns.EachOnce.{grows_before, grows_on, replay_grows}
+use Rattle.vte.proofs.turns.EachOnce.{progresses-before, progresses-then, progresses-replay}
 use Rattle.vte.proofs.turns.HoldFacts.{stop_well, taken_well, turn_well}
 use Rattle.vte.specs.Refusal.{IsFirstRefused}
-use Rattle.vte.proofs.turns.RefusedTurns.{until_refused-grows}
+use Rattle.vte.proofs.turns.RefusedTurns.{progresses-until_refused}
 use Rattle.vte.proofs.replays.ReceivedCalls.{HasStillToDeliver, delivers-refused, delivers-replay}
 
 -- The refused step is the first of those that are left.
@@ -79,7 +79,7 @@ module _ {V W : Type 0} (m : Meaning V W) where
   pub steps_delivered : (state next : State V W) (steps : List Step) → TakesSteps m state steps next
       → HasDelivered m state (given_bytes steps) next
   steps_delivered state next steps run =
-      let g = replay_grows m state next steps run in
+      let g = progresses-replay m state next steps run in
       delivers g.more g.parsed_is (g.each_once ∙ ap (λ held. g.more ++ held) (append-nil next.held))
       (delivers-replay m next state steps run)
 
@@ -89,7 +89,9 @@ module _ {V W : Type 0} (m : Meaning V W) where
       → TakesTurnsUntilRefused m reached bytes next (drop read bytes)
       → HasDelivered m state (given_bytes steps ++ take read bytes) next
   refused_delivered state reached next steps bytes read run more =
-      let g = grows_on (grows_before (replay_grows m state reached steps run) bytes) (until_refused-grows m more) in
+      let g =
+      progresses-then (progresses-before (progresses-replay m state reached steps run) bytes)
+      (progresses-until_refused m more) in
       delivers g.more g.parsed_is
       (append_cancel_right _ _ (drop read bytes)
       (append_assoc state.held (given_bytes steps ++ take read bytes) (drop read bytes)

@@ -23,43 +23,43 @@ pub grown_bytes : {V W : Type 0} {state next : State V W} {bytes left : List ℕ
     → all_bytes next ++ left ≡ all_bytes state ++ bytes
 grown_bytes {state} {next} {bytes} {left} g = search (rules, arith, append_assoc)
 
-pub grows_on : {V W : Type 0} {state reached next : State V W} {bytes rest left : List ℕ}
+pub progresses-then : {V W : Type 0} {state reached next : State V W} {bytes rest left : List ℕ}
     → Progresses state reached bytes rest
     → Progresses reached next rest left → Progresses state next bytes left
-grows_on {state} {next} {left} a b = search (rules, arith, append_assoc)
+progresses-then {state} {next} {left} a b = search (rules, arith, append_assoc)
 
 -- Bytes that follow those that were read are left.
-pub grows_before : {V W : Type 0} {state next : State V W} {bytes : List ℕ} → Progresses state next bytes []
+pub progresses-before : {V W : Type 0} {state next : State V W} {bytes : List ℕ} → Progresses state next bytes []
     → (left : List ℕ)
     → Progresses state next (bytes ++ left) left
-grows_before {state} {next} {bytes} g left = search (rules, arith, append-nil, append_assoc)
+progresses-before {state} {next} {bytes} g left = search (rules, arith, append-nil, append_assoc)
 
 module _ {V W : Type 0} (m : Meaning V W) where
   progresses-nothing : {state : State V W} {bytes : List ℕ} → Progresses state state bytes bytes
   progresses-nothing {state} = search (rules, arith)
 
-  stop_grows : {state : State V W} {bytes : List ℕ} → Progresses state (stop m state) bytes bytes
-  stop_grows {state} = record { more = state.held; parsed_is = refl; each_once = refl }
+  progresses-stop : {state : State V W} {bytes : List ℕ} → Progresses state (stop m state) bytes bytes
+  progresses-stop {state} = record { more = state.held; parsed_is = refl; each_once = refl }
 
   -- After `stop_if_due`, nothing is held.
   pub stop_if_due_none : (pending : Bool) (state : State V W) → (stop_if_due m pending state).held ≡ []
   stop_if_due_none pending state = search (rules, arith, nil_from_length)
 
-  pub stop_if_due_grows : (pending : Bool) {state : State V W} {bytes : List ℕ}
+  pub progresses-stop_if_due : (pending : Bool) {state : State V W} {bytes : List ℕ}
       → Progresses state (stop_if_due m pending state) bytes bytes
-  stop_if_due_grows pending {state} = search (rules, arith)
+  progresses-stop_if_due pending {state} = search (rules, arith)
 
-  pub parse_grows : {state : State V W} (prefix : List ℕ) {left bytes : List ℕ} → state.held ≡ []
+  pub progresses-parse : {state : State V W} (prefix : List ℕ) {left bytes : List ℕ} → state.held ≡ []
       → prefix ++ left ≡ bytes
       → Progresses state (parse m state prefix) bytes left
-  parse_grows prefix none is = search (rules, arith)
+  progresses-parse prefix none is = search (rules, arith)
 
-  release_grows : {state : State V W} {kept : List ℕ} → drop (length state.held - length kept) state.held ≡ kept
+  progresses-release : {state : State V W} {kept : List ℕ} → drop (length state.held - length kept) state.held ≡ kept
       → Progresses state (release m state kept) [] []
-  release_grows is = search (rules, arith, append-nil, take-append-drop)
+  progresses-release is = search (rules, arith, append-nil, take-append-drop)
 
-  hold_grows : (state : State V W) (bytes : List ℕ) → Progresses state (hold_turn m state bytes) bytes []
-  hold_grows state bytes =
+  progresses-hold : (state : State V W) (bytes : List ℕ) → Progresses state (hold_turn m state bytes) bytes []
+  progresses-hold state bytes =
       let held : Progresses state (extend m state bytes) bytes [] =
       record {
         more = [];
@@ -70,31 +70,32 @@ module _ {V W : Type 0} (m : Meaning V W) where
         | inl none ↦ rw (hold_turn-all m state bytes none) held
         | inr some ↦
             rw (hold_turn-rest m state bytes some.1)
-            (grows_on held (release_grows
+            (progresses-then held (progresses-release
             (rw some.1 at (stays-is (state.held ++ bytes)))))
       ]
 
-  turn_grows : (pending : Bool) (state : State V W) (bytes : List ℕ)
+  progresses-turn : (pending : Bool) (state : State V W) (bytes : List ℕ)
       → Progresses state (turn m pending state bytes).state bytes (turn m pending state bytes).rest
-  turn_grows pending state bytes = elim (cases_Bool (is_held pending state bytes)) [
-    | inl held ↦ rw (turn-holds m pending state bytes held) (hold_grows state bytes)
+  progresses-turn pending state bytes = elim (cases_Bool (is_held pending state bytes)) [
+    | inl held ↦ rw (turn-holds m pending state bytes held) (progresses-hold state bytes)
     | inr parses ↦
         rw (turn-parses m pending state bytes parses)
-        (grows_on (stop_if_due_grows pending)
-        (parse_grows _ (stop_if_due_none pending state)
+        (progresses-then (progresses-stop_if_due pending)
+        (progresses-parse _ (stop_if_due_none pending state)
         (prefix-rest m.limit (stop_if_due m pending state).parsed bytes)))
   ]
 
-  pub turns_grow : {state next : State V W} {bytes left : List ℕ} → TakesTurns m state bytes next left
+  pub progresses-turns : {state next : State V W} {bytes left : List ℕ} → TakesTurns m state bytes next left
       → Progresses state next bytes left
-  turns_grow done = progresses-nothing
-  turns_grow {state} {next} {bytes = b ∷ bytes} {left} (turns pending allowed more) =
-      grows_on (turn_grows pending state (b ∷ bytes)) (turns_grow more)
+  progresses-turns done = progresses-nothing
+  progresses-turns {state} {next} {bytes = b ∷ bytes} {left} (turns pending allowed more) =
+      progresses-then (progresses-turn pending state (b ∷ bytes)) (progresses-turns more)
 
-  pub replay_grows : (state next : State V W) (steps : List Step) → TakesSteps m state steps next
+  pub progresses-replay : (state next : State V W) (steps : List Step) → TakesSteps m state steps next
       → Progresses state next (given_bytes steps) []
-  replay_grows state next [] e = rw e progresses-nothing
-  replay_grows state next (Advance bytes ∷ steps) (reached, (a, more)) =
-      grows_on (grows_before (turns_grow a) (given_bytes steps)) (replay_grows reached next steps more)
-  replay_grows state next (StopSync ∷ steps) more =
-      grows_on stop_grows (replay_grows (stop m state) next steps more)
+  progresses-replay state next [] e = rw e progresses-nothing
+  progresses-replay state next (Advance bytes ∷ steps) (reached, (a, more)) =
+      progresses-then (progresses-before (progresses-turns a) (given_bytes steps))
+      (progresses-replay reached next steps more)
+  progresses-replay state next (StopSync ∷ steps) more =
+      progresses-then progresses-stop (progresses-replay (stop m state) next steps more)

@@ -4,7 +4,8 @@ use Rattle.vte.proofs.Common.{◌≡◌, ℕ, ◌+◌, ◌-◌, ◌<◌, ◌≤�
 use Rattle.vte.proofs.turns.TurnKinds.{refused-by_parsing, is_held, stop_if_due, turn-holds, turn-parses}
 use Rattle.vte.proofs.turns.EachOnce.{grown_bytes}
 use Rattle.vte.proofs.turns.Slices.{parsing-refused}
-use Rattle.vte.proofs.turns.RefusedTurns.{until_refused-all, takes-one, until_refused-grows, until_refused-on, until_refused-well, taken_on}
+use Rattle.vte.proofs.turns.RefusedTurns.{until_refused-all, takes-one, progresses-until_refused, until_refused-on, until_refused-well, taken_on}
+use Rattle.std.proofs.lemmas.List.{take_rest}
 
 -- If an engine is at a state, so are its parts.
 module _ {P B T A V W : Type 0} {view : EngineView P B T W} {engine : Engine P B T A} {value : V} {s : State V W}
@@ -133,14 +134,10 @@ module _ {V W : Type 0} (m : Meaning V W) {s : State V W} {bytes : List ℕ} {n 
 
 -- The loop keeps `HasReached`, and at its end or at refused memory has `HasTaken`, which gives `EngineReads`.
 
-rest-is : (bytes : List ℕ) (read : ℕ) → read ≤ length bytes
-    → take (length bytes - read) (drop read bytes) ≡ drop read bytes
-rest-is bytes read inside = take_all (length bytes - read) (drop read bytes) (rw length-drop (omega arith))
-
 -- As many bytes are left as weren't read.
 pub rest-size : (bytes : List ℕ) (read : ℕ) → read ≤ length bytes
     → length (take (length bytes - read) (drop read bytes)) ≡ length bytes - read
-rest-size bytes read inside = rw (rest-is bytes read inside, length-drop)
+rest-size bytes read inside = rw (take_rest bytes read, length-drop)
 
 module _ {V W : Type 0} (m : Meaning V W) (s : State V W) (bytes : List ℕ) where
   -- `count` turns have read `read` bytes, at least one each.
@@ -161,7 +158,7 @@ module _ {V W : Type 0} (m : Meaning V W) (s : State V W) (bytes : List ℕ) whe
       → HasReached (count + 1) (read + n) (EngineIsAtKeepingMemory view first new value)
   reaches-more {count} {read} {n} r some turned =
       let slice = take (length bytes - read) (drop read bytes) in
-      let is : slice ≡ drop read bytes = rest-is bytes read (omega arith) in
+      let is : slice ≡ drop read bytes = take_rest bytes read in
       let left : 0 < length slice = rw (is, length-drop read bytes) (omega arith) in
       let rest : (turn m turned.pending r.here slice).rest ≡ drop (read + n) bytes =
       turned.rest ∙ rw (is, drop-drop n read bytes) in
@@ -180,7 +177,7 @@ module _ {V W : Type 0} (m : Meaning V W) (s : State V W) (bytes : List ℕ) whe
     next = t;
     takes = takes;
     each_once = append_cancel_right _ _ (drop read bytes)
-        (grown_bytes (until_refused-grows m takes)
+        (grown_bytes (progresses-until_refused m takes)
         ∙ ap (λ x. all_bytes s ++ x) (sym (take-append-drop read bytes))
         ∙ sym (append_assoc (all_bytes s) (take read bytes) (drop read bytes)));
     holds_well = until_refused-well m takes;
@@ -201,7 +198,7 @@ module _ {V W : Type 0} (m : Meaning V W) (s : State V W) (bytes : List ℕ) whe
       → HasTaken m s bytes (read + n) (EngineIsAtKeepingMemory view first new value)
   reached-refused {read} {n} r inside h =
       let slice = take (length bytes - read) (drop read bytes) in
-      let is : slice ≡ drop read bytes = rest-is bytes read inside in
+      let is : slice ≡ drop read bytes = take_rest bytes read in
       let left : drop n slice ≡ drop (read + n) bytes = rw (is, drop-drop n read bytes) in
       has_taken-turns h.next
       (rw left at (until_refused-on m s r.here h.next bytes slice (drop n slice) (rw is r.takes) h.takes))

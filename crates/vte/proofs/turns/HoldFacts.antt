@@ -1,6 +1,6 @@
 -- Turns and stops keep `HoldsWell`: by cases of the timeout's answer and of what a hold turn keeps, which is all, or
 -- starts with a begin-update, or is nothing.
-use Rattle.vte.proofs.Common.{◌≡◌, inl, inr, refl, Bool, true, List, [], ◌++◌, ℕ, zero, suc, length, cases_Bool, arith, nat_tests, Meaning, State, after_last_end, extend, from_begin_update, hold_turn, most_held, parsing_turn, release, stop, turn, ◌-◌, ◌∷◌, take, ap, TakesTurns, prefix_to_begin, append-nil, done, turns, ◌<◌, ◌≤◌, length-append, cases_lt, added, TimeoutMeaning, AllowsOnly, IsSteady, begin_count, IsOutsideUpdate, IsInsideUpdate, set_times, update_nanos, HoldsWellAt, begin_update, begins_ending_in_last, part_after_last_end, rules}
+use Rattle.vte.proofs.Common.{◌≡◌, inl, inr, refl, Bool, true, List, [], ◌++◌, ℕ, zero, suc, length, cases_Bool, arith, nat_tests, Meaning, State, after_last_end, extend, from_begin_update, hold_turn, max_held, parsing_turn, release, stop, turn, ◌-◌, ◌∷◌, take, ap, TakesTurns, prefix_to_begin, append-nil, done, turns, ◌<◌, ◌≤◌, length-append, cases_lt, added, TimeoutMeaning, AllowsOnly, IsSteady, begin_count, IsOutsideUpdate, IsInsideUpdate, set_times, update_nanos, HoldsWellAt, begin_update, begins_ending_in_last, part_after_last_end, rules}
 use Rattle.vte.proofs.updates.Prefixes.{prefix-is}
 use Rattle.vte.proofs.updates.Sequences.{cases_Option, StaysHeld, begins_with-append, stays_held, suffix-length}
 use Rattle.vte.proofs.turns.TurnKinds.{is_held, stop_if_due, hold_turn-all, hold_turn-rest, turn-holds, turn-parses}
@@ -51,7 +51,7 @@ module _ {V W : Type 0} (m : Meaning V W) where
 
   -- ---- a turn that holds
 
-  keep_well : (state : State V W) (kept : List ℕ) → StaysHeld state.held kept → length state.held ≤ most_held
+  keep_well : (state : State V W) (kept : List ℕ) → StaysHeld state.held kept → length state.held ≤ max_held
       → (IsSteady m.timeout → IsInsideUpdate m.limit m.timeout state.parsed state.held state.timeout)
       → HoldsWellAt m (release m state kept)
   keep_well state [] is fits inside = stop_well state
@@ -83,7 +83,7 @@ module _ {V W : Type 0} (m : Meaning V W) where
   stop_if_due_outside pending state allowed h k = search (rules, arith)
 
   hold_well : (state : State V W) (bytes : List ℕ) → HoldsWellAt m state → m.timeout.allows state.timeout true
-      → length (state.held ++ bytes) ≤ most_held → HoldsWellAt m (hold_turn m state bytes)
+      → length (state.held ++ bytes) ≤ max_held → HoldsWellAt m (hold_turn m state bytes)
   hold_well state bytes h allowed fits =
       let inside : IsSteady m.timeout
       → IsInsideUpdate m.limit m.timeout state.parsed (state.held ++ bytes) (extend m state bytes).timeout =

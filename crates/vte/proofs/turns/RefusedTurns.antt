@@ -4,7 +4,7 @@
 use Rattle.vte.proofs.Common.{◌≡◌, ℕ, ◌<◌, inl, Bool, false, List, [], ◌∷◌, ◌++◌, length, drop, refl, ap, subst, ◌∙◌, arith, length-append, drop-append-add, IsSteady, IsOutsideUpdate, Meaning, HoldsWellAt, HasBeenRefused, TakesAllTurns, ParsingTurn, ParsingTurnIsRefused, State, TakesTurnsUntilRefused, TakesTurns, prefix_to_begin, between_turns, done, turn_kind_of, parsing_turn, turn, turns, inside_turn, rules}
 use Rattle.vte.proofs.updates.Prefixes.{prefix-after}
 use Rattle.vte.proofs.turns.TurnKinds.{stop_if_due, turn-parses, ParsesUntilRefused, refused-parses}
-use Rattle.vte.proofs.turns.EachOnce.{Progresses, grows_on, stop_if_due_none, stop_if_due_grows, parse_grows, turns_grow}
+use Rattle.vte.proofs.turns.EachOnce.{Progresses, progresses-then, stop_if_due_none, progresses-stop_if_due, progresses-parse, progresses-turns}
 use Rattle.vte.proofs.turns.HoldFacts.{taken_well}
 use Rattle.vte.proofs.turns.Slices.{parse-append}
 
@@ -44,21 +44,21 @@ module _ {V W : Type 0} (m : Meaning V W) where
 
   -- ---- what is parsed and held then
 
-  refused-grows : (pending : Bool) {state next : State V W} {bytes left : List ℕ}
+  progresses-refused : (pending : Bool) {state next : State V W} {bytes left : List ℕ}
       → ParsesUntilRefused m pending state bytes next left
       → Progresses state next bytes left
-  refused-grows pending {state} (parses, h) =
+  progresses-refused pending {state} (parses, h) =
       rw h.state_is
-      (grows_on (stop_if_due_grows m pending)
-      (parse_grows m h.prefix (stop_if_due_none m pending state) h.bytes_are))
+      (progresses-then (progresses-stop_if_due m pending)
+      (progresses-parse m h.prefix (stop_if_due_none m pending state) h.bytes_are))
 
-  pub until_refused-grows : {state next : State V W} {bytes left : List ℕ}
+  pub progresses-until_refused : {state next : State V W} {bytes left : List ℕ}
       → TakesTurnsUntilRefused m state bytes next left
       → Progresses state next bytes left
-  until_refused-grows (between_turns taken) = turns_grow m taken
-  until_refused-grows {next} {left} (inside_turn {reached} {rest} taken pending allowed refused) =
-      grows_on (turns_grow m taken)
-      (refused-grows pending (refused-parses m pending reached next rest left refused))
+  progresses-until_refused (between_turns taken) = progresses-turns m taken
+  progresses-until_refused {next} {left} (inside_turn {reached} {rest} taken pending allowed refused) =
+      progresses-then (progresses-turns m taken)
+      (progresses-refused pending (refused-parses m pending reached next rest left refused))
 
   -- After a parsing turn that was refused memory, no update is pending, and nothing is held.
   refused-outside : (pending : Bool) (state next : State V W) (bytes left : List ℕ) → IsSteady m.timeout

@@ -1,6 +1,6 @@
 -- What a turn is, by cases: a hold turn by whether the hold has an end-update, and any turn by whether its bytes are
 -- held. If they aren't, an update that is due is stopped first, and the bytes are parsed.
-use Rattle.vte.proofs.Common.{◌≡◌, refl, Bool, true, false, List, [], Some, None, ◌++◌, ◌+◌, ◌||◌, ℕ, length, nat_le, nat_lt, arith, Meaning, ParsingTurnIsRefused, State, TurnIsRefused, after_last_end, extend, from_begin_update, hold_turn, most_held, parsing_turn, release, stop, turn, rules}
+use Rattle.vte.proofs.Common.{◌≡◌, refl, Bool, true, false, List, [], Some, None, ◌++◌, ◌+◌, ◌||◌, ℕ, length, nat_le, nat_lt, arith, Meaning, ParsingTurnIsRefused, State, TurnIsRefused, after_last_end, extend, from_begin_update, hold_turn, max_held, parsing_turn, release, stop, turn, rules}
 use Rattle.std.specs.Prelude.{◌&&◌, if◌then◌else◌}
 
 -- ---- hold turns
@@ -16,7 +16,7 @@ module _ {V W : Type 0} (m : Meaning V W) (state : State V W) (bytes : List ℕ)
 -- ---- whether bytes are held, and what is stopped before they are parsed
 
 abbrev pub is_held : {V W : Type 0} → Bool → State V W → List ℕ → Bool
-is_held pending state bytes = pending && nat_le (length state.held + length bytes) most_held
+is_held pending state bytes = pending && nat_le (length state.held + length bytes) max_held
 
 abbrev pub is_stopped : {V W : Type 0} → Bool → State V W → Bool
 is_stopped pending state = pending || nat_lt 0 (length state.held)

@@ -1,11 +1,12 @@
 -- What the search from the end of a hold has seen (`HasSeen`), position by position: how many updates begin, and where
 -- what is unread starts. Only a position with ESC can change it (`seen-skipped`, `last_escape`), and the older bytes
 -- matter only by their last seven. At the front the whole hold is seen (`seen-all`).
-use Rattle.vte.proofs.Common.{◌≡◌, ℕ, zero, suc, ◌+◌, ◌-◌, ◌<◌, ◌≤◌, inl, inr, true, false, eqb, Some, None, List, [], ◌∷◌, length, drop, take, get_or, refl, ap, subst, ◌∙◌, add-zero, length-drop, arith, cases_Bool, nat_tests, drop_all, drop_more, get_or-drop, get_or-take, length-take-le, take_all, ◌++◌, IsHeldTail, drop-drop, length-append, Adds, after_word, begin_update, end_update, begins_ending_in_last, begins_with, after_last_end, from_begin_update, rules}
+use Rattle.vte.proofs.Common.{◌≡◌, ℕ, zero, suc, ◌+◌, ◌-◌, ◌<◌, ◌≤◌, inl, inr, true, false, eqb, Some, None, List, [], ◌∷◌, length, drop, take, get_or, refl, ap, subst, ◌∙◌, add-zero, length-drop, arith, cases_Bool, nat_tests, drop_all, drop_more, get_or-drop, get_or-take, length-take-le, ◌++◌, IsHeldTail, drop-drop, length-append, Adds, after_word, begin_update, end_update, begins_ending_in_last, begins_with, after_last_end, from_begin_update, rules}
 use Rattle.std.specs.Prelude.{◌&&◌, nat_lt}
 use Rattle.memchr.specs.Find.{NoneAfter, Nowhere, Passes, is_byte}
-use Rattle.vte.specs.machine.Hold.{IsNeither, BeginsNoUpdate, NoneBetween}
+use Rattle.vte.specs.machine.Hold.{IsNeither, HasNoPrivateSequence, NoneBetween}
 use Rattle.vte.proofs.updates.Sequences.{after_word-whole, begins_ending_in_last-tail, begins_with-is, begins_with-length, after_last_end-tail, from_begin-end_skipped, begins_with-further, not_some}
+use Rattle.std.proofs.lemmas.List.{take_rest}
 
 -- Neither sequence begins at a byte other than ESC, or if fewer than eight bytes are left.
 neither-plain : (text : List ℕ) (position : ℕ) → position < length text → eqb (get_or text position 0) 0x1b ≡ false
@@ -38,7 +39,7 @@ neither-pair a rest text position none =
     ]
 
 -- Neither sequence begins in a block, if no ESC of the block has `?` as the second byte after it.
-pub neither-block : (text : List ℕ) (from n : ℕ) → BeginsNoUpdate (take (n + 2) (drop from text)) n
+pub neither-block : (text : List ℕ) (from n : ℕ) → HasNoPrivateSequence (take (n + 2) (drop from text)) n
     → NoneBetween text from (from + n)
 neither-block text from n plain k low high =
     let i = k - from in
@@ -208,8 +209,7 @@ module _ {held more text : List ℕ} {start : ℕ} (e : IsHeldTail held more tex
 
   pub sequence_at : (position : ℕ) → take (length text - position) (drop position text) ≡ drop (start + position) all
   sequence_at position =
-      take_all (length text - position) (drop position text) (rw length-drop (omega arith))
-      ∙ ap (drop position) e.text_is ∙ drop-drop position start all
+      take_rest text position ∙ ap (drop position) e.text_is ∙ drop-drop position start all
 
   byte_at : (unread k : ℕ) → k < unread → get_or (take unread text) k 0 ≡ get_or all (start + k) 0
   byte_at unread k inside =

@@ -42,11 +42,12 @@ pub record IsNeither (text : List ℕ) (position : ℕ) : Type 0 where
   pub no_begin : begins_with begin_update (drop position text) ≡ false
   pub no_end : begins_with end_update (drop position text) ≡ false
 
--- The same at each position from one on, before another.
+-- Neither an update begins nor one ends at a position from one on, before another.
 abbrev pub NoneBetween : List ℕ → ℕ → ℕ → Type 0
 NoneBetween text from before = (k : ℕ) → from ≤ k → k < before → IsNeither text k
 
--- None of the first bytes of a block is an ESC that a `?` follows after one byte.
-abbrev pub BeginsNoUpdate : List ℕ → ℕ → Type 0
-BeginsNoUpdate block count = (k : ℕ) → k < count
+-- None of the first bytes of a block is an ESC that a `?` follows after one byte, as in what begins
+-- and what ends an update.
+abbrev pub HasNoPrivateSequence : List ℕ → ℕ → Type 0
+HasNoPrivateSequence block count = (k : ℕ) → k < count
     → (eqb (slice_index block k) 0x1b && eqb (slice_index block (k + 2)) 0x3f) ≡ false

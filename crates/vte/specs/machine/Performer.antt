@@ -23,8 +23,8 @@ first_component (number ∷ numbers) = if is_component number then Some number e
 
 -- ---- texts
 
--- Those of a command are split and joined, and may fit the buffer for texts. They fit 1,040 bytes
--- if the parser keeps 1,024 bytes, since there are at most 16 pieces.
+-- The texts of a command are split and joined, and may fit the buffer for texts. They fit 1,040
+-- bytes if the parser keeps 1,024 bytes, since there are at most 16 pieces.
 
 -- The parts of what is left, if anything is.
 abbrev pub parts_left : ℕ → Option (Bor (List ℕ)) → List (List ℕ)

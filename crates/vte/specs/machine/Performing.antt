@@ -39,7 +39,7 @@ with_private_mode step timeout performer number = record performer {
   terminated = performer.terminated || number == update_mode;
 }
 
--- One is set for each group.
+-- A private mode is set for each group.
 abbrev pub with_private_modes : {V W : Type 0}
     → (V → Call → V) → TimeoutMeaning W → PerformerValue V W → List (List ℕ) → PerformerValue V W
 with_private_modes step timeout performer groups = record performer {

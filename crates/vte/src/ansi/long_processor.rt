@@ -1,5 +1,5 @@
 //! The processor without a limit.
-ghost use Rattle.std.specs.Prelude.{◌≡◌, ℕ, ◌+◌, false, List, [], length, None, IfOk, MatchResult};
+ghost use Rattle.std.specs.Prelude.{◌≡◌, ℕ, ◌+◌, List, [], length, None};
 ghost use Rattle.vte_core.specs.LongParser.{lost_data_long, open_command_size, reading_of_long};
 ghost use Rattle.vte_handler.specs.Timeout.{timeout_meaning};
 ghost use Rattle.vte.specs.Processor.{meaning_of};
@@ -107,7 +107,7 @@ impl<T: Timeout + Drop, A: Allocator> LongProcessor<T, A> {
             → HasParsedAndHoldsLong T.value_of self.old parsed [] timeout
             → open_command_size parsed ≡ 0
             → HasFreedMemory self.new }
-        // It says the same of the last command's data.
+        // `command_lost_data` answers as before.
         ensures lost { lost_data_long (parser_in_long self.new)
             ≡ lost_data_long (parser_in_long self.old) }
     {

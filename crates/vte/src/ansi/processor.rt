@@ -1,5 +1,5 @@
 //! The processor. A call of `advance` takes turns, and each turn parses bytes or holds them back.
-ghost use Rattle.std.specs.Prelude.{◌≡◌, [], IfOk, MatchResult, false};
+ghost use Rattle.std.specs.Prelude.{◌≡◌, []};
 ghost use Rattle.vte_handler.specs.Timeout.{timeout_meaning};
 ghost use Rattle.vte.specs.Processor.{meaning_of};
 ghost use Rattle.vte.specs.ProcessorCalls.{CountsHeld, Creates, HasParsedAndHolds, IsCopyOfProcessor, ReadsInTurns, SaysParsedLoss, StopsSync, held_in, parser_in, timeout_in};

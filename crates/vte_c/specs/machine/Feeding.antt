@@ -6,11 +6,11 @@ use Rattle.vte_core.specs.Parser.{HasRead}
 use Rattle.vte_core.specs.Stream.{added, usual_limit}
 use Rattle.vte_core.specs.declared.parser.Parser.{Parser}
 use Rattle.vte_core.specs.declared.parser.saved.Saved.{Saved}
-use Rattle.vte_c.specs.machine.Events.{Room, room_of}
+use Rattle.vte_c.specs.machine.Buffers.{Buffers, buffers_of}
 use Rattle.vte_c.specs.Record.{Entry, data_kind, events_in, has, entry_data, entry_events, kinds_in, records_from, reported, text_kind}
 use Rattle.vte_c.specs.Reported.{AreEncoded, NoEventStops, AreReadable, HasReported, NoKindStops, StopsAtKind, is_stop}
 use Rattle.vte_c.specs.declared.event.VteEvent.{VteEvent}
-use Rattle.vte_c.specs.declared.events.Events.{Events}
+use Rattle.vte_c.specs.declared.events.EventWriter.{EventWriter}
 
 -- The events are the first of those of another list.
 pub record AreFirst (events all : List Event) : Type 0 where
@@ -39,36 +39,36 @@ kinds_of records = map (λ event. event.kind) records
 abbrev pub NoRecordStops : ℕ → List VteEvent → Type 0
 NoRecordStops stops records = NoKindStops stops (kinds_of records)
 
--- No event stops a call into this room.
-abbrev pub NoEventStopsIn : Room → List Event → Type 0
-NoEventStopsIn room events = NoEventStops (is_stop room.kinds room.stops) events
+-- No event stops a call into these buffers.
+abbrev pub NoEventStopsIn : Buffers → List Event → Type 0
+NoEventStopsIn buffers events = NoEventStops (is_stop buffers.kinds buffers.stops) events
 
--- Neither text nor data stop a call into this room.
-abbrev pub StopsAtNone : Room → Type 0
-StopsAtNone room =
-    (is_stop room.kinds room.stops text_kind ≡ false)
-    × (is_stop room.kinds room.stops data_kind ≡ false)
+-- Neither text nor data stop a call into these buffers.
+abbrev pub StopsAtNone : Buffers → Type 0
+StopsAtNone buffers =
+    (is_stop buffers.kinds buffers.stops text_kind ≡ false)
+    × (is_stop buffers.kinds buffers.stops data_kind ≡ false)
 
--- The room with the records of these entries, and their data.
-abbrev pub with_entries : Room → List Entry → Room
-with_entries room entries = record room {
-  events = room.events ++ records_from room.used entries;
-  count = room.count + length entries;
-  area = room.area ++ flat_map entry_data entries;
-  used = room.used + length (flat_map entry_data entries);
-  met = room.met || has_kind room.stops (records_from room.used entries);
+-- The buffers with the records of these entries, and their data.
+abbrev pub with_entries : Buffers → List Entry → Buffers
+with_entries buffers entries = record buffers {
+  events = buffers.events ++ records_from buffers.used entries;
+  count = buffers.count + length entries;
+  area = buffers.area ++ flat_map entry_data entries;
+  used = buffers.used + length (flat_map entry_data entries);
+  met = buffers.met || has_kind buffers.stops (records_from buffers.used entries);
 }
 
--- These entries were written: the room holds their records and their data, and at most two of the
--- records follow those that don't stop.
-pub record HasEntries (old new : Room) (input : List ℕ) (entries : List Entry) : Type 0 where
+-- These entries were written: the buffers hold their records and their data, and at most two of
+-- the records follow those that don't stop.
+pub record HasEntries (old new : Buffers) (input : List ℕ) (entries : List Entry) : Type 0 where
   pub readable : AreReadable input entries
-  pub room : new ≡ with_entries old entries
+  pub written : new ≡ with_entries old entries
   pub first : StopsAtKind old.stops (kinds_of (records_from old.used entries))
 
--- After bytes up to a place n more were read: their events of the kinds are those of entries, which
--- were written, and the parser goes on as if it had read `next`.
-pub record ReadsOn (old new : Room) (since next bytes : List ℕ) (from n : ℕ) : Type 0 where
+-- After bytes up to an offset n more were read: their events of the kinds are those of entries,
+-- which were written, and the parser goes on as if it had read `next`.
+pub record ReadsOn (old new : Buffers) (since next bytes : List ℕ) (from n : ℕ) : Type 0 where
   pub given : List Event
   pub entries : List Entry
   pub continues : Continues since next (drop from bytes) n given
@@ -77,8 +77,8 @@ pub record ReadsOn (old new : Room) (since next bytes : List ℕ) (from n : ℕ)
   pub before : StopsAtNone old → (i : ℕ) → i < n →
       NoEventStopsIn old (added usual_limit since (take i (drop from bytes)))
 
--- A call that had read bytes up to a place has read n more.
-pub record HasReadOn (old new : Room) (parser : Parser 1024) (since bytes : List ℕ)
+-- A call that had read bytes up to an offset has read n more.
+pub record HasReadOn (old new : Buffers) (parser : Parser 1024) (since bytes : List ℕ)
     (from n : ℕ) : Type 0 where
   pub next : List ℕ
   pub reads : HasRead parser next
@@ -86,17 +86,17 @@ pub record HasReadOn (old new : Room) (parser : Parser 1024) (since bytes : List
 
 -- A call read the first n bytes and wrote their events into the caller's buffers, where they are
 -- found whatever follows the bytes.
-pub record HasFed (old new : Events) (parser : Saved) (given : List Event)
+pub record HasFed (old new : EventWriter) (parser : Saved) (given : List Event)
     (stream bytes rest : List ℕ) (n : ℕ) : Type 0 where
   pub events_name : new.events.ghost_name ≡ old.events.ghost_name
   pub area_name : new.area.ghost_name ≡ old.area.ghost_name
-  pub progress : NoKindStops (room_of old).stops (kinds_in new.count new.events.now) →
+  pub progress : NoKindStops (buffers_of old).stops (kinds_in new.count new.events.now) →
       0 < length bytes → 0 < n
-  pub first : StopsAtKind (room_of old).stops (kinds_in new.count new.events.now)
+  pub first : StopsAtKind (buffers_of old).stops (kinds_in new.count new.events.now)
   pub encodes : (more : List ℕ) →
       AreEncoded (events_in new.count new.events.now (bytes ++ more) new.area.now)
       new.count new.used new.events.now (bytes ++ more) new.area.now
   pub reports : (more : List ℕ) →
-      HasReported (room_of old).kinds parser
+      HasReported (buffers_of old).kinds parser
       (given ++ events_in new.count new.events.now (bytes ++ more) new.area.now)
       stream (drop n bytes ++ rest)

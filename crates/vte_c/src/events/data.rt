@@ -1,18 +1,18 @@
 //! The data of events: the groups of a sequence and the pieces of a command, written into the
 //! caller's area.
-ghost use Rattle.std.specs.Prelude.{◌≡◌, ◌≤◌, ◌++◌, ℕ, List, length, map};
-ghost use Rattle.std.specs.List.{concat, flat_map};
-ghost use Rattle.vte_c.specs.machine.Events.{Holds, Room, room_of};
+ghost use Rattle.std.specs.Prelude.{◌≤◌, ◌++◌, ℕ, List, length, map};
+ghost use Rattle.std.specs.List.{flat_map};
+ghost use Rattle.vte_c.specs.machine.Buffers.{Holds, Buffers, buffers_of};
 ghost use Rattle.vte_c.specs.Record.{group_bytes, piece_bytes};
 
-use super::{Events, bytes_of_one};
+use super::{EventWriter, bytes_of_one};
 use crate::event::count_byte;
 use vte_core::Params;
 
-impl Events<'_> {
+impl EventWriter<'_> {
     /// Writes groups into the area. Returns where they end.
     pub(super) fn write_groups(&mut self, params: &Params) -> usize
-        ensures { Holds (room_of self.old) self.new result (flat_map group_bytes params.now) }
+        ensures { Holds (buffers_of self.old) self.new result (flat_map group_bytes params.now) }
     {
         let mut end = self.used;
         for group in params {
@@ -21,16 +21,16 @@ impl Events<'_> {
         end
     }
 
-    /// Writes a group at a place in the area: its count of numbers, and two bytes for each.
-    fn write_group(&mut self, place: usize, group: &[u16]) -> usize
-        ensures { (room : Room) (text : List ℕ) → Holds room self.old place text →
-            Holds room self.new result (text ++ group_bytes group.now) }
+    /// Writes a group into the area at `start`: its count of numbers, and two bytes for each.
+    fn write_group(&mut self, start: usize, group: &[u16]) -> usize
+        ensures { (buffers : Buffers) (text : List ℕ) → Holds buffers self.old start text →
+            Holds buffers self.new result (text ++ group_bytes group.now) }
     {
         // most groups have one number
         if let [number] = group {
-            return self.write(place, &bytes_of_one(*number));
+            return self.write(start, &bytes_of_one(*number));
         }
-        let mut end = self.write(place, &[count_byte(group.len())]);
+        let mut end = self.write(start, &[count_byte(group.len())]);
         for number in group {
             end = self.write(end, &[(*number % 256) as u8, (*number / 256) as u8]);
         }
@@ -39,7 +39,7 @@ impl Events<'_> {
 
     /// Writes the pieces of a command into the area. Returns where they end.
     pub(super) fn write_pieces(&mut self, pieces: &[&[u8]]) -> usize
-        ensures { Holds (room_of self.old) self.new result (flat_map piece_bytes (map
+        ensures { Holds (buffers_of self.old) self.new result (flat_map piece_bytes (map
             (λ piece. piece.now) pieces.now)) }
     {
         let mut end = self.used;
@@ -49,10 +49,10 @@ impl Events<'_> {
         end
     }
 
-    /// Writes a piece at a place in the area, after four bytes with its length.
-    fn write_piece(&mut self, place: usize, piece: &[u8]) -> usize
-        ensures { (room : Room) (text : List ℕ) → Holds room self.old place text →
-            Holds room self.new result (text ++ piece_bytes piece.now) }
+    /// Writes a piece into the area at `start`, after four bytes with its length.
+    fn write_piece(&mut self, start: usize, piece: &[u8]) -> usize
+        ensures { (buffers : Buffers) (text : List ℕ) → Holds buffers self.old start text →
+            Holds buffers self.new result (text ++ piece_bytes piece.now) }
     {
         let length = piece.len().min(u32::MAX as usize);
         let bytes = [
@@ -61,20 +61,20 @@ impl Events<'_> {
             (length / 65536 % 256) as u8,
             (length / 16777216) as u8,
         ];
-        let place = self.write(place, &bytes);
-        self.write(place, piece)
+        let end = self.write(start, &bytes);
+        self.write(end, piece)
     }
 
-    /// Writes bytes at a place in the area, if there is room. Returns where they end, or would end.
+    /// Writes bytes into the area at `start`, if they fit. Returns where they end, or would end.
     #[inline(always)]
-    pub(super) fn write(&mut self, place: usize, bytes: &[u8]) -> usize
-        ensures holds { (room : Room) (text : List ℕ) → Holds room self.old place text →
-            Holds room self.new result (text ++ bytes.now) }
-        ensures after { place ≤ result }
+    pub(super) fn write(&mut self, start: usize, bytes: &[u8]) -> usize
+        ensures holds { (buffers : Buffers) (text : List ℕ) → Holds buffers self.old start text →
+            Holds buffers self.new result (text ++ bytes.now) }
+        ensures after { start ≤ result }
     {
-        let end = place.saturating_add(bytes.len());
+        let end = start.saturating_add(bytes.len());
         if end <= self.size {
-            self.area[place..end].copy_from_slice(bytes);
+            self.area[start..end].copy_from_slice(bytes);
         }
         end
     }

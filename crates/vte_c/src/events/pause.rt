@@ -1,14 +1,14 @@
 //! The pause after a command that may have lost data, in which the parser is asked.
 ghost use Rattle.std.specs.Prelude.{◌≡◌};
-ghost use Rattle.vte_c.specs.machine.Events.{paused_if, resumed, room_of};
+ghost use Rattle.vte_c.specs.machine.Buffers.{paused_if, resumed, buffers_of};
 
-use super::{Events, MAX_ADDED};
+use super::{EventWriter, MAX_ADDED};
 use crate::event;
 
-impl Events<'_> {
-    /// Pauses if a command may have lost data, and keeps the place of its record.
+impl EventWriter<'_> {
+    /// Pauses if a command may have lost data, and keeps the index of its record.
     pub(super) fn pause_if(&mut self, may_have_lost: bool, command: usize)
-        ensures { room_of self.new ≡ paused_if may_have_lost (room_of self.old) }
+        ensures { buffers_of self.new ≡ paused_if may_have_lost (buffers_of self.old) }
     {
         if may_have_lost {
             self.paused = true;
@@ -19,7 +19,7 @@ impl Events<'_> {
 
     /// Goes on after a pause, and says in the record of the command whether it lost data.
     pub(super) fn resume(&mut self, lost_data: bool)
-        ensures { room_of self.new ≡ resumed (room_of self.old) }
+        ensures { buffers_of self.new ≡ resumed (buffers_of self.old) }
     {
         if self.paused {
             self.paused = false;
@@ -34,14 +34,14 @@ impl Events<'_> {
 
     /// Says in the record of the last command that it lost data, if it was written.
     fn add_loss(&mut self)
-        ensures { room_of self.new ≡ room_of self.old }
+        ensures { buffers_of self.new ≡ buffers_of self.old }
     {
-        let place = self.command;
-        if place < self.count
-            && place < self.events.len()
-            && self.events[place].kind == event::OSC
+        let index = self.command;
+        if index < self.count
+            && index < self.events.len()
+            && self.events[index].kind == event::OSC
         {
-            self.events[place] = self.events[place].with_loss();
+            self.events[index] = self.events[index].with_loss();
         }
     }
 }

@@ -1,6 +1,6 @@
 -- What one byte makes of the numbers and of the head that are held: by the part of the head that was reached and the
 -- byte's class.
-use Rattle.vte_core.proofs.Common.{◌≡◌, ℕ, ◌+◌, ◌<◌, ◌≤◌, ◌*◌, ◌-◌, min, Bool, true, false, List, [], ◌∷◌, ◌++◌, length, take, refl, ap, sym, ◌∙◌, arith, length-append, take_all, take-append-le, nat_tests, Collected, numbers, grouped, groups_of, has_too_many_numbers, with_number, count_of, most_numbers, is_separator, is_colon, greatest_number, CountsNumbers, HoldsNumbers, append_assoc, append-nil, ◌⊎◌, inl, inr, ◌||◌, Class, Intermediate, Marker, class_of, is_head_byte, is_intermediate, is_marker, is_parameter_text, HeadProgress, Entry, Parameters, Intermediates, IllShaped, Event, head_of, is_well_shaped, sequence_event, HoldsIntermediates, HoldsHead, SameNumbers, SameIntermediates, HasReadHead, StaysIllShaped, rules}
+use Rattle.vte_core.proofs.Common.{◌≡◌, ℕ, ◌+◌, ◌<◌, ◌≤◌, ◌*◌, ◌-◌, min, Bool, true, false, List, [], ◌∷◌, ◌++◌, length, take, refl, ap, sym, ◌∙◌, arith, length-append, take_all, take-append-le, nat_tests, Collected, numbers, grouped, groups_of, has_too_many_numbers, with_number, count_of, max_numbers, is_separator, is_colon, greatest_number, CountsNumbers, HoldsNumbers, append_assoc, append-nil, ◌⊎◌, inl, inr, ◌||◌, Class, Intermediate, Marker, class_of, is_head_byte, is_intermediate, is_marker, is_parameter_text, HeadProgress, Entry, Parameters, Intermediates, IllShaped, Event, head_of, is_well_shaped, sequence_event, HoldsIntermediates, HoldsHead, SameNumbers, SameIntermediates, HasReadHead, StaysIllShaped, rules}
 use Rattle.std.proofs.lemmas.List.{length-take}
 use Rattle.vte_core.proofs.fields.Numbers.{numbered, count_of-grouped, grouped-push, is_digit_no_separator, number_of-push, numbers_are}
 use Rattle.vte_core.specs.machine.ParserFields.{IsReady}
@@ -22,7 +22,7 @@ counts-numbers collected text k =
 counts-held : (collected : Collected) (text : List ℕ) (k : CountsNumbers collected text)
     → count_of collected.params ≡ min 32 (length k.prefix)
 counts-held collected text k =
-    ap count_of k.params ∙ count_of-grouped (take most_numbers k.prefix) ∙ length-take most_numbers k.prefix
+    ap count_of k.params ∙ count_of-grouped (take max_numbers k.prefix) ∙ length-take max_numbers k.prefix
 
 -- If there is no room for the last number, the text has too many numbers.
 pub settles-full : {collected : Collected} {text : List ℕ} → CountsNumbers collected text
@@ -37,7 +37,7 @@ settles-full {collected} {text} k full =
       groups =
           k.params
           ∙ rw (counts-numbers collected text k)
-          (ap grouped (sym (take-append-le most_numbers k.prefix (last ∷ []) (omega arith))));
+          (ap grouped (sym (take-append-le max_numbers k.prefix (last ∷ []) (omega arith))));
       more = rw (counts-numbers collected text k) (grind (arith, nat_tests));
     }
 
@@ -49,9 +49,9 @@ settles-push {old} {text} k room pushed =
     let c = counts-held old text k in
     let last = numbered old.joined old.number in
     let n : length (k.prefix ++ last ∷ []) ≡ length k.prefix + 1 = length-append k.prefix (last ∷ []) in
-    let before : old.params ≡ grouped k.prefix = k.params ∙ ap grouped (take_all most_numbers k.prefix (omega arith)) in
-    let all : take most_numbers (numbers text) ≡ k.prefix ++ last ∷ [] =
-    rw (counts-numbers old text k) (take_all most_numbers (k.prefix ++ last ∷ []) (omega arith)) in
+    let before : old.params ≡ grouped k.prefix = k.params ∙ ap grouped (take_all max_numbers k.prefix (omega arith)) in
+    let all : take max_numbers (numbers text) ≡ k.prefix ++ last ∷ [] =
+    rw (counts-numbers old text k) (take_all max_numbers (k.prefix ++ last ∷ []) (omega arith)) in
     record {
       groups =
           pushed ∙ ap (λ groups. with_number groups last) before ∙ sym (grouped-push k.prefix last)
@@ -70,7 +70,7 @@ counts-separator {old} {text} b k s is params joined number = record {
   goes_on =
       λ later. ap numbers (append_assoc text (b ∷ []) later) ∙ k.goes_on (b ∷ later)
       ∙ rw (is, joined, k.number, append_assoc k.prefix) refl;
-  params = params ∙ s.groups ∙ ap (λ ns. grouped (take most_numbers ns)) (counts-numbers old text k);
+  params = params ∙ s.groups ∙ ap (λ ns. grouped (take max_numbers ns)) (counts-numbers old text k);
   number = number;
 }
 

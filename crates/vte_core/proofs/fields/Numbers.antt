@@ -1,6 +1,6 @@
 -- How lengths cut numbers into groups, also with a number more (`pushed`), and how a byte more changes the numbers of a
 -- parameter text.
-use Rattle.vte_core.proofs.Common.{◌≡◌, ℕ, suc, ◌+◌, ◌<◌, ◌≤◌, Bool, true, false, List, [], ◌∷◌, ◌++◌, length, take, drop, sum, Option, Some, None, refl, sym, ap, subst, ◌∙◌, arith, length-drop, length-append, get_or, All, take_all, take_more, take-append-le, drop-append-le, append-nil, take-append-drop, All-nil, drop_all, All-cons, All-head, All-tail, All-push, All-pop, All-take, All-drop, sum_by-cons, sum_by_push, sum_by-take-le, Number, with_number, count_of, greatest_number, most_numbers, AreGroups, ◌-◌, ◌*◌, min, map, inl, inr, append_assoc, length-take, fold, filter, slice_split, digit_value, cases_Bool, nat_tests, fold_push, numbers, numbers_of, number_of, is_colon, is_separator, numbers_from, grouped, groups_of, rules}
+use Rattle.vte_core.proofs.Common.{◌≡◌, ℕ, suc, ◌+◌, ◌<◌, ◌≤◌, Bool, true, false, List, [], ◌∷◌, ◌++◌, length, take, drop, sum, Option, Some, None, refl, sym, ap, subst, ◌∙◌, arith, length-drop, length-append, get_or, All, take_all, take_more, take-append-le, drop-append-le, append-nil, take-append-drop, All-nil, drop_all, All-cons, All-head, All-tail, All-push, All-pop, All-take, All-drop, sum_by-cons, sum_by_push, sum_by-take-le, Number, with_number, count_of, greatest_number, max_numbers, AreGroups, ◌-◌, ◌*◌, min, map, inl, inr, append_assoc, length-take, fold, filter, slice_split, digit_value, cases_Bool, nat_tests, fold_push, numbers, numbers_of, number_of, is_colon, is_separator, numbers_from, grouped, groups_of, rules, IsFilled, AreSmall, IsSmallNumber}
 use Rattle.std.proofs.lemmas.List.{length-take-le}
 use Rattle.std.specs.Option.{unwrap_or}
 use Rattle.vte_core.specs.machine.Store.{cut_by_lengths, AreLengths, AreFlatGroups, IsTakenOff}
@@ -11,23 +11,14 @@ use Rattle.std.proofs.lemmas.List.Splits.{slice_split_at, slice_split_none}
 
 -- The proofs are by induction over the lengths, whose sum is the number of numbers.
 
-abbrev pub IsFilled : List ℕ → Type 0
-IsFilled group = 0 < length group
-
-abbrev IsSmallNumber : ℕ → Type 0
-IsSmallNumber number = number ≤ greatest_number
-
-abbrev pub AreSmall : List ℕ → Type 0
-AreSmall group = All IsSmallNumber group
-
 abbrev pub numbered : Bool → ℕ → Number
 numbered joined value = record { joined = joined; value = value }
 
 -- There are at most as many lengths as their sum, as none is 0.
-length_le_sum : (lengths : List ℕ) → All (λ n. 0 < n) lengths → length lengths ≤ sum lengths
-length_le_sum [] filled = omega arith
-length_le_sum (n ∷ lengths) filled =
-    let more = length_le_sum lengths (All-tail (λ m. 0 < m) n lengths filled) in
+length-at_most_sum : (lengths : List ℕ) → All (λ n. 0 < n) lengths → length lengths ≤ sum lengths
+length-at_most_sum [] filled = omega arith
+length-at_most_sum (n ∷ lengths) filled =
+    let more = length-at_most_sum lengths (All-tail (λ m. 0 < m) n lengths filled) in
     omega (arith, more, All-head (λ m. 0 < m) n lengths filled, sum_by-cons (λ (m : ℕ). m) n lengths)
 
 -- The first length takes its part, and the others take up the rest.
@@ -81,7 +72,7 @@ small-cut_by_lengths (n ∷ lengths) numbers small =
     (small-cut_by_lengths lengths (drop n numbers) (All-drop IsSmallNumber n numbers small))
 
 pub AreGroups-cut_by_lengths : (lengths numbers : List ℕ) → AreFlatGroups lengths numbers
-    → length numbers ≤ most_numbers
+    → length numbers ≤ max_numbers
     → AreGroups (cut_by_lengths lengths numbers)
 AreGroups-cut_by_lengths lengths numbers ok at_most =
     search (rules, arith, count_of-cut_by_lengths, small-cut_by_lengths, filled-cut_by_lengths)
@@ -146,7 +137,7 @@ cut_by_lengths-more : {joined : Bool} {lengths rest numbers : List ℕ} {last : 
     ≡ with_number (cut_by_lengths lengths numbers) (numbered joined value)
     → IsPushed joined lengths rest numbers last value
 cut_by_lengths-more {rest} {numbers} {last} {value} whole filled same = record {
-  room = omega (arith, length_le_sum rest filled);
+  room = omega (arith, length-at_most_sum rest filled);
   groups = cut_by_lengths-last rest numbers (value ∷ []) (unwrap_or last 0) (unwrap_or last 0 + 1) whole refl ∙ same;
   lengths_fit = record {
     whole = omega (arith, sum_push rest (unwrap_or last 0 + 1), length-append numbers (value ∷ []));
@@ -332,7 +323,7 @@ filled-grouped ns =
     } in
     All-fold keeps [] ns (λ k d h. tt) (All-nil IsFilled)
 
-AreGroups-grouped : (ns : List Number) → length ns ≤ most_numbers → All IsSmall ns → AreGroups (grouped ns)
+AreGroups-grouped : (ns : List Number) → length ns ≤ max_numbers → All IsSmall ns → AreGroups (grouped ns)
 AreGroups-grouped ns at_most small =
     let P : ℕ → Type 0 = λ value. value ≤ greatest_number in
     let keeps : Keeps (All P) P = record {
@@ -349,5 +340,5 @@ AreGroups-grouped ns at_most small =
 pub AreGroups-groups_of : (text : List ℕ) → AreGroups (groups_of text)
 unfolding groups_of
 AreGroups-groups_of text =
-    AreGroups-grouped (take most_numbers (numbers text)) (omega (arith, length-take most_numbers (numbers text)))
-    (All-take IsSmall most_numbers (numbers text) (numbers_small text).1)
+    AreGroups-grouped (take max_numbers (numbers text)) (omega (arith, length-take max_numbers (numbers text)))
+    (All-take IsSmall max_numbers (numbers text) (numbers_small text).1)

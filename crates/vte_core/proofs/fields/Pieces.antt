@@ -1,6 +1,6 @@
 -- What is kept of the items of a command, and the pieces of what is kept. By induction over the items, with the piece
 -- that is open carried along.
-use Rattle.vte_core.proofs.Common.{◌≡◌, ℕ, ◌+◌, ◌<◌, ◌≤◌, zero, suc, Bool, true, false, List, [], ◌∷◌, ◌++◌, length, take, Option, Some, None, refl, sym, arith, append_assoc, length-append, take_at, length-take, All, filter, slice_split, onto_first, concat, ltb-true, All-push, FitsStore, semicolon, cut_data, ends_after, is_data_item, kept_after, kept_items, most_pieces, pieces_of, ap, inl, inr, cases_Bool, common_steps, eqb, drop, take-append-drop, ◌∙◌, Bor, map, set, drop_all, take_all, rules}
+use Rattle.vte_core.proofs.Common.{◌≡◌, ℕ, ◌+◌, ◌<◌, ◌≤◌, zero, suc, Bool, true, false, List, [], ◌∷◌, ◌++◌, length, take, Option, Some, None, refl, sym, arith, append_assoc, length-append, take_at, length-take, All, filter, slice_split, onto_first, concat, ltb-true, All-push, FitsStore, semicolon, cut_data, ends_after, is_data_item, kept_after, kept_items, max_pieces, pieces_of, ap, inl, inr, cases_Bool, common_steps, eqb, drop, take-append-drop, ◌∙◌, Bor, map, set, drop_all, take_all, rules}
 use Rattle.std.proofs.Common.{append-nil, drop_at, ◌==◌}
 use Rattle.std.proofs.lemmas.List.Folds.{concat-append}
 use Rattle.std.proofs.lemmas.List.Splits.{length-slice_split, slice_split_at, slice_split_none}
@@ -51,22 +51,22 @@ cut_at_ends text = sym (cut_onto [] [] text (λ k d lt. absurd (omega arith)))
 
 -- ---- how many pieces there are, and how many bytes they have
 
-length_cut_data : (start : ℕ) (bytes ends : List ℕ) → length (cut_data start bytes ends) ≡ length ends + 1
-length_cut_data start bytes [] = refl
-length_cut_data start bytes (end ∷ ends) = omega (arith, length_cut_data end bytes ends)
+length-cut_data : (start : ℕ) (bytes ends : List ℕ) → length (cut_data start bytes ends) ≡ length ends + 1
+length-cut_data start bytes [] = refl
+length-cut_data start bytes (end ∷ ends) = omega (arith, length-cut_data end bytes ends)
 
-length_onto_first : (item : ℕ) (pieces : List (List ℕ))
+length-onto_first : (item : ℕ) (pieces : List (List ℕ))
     → length (concat (onto_first item pieces)) ≡ length (concat pieces) + 1
-length_onto_first item pieces = search (rules, arith)
+length-onto_first item pieces = search (rules, arith)
 
 -- All pieces of a text together have as many bytes as it has data bytes.
 pieces_length : (text : List ℕ)
     → length (concat (slice_split (λ b. b == semicolon) text)) ≡ length (filter is_data_item text)
 pieces_length [] = refl
-pieces_length (item ∷ text) = search (rules, arith, (pieces_length text), length_onto_first)
+pieces_length (item ∷ text) = search (rules, arith, (pieces_length text), length-onto_first)
 
-length_concat_take : (n : ℕ) (pieces : List (List ℕ)) → length (concat (take n pieces)) ≤ length (concat pieces)
-length_concat_take n pieces =
+length-concat_take : (n : ℕ) (pieces : List (List ℕ)) → length (concat (take n pieces)) ≤ length (concat pieces)
+length-concat_take n pieces =
     let whole = ap concat (sym (take-append-drop n pieces)) ∙ concat-append (take n pieces) (drop n pieces) in
     omega (arith, ap length whole, length-append (concat (take n pieces)) (concat (drop n pieces)))
 
@@ -81,12 +81,12 @@ kept-fits limit count (item ∷ items) within =
 pub pieces_fit : (limit : Option ℕ) (items : List ℕ) → FitsStore limit (pieces_of limit items)
 unfolding pieces_of kept_items
 pieces_fit None items = tt
-pieces_fit (Some limit) items = search (rules, arith, length_concat_take, kept-fits, pieces_length)
+pieces_fit (Some limit) items = search (rules, arith, length-concat_take, kept-fits, pieces_length)
 
-pub few_pieces : (limit : Option ℕ) (items : List ℕ) → length (pieces_of limit items) ≤ most_pieces
+pub few_pieces : (limit : Option ℕ) (items : List ℕ) → length (pieces_of limit items) ≤ max_pieces
 unfolding pieces_of
 few_pieces limit items =
-    omega (arith, length-take most_pieces (slice_split (λ b. b == semicolon) (kept_items limit items)))
+    omega (arith, length-take max_pieces (slice_split (λ b. b == semicolon) (kept_items limit items)))
 
 pub some_pieces : (limit : Option ℕ) (items : List ℕ) → 0 < length (pieces_of limit items)
 unfolding pieces_of
@@ -122,7 +122,7 @@ kept_size items = length (concat (pieces_of None items))
 pub pieces_push : (items : List ℕ) (item : ℕ) → kept_size (items ++ item ∷ []) ≤ kept_size items + 1
 unfolding pieces_of kept_items
 pieces_push items item =
-    rw (kept-all items 0, kept-all (items ++ item ∷ []) 0) (split_push most_pieces (λ b. eqb b semicolon) items item)
+    rw (kept-all items 0, kept-all (items ++ item ∷ []) 0) (split_push max_pieces (λ b. eqb b semicolon) items item)
 
 -- ---- the slices of a dispatch
 
@@ -135,10 +135,10 @@ contents slices = map (λ slice. slice.now) slices
 -- After the last of fewer than 16 ends there is one more piece.
 pub contents_last : (slices later : List (Bor (List ℕ))) (slice : Bor (List ℕ)) (bytes ends : List ℕ)
     (start index : ℕ) →
-    index ≡ length ends → length ends < most_pieces → length slices ≡ most_pieces →
+    index ≡ length ends → length ends < max_pieces → length slices ≡ max_pieces →
     later ≡ set slices (length ends) slice → slice.now ≡ drop start bytes →
     contents (take index slices) ++ cut_data start bytes (drop index ends) ≡ cut_data 0 bytes ends →
-    contents (take (length ends + 1) later) ≡ take most_pieces (cut_data 0 bytes ends)
+    contents (take (length ends + 1) later) ≡ take max_pieces (cut_data 0 bytes ends)
 contents_last slices later slice bytes ends start index at_end at_most all written is cut =
     -- The last slice comes after those that end at an end.
     let taken = take_more_set slices (length ends) slice (omega arith) in
@@ -146,17 +146,17 @@ contents_last slices later slice bytes ends start index at_end at_most all writt
     -- No end is left, so the rest of the bytes is one piece.
     let left = drop_all index ends (omega arith) in
     -- Fewer than 16 ends cut at most 16 pieces, so all of them count.
-    let whole = take_all most_pieces (cut_data 0 bytes ends) (omega (arith, length_cut_data 0 bytes ends)) in
+    let whole = take_all max_pieces (cut_data 0 bytes ends) (omega (arith, length-cut_data 0 bytes ends)) in
     rw (written, taken, pushed, is, whole) (rw (left, at_end) at cut)
 
 -- 16 ends leave no place for what is after them.
 pub contents_all : (slices : List (Bor (List ℕ))) (bytes ends : List ℕ) (start index : ℕ) →
-    index ≡ length ends → length ends ≡ most_pieces → length slices ≡ most_pieces →
+    index ≡ length ends → length ends ≡ max_pieces → length slices ≡ max_pieces →
     contents (take index slices) ++ cut_data start bytes (drop index ends) ≡ cut_data 0 bytes ends →
-    contents (take (length ends) slices) ≡ take most_pieces (cut_data 0 bytes ends)
+    contents (take (length ends) slices) ≡ take max_pieces (cut_data 0 bytes ends)
 contents_all slices bytes ends start index at_end many all cut =
     let left = length-map (take index slices) (λ (slice : Bor (List ℕ)). slice.now) in
     let counted = length-take index slices in
     let first =
-    take_at (contents (take index slices)) (cut_data start bytes (drop index ends)) most_pieces (omega arith) in
-    rw (← at_end) (sym first ∙ ap (take most_pieces) cut)
+    take_at (contents (take index slices)) (cut_data start bytes (drop index ends)) max_pieces (omega arith) in
+    rw (← at_end) (sym first ∙ ap (take max_pieces) cut)

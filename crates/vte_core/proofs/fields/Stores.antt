@@ -3,7 +3,7 @@
 --
 -- `pieces_from-X`: the pieces if X follows; `piece_ends-X`: where pieces end; `keeps-X`: what is kept after X
 -- (`HoldsItems`).
-use Rattle.vte_core.proofs.Common.{◌≡◌, ◌≢◌, ℕ, ◌+◌, ◌-◌, ◌≤◌, ◌<◌, zero, suc, true, false, List, [], ◌∷◌, ◌++◌, length, take, drop, Option, Some, None, refl, sym, ap, ◌∙◌, arith, append_assoc, length-append, length-drop, length-take, inl, inr, All, concat, filter, slice_range, drop-append-le, take-append-le, All-head, All-tail, take-nil, cases_Bool, ltb-true, ne_eqb, semicolon, Stored, HoldsItems, PiecesEnd, cut_data, cut_pieces, ends_after, fitting, pieces_from, Bool, loses_data, has_room, is_data_item, nat_tests, kept_after, kept_items, most_pieces, pieces_of, append-nil, take_all, rules}
+use Rattle.vte_core.proofs.Common.{◌≡◌, ◌≢◌, ℕ, ◌+◌, ◌-◌, ◌≤◌, ◌<◌, zero, suc, true, false, List, [], ◌∷◌, ◌++◌, length, take, drop, Option, Some, None, refl, sym, ap, ◌∙◌, arith, append_assoc, length-append, length-drop, length-take, inl, inr, All, concat, filter, slice_range, drop-append-le, take-append-le, All-head, All-tail, take-nil, cases_Bool, ltb-true, ne_eqb, semicolon, Stored, HoldsItems, PiecesEnd, cut_data, cut_pieces, ends_after, fitting, pieces_from, Bool, loses_data, has_room, is_data_item, nat_tests, kept_after, kept_items, max_pieces, pieces_of, append-nil, take_all, rules}
 use Rattle.std.specs.Prelude.{◌||◌, nat_lt}
 use Rattle.std.proofs.lemmas.List.Elements.{filter-append}
 use Rattle.vte_core.proofs.fields.Pieces.{cut_at_ends}
@@ -157,7 +157,7 @@ abbrev IsDone : Option ℕ → Stored → Type 0
 IsDone limit held = (more : List ℕ) → pieces_from limit held.bytes held.ends more ≡ cut_pieces held.bytes held.ends
 
 -- After 16 ends, no further item counts.
-pub done-complete : {limit : Option ℕ} {held : Stored} {items : List ℕ} → length held.ends ≡ most_pieces
+pub done-complete : {limit : Option ℕ} {held : Stored} {items : List ℕ} → length held.ends ≡ max_pieces
     → HoldsItems limit held items → IsDone limit held
 done-complete {limit} {held} complete keeps more =
     let kept = kept_after limit (length held.bytes) more in
@@ -171,7 +171,7 @@ none-counts {items} more done keeps later =
     rw (append_assoc items more later) (keeps.goes_on (more ++ later) ∙ done (more ++ later) ∙ sym (done later))
 
 -- After 16 ends, data bytes are dropped.
-pub keeps-later : (limit : Option ℕ) (old new : Stored) (items run : List ℕ) → length old.ends ≡ most_pieces
+pub keeps-later : (limit : Option ℕ) (old new : Stored) (items run : List ℕ) → length old.ends ≡ max_pieces
     → All IsDataItem run
     → new.bytes ≡ old.bytes → new.ends ≡ old.ends
     → new.lost ≡ (old.lost || nat_lt (length new.bytes - length old.bytes) (length run))
@@ -185,7 +185,7 @@ pub keeps-done : {limit : Option ℕ} {held : Stored} {items : List ℕ} → IsD
 keeps-done {items} done keeps = search (rules, arith, none-counts, count-end)
 
 -- Before 16 ends, data bytes are kept as far as there is room.
-pub keeps-run : (limit : Option ℕ) (old new : Stored) (items run : List ℕ) → length old.ends < most_pieces
+pub keeps-run : (limit : Option ℕ) (old new : Stored) (items run : List ℕ) → length old.ends < max_pieces
     → All IsDataItem run
     → new.bytes ≡ old.bytes ++ fitting limit (length old.bytes) run → new.ends ≡ old.ends
     → new.lost ≡ (old.lost || nat_lt (length new.bytes - length old.bytes) (length run))
@@ -195,7 +195,7 @@ keeps-run limit old new items run at_most none bytes ends lost keeps =
     search (rules, arith, piece_ends-more, length-append, length-fitting, append_assoc, pieces_from-run, count-run)
 
 -- Before 16 ends, a `;` ends a piece if there is room.
-pub keeps-end : (limit : Option ℕ) (old new : Stored) (items : List ℕ) → length old.ends < most_pieces
+pub keeps-end : (limit : Option ℕ) (old new : Stored) (items : List ℕ) → length old.ends < max_pieces
     → has_room limit (length old.bytes) ≡ true
     → new.bytes ≡ old.bytes → new.ends ≡ old.ends ++ length old.bytes ∷ [] → new.lost ≡ old.lost
     → HoldsItems limit old items
@@ -213,7 +213,7 @@ pieces_held {limit} {held} keeps =
 pub pieces_stored : {limit : Option ℕ} {held : Stored} {items : List ℕ} → HoldsItems limit held items
     → length held.bytes ≡ length (concat (pieces_of limit items))
 pieces_stored {held} keeps =
-    rw (pieces_held keeps) (omega (arith, piece_ends-stored most_pieces 0 held.bytes held.ends keeps.end))
+    rw (pieces_held keeps) (omega (arith, piece_ends-stored max_pieces 0 held.bytes held.ends keeps.end))
 
 -- A store knows whether data bytes were dropped.
 pub loses_held : {limit : Option ℕ} {held : Stored} {items : List ℕ} → HoldsItems limit held items
@@ -260,15 +260,15 @@ piece-goes_on (suc left) start bytes (end ∷ ends) byte are =
 pub record IsOpenFor (items : List ℕ) (byte : ℕ) : Type 0 where
   pub pieces : List (List ℕ)
   pub last : List ℕ
-  pub at_most : length pieces < most_pieces
+  pub at_most : length pieces < max_pieces
   pub before : pieces_of None items ≡ pieces ++ last ∷ []
   pub later : pieces_of None (items ++ byte ∷ []) ≡ pieces ++ (last ++ byte ∷ []) ∷ []
   pub lost : loses_data None (items ++ byte ∷ []) ≡ loses_data None items
 
-pieces-at_most : (pieces : List (List ℕ)) (last : List ℕ) → length pieces < most_pieces
-    → take most_pieces (pieces ++ last ∷ []) ≡ pieces ++ last ∷ []
+pieces-at_most : (pieces : List (List ℕ)) (last : List ℕ) → length pieces < max_pieces
+    → take max_pieces (pieces ++ last ∷ []) ≡ pieces ++ last ∷ []
 pieces-at_most pieces last at_most =
-    take_all most_pieces (pieces ++ last ∷ []) (omega (arith, length-append pieces (last ∷ [])))
+    take_all max_pieces (pieces ++ last ∷ []) (omega (arith, length-append pieces (last ∷ [])))
 
 concat-last : (pieces : List (List ℕ)) (last : List ℕ)
     → length (concat (pieces ++ last ∷ [])) ≡ length (concat pieces) + length last
@@ -282,17 +282,17 @@ loss-same : (items : List ℕ) (byte : ℕ) (pieces : List (List ℕ)) (last : L
 unfolding loses_data
 loss-same items byte pieces last before later other = search (rules, arith, count-run, concat-last, length-append)
 
-pub open_for : {held : Stored} {items : List ℕ} {byte : ℕ} → HoldsItems None held items → length held.ends < most_pieces
+pub open_for : {held : Stored} {items : List ℕ} {byte : ℕ} → HoldsItems None held items → length held.ends < max_pieces
     → byte ≢ semicolon → IsOpenFor items byte
 open_for {held} {items} {byte} keeps at_most other =
-    let g = piece-goes_on most_pieces 0 held.bytes held.ends byte keeps.end in
-    let some : length g.pieces < most_pieces = omega (arith, g.ended) in
+    let g = piece-goes_on max_pieces 0 held.bytes held.ends byte keeps.end in
+    let some : length g.pieces < max_pieces = omega (arith, g.ended) in
     let more =
     keeps.goes_on (byte ∷ []) ∙ pieces_from-byte None held.bytes held.ends refl byte other []
     ∙ pieces_from-nothing None (held.bytes ++ byte ∷ []) held.ends in
     let before =
-    pieces_held keeps ∙ ap (take most_pieces) g.before ∙ pieces-at_most g.pieces g.last some in
-    let later = more ∙ ap (take most_pieces) g.later ∙ pieces-at_most g.pieces (g.last ++ byte ∷ []) some in
+    pieces_held keeps ∙ ap (take max_pieces) g.before ∙ pieces-at_most g.pieces g.last some in
+    let later = more ∙ ap (take max_pieces) g.later ∙ pieces-at_most g.pieces (g.last ++ byte ∷ []) some in
     record {
       pieces = g.pieces;
       last = g.last;

@@ -1,6 +1,6 @@
 -- What a call ensures: the facts of `drive`, put into the contract of each call, of both parsers.
 use Rattle.vte_core.proofs.Common.{◌≡◌, ℕ, ◌+◌, List, Result, arith, Machine, Refused, ReportsOutsideRuns, Bool, None, length, Ok, Err, IfErr, IfOk, refl, false, read_count, ReadsUpTo, Event, ChunkCall, ReadsUntilRefused, true, chunk_call, rules}
-use Rattle.vte_core.specs.machine.Progress.{Costs}
+use Rattle.vte_core.specs.machine.Costs.{Costs}
 use Rattle.vte_core.specs.declared.reader.run.Run.{Run}
 use Rattle.vte_core.specs.declared.reader.run.RunRange.{RunRange}
 use Rattle.vte_core.specs.Advance.{ReadsBytes, ReadsUntilTerminated}
@@ -147,11 +147,11 @@ module _ {A V : Type 0} {step : V → Event → V} {is_terminated : V → Bool} 
     stores = stores_pieces next.machine;
   }
 
-  pub to_run-read : (run : Run) {place : RunRange}
-      → ComesToRun (chunk_call true step is_terminated None bytes) old new place parser.machine next.machine
-      → run.start ≡ place.start → run.end ≡ place.end → IsTaken place.kind (bytes_at bytes place) run.taken
-      → Costs 7 bytes (Ok place) place.end parser.machine next.machine (counted parser.looks) (counted next.looks)
-      → ((stream : List ℕ) → HasReadLong parser stream → ReportsOutsideRuns None stream bytes place.start)
+  pub to_run-read : (run : Run) {range : RunRange}
+      → ComesToRun (chunk_call true step is_terminated None bytes) old new range parser.machine next.machine
+      → run.start ≡ range.start → run.end ≡ range.end → IsTaken range.kind (bytes_at bytes range) run.taken
+      → Costs 7 bytes (Ok range) range.end parser.machine next.machine (counted parser.looks) (counted next.looks)
+      → ((stream : List ℕ) → HasReadLong parser stream → ReportsOutsideRuns None stream bytes range.start)
       → ReadsLong 7 step is_terminated old new bytes parser next (Ok run) (ReadsToRun step is_terminated)
   to_run-read run comes starts ends taken costs others = record {
     reads = record {

@@ -19,10 +19,10 @@ use Rattle.vte_core.proofs.places.PartsToStream.{no_escape, bytes_lead-append, b
 
 -- ---- no run
 
-has-nowhere : {B : Type 0} {limit : Option ℕ} {bytes : List ℕ} {from : ℕ} {place : RunRange} {parser : Machine B}
-    → from ≤ length bytes → place.start ≡ from → place.end ≡ from
-    → place.kind ≡ NoKind → HasRun limit bytes place parser
-has-nowhere {limit} {bytes} {from} {place} {parser} within starts ends kind =
+has-nowhere : {B : Type 0} {limit : Option ℕ} {bytes : List ℕ} {from : ℕ} {range : RunRange} {parser : Machine B}
+    → from ≤ length bytes → range.start ≡ from → range.end ≡ from
+    → range.kind ≡ NoKind → HasRun limit bytes range parser
+has-nowhere {limit} {bytes} {from} {range} {parser} within starts ends kind =
     search (rules, arith, added-nothing, append-nil)
 
 -- A state other than `Text` and `DeviceData` is outside text and data.
@@ -38,13 +38,13 @@ pub settled-text : {state : State} {unfinished : Unfinished} → state ≡ Text 
 settled-text {unfinished} e settled = search (rules, arith)
 
 -- A run has bytes that lead from the parser's place to the same place.
-has-run : {B : Type 0} {limit : Option ℕ} {bytes : List ℕ} {place : RunRange} {parser : Machine B} {here : Place}
+has-run : {B : Type 0} {limit : Option ℕ} {bytes : List ℕ} {range : RunRange} {parser : Machine B} {here : Place}
     → IsPlace here
     → ((at : Place) → IsAtPlace limit parser at → at ≡ here)
-    → BytesLead limit here (bytes_at bytes place) (kind_events place.kind (bytes_at bytes place)) here
-    → IsRange bytes place.start place.end → AreOfKind place.kind (bytes_at bytes place)
-    → IsWholeAt bytes place place.kind → HasRun limit bytes place parser
-has-run {limit} {bytes} {place} {parser} {here} is only reads range kind whole =
+    → BytesLead limit here (bytes_at bytes range) (kind_events range.kind (bytes_at bytes range)) here
+    → IsRange bytes range.start range.end → AreOfKind range.kind (bytes_at bytes range)
+    → IsWholeAt bytes range range.kind → HasRun limit bytes range parser
+has-run {limit} {bytes} {range} {parser} {here} is only reads is_range kind whole =
     search (rules, arith, added-reads, after-reads)
 
 -- The text from one position to another is a run.
@@ -99,20 +99,20 @@ reads-anew {limit} parser begun h = search (rules, arith, place-settled_text, af
 
 -- ---- a call comes to a run, or ends without one
 
-module _ {V B : Type 0} {call : ChunkCall V} {old new : V} {place : RunRange} {before parser : Machine B} where
+module _ {V B : Type 0} {call : ChunkCall V} {old new : V} {range : RunRange} {before parser : Machine B} where
   -- A call that is at the start of a run comes to it.
-  pub comes-to_run : HasRun call.limit call.bytes place parser → place.start < place.end
+  pub comes-to_run : HasRun call.limit call.bytes range parser → range.start < range.end
       → call.is_terminated new ≡ false
       → ((stream : List ℕ) → HasReadWithLimit call.limit before stream
-      → IsAtPosition call old new stream place.start parser)
-      → ComesToRun call old new place before parser
+      → IsAtPosition call old new stream range.start parser)
+      → ComesToRun call old new range before parser
   comes-to_run has some goes is_at = search (rules, arith)
 
   -- A call that finds no run ends at its position.
-  pub comes-nowhere : {from : ℕ} → from ≤ length call.bytes → place.start ≡ from → place.end ≡ from
-      → place.kind ≡ NoKind
+  pub comes-nowhere : {from : ℕ} → from ≤ length call.bytes → range.start ≡ from → range.end ≡ from
+      → range.kind ≡ NoKind
       → ((stream : List ℕ) → HasReadWithLimit call.limit before stream → IsAtPosition call old new stream from parser)
-      → (from < length call.bytes → call.is_terminated new ≡ true) → ComesToRun call old new place before parser
+      → (from < length call.bytes → call.is_terminated new ≡ true) → ComesToRun call old new range before parser
   comes-nowhere within starts ends kind is_at stops = record {
     has = has-nowhere within starts ends kind;
     is_at_position =
@@ -130,32 +130,32 @@ record TakesRun (bytes : List ℕ) (end : ℕ) (these : List ℕ) (kind : RunKin
   events : taken_events taken ≡ kind_events kind these
   whole : IsLongestRun bytes end taken
 
-takes-by_kind : (bytes : List ℕ) (place : RunRange) (kind : RunKind) (taken : Taken)
-    → IsTaken kind (bytes_at bytes place) taken
-    → AreOfKind kind (bytes_at bytes place)
-    → length (bytes_at bytes place) ≡ place.end - place.start → IsWholeAt bytes place kind
-    → TakesRun bytes place.end (bytes_at bytes place) kind taken
-takes-by_kind bytes place kind taken same are size whole = search (rules, arith)
+takes-by_kind : (bytes : List ℕ) (range : RunRange) (kind : RunKind) (taken : Taken)
+    → IsTaken kind (bytes_at bytes range) taken
+    → AreOfKind kind (bytes_at bytes range)
+    → length (bytes_at bytes range) ≡ range.end - range.start → IsWholeAt bytes range kind
+    → TakesRun bytes range.end (bytes_at bytes range) kind taken
+takes-by_kind bytes range kind taken same are size whole = search (rules, arith)
 
-run-size : (bytes : List ℕ) (place : RunRange) → IsRange bytes place.start place.end
-    → length (bytes_at bytes place) ≡ place.end - place.start
-run-size bytes place range = search (rules, arith, length-take, length-drop)
+run-size : (bytes : List ℕ) (range : RunRange) → IsRange bytes range.start range.end
+    → length (bytes_at bytes range) ≡ range.end - range.start
+run-size bytes range is_range = search (rules, arith, length-take, length-drop)
 
-takes-run : {B : Type 0} {limit : Option ℕ} {bytes : List ℕ} {place : RunRange} {parser : Machine B} (taken : Taken)
-    → HasRun limit bytes place parser
-    → IsTaken place.kind (bytes_at bytes place) taken → TakesRun bytes place.end (bytes_at bytes place) place.kind taken
-takes-run {bytes} {place} taken h is =
-    takes-by_kind bytes place place.kind taken is h.kind (run-size bytes place h.is_range) h.whole
+takes-run : {B : Type 0} {limit : Option ℕ} {bytes : List ℕ} {range : RunRange} {parser : Machine B} (taken : Taken)
+    → HasRun limit bytes range parser
+    → IsTaken range.kind (bytes_at bytes range) taken → TakesRun bytes range.end (bytes_at bytes range) range.kind taken
+takes-run {bytes} {range} taken h is =
+    takes-by_kind bytes range range.kind taken is h.kind (run-size bytes range h.is_range) h.whole
 
-is_run-in : {B : Type 0} {limit : Option ℕ} {bytes : List ℕ} {run : Run} {place : RunRange} {parser : Machine B}
-    → HasRun limit bytes place parser → run.start ≡ place.start
-    → run.end ≡ place.end → IsTaken place.kind (bytes_at bytes place) run.taken → IsRunIn bytes run
-is_run-in {bytes} {run} {place} h starts ends taken = search (rules, arith, takes-run, run-size)
+is_run-in : {B : Type 0} {limit : Option ℕ} {bytes : List ℕ} {run : Run} {range : RunRange} {parser : Machine B}
+    → HasRun limit bytes range parser → run.start ≡ range.start
+    → run.end ≡ range.end → IsTaken range.kind (bytes_at bytes range) run.taken → IsRunIn bytes run
+is_run-in {bytes} {run} {range} h starts ends taken = search (rules, arith, takes-run, run-size)
 
 -- What the callers of a call that comes to a run see of it.
-module _ {V B : Type 0} {call : ChunkCall V} {old new : V} (run : Run) {place : RunRange} {before parser : Machine B}
-    (c : ComesToRun call old new place before parser) (starts : run.start ≡ place.start) (ends : run.end ≡ place.end)
-    (taken : IsTaken place.kind (bytes_at call.bytes place) run.taken) where
+module _ {V B : Type 0} {call : ChunkCall V} {old new : V} (run : Run) {range : RunRange} {before parser : Machine B}
+    (c : ComesToRun call old new range before parser) (starts : run.start ≡ range.start) (ends : run.end ≡ range.end)
+    (taken : IsTaken range.kind (bytes_at call.bytes range) run.taken) where
   pub returns-run : call.may_stop ≡ true
       → ReturnsRun call.step call.is_terminated old new call.limit (HasReadWithLimit call.limit before) call.bytes run
   returns-run does =

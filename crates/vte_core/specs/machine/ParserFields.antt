@@ -14,7 +14,7 @@ use Rattle.vte_core.specs.declared.parser.State.TheVariants.{Text, Escape, Escap
 use Rattle.vte_core.specs.Class.{is_intermediate, is_marker, is_parameter_text, AreInClass, is_head_byte}
 use Rattle.vte_core.specs.Intermediates.{first_two, are_too_many}
 use Rattle.vte_core.specs.Head.{head_of, is_well_shaped, reported_intermediates}
-use Rattle.vte_core.specs.Parameters.{Number, is_colon, is_separator, number_of, numbers, grouped, groups_of, has_too_many_numbers, most_numbers}
+use Rattle.vte_core.specs.Parameters.{Number, is_colon, is_separator, number_of, numbers, grouped, groups_of, has_too_many_numbers, max_numbers}
 use Rattle.vte_core.specs.machine.Place.{Place, InText, AtEscape, InEscape, InControlSequence, InDeviceControl, InDeviceData, InSystemCommand, InIgnoredString, IsAfter}
 use Rattle.vte_core.specs.machine.Store.{HoldsItems}
 use Rattle.vte_core.specs.declared.head.HeadEnd.{HeadEnd}
@@ -86,7 +86,7 @@ pub record CountsNumbers (collected : Collected) (text : List ℕ) : Type 0 wher
   pub digits : List ℕ
   pub goes_on : (more : List ℕ)
       → numbers (text ++ more) ≡ prefix ++ numbers_from collected.joined digits more
-  pub params : collected.params ≡ grouped (take most_numbers prefix)
+  pub params : collected.params ≡ grouped (take max_numbers prefix)
   pub number : collected.number ≡ number_of digits
 
 -- The first 32 numbers of the text are held.

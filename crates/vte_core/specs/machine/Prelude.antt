@@ -11,13 +11,14 @@ pub use Rattle.vte_core.specs.Outcome.{SaysLoss}
 pub use Rattle.vte_core.specs.Stream.{IsFinished, IsUnfinished}
 unfoldable pub use Rattle.vte_core.specs.Stream.{outcome}
 unfoldable pub use Rattle.vte_core.specs.SystemCommand.{loses_data}
-pub use Rattle.vte_core.specs.SystemCommand.{IsCommandData, has_room, most_pieces}
+pub use Rattle.vte_core.specs.SystemCommand.{IsCommandData, has_room, max_pieces}
 pub use Rattle.vte_core.specs.Text.{HasNoRunAt, character_event, is_control_character, is_layout, malformed_event, run_event}
 pub use Rattle.vte_core.specs.Utf8.{is_in, is_truncated, scalar_of, from_to}
 pub use Rattle.vte_core.specs.declared.parser.State.TheVariants.{DeviceData, Escape, EscapeIntermediate, IgnoredString, SystemCommand, Text}
 pub use Rattle.vte_core.specs.declared.utf8.Unfinished.TheVariants.{Nothing, One}
 pub use Rattle.vte_core.specs.machine.Scans.{Each, AreIgnored, ArePut, ArePrintedAscii, IsPrintedAscii, IsRun, IsNonEmptyRun, PrintsRun, FindsEnd, IsRange, IsWindow, Scans, LooksAtMost}
-pub use Rattle.vte_core.specs.machine.Progress.{Completes, MayRead, MayReadAt, MayReadByte, Costs, HandlesByte, MovesWithin, Refuses, SpendsWithin, Advances, IsSettled, ReadsUpTo, ReadsUntilRefused, IsAtPosition, chunk_call}
+pub use Rattle.vte_core.specs.machine.Progress.{Completes, MayRead, MayReadAt, MayReadByte, Advances, IsSettled, ReadsUpTo, ReadsUntilRefused, IsAtPosition, chunk_call}
+pub use Rattle.vte_core.specs.machine.Costs.{Costs, HandlesByte, MovesWithin, Refuses, SpendsWithin}
 pub use Rattle.vte_core.specs.machine.ParserFields.{CountsNumbers, HoldsIntermediates, HoldsHead, HasReadWithLimit, SameIntermediates, SameNumbers, HoldsNumbers, IsAtPlace, HasReadHead, ReadsHeadUpTo, with_open_number, IsReady, BeginsFour, BeginsThree, BeginsTwo, Carries, bytes_of, second_range}
 pub use Rattle.vte_core.specs.machine.Place.{AtEscape, InControlSequence, InDeviceControl, IsSettledPlace, Place, closing_events_at}
 pub use Rattle.vte_core.specs.machine.Store.{ArePieceEnds, HasCapacity, Stored, HoldsItems, ReservesCapacity, SameItems, cut_pieces, fitting}

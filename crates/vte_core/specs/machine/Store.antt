@@ -2,8 +2,8 @@
 use Rattle.std.specs.Prelude.{◌≡◌, ℕ, zero, suc, ◌+◌, ◌-◌, ◌<◌, ◌≤◌, List, [], ◌∷◌, ◌++◌, length, take, drop, Option, Some, None, ⊤, Bool, true, false, slice_index, if◌then◌else◌, ◌==◌, nat_lt, sum, All, option_to_list}
 use Rattle.std.specs.List.{filter, slice_range}
 use Rattle.std.specs.List.Sorted.{IsNonDecreasing}
-use Rattle.vte_core.specs.Parameters.{semicolon, greatest_number, most_numbers}
-use Rattle.vte_core.specs.SystemCommand.{IsCommandData, is_data_item, kept_after, most_pieces, pieces_of}
+use Rattle.vte_core.specs.Parameters.{semicolon, greatest_number, max_numbers}
+use Rattle.vte_core.specs.SystemCommand.{IsCommandData, is_data_item, kept_after, max_pieces, pieces_of}
 
 -- For each `;` of a text, how many data bytes come before it, starting from `count`.
 abbrev pub ends_after : ℕ → List ℕ → List ℕ
@@ -45,7 +45,7 @@ cut_data start bytes [] = drop start bytes ∷ []
 cut_data start bytes (end ∷ ends) = slice_range bytes start end ∷ cut_data end bytes ends
 
 abbrev pub cut_pieces : List ℕ → List ℕ → List (List ℕ)
-cut_pieces bytes ends = take most_pieces (cut_data 0 bytes ends)
+cut_pieces bytes ends = take max_pieces (cut_data 0 bytes ends)
 
 -- The pieces of what is held and of the items that follow.
 abbrev pub pieces_from : Option ℕ → List ℕ → List ℕ → List ℕ → List (List ℕ)
@@ -66,7 +66,7 @@ PiecesEnd (suc left) start (end ∷ ends) count = (start ≤ end) × PiecesEnd l
 pub record HoldsItems (limit : Option ℕ) (held : Stored) (items : List ℕ) : Type 0 where
   pub goes_on : (more : List ℕ)
       → pieces_of limit (items ++ more) ≡ pieces_from limit held.bytes held.ends more
-  pub end : PiecesEnd most_pieces 0 held.ends (length held.bytes)
+  pub end : PiecesEnd max_pieces 0 held.ends (length held.bytes)
   pub fewer : length held.bytes ≤ length (filter is_data_item items)
   pub lost : held.lost ≡ nat_lt (length held.bytes) (length (filter is_data_item items))
 
@@ -85,7 +85,7 @@ pub record SameItems (old new : Stored) : Type 0 where
 
 -- The ends of at most 16 pieces, in order and within the bytes.
 pub record ArePieceEnds (bytes ends : List ℕ) : Type 0 where
-  pub at_most : length ends ≤ most_pieces
+  pub at_most : length ends ≤ max_pieces
   pub in_order : IsNonDecreasing ends
   pub within : All (λ end. end ≤ length bytes) ends
 
@@ -118,5 +118,5 @@ pub record AreFlatGroups (lengths numbers : List ℕ) : Type 0 where
 pub record AreParts (lengths numbers : List ℕ) (groups : List (List ℕ)) : Type 0 where
   pub stored : AreFlatGroups lengths numbers
   pub cut : groups ≡ cut_by_lengths lengths numbers
-  pub few_groups : length lengths ≤ most_numbers
-  pub few_numbers : length numbers ≤ most_numbers
+  pub few_groups : length lengths ≤ max_numbers
+  pub few_numbers : length numbers ≤ max_numbers

@@ -4,7 +4,7 @@ ghost use Rattle.vte_core.specs.machine.Prelude.{Advances, CsiDispatch, Dispatch
 
 use crate::buffer::Buffer;
 use crate::class::{ends_body, is_final, is_plain_control};
-use crate::head::HeadProgress;
+use crate::head::{HeadEnd, HeadProgress};
 use crate::parser::{Machine, State, Unfinished};
 use crate::reader::{CountedPerform, Granularity, Input, Reader};
 
@@ -34,14 +34,7 @@ impl<B: Buffer> Machine<B> {
             .read_numbers(reader, HeadProgress::Entry, false, input, from);
         if let Some(byte) = head.next {
             if is_final(byte) {
-                return self.end_control_sequence(
-                    reader,
-                    performer,
-                    head.progress,
-                    false,
-                    byte,
-                    head.position,
-                );
+                return self.end_control_sequence(reader, performer, head, false, byte);
             }
             if byte == b';' {
                 self.collected.end_number();
@@ -120,14 +113,7 @@ impl<B: Buffer> Machine<B> {
             .read_numbers(reader, reached, true, input, from);
         if let Some(byte) = head.next {
             if is_final(byte) {
-                return self.end_control_sequence(
-                    reader,
-                    performer,
-                    head.progress,
-                    false,
-                    byte,
-                    head.position,
-                );
+                return self.end_control_sequence(reader, performer, head, false, byte);
             }
         }
         self.state = State::ControlSequence(head.progress);
@@ -165,14 +151,8 @@ impl<B: Buffer> Machine<B> {
         self.state = State::ControlSequence(head.progress);
         if let Some(byte) = head.next {
             if is_final(byte) {
-                return self.end_control_sequence(
-                    reader,
-                    performer,
-                    head.progress,
-                    self.collected.joined,
-                    byte,
-                    head.position,
-                );
+                let joined = self.collected.joined;
+                return self.end_control_sequence(reader, performer, head, joined, byte);
             }
             if ends_body(byte) {
                 self.end_body(reader, performer, byte);
@@ -185,33 +165,33 @@ impl<B: Buffer> Machine<B> {
         head.position
     }
 
-    /// Ends a control sequence at its final byte: dispatches it, unless its head is ill-shaped.
-    /// Returns the next position. `joined` is the field: most callers know that it is false.
+    /// Ends a control sequence at its final byte, after its head: dispatches it, unless the head is
+    /// ill-shaped. Returns the next position. `joined` is the field: most callers know that it is
+    /// false.
     #[inline(always)]
     fn end_control_sequence<P: CountedPerform<G>, G: Granularity>(
         &mut self,
         reader: &mut Reader,
         performer: &mut P,
-        progress: HeadProgress,
+        head: HeadEnd,
         joined: bool,
         byte: u8,
-        position: usize,
     ) -> usize
         requires final_byte { is_final (class_of byte) ≡ true }
         requires joined { self.old.collected.joined ≡ joined }
-        requires no_overflow { position + 1 < 2 ^ 64 }
-        ensures next { result ≡ position + 1 }
-        ensures takes { (head : List ℕ) → HasReadHead self.old.collected progress head
+        requires no_overflow { head.position + 1 < 2 ^ 64 }
+        ensures next { result ≡ head.position + 1 }
+        ensures takes { (bytes : List ℕ) → HasReadHead self.old.collected head.progress bytes
             → TakesByte P.step (P.value_of performer.old) (P.value_of performer.new) B.limit
-            (InControlSequence head) byte self.new }
+            (InControlSequence bytes) byte self.new }
         ensures handles { HandlesByte 1 self.old self.new reader.old reader.new }
     {
-        if let HeadProgress::IllShaped = progress {
+        if let HeadProgress::IllShaped = head.progress {
             self.state = State::Text(Unfinished::Nothing);
-            return position + 1;
+            return head.position + 1;
         }
         let ignore = self.collected.end_head(joined);
-        self.dispatch_control_sequence(reader, performer, ignore, byte, position)
+        self.dispatch_control_sequence(reader, performer, ignore, byte, head.position)
     }
 
     /// Dispatches a control sequence at its final byte, and returns the next position, so that

@@ -1,5 +1,5 @@
 //! The parser that keeps operating system commands of any length.
-ghost use Rattle.std.specs.Prelude.{◌≡◌, ◌≢◌, ◌+◌, ◌<◌, ◌≤◌, ℕ, true, false, List, [], None, IfErr, IfOk, length};
+ghost use Rattle.std.specs.Prelude.{◌≡◌, ◌+◌, ◌<◌, ◌≤◌, ℕ, true, false, List, [], None, IfErr, IfOk, length};
 ghost use Rattle.vte_core.specs.LongParser.{HasReadLong, LacksMemoryForMore, lost_data_long, memory_of, reading_of_long};
 ghost use Rattle.vte_core.specs.LongParser.{open_command_size};
 ghost use Rattle.vte_core.specs.Parser.{IsCopyOfParser};
@@ -133,7 +133,7 @@ impl<A: Allocator> LongParser<A> {
         // Memory is refused only if the bytes don't fit: of a command that has ended none count.
         ensures lacks_open { result ≡ false → (stream : List ℕ) → HasReadLong self.new stream
             → memory_of self.new < open_command_size stream + more }
-        // It says the same of the last command's data.
+        // `command_lost_data` answers as before.
         ensures lost { lost_data_long self.new ≡ lost_data_long self.old }
         ensures count { counted self.new.looks ≡ counted self.old.looks }
     {
@@ -150,7 +150,7 @@ impl<A: Allocator> LongParser<A> {
             → open_command_size stream ≡ 0
             → memory_of self.new ≡ 0 }
         ensures less { memory_of self.new ≤ memory_of self.old }
-        // It says the same of the last command's data.
+        // `command_lost_data` answers as before.
         ensures lost { lost_data_long self.new ≡ lost_data_long self.old }
         ensures count { counted self.new.looks ≡ counted self.old.looks }
     {

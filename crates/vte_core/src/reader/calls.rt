@@ -1,6 +1,5 @@
 //! The calls that read bytes into a [`Parser`].
 // proof: each makes a [`Chunk`] of its bytes.
-ghost use Rattle.std.specs.Prelude.{◌≡◌};
 ghost use Rattle.vte_core.specs.Advance.{ReadsBytes, ReadsUntilTerminated};
 ghost use Rattle.vte_core.specs.AdvanceToRun.{ReadsToRun};
 ghost use Rattle.vte_core.specs.Parser.{reading_of};

@@ -10,12 +10,12 @@ use crate::class::is_layout;
 use crate::reader::{CountedPerform, Granularity, Input, Reader};
 use crate::utf8::{is_continuation, is_lead, is_printed_ascii, may_begin_four, may_begin_three};
 
-/// Longer runs go on in blocks.
+/// The bytes of a run that are read one by one. Longer runs go on in blocks.
 // proof: by then single bytes have taken fewer looks than they may, enough to pay for one wasted
 // block. For that 66 are enough.
 const SHORT_RUN: usize = 96;
 
-/// Runs without ASCII go on in blocks sooner, because their characters cost more one by one.
+/// The same for a run without ASCII, whose characters cost more one by one.
 // proof: a look for each byte leaves enough after the eighth.
 const SHORT_NON_ASCII_RUN: usize = 24;
 

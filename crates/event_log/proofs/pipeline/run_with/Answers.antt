@@ -40,9 +40,9 @@ loop-preserved g c =
       empty = at_ok chunk.result works chunk.ensures.empties;
       come = λ input held e f.
           let count = c.in-Ok.count in
-          let some : 0 < length (take count c.read.new.room) =
-          omega (arith, length-take-le count c.read.new.room c.in-Ok.ensures.bound) in
-          come_more (take count c.read.new.room) (c.loop.invariant.come input held e f) c.in-Ok.ensures.moves some
+          let some : 0 < length (take count c.read.new.buffer) =
+          omega (arith, length-take-le count c.read.new.buffer c.in-Ok.ensures.bound) in
+          come_more (take count c.read.new.buffer) (c.loop.invariant.come input held e f) c.in-Ok.ensures.moves some
           (λ whole h. at_ok chunk.result works (chunk.ensures.writes whole h));
     }
 

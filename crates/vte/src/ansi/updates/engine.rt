@@ -4,7 +4,7 @@ ghost use Rattle.std.specs.Prelude.{◌≡◌, ℕ, ◌+◌, ◌≤◌, [], leng
 ghost use Rattle.vte.specs.Views.{EngineHasParsedAndHolds, engine_view};
 ghost use Rattle.vte.specs.ProcessorCalls.{held_of};
 ghost use Rattle.vte.specs.machine.Hold.{released_of};
-ghost use Rattle.vte.specs.Processor.{State, hold_turn, meaning_of, most_held, parse, set_times, stop};
+ghost use Rattle.vte.specs.Processor.{State, hold_turn, meaning_of, max_held, parse, set_times, stop};
 ghost use Rattle.vte.specs.machine.Engine.{EngineIsAtKeepingMemory, EndsParsingTurn, EndsTurn, ArePartsAt, ArePartsAtKeepingMemory, ArePartsAtWithMemory, EngineLeadsOn};
 ghost use Rattle.vte.specs.LongProcessor.{EngineReads, EngineStops, LacksMemoryForSome, Reserves};
 ghost use Rattle.vte_handler.specs.Timeout.{timeout_meaning};
@@ -193,7 +193,7 @@ impl<P: EventParser + Drop, B: TextBuffer + Drop, T: Timeout + Drop, A: Allocato
 
     /// Returns whether there is room to hold this many more bytes.
     fn has_room(&self, count: usize) -> bool
-        ensures { result ≡ nat_le (length (held_of self.now.hold) + count) most_held }
+        ensures { result ≡ nat_le (length (held_of self.now.hold) + count) max_held }
     {
         count <= MAX_HELD && self.hold.len() <= MAX_HELD - count
     }
@@ -252,7 +252,7 @@ impl<P: EventParser + Drop, B: TextBuffer + Drop, T: Timeout + Drop, A: Allocato
     // cargo: #[inline]
     fn hold_bytes<H: Handler, G: ParseAs<H, T, P>>(&mut self, handler: &mut H, bytes: &[u8])
         requires some { 0 < length bytes.now }
-        requires fits { length (held_of self.old.hold) + length bytes.now ≤ most_held }
+        requires fits { length (held_of self.old.hold) + length bytes.now ≤ max_held }
         ensures { EngineLeadsOn (engine_view P.limit P.view B.text_size T.value_of) self.old
             self.new (H.value_of handler.old) (H.value_of handler.new)
             (λ s IsNowAt. P.view.has_memory self.old.parser (B.text_size self.old.state.text)

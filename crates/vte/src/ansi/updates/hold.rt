@@ -2,7 +2,7 @@
 ghost use Rattle.std.proofs.Props.{props};
 ghost use Rattle.std.specs.Prelude.{◌≡◌, ◌+◌, ◌≤◌, [], None, length, drop, IfOk, vec_capacity};
 ghost use Rattle.vte.specs.Synchronized.{after_last_end};
-ghost use Rattle.vte.specs.Processor.{most_held};
+ghost use Rattle.vte.specs.Processor.{max_held};
 ghost use Rattle.vte.specs.declared.ansi.updates.hold.TheConstants.{CAPACITY};
 
 use crate::ansi::updates::release::find_release;
@@ -22,7 +22,7 @@ pub(crate) struct SyncState<A: Allocator> {
     ghost within: { released ≤ length bytes.items },
     // `by` proves that it has one proof at most, as the kit asks of such a condition.
     ghost no_end: { after_last_end (drop released bytes.items) ≡ None } by { Prim.hlevel props },
-    ghost fits: { length (drop released bytes.items) ≤ most_held },
+    ghost fits: { length (drop released bytes.items) ≤ max_held },
     // The memory never grows.
     ghost capacity: { CAPACITY ≤ vec_capacity bytes },
 }
@@ -70,7 +70,7 @@ impl<A: Allocator> SyncState<A> {
     /// Adds bytes. If an update ends among all bytes, releases those that no longer need to be
     /// held. Returns how many updates begin among the added bytes, after the last one that ends.
     pub(crate) fn add(&mut self, more: &[u8]) -> usize
-        requires { length (held_of self.old) + length more.now ≤ most_held }
+        requires { length (held_of self.old) + length more.now ≤ max_held }
         ensures { IsAdded (held_of self.old) more.now self.new result }
     {
         self.forget_released();

@@ -1,6 +1,6 @@
 //! What a hold releases when bytes are added to it.
 ghost use Rattle.std.specs.Prelude.{◌≡◌, ℕ, ◌+◌, ◌≤◌, ◌<◌, ◌^◌, List, ◌++◌, IsTrue, None, length};
-ghost use Rattle.vte.specs.machine.Hold.{Adds, IsHeldTail, BeginsNoUpdate, NoneBetween};
+ghost use Rattle.vte.specs.machine.Hold.{Adds, IsHeldTail, HasNoPrivateSequence, NoneBetween};
 ghost use Rattle.vte.specs.Synchronized.{begin_update, begins_with, after_last_end, end_update};
 
 use memchr::memrchr;
@@ -56,7 +56,7 @@ fn skip_blocks(text: &[u8], before: usize) -> usize
     let mut unread = before;
     while unread >= 32 {
         match text[unread - 32..].first_chunk::<34>() {
-            Some(block) if begins_no_update(block) => unread -= 32,
+            Some(block) if has_no_private_sequence(block) => unread -= 32,
             _ => break,
         }
     }
@@ -66,8 +66,8 @@ fn skip_blocks(text: &[u8], before: usize) -> usize
 /// Returns whether neither sequence begins in the first 32 bytes of a block, because no ESC is
 /// followed by what both have as their third byte. Compilers make vector instructions of the loop.
 #[inline(always)]
-fn begins_no_update(block: &[u8; 34]) -> bool
-    ensures { IsTrue result → BeginsNoUpdate block.now 32 }
+fn has_no_private_sequence(block: &[u8; 34]) -> bool
+    ensures { IsTrue result → HasNoPrivateSequence block.now 32 }
 {
     let mut plain = true;
     for at in 0..32 {

@@ -1,4 +1,4 @@
--- The caller's counts and slices are those of the room (`counts_are`). So what `read_into` ensures, of the bytes that
+-- The caller's counts and slices are those of the writer (`counts_are`). So what `read_into` ensures, of the bytes that
 -- 32 bits can count, holds for the caller.
 use Rattle.vte_c.proofs.Common.{Event, HasReported, List, [], append_assoc, arith, drop, drop-append-le, length, length-take, fed_count, rules, sym, take, take-append-drop, take-take, ℕ, ◌++◌, ◌<◌, ◌∙◌, ◌≡◌, ◌≤◌}
 use Rattle.vte_c.proofs.ReadBack.{counts_are, counted}
@@ -9,9 +9,9 @@ returns c =
     let bytes = c.args.bytes.now in
     let m = c.min-end.result in
     let read = c.read_into-read in
-    let room = read.new.room in
-    let kinds = c.new-room.ensures.kinds in
-    let stops = c.new-room.ensures.stops in
+    let writer = read.new.writer in
+    let kinds = c.new-writer.ensures.kinds in
+    let stops = c.new-writer.ensures.stops in
     -- The call reads from the first m bytes: all of them, or as many as 32 bits can count.
     let whole : take m bytes ++ drop m bytes ≡ bytes = take-append-drop m bytes in
     let within : read.result ≤ length (take m bytes) = read.ensures.within in
@@ -23,14 +23,14 @@ returns c =
     λ (given : List Event) (stream rest : List ℕ)
     (h : HasReported c.args.kinds c.args.parser.now given stream (bytes ++ rest)).
     read.ensures.feeds given stream (drop m bytes ++ rest) (rw (kinds, ← append_assoc (take m bytes), whole) h) in
-    -- The caller's counts, records and data are those of the room, whose slices are the caller's.
+    -- The caller's counts, records and data are those of the writer, whose slices are the caller's.
     let are =
     λ (given : List Event) (stream rest : List ℕ)
     (h : HasReported c.args.kinds c.args.parser.now given stream (bytes ++ rest)).
     let fed = feeds given stream rest h in
-    counts_are room c.min.result c.min-2.result (fed.encodes [])
-    (c.events-1.given.1.1 (sym (fed.events_name ∙ c.new-room.ensures.same_events)))
-    (c.area-1.given.1.1 (sym (fed.area_name ∙ c.new-room.ensures.same_area)))
+    counts_are writer c.min.result c.min-2.result (fed.encodes [])
+    (c.events-1.given.1.1 (sym (fed.events_name ∙ c.new-writer.ensures.same_events)))
+    (c.area-1.given.1.1 (sym (fed.area_name ∙ c.new-writer.ensures.same_area)))
     (omega (arith, c.min.ensures, c.count.ensures, c.events-1.given.1.0))
     (omega (arith, c.min-2.ensures, c.used.ensures, c.area-1.given.1.0)) in
     record {
@@ -47,7 +47,7 @@ returns c =
           let a = are given stream rest h in
           rw (a.same_count, a.same_used, a.same_records, a.same_area)
           (rw whole at ((feeds given stream rest h).encodes (drop m bytes)));
-      room = (omega (arith, c.min.ensures, c.events-1.given.1.0), omega (arith, c.min-2.ensures, c.area-1.given.1.0));
+      fits = (omega (arith, c.min.ensures, c.events-1.given.1.0), omega (arith, c.min-2.ensures, c.area-1.given.1.0));
       -- On this path there is enough room, so neither of these two cases is possible.
       too_few = λ few. record {
         says = search rules;

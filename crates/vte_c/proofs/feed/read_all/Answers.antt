@@ -1,6 +1,6 @@
 -- Each round goes on from where the one before stopped (`gone-then`). A round that reads nothing ends the call; the
 -- first one does so only if a record that stops was written.
-use Rattle.vte_c.proofs.Common.{Room, ap, arith, cases_lt, inl, inr, refl, room_of, sym, ◌+◌, ◌<◌, ◌∙◌, ◌≡◌}
+use Rattle.vte_c.proofs.Common.{Buffers, ap, arith, cases_lt, inl, inr, refl, buffers_of, sym, ◌+◌, ◌<◌, ◌∙◌, ◌≡◌}
 use Rattle.vte_c.proofs.CallSteps.{gone-nothing, gone-then}
 use Rattle.vte_c.proofs.feed.read_all.Goals as goal
 
@@ -35,9 +35,9 @@ returns-then-read-eq0-clause-progress c = λ since reads others some.
     elim (cases_lt 0 c.loop-position.position) [
       | inl past ↦ past
       | inr none ↦
-          let same : room_of c.loop-position.room ≡ room_of c.args.room.now = v.first (omega (arith, none)) in
+          let same : buffers_of c.loop-position.writer ≡ buffers_of c.args.writer.now = v.first (omega (arith, none)) in
           let further : 0 < c.read_more-read.result =
           c.read_more-read.ensures.progress a.next a.reads (rw same c.requires.starts)
-          (rw (← ap (λ (r : Room). r.stops) same) at others) in
+          (rw (← ap (λ (r : Buffers). r.stops) same) at others) in
           absurd (omega (arith, further, c.if-read-eq0.true))
     ]

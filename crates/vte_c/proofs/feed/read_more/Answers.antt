@@ -1,9 +1,10 @@
 -- A call of the parser goes on to the run that it returns, and by this run (`goes-to-run`), and reads a byte if it can
 -- (`further`).
-use Rattle.vte_c.proofs.Common.{List, arith, drop, length, length-drop, room_of, resumed_stream, take, take_all, ℕ, ◌++◌, ◌-◌, ◌≡◌, ◌≤◌, usual_limit}
+use Rattle.vte_c.proofs.Common.{List, arith, drop, length, length-drop, buffers_of, resumed_stream, take, ℕ, ◌++◌, ◌-◌, ◌≡◌, ◌≤◌, usual_limit}
 use Rattle.vte_core.specs.AdvanceToRun.{run_bytes}
 use Rattle.vte_c.proofs.CallSteps.{Laws, further, goes-to-run}
 use Rattle.vte_c.proofs.feed.read_more.Goals as goal
+use Rattle.std.proofs.lemmas.List.{take_rest}
 
 pub returns : goal.returns
 returns c =
@@ -13,8 +14,7 @@ returns c =
     let rest : List ℕ = drop c.args.from bytes in
     let size = length-drop c.args.from bytes in
     -- The parser receives the rest of the bytes, from `from` on.
-    let unread : take (length bytes - c.args.from) rest ≡ rest =
-    take_all (length bytes - c.args.from) rest (omega arith) in
+    let unread : take (length bytes - c.args.from) rest ≡ rest = take_rest bytes c.args.from in
     let returned = rw unread at call.ensures.returns in
     let begins : c.args.from ≤ length bytes = omega (arith, c.requires.within) in
     -- The steps use these laws of `vte_core`.
@@ -31,12 +31,12 @@ returns c =
         next = resumed_stream since rest run.start ++ run_bytes run;
         reads = rw unread at (call.ensures.reads since reads);
         goes =
-            goes-to-run (room_of c.args.room.now) (room_of call.new.performer)
-            (room_of c.add_run.new.self) since bytes c.args.from run laws
-            c.requires.roomy begins returned reads c.add_run.ensures.utf8 written;
+            goes-to-run (buffers_of c.args.writer.now) (buffers_of call.new.performer)
+            (buffers_of c.add_run.new.self) since bytes c.args.from run laws
+            c.requires.has_room begins returned reads c.add_run.ensures.utf8 written;
       };
       progress =
-          λ since reads starts others. further (room_of c.args.room.now) (room_of call.new.performer)
-          (room_of c.add_run.new.self) since bytes c.args.from run laws
-          c.requires.roomy begins returned reads starts c.requires.within written others;
+          λ since reads starts others. further (buffers_of c.args.writer.now) (buffers_of call.new.performer)
+          (buffers_of c.add_run.new.self) since bytes c.args.from run laws
+          c.requires.has_room begins returned reads starts c.requires.within written others;
     }

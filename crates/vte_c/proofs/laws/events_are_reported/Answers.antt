@@ -1,5 +1,5 @@
 -- A saved parser of zeros is a new one, which has read nothing. What calls give is joined, and in the end nothing is
--- unread (`Joining`).
+-- unread (`ReadBack`).
 use Rattle.vte_c.proofs.Common.{refl, sym, ◌∙◌, usual_limit}
 use Rattle.vte_c.proofs.ReadBack.{all_reported, given_all, given_before, given_first}
 use Rattle.vte_c.proofs.laws.events_are_reported.Goals as goal

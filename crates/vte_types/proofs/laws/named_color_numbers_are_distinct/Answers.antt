@@ -1,4 +1,4 @@
--- A table reads the colour back from its number (`Shades`).
+-- A table reads the colour back from its number (`Colors`).
 use Rattle.vte_types.proofs.Colors.{number_decides}
 use Rattle.vte_types.proofs.laws.named_color_numbers_are_distinct.Goals as goal
 

@@ -1,6 +1,6 @@
--- Each digit that is shown is read back (`RgbTexts`).
-use Rattle.vte_types.proofs.Colors.{color_back}
+-- Each digit that is shown is read back (`Colors`).
+use Rattle.vte_types.proofs.Colors.{hex_color_of-shown}
 use Rattle.vte_types.proofs.laws.shown_colors_are_read_back.Goals as goal
 
 pub returns : goal.returns
-returns c = color_back
+returns c = hex_color_of-shown

@@ -21,7 +21,7 @@ const MAX_ADDED: usize = MAX_DATA + 4;
 
 /// Returns whether a command has the most pieces, or with their lengths the most data bytes that a
 /// parser with a limit keeps. Any other has lost no data.
-fn has_most(pieces: usize, size: usize) -> bool {
+fn is_at_limit(pieces: usize, size: usize) -> bool {
     pieces >= MAX_PIECES || size >= MAX_PIECE_BYTES
 }
 
@@ -35,10 +35,10 @@ fn bytes_of_one(number: u16) -> [u8; 3] {
 /// It is terminated if there is no room for what one byte may add: two events, and the data of one
 /// and of a character. It also is after a command that may have lost data, so that the parser can
 /// be asked whether it has, and after an event of the kinds that stop.
-pub(crate) struct Events<'a> {
+pub(crate) struct EventWriter<'a> {
     events: &'a mut [VteEvent],
     area: &'a mut [u8],
-    // for how many data bytes there is room, each place of which 32 bits hold
+    // for how many data bytes there is room, whose offsets 32 bits hold
     size: usize,
     // how many events and data bytes were written
     count: usize,
@@ -47,15 +47,15 @@ pub(crate) struct Events<'a> {
     kinds: u32,
     stops: u32,
     met: bool,
-    // whether a command came of which the parser wasn't asked yet, and the place of its record
+    // whether a command came of which the parser wasn't asked yet, and the index of its record
     paused: bool,
     command: usize,
-    // from how many events on the room is full: from none on once one that stops was written, in a
-    // pause, and if the area has little room left
+    // from how many events on the buffers are full: from none on once one that stops was written,
+    // in a pause, and if the area has little room left
     full_count: usize,
 }
 
-impl<'a> Events<'a> {
+impl<'a> EventWriter<'a> {
     /// Creates a performer that has written nothing, and writes into these buffers.
     pub(crate) fn new(
         events: &'a mut [VteEvent],
@@ -65,7 +65,7 @@ impl<'a> Events<'a> {
     ) -> Self {
         let full_count = events.len() - 1;
         let size = area.len().min(u32::MAX as usize);
-        Events {
+        EventWriter {
             events,
             area,
             size,
@@ -133,7 +133,7 @@ impl<'a> Events<'a> {
         self.add_written(event, end);
     }
 
-    /// Writes a run that is in the input, where the parser returned it for the bytes from a place
+    /// Writes a run that is in the input, where the parser returned it for the bytes from an offset
     /// on. Without a run it goes on after a pause, in which the parser returns none.
     #[inline(always)]
     pub(crate) fn add_run(&mut self, from: usize, run: Run<'_>, lost_data: bool) {
@@ -223,11 +223,11 @@ impl<'a> Events<'a> {
                 .with_flag(bell_terminated)
                 .with_count(pieces.len());
             self.add_written(event, end);
-            self.pause_if(has_most(pieces.len(), end - start), command);
+            self.pause_if(is_at_limit(pieces.len(), end - start), command);
         }
     }
 
-    /// Writes the record of an event whose data was written up to a place, if that is in the area.
+    /// Writes the record of an event whose data was written up to `end`, if that is in the area.
     #[inline(always)]
     fn add_written(&mut self, event: VteEvent, end: usize) {
         if end <= self.size && self.count < self.events.len() {
@@ -241,7 +241,7 @@ impl<'a> Events<'a> {
     }
 }
 
-impl Perform for Events<'_> {
+impl Perform for EventWriter<'_> {
     /// Writes a character that isn't in the input as it is.
     fn print(&mut self, c: char) {
         // rustc knows the bytes of the one for malformed sequences.

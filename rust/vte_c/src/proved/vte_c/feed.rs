@@ -2,7 +2,7 @@
 //! From bytes to events.
 
 use crate::proved::vte_c::event::VteEvent;
-use crate::proved::vte_c::events::Events;
+use crate::proved::vte_c::events::EventWriter;
 use vte::{Parser, Saved};
 
 /// For how many events there must be room: what two bytes add.
@@ -46,29 +46,29 @@ pub(crate) fn feed(
     // Records have 32 bits for places in the input.
     let end = bytes.len().min(u32::MAX as usize);
     let bytes = &bytes[..end];
-    let mut room = Events::new(events, area, kinds, stops);
-    let read = read_into(parser, bytes, &mut room);
+    let mut writer = EventWriter::new(events, area, kinds, stops);
+    let read = read_into(parser, bytes, &mut writer);
     *counts = VteCounts {
-        events: room.count().min(most),
-        bytes: room.used().min(size),
+        events: writer.count().min(most),
+        bytes: writer.used().min(size),
     };
     read
 }
 
 /// Reads bytes into empty buffers.
-fn read_into(saved: &mut Saved, bytes: &[u8], room: &mut Events<'_>) -> usize {
+fn read_into(saved: &mut Saved, bytes: &[u8], writer: &mut EventWriter<'_>) -> usize {
     let mut parser = Parser::new();
     parser.restore(saved);
-    let read = read_all(&mut parser, bytes, room);
+    let read = read_all(&mut parser, bytes, writer);
     parser.save(saved);
     read
 }
 
-/// Reads bytes until they end or the room is full.
-fn read_all(parser: &mut Parser<1024>, bytes: &[u8], room: &mut Events<'_>) -> usize {
+/// Reads bytes until they end or the buffers are full.
+fn read_all(parser: &mut Parser<1024>, bytes: &[u8], writer: &mut EventWriter<'_>) -> usize {
     let mut position = 0;
-    while position < bytes.len() && !room.is_full() {
-        let read = read_more(parser, bytes, position, room);
+    while position < bytes.len() && !writer.is_full() {
+        let read = read_more(parser, bytes, position, writer);
         if read == 0 {
             return position;
         }
@@ -78,8 +78,13 @@ fn read_all(parser: &mut Parser<1024>, bytes: &[u8], room: &mut Events<'_>) -> u
 }
 
 /// Reads up to a run of text or data, and the run, whose record it writes.
-fn read_more(parser: &mut Parser<1024>, bytes: &[u8], from: usize, room: &mut Events<'_>) -> usize {
-    let run = parser.advance_to_run(room, &bytes[from..]);
-    room.add_run(from, run, parser.command_lost_data());
+fn read_more(
+    parser: &mut Parser<1024>,
+    bytes: &[u8],
+    from: usize,
+    writer: &mut EventWriter<'_>,
+) -> usize {
+    let run = parser.advance_to_run(writer, &bytes[from..]);
+    writer.add_run(from, run, parser.command_lost_data());
     run.end
 }

@@ -8,7 +8,7 @@
 
 pub(crate) mod event;
 pub(crate) use event::VteEvent;
-pub(crate) use events::Events;
+pub(crate) use events::EventWriter;
 pub(crate) use feed::{VteCounts, MIN_EVENTS, NO_ROOM};
 mod events;
 mod feed;
@@ -31,7 +31,7 @@ const EVENT_SIZE: usize = size_of::<VteEvent>();
 ///
 /// It stops early when the buffers are nearly full, and after an event of the kinds `stops`, which
 /// at most one follows: call it again with the rest. If there is room for fewer than
-/// `vte_least_events` events or `vte_least_data` data bytes, it reads nothing and returns
+/// `vte_min_events` events or `vte_min_data` data bytes, it reads nothing and returns
 /// `usize::MAX`.
 pub fn vte_feed(
     parser: &mut Saved,
@@ -48,10 +48,10 @@ pub fn vte_feed(
 /// Reads bytes, and writes the text that is left without the sequences. Returns how many bytes were
 /// read.
 ///
-/// It stops early when the buffer is nearly full. If it has room for fewer than `vte_least_text`
+/// It stops early when the buffer is nearly full. If it has room for fewer than `vte_min_text`
 /// bytes, nothing is read, and `usize::MAX` is returned.
-pub fn vte_strip(parser: &mut Saved, bytes: &[u8], room: &mut [u8], written: &mut usize) -> usize {
-    text::strip(parser, bytes, room, written)
+pub fn vte_strip(parser: &mut Saved, bytes: &[u8], text: &mut [u8], written: &mut usize) -> usize {
+    text::strip(parser, bytes, text, written)
 }
 
 /// Returns what is unfinished, or 0.
@@ -77,16 +77,16 @@ pub fn vte_event_size() -> usize {
 }
 
 /// Returns for how many events there has to be room.
-pub fn vte_least_events() -> usize {
+pub fn vte_min_events() -> usize {
     feed::MIN_EVENTS
 }
 
 /// Returns for how many data bytes there has to be room.
-pub fn vte_least_data() -> usize {
+pub fn vte_min_data() -> usize {
     feed::MIN_DATA
 }
 
 /// Returns for how many bytes of text there has to be room.
-pub fn vte_least_text() -> usize {
+pub fn vte_min_text() -> usize {
     text::MIN_TEXT
 }

@@ -11,25 +11,25 @@ pub(crate) const MIN_TEXT: usize = 16;
 const MAX_TEXT: usize = 8;
 
 /// Writes text into the caller's buffer, as long as all of it fits.
-struct Text<'a> {
-    room: &'a mut [u8],
+struct TextWriter<'a> {
+    bytes: &'a mut [u8],
     used: usize,
     // if not, nothing is kept
     fits: bool,
 }
 
-impl Text<'_> {
+impl TextWriter<'_> {
     /// Returns for how many more bytes there is room.
     fn left(&self) -> usize {
-        self.room.len().saturating_sub(self.used)
+        self.bytes.len().saturating_sub(self.used)
     }
 
     /// Writes a text, if there is room for it.
     #[inline(always)]
     fn add(&mut self, text: &[u8]) {
-        let (used, size) = (self.used, self.room.len());
+        let (used, size) = (self.used, self.bytes.len());
         if self.fits && used <= size && text.len() <= size - used {
-            self.room[used..used + text.len()].copy_from_slice(text);
+            self.bytes[used..used + text.len()].copy_from_slice(text);
             self.used = used + text.len();
         } else {
             self.used = 0;
@@ -38,7 +38,7 @@ impl Text<'_> {
     }
 }
 
-impl Perform for Text<'_> {
+impl Perform for TextWriter<'_> {
     #[inline]
     fn print(&mut self, c: char) {
         self.add(c.encode_utf8(&mut [0; 4]).as_bytes());
@@ -86,7 +86,7 @@ impl Perform for Text<'_> {
     }
 }
 
-impl PerformText for Text<'_> {
+impl PerformText for TextWriter<'_> {
     fn keeps_layout(&self) -> bool {
         true
     }
@@ -102,36 +102,36 @@ impl PerformText for Text<'_> {
 pub(crate) fn strip(
     parser: &mut Saved,
     bytes: &[u8],
-    room: &mut [u8],
+    text: &mut [u8],
     written: &mut usize,
 ) -> usize {
     *written = 0;
-    if room.len() < MIN_TEXT {
+    if text.len() < MIN_TEXT {
         return NO_ROOM;
     }
-    let size = room.len();
-    let mut text = Text {
-        room,
+    let size = text.len();
+    let mut writer = TextWriter {
+        bytes: text,
         used: 0,
         fits: true,
     };
-    let read = read_into(parser, bytes, &mut text);
-    *written = text.used.min(size);
+    let read = read_into(parser, bytes, &mut writer);
+    *written = writer.used.min(size);
     read
 }
 
 /// Reads bytes into an empty buffer, until they end or there may be no room for the text of one
 /// more.
-fn read_into(saved: &mut Saved, bytes: &[u8], room: &mut Text<'_>) -> usize {
+fn read_into(saved: &mut Saved, bytes: &[u8], writer: &mut TextWriter<'_>) -> usize {
     let mut parser = Parser::new();
     parser.restore(saved);
     let mut count = 0;
     // The text of a chunk fits whatever its bytes are, so no character needs a stop.
-    while count < bytes.len() && room.left() >= MAX_TEXT {
+    while count < bytes.len() && writer.left() >= MAX_TEXT {
         let unread = &bytes[count..];
-        let size = unread.len().min(room.left() / MAX_TEXT);
+        let size = unread.len().min(writer.left() / MAX_TEXT);
         let chunk = &unread[..size];
-        parser.advance_text(room, chunk);
+        parser.advance_text(writer, chunk);
         count += chunk.len();
     }
     parser.save(saved);

@@ -7,13 +7,13 @@ use std::io::{self, Read, Write};
 ///
 /// A source that has failed stays failed.
 pub trait Source {
-    /// Moves the next bytes to the front of `room` and returns their number, which is 0 for a
-    /// non-empty `room` only at the end.
+    /// Moves the next bytes to the front of `buffer` and returns their number, which is 0 for a
+    /// non-empty `buffer` only at the end.
     ///
     /// # Errors
     ///
     /// Fails if the source has failed. Then no byte was taken.
-    fn read(&mut self, room: &mut [u8]) -> Result<usize, ()>;
+    fn read(&mut self, buffer: &mut [u8]) -> Result<usize, ()>;
 }
 
 /// A destination for bytes.
@@ -57,11 +57,11 @@ impl<D> Device<D> {
 }
 
 impl<D: Read> Source for Device<D> {
-    fn read(&mut self, room: &mut [u8]) -> Result<usize, ()> {
+    fn read(&mut self, buffer: &mut [u8]) -> Result<usize, ()> {
         if self.error.is_some() {
             return Err(());
         }
-        match self.inner.read(room) {
+        match self.inner.read(buffer) {
             Ok(count) => Ok(count),
             Err(error) => {
                 self.error = Some(error);

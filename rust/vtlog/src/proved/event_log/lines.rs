@@ -8,13 +8,13 @@ use crate::array_vec::ArrayVec;
 pub(crate) use short::{line_of_execute, line_of_put};
 
 /// The size of a buffer for lines.
-const ROOM: usize = 8192;
+const CAPACITY: usize = 8192;
 
 /// A buffer of 8,192 bytes for lines, each appended whole or not at all.
 ///
 /// A line that doesn't fit is dropped. The buffer never allocates.
 pub struct Lines {
-    bytes: ArrayVec<u8, ROOM>,
+    bytes: ArrayVec<u8, CAPACITY>,
     // the start of the line that is being written, and whether all of it has fitted so far
     start: usize,
     fits: bool,
@@ -38,13 +38,13 @@ impl Lines {
     }
 
     /// Returns the number of bytes that still fit.
-    pub(crate) fn room(&self) -> usize {
-        ROOM - self.bytes.len()
+    pub(crate) fn remaining_capacity(&self) -> usize {
+        CAPACITY - self.bytes.len()
     }
 
-    /// Returns whether more than half of the room is in use, so that the lines should be written.
+    /// Returns whether more than half of the capacity is in use: then the lines should be written.
     pub(crate) fn is_more_than_half_full(&self) -> bool {
-        self.bytes.len() > ROOM / 2
+        self.bytes.len() > CAPACITY / 2
     }
 
     /// Removes all lines.

@@ -37,16 +37,16 @@ fn run_with<C: Collector, R: Source, W: Sink>(
     writer: &mut W,
 ) -> Result<(), Fault> {
     let mut parser = RunParser::new();
-    let mut room = [0; CHUNK];
+    let mut buffer = [0; CHUNK];
     for _ in 0..u64::MAX {
-        let count = match reader.read(&mut room) {
+        let count = match reader.read(&mut buffer) {
             Ok(count) => count,
             _ => return Err(Fault::Read),
         };
         if count == 0 {
             return Ok(());
         }
-        if write_chunk(&mut parser, collector, writer, &room[..count]).is_err() {
+        if write_chunk(&mut parser, collector, writer, &buffer[..count]).is_err() {
             return Err(Fault::Write);
         }
     }

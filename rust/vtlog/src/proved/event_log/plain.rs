@@ -88,7 +88,7 @@ impl PerformText for Plain {
     }
 
     fn print_text(&mut self, text: &str) {
-        if text.len() <= self.texts.room() {
+        if text.len() <= self.texts.remaining_capacity() {
             self.texts.append(text.as_bytes());
             return;
         }
@@ -103,7 +103,8 @@ impl Collector for Plain {
     fn collect<'a>(&mut self, parser: &mut RunParser, bytes: &'a [u8]) -> &'a [u8] {
         let mut unread = bytes;
         while !unread.is_empty() && !self.terminated() {
-            let (chunk, rest) = unread.split_at(unread.len().min(self.texts.room() / MAX_TEXT));
+            let size = self.texts.remaining_capacity() / MAX_TEXT;
+            let (chunk, rest) = unread.split_at(unread.len().min(size));
             parser.advance_text(self, chunk);
             unread = rest;
         }

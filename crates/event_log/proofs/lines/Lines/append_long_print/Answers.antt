@@ -1,4 +1,4 @@
--- The line has the last five of the six hex digits, or all of them (`PrintLines`).
+-- The line has the last five of the six hex digits, or all of them (`Fields`).
 use Rattle.event_log.proofs.Common.{arith, hex_byte, six_hex_digits}
 use Rattle.event_log.proofs.Fields.{line_of_five, line_of_six}
 use Rattle.event_log.proofs.lines.Lines.append_long_print.Goals as goal

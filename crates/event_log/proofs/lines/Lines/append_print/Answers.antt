@@ -1,4 +1,4 @@
--- A number below 0x10000 has four hex digits, which are those of two bytes (`PrintLines`).
+-- A number below 0x10000 has four hex digits, which are those of two bytes (`Fields`).
 use Rattle.event_log.proofs.Common.{arith, hex_byte}
 use Rattle.event_log.proofs.Fields.{line_of_four}
 use Rattle.event_log.proofs.lines.Lines.append_print.Goals as goal

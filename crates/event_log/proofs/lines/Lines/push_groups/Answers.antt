@@ -1,13 +1,10 @@
 -- The first group, and then each other one after `;`, are the text of all groups (`groups_written`). Without groups
 -- that text is empty.
-use Rattle.event_log.proofs.Common.{◌≡◌, ◌++◌, ◌<◌, ℕ, List, Bor, get_or, length, map, [], refl, sym, ◌∙◌, append-nil, arith, common_steps, All-tail, flat_map, shown}
+use Rattle.event_log.proofs.Common.{◌≡◌, ◌++◌, ℕ, List, Bor, get_or, map, [], refl, sym, ◌∙◌, append-nil, arith, common_steps, All-tail, flat_map, shown, IsFilled}
 use Rattle.event_log.proofs.Common.{after_semicolon, group_text, groups_written, shown-nil}
 use Rattle.event_log.proofs.Fields.{extends_then}
 use Rattle.event_log.proofs.lines.Lines.push_groups.Goals as goal
 use Rattle.event_log.proofs.lines.Lines.push_groups.Goals.{in-Some+in-None, in_default}
-
-abbrev Filled : List ℕ → Type 0
-Filled group = 0 < length group
 
 pub loop-group-init : goal.loop-group-init
 loop-group-init c =
@@ -15,7 +12,7 @@ loop-group-init c =
     let begun = rw parts at c.iter-groups.ensures.groups.filled in
     rw (c.into_iter-group-iterator.ensures.into_iter_gives) (record {
       along = rw parts refl;
-      filled = All-tail Filled c.in-Some.first.now _ begun;
+      filled = All-tail IsFilled c.in-Some.first.now _ begun;
       pushed = rw (parts, append-nil) (extends_then c.push.ensures c.push_numbers.ensures);
     })
 
@@ -26,7 +23,7 @@ loop-group-preserved c =
     let all = extends_then h.pushed (extends_then c.push-in-loop-group.ensures c.push_numbers-in-loop-group.ensures) in
     record {
       along = grind (arith, common_steps);
-      filled = All-tail Filled c.in-Some-group.group.now c.next-in-loop-group.new.self (rw next at h.filled);
+      filled = All-tail IsFilled c.in-Some-group.group.now c.next-in-loop-group.new.self (rw next at h.filled);
       pushed = grind (arith, common_steps, all);
     }
 

@@ -6,12 +6,12 @@ use Rattle.std.proofs.lemmas.List.{map-id}
 use Rattle.event_log.proofs.Lengths.{after-more, takes_run, text_of_one}
 use Rattle.event_log.proofs.plain.PlainPerformText.print_text.Goals as goal
 
-pub returns-then-text-room : goal.returns-then-text-room
-returns-then-text-room c =
+pub returns-then-text-remaining_capacity : goal.returns-then-text-remaining_capacity
+returns-then-text-remaining_capacity c =
     let appended = rw c.as_bytes.ensures.value at c.append.ensures in
     rw (← c.self.view_is) (appended
     ∙ takes_run (record_in c.self.inside.texts) c.args.text.now c.utf8.text
-    (omega (arith, c.room.ensures, c.if-text-room.true)))
+    (omega (arith, c.remaining_capacity.ensures, c.if-text-remaining_capacity.true)))
 
 pub loop-c-preserved : goal.loop-c-preserved
 loop-c-preserved c =

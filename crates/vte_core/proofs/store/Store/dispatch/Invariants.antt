@@ -1,11 +1,11 @@
 -- The pieces cut so far and those still to cut are all that the ends cut.
-use Rattle.vte_core.proofs.Common.{◌≡◌, ◌≤◌, ◌<◌, ℕ, ◌++◌, length, take, drop, get_or, cut_data, most_pieces}
+use Rattle.vte_core.proofs.Common.{◌≡◌, ◌≤◌, ◌<◌, ℕ, ◌++◌, length, take, drop, get_or, cut_data, max_pieces}
 use Rattle.vte_core.proofs.fields.Pieces.{contents}
 use Rattle.vte_core.proofs.store.Store.dispatch.Given as goal
 
 abbrev pub invariant-loop-index : goal.invariant-loop-index
 invariant-loop-index g l = record {
-  all : length l.pieces ≡ most_pieces;
+  all : length l.pieces ≡ max_pieces;
   held : l.start ≤ length l.bytes;
   ordered : (k : ℕ) → l.index ≤ k → k < length l.ends → l.start ≤ get_or l.ends k 0;
   pieces : contents (take l.index l.pieces) ++ cut_data l.start l.bytes (drop l.index l.ends)

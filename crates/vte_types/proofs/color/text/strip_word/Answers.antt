@@ -1,10 +1,10 @@
--- What std leaves of a text is what follows the word (`after_is`).
+-- What std leaves of a text is what follows the word (`after_word-is`).
 use Rattle.std.proofs.lemmas.Bool.Decides.{Decides-eqb}
 use Rattle.std.proofs.lemmas.Slice.Eq.{strip_prefix_is}
-use Rattle.vte_types.proofs.Words.{after_is}
+use Rattle.vte_types.proofs.Words.{after_word-is}
 use Rattle.vte_types.proofs.color.text.strip_word.Goals as goal
 
 pub returns : goal.returns
 returns c =
-    after_is c.args.word.now c.args.text.now _
+    after_word-is c.args.word.now c.args.text.now _
     (strip_prefix_is Decides-eqb c.args.text.now c.args.word.now _ c.strip_prefix.ensures.cases)

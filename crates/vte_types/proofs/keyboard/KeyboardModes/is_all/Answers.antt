@@ -10,6 +10,6 @@ pub returns : goal.returns
 unfolding bitflags_on_literals
 returns c =
     let bits = bits_of c.args.self.now in
-    let told = c.is_all.ensures tt in
+    let is_said = c.is_all.ensures tt in
     let decides = Decides-eqb _ bits in
-    (λ is. all_set bits (decides.0 (sym told ∙ is)), λ are. told ∙ decides.1 (set_all bits are))
+    (λ is. all_set bits (decides.0 (sym is_said ∙ is)), λ are. is_said ∙ decides.1 (set_all bits are))

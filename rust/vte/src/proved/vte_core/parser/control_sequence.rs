@@ -3,7 +3,7 @@
 
 use crate::proved::vte_core::buffer::Buffer;
 use crate::proved::vte_core::class::{ends_body, is_final, is_plain_control};
-use crate::proved::vte_core::head::HeadProgress;
+use crate::proved::vte_core::head::{HeadEnd, HeadProgress};
 use crate::proved::vte_core::parser::{Machine, State, Unfinished};
 use crate::proved::vte_core::reader::{CountedPerform, Granularity, Reader};
 
@@ -27,14 +27,7 @@ impl<B: Buffer> Machine<B> {
             .read_numbers(reader, HeadProgress::Entry, false, input, from);
         if let Some(byte) = head.next {
             if is_final(byte) {
-                return self.end_control_sequence(
-                    reader,
-                    performer,
-                    head.progress,
-                    false,
-                    byte,
-                    head.position,
-                );
+                return self.end_control_sequence(reader, performer, head, false, byte);
             }
             if byte == b';' {
                 self.collected.end_number();
@@ -96,14 +89,7 @@ impl<B: Buffer> Machine<B> {
             .read_numbers(reader, reached, true, input, from);
         if let Some(byte) = head.next {
             if is_final(byte) {
-                return self.end_control_sequence(
-                    reader,
-                    performer,
-                    head.progress,
-                    false,
-                    byte,
-                    head.position,
-                );
+                return self.end_control_sequence(reader, performer, head, false, byte);
             }
         }
         self.state = State::ControlSequence(head.progress);
@@ -137,14 +123,8 @@ impl<B: Buffer> Machine<B> {
         self.state = State::ControlSequence(head.progress);
         if let Some(byte) = head.next {
             if is_final(byte) {
-                return self.end_control_sequence(
-                    reader,
-                    performer,
-                    head.progress,
-                    self.collected.joined,
-                    byte,
-                    head.position,
-                );
+                let joined = self.collected.joined;
+                return self.end_control_sequence(reader, performer, head, joined, byte);
             }
             if ends_body(byte) {
                 self.end_body(reader, performer, byte);
@@ -157,24 +137,24 @@ impl<B: Buffer> Machine<B> {
         head.position
     }
 
-    /// Ends a control sequence at its final byte: dispatches it, unless its head is ill-shaped.
-    /// Returns the next position. `joined` is the field: most callers know that it is false.
+    /// Ends a control sequence at its final byte, after its head: dispatches it, unless the head is
+    /// ill-shaped. Returns the next position. `joined` is the field: most callers know that it is
+    /// false.
     #[inline(always)]
     fn end_control_sequence<P: CountedPerform<G> + ?Sized, G: Granularity>(
         &mut self,
         reader: Reader,
         performer: &mut P,
-        progress: HeadProgress,
+        head: HeadEnd,
         joined: bool,
         byte: u8,
-        position: usize,
     ) -> usize {
-        if let HeadProgress::IllShaped = progress {
+        if let HeadProgress::IllShaped = head.progress {
             self.state = State::Text(Unfinished::Nothing);
-            return position + 1;
+            return head.position + 1;
         }
         let ignore = self.collected.end_head(joined);
-        self.dispatch_control_sequence(reader, performer, ignore, byte, position)
+        self.dispatch_control_sequence(reader, performer, ignore, byte, head.position)
     }
 
     /// Dispatches a control sequence at its final byte, and returns the next position, so that

@@ -9,8 +9,8 @@ use crate::proved::vte_core::class::is_layout;
 use crate::proved::vte_core::reader::{Reader, Window};
 use crate::proved::vte_core::utf8::{is_continuation, is_printed_ascii};
 
-/// After so many blocks of ASCII one after another, larger ones are tried: in text with a few other
-/// characters they would mostly be wasted. Without line ends, ASCII is read by words before.
+/// The blocks of ASCII, one after another, after which larger ones are tried: in text with a few
+/// other characters they would mostly be wasted. Without line ends, ASCII is read by words before.
 const ASCII_BLOCKS: usize = 4;
 
 impl Reader {

@@ -11,10 +11,10 @@ use crate::proved::vte_core::utf8::{
     is_continuation, is_lead, is_printed_ascii, may_begin_four, may_begin_three,
 };
 
-/// Longer runs go on in blocks.
+/// The bytes of a run that are read one by one. Longer runs go on in blocks.
 const SHORT_RUN: usize = 96;
 
-/// Runs without ASCII go on in blocks sooner, because their characters cost more one by one.
+/// The same for a run without ASCII, whose characters cost more one by one.
 const SHORT_NON_ASCII_RUN: usize = 24;
 
 impl Reader {

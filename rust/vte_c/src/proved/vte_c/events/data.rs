@@ -2,11 +2,11 @@
 //! The data of events: the groups of a sequence and the pieces of a command, written into the
 //! caller's area.
 
-use super::{bytes_of_one, Events};
+use super::{bytes_of_one, EventWriter};
 use crate::proved::vte_c::event::count_byte;
 use vte::Params;
 
-impl Events<'_> {
+impl EventWriter<'_> {
     /// Writes groups into the area. Returns where they end.
     pub(super) fn write_groups(&mut self, params: &Params) -> usize {
         let mut end = self.used;
@@ -16,13 +16,13 @@ impl Events<'_> {
         end
     }
 
-    /// Writes a group at a place in the area: its count of numbers, and two bytes for each.
-    fn write_group(&mut self, place: usize, group: &[u16]) -> usize {
+    /// Writes a group into the area at `start`: its count of numbers, and two bytes for each.
+    fn write_group(&mut self, start: usize, group: &[u16]) -> usize {
         // most groups have one number
         if let [number] = group {
-            return self.write(place, &bytes_of_one(*number));
+            return self.write(start, &bytes_of_one(*number));
         }
-        let mut end = self.write(place, &[count_byte(group.len())]);
+        let mut end = self.write(start, &[count_byte(group.len())]);
         for number in group {
             end = self.write(end, &[(*number % 256) as u8, (*number / 256) as u8]);
         }
@@ -38,8 +38,8 @@ impl Events<'_> {
         end
     }
 
-    /// Writes a piece at a place in the area, after four bytes with its length.
-    fn write_piece(&mut self, place: usize, piece: &[u8]) -> usize {
+    /// Writes a piece into the area at `start`, after four bytes with its length.
+    fn write_piece(&mut self, start: usize, piece: &[u8]) -> usize {
         let length = piece.len().min(u32::MAX as usize);
         let bytes = [
             (length % 256) as u8,
@@ -47,16 +47,16 @@ impl Events<'_> {
             (length / 65536 % 256) as u8,
             (length / 16777216) as u8,
         ];
-        let place = self.write(place, &bytes);
-        self.write(place, piece)
+        let end = self.write(start, &bytes);
+        self.write(end, piece)
     }
 
-    /// Writes bytes at a place in the area, if there is room. Returns where they end, or would end.
+    /// Writes bytes into the area at `start`, if they fit. Returns where they end, or would end.
     #[inline(always)]
-    pub(super) fn write(&mut self, place: usize, bytes: &[u8]) -> usize {
-        let end = place.saturating_add(bytes.len());
+    pub(super) fn write(&mut self, start: usize, bytes: &[u8]) -> usize {
+        let end = start.saturating_add(bytes.len());
         if end <= self.size {
-            self.area[place..end].copy_from_slice(bytes);
+            self.area[start..end].copy_from_slice(bytes);
         }
         end
     }

@@ -1,11 +1,11 @@
 // Written by tools/erase from crates/vte_c/src/events/pause.rt: edit that one.
 //! The pause after a command that may have lost data, in which the parser is asked.
 
-use super::{Events, MAX_ADDED};
+use super::{EventWriter, MAX_ADDED};
 use crate::proved::vte_c::event;
 
-impl Events<'_> {
-    /// Pauses if a command may have lost data, and keeps the place of its record.
+impl EventWriter<'_> {
+    /// Pauses if a command may have lost data, and keeps the index of its record.
     pub(super) fn pause_if(&mut self, may_have_lost: bool, command: usize) {
         if may_have_lost {
             self.paused = true;
@@ -29,10 +29,10 @@ impl Events<'_> {
 
     /// Says in the record of the last command that it lost data, if it was written.
     fn add_loss(&mut self) {
-        let place = self.command;
-        if place < self.count && place < self.events.len() && self.events[place].kind == event::OSC
+        let index = self.command;
+        if index < self.count && index < self.events.len() && self.events[index].kind == event::OSC
         {
-            self.events[place] = self.events[place].with_loss();
+            self.events[index] = self.events[index].with_loss();
         }
     }
 }

@@ -10,7 +10,7 @@ loop-unread-preserved c =
     let block : c.in-Some.block.now ≡ take 34 (drop at c.args.text.now) =
     c.in-Some.ensures.cases.same
     ∙ ap (take 34) (take_all (length c.args.text.now - at) (drop at c.args.text.now) (rw length-drop (omega arith))) in
-    let plain = rw block at c.begins_no_update.ensures c.if-begins_no_update.true in
+    let plain = rw block at c.has_no_private_sequence.ensures c.if-has_no_private_sequence.true in
     record {
       within = omega (arith, v.within);
       none = λ k low high. elim (cases_lt k c.loop-unread.unread) [

@@ -22,7 +22,7 @@ returns-in-IllShaped-clause-takes g c = λ head s.
 -- A well-shaped head is dispatched.
 pub returns-clause-takes : goal.returns-clause-takes
 returns-clause-takes g c = λ head s.
-    let ready = c.end_head-ignore.ensures c.args.progress head (head-holds c.in_default.not-IllShaped s) in
+    let ready = c.end_head-ignore.ensures c.args.head.progress head (head-holds c.in_default.not-IllShaped s) in
     let d = c.dispatch_control_sequence.ensures.dispatches in
     record {
       reported = sequence_event CsiDispatch (head_of head) c.args.byte ∷ [];

@@ -46,7 +46,7 @@ fn skip_blocks(text: &[u8], before: usize) -> usize {
     let mut unread = before;
     while unread >= 32 {
         match first_chunk::<34>(&text[unread - 32..]) {
-            Some(block) if begins_no_update(block) => unread -= 32,
+            Some(block) if has_no_private_sequence(block) => unread -= 32,
             _ => break,
         }
     }
@@ -56,7 +56,7 @@ fn skip_blocks(text: &[u8], before: usize) -> usize {
 /// Returns whether neither sequence begins in the first 32 bytes of a block, because no ESC is
 /// followed by what both have as their third byte. Compilers make vector instructions of the loop.
 #[inline(always)]
-fn begins_no_update(block: &[u8; 34]) -> bool {
+fn has_no_private_sequence(block: &[u8; 34]) -> bool {
     let mut plain = true;
     for at in 0..32 {
         plain &= (block[at] != ESCAPE) | (block[at + 2] != b'?');

@@ -1,6 +1,6 @@
 -- By the timeout's answer: the bytes are held while an update is pending and they fit the hold. Otherwise it is
 -- stopped if it is pending or bytes are held, and the turn parses.
-use Rattle.vte.proofs.Common.{◌≡◌, ◌<◌, length, refl, sym, ◌∙◌, arith, nat_tests, nat_le, most_held, held_of, inr, true, false, and-false, ◌+◌, meaning_of, engine_view, EngineIsAtKeepingMemory}
+use Rattle.vte.proofs.Common.{◌≡◌, ◌<◌, length, refl, sym, ◌∙◌, arith, nat_tests, nat_le, max_held, held_of, inr, true, false, and-false, ◌+◌, meaning_of, engine_view, EngineIsAtKeepingMemory}
 use Rattle.vte.proofs.turns.TurnKinds.{is_held, is_stopped, stop_if_due}
 use Rattle.vte.proofs.turns.RefusedTurns.{refused-nothing}
 use Rattle.vte.proofs.turns.EngineTurns.{after-next, ends_turn, kept-next, next-at, stops-next, turned_hold}
@@ -14,7 +14,7 @@ returns-clause-turned g c = λ s at.
     let parses : is_held pending s c.args.bytes.now ≡ false = elim c.else-pending.branch [
       -- The bytes don't fit the hold.
       | else-pending-via-then-pending+else-has_room w ↦
-          let full : nat_le (length s.held + length c.args.bytes.now) most_held ≡ false =
+          let full : nat_le (length s.held + length c.args.bytes.now) max_held ≡ false =
           rw (← at.agrees.holds) (sym w.has_room.ensures ∙ w.if-has_room.false) in
           rw (full, and-false) refl
       -- No update is pending.
@@ -51,7 +51,7 @@ returns-clause-turned g c = λ s at.
 pub returns-then-has_room-clause-turned : goal.returns-then-has_room-clause-turned
 returns-then-has_room-clause-turned g c = λ s at.
     let here = kept-next c.reserve.ensures.reserved (next-at at) in
-    let fits : nat_le (length s.held + length c.args.bytes.now) most_held ≡ true =
+    let fits : nat_le (length s.held + length c.args.bytes.now) max_held ≡ true =
     rw (← at.agrees.holds) (sym c.has_room.ensures ∙ c.if-has_room.true) in
     let held : is_held c.pending_timeout-pending.result s c.args.bytes.now ≡ true = rw (c.if-pending.true, fits) refl in
     record {
@@ -70,7 +70,7 @@ returns-then-not-reserve-clause-turned g c =
 -- Memory was refused for all bytes, which fit the hold.
 pub returns-then-not-reserve-clause-lacks : goal.returns-then-not-reserve-clause-lacks
 returns-then-not-reserve-clause-lacks g c =
-    let fits : nat_le (length (held_of c.reserve.new.self.hold) + length c.args.bytes.now) most_held ≡ true =
+    let fits : nat_le (length (held_of c.reserve.new.self.hold) + length c.args.bytes.now) max_held ≡ true =
     rw c.reserve.ensures.hold (sym c.has_room.ensures ∙ c.if-has_room.true) in
     record {
       more = length c.args.bytes.now;

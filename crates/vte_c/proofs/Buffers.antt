@@ -1,0 +1,367 @@
+-- What events leave in the buffers. Those that aren't full have room for what one byte adds, so each event is written
+-- as one entry (`event_written`), or isn't one of the kinds asked for (`event_passed`); so is all that one byte reports
+-- (`entries-unit_more`), and a run of the input (`entries-run`).
+use Rattle.vte_c.proofs.Common.{All, All-head, All-tail, AreGroups, CsiDispatch, Event, Execute, Hook, IsBounded, IsShort, List, OscDispatch, Print, [], arith, concat, usual_limit, count_of, data_of, flat_map, group_bytes, len_utf8_bounds, length, length-append, length-encode, piece_bytes, refl, sum_by-cons, two_bytes, ℕ, ◌*◌, ◌+◌, ◌<◌, ◌∷◌, ◌≡◌, ◌≤◌, AreReadable, Bool, DataRun, EscDispatch, EventWriter, HasEntries, NoRecordStops, Holds, InInput, AreFromOneByte, IsRunAt, Entry, Put, Buffers, Run, Single, StopsAtKind, TextRun, Unhook, VteEvent, add-zero, after, ap, append-nil, append_assoc, cases_Bool, false, filter-append, flag_byte, flat_map-append, has, has_kind, has_room_for, if◌then◌else◌, inl, inr, may_have_lost, is_full, entry_data, event_kind, kinds_of, length-map, map, map-append, max_added, nat_lt, nat_tests, or_parts, record_at, records_from, reported, resumed, buffers_of, run_kind, run_record, subst, sym, take, true, buffers_with_event, with_entries, with_one, with_record, without_loss, ◌%◌, ◌++◌, ◌∙◌, IsFilled}
+use Rattle.std.proofs.Math.Bool.{or-false, or_assoc}
+use Rattle.std.proofs.lemmas.List.Folds.{list_any-append}
+use Rattle.vte_core.proofs.places.PlaceLeads.{short_bounded}
+use Rattle.vte_core.proofs.streams.After.{after_events-append}
+use Rattle.vte_c.proofs.Continuations.{no_kind_stops-append, no_kind_stops-none}
+
+-- ---- how long the data of an event are
+
+-- Each event has at most 1,088 bytes, and the second one that a byte adds at most four, by cases of the event.
+
+pub length-two_bytes : (numbers : List ℕ) → length (flat_map two_bytes numbers) ≡ 2 * length numbers
+length-two_bytes [] = refl
+length-two_bytes (n ∷ numbers) = omega (arith, length-two_bytes numbers)
+
+length-group_bytes : (groups : List (List ℕ))
+    → length (flat_map group_bytes groups) ≡ length groups + 2 * count_of groups
+length-group_bytes [] = refl
+length-group_bytes (group ∷ groups) =
+    let parts = length-append (group_bytes group) (flat_map group_bytes groups) in
+    let all = sum_by-cons length group groups in
+    omega (arith, parts, all, length-two_bytes group, length-group_bytes groups)
+
+length-piece_bytes : (pieces : List (List ℕ))
+    → length (flat_map piece_bytes pieces) ≡ 4 * length pieces + length (concat pieces)
+length-piece_bytes [] = refl
+length-piece_bytes (piece ∷ pieces) =
+    let parts = length-append (piece_bytes piece) (flat_map piece_bytes pieces) in
+    omega (arith, parts, length-append piece (concat pieces), length-piece_bytes pieces)
+
+length-filled : (groups : List (List ℕ)) → All IsFilled groups → length groups ≤ count_of groups
+length-filled [] filled = omega arith
+length-filled (group ∷ groups) filled =
+    let some : 0 < length group = All-head IsFilled group groups filled in
+    omega (arith, sum_by-cons length group groups, length-filled groups (All-tail IsFilled group groups filled))
+
+pub length-groups : (groups : List (List ℕ)) → AreGroups groups → length groups ≤ 32
+length-groups groups h = omega (arith, length-filled groups h.filled, h.at_most)
+
+group_bytes-at_most : (groups : List (List ℕ)) → AreGroups groups → length (flat_map group_bytes groups) ≤ 96
+group_bytes-at_most groups h = omega (arith, length-group_bytes groups, length-groups groups h, h.at_most)
+
+-- No event has more data bytes.
+abbrev max_data : ℕ
+max_data = 1088
+
+data_of-at_most : (event : Event) → IsBounded usual_limit event → length (data_of event) ≤ max_data
+data_of-at_most (Print c) h = omega (arith, length-encode c, (len_utf8_bounds c).1)
+data_of-at_most (Hook groups ints ignore final) h = omega (arith, group_bytes-at_most groups h.0)
+data_of-at_most (OscDispatch pieces bell) h = omega (arith, length-piece_bytes pieces, h.0, h.1)
+data_of-at_most (CsiDispatch groups ints ignore final) h = omega (arith, group_bytes-at_most groups h.0)
+data_of-at_most _ h = omega arith
+
+-- The second event that a byte adds is short.
+data_of-short : (event : Event) → IsShort event → length (data_of event) ≤ 4
+data_of-short (Print c) h = omega (arith, length-encode c, (len_utf8_bounds c).1)
+data_of-short (Execute byte) h = omega arith
+data_of-short _ h = absurd h
+
+-- ---- entries one after the other, if the buffers aren't full in between
+
+records-append : (offset : ℕ) (front back : List Entry)
+    → records_from offset (front ++ back)
+    ≡ records_from offset front ++ records_from (offset + length (flat_map entry_data front)) back
+records-append offset [] back = rw add-zero refl
+records-append offset (entry ∷ front) back =
+    let size : offset + length (entry_data entry) + length (flat_map entry_data front)
+    ≡ offset + length (entry_data entry ++ flat_map entry_data front) =
+    omega (arith, length-append (entry_data entry) (flat_map entry_data front)) in
+    rw (← size, records-append (offset + length (entry_data entry)) front back) refl
+
+pub length-records : (offset : ℕ) (entries : List Entry) → length (records_from offset entries) ≡ length entries
+length-records offset [] = refl
+length-records offset (entry ∷ entries) = omega (arith, length-records (offset + length (entry_data entry)) entries)
+
+with_entries-append : (buffers : Buffers) (front back : List Entry)
+    → with_entries (with_entries buffers front) back ≡ with_entries buffers (front ++ back)
+with_entries-append buffers front back =
+    let size : buffers.used + length (flat_map entry_data front) + length (flat_map entry_data back)
+    ≡ buffers.used + length (flat_map entry_data front ++ flat_map entry_data back) =
+    omega (arith, length-append (flat_map entry_data front) (flat_map entry_data back)) in
+    let count : buffers.count + length front + length back ≡ buffers.count + length (front ++ back) =
+    omega (arith, length-append front back) in
+    rw (← count, records-append, flat_map-append, ← size, list_any-append)
+    (rw (append_assoc buffers.events, append_assoc buffers.area, or_assoc) refl)
+
+-- As long as buffers aren't full, no record stops.
+pub unmet : {old new : Buffers} {input : List ℕ} {entries : List Entry} → HasEntries old new input entries
+    → is_full new ≡ false
+    → NoRecordStops old.stops (records_from old.used entries)
+unmet {old} {new} {input} {entries} h free =
+    let met : new.met ≡ false = grind (arith, nat_tests) in
+    no_kind_stops-none old.stops (records_from old.used entries)
+    (or_parts old.met (has_kind old.stops (records_from old.used entries))
+    (sym (ap (λ (r : Buffers). r.met) h.written) ∙ met)).1
+
+readable-append : (input : List ℕ) (front back : List Entry) → AreReadable input front → AreReadable input back
+    → AreReadable input (front ++ back)
+readable-append input [] back f b = b
+readable-append input (Single event ∷ front) back f b = (f.0, readable-append input front back f.1 b)
+readable-append input (InInput run start size ∷ front) back f b = (f.0, readable-append input front back f.1 b)
+
+-- At most two records may all be the last ones: one that stops, and one after it.
+stops_soon : (stops offset : ℕ) (entries : List Entry) → length entries ≤ 2
+    → StopsAtKind stops (kinds_of (records_from offset entries))
+stops_soon stops offset entries at_most =
+    let count = length-map (records_from offset entries) (λ (event : VteEvent). event.kind) in
+    record {
+      before = [];
+      last = kinds_of (records_from offset entries);
+      parts = refl;
+      others = tt;
+      at_most = omega (arith, count, length-records offset entries);
+    }
+
+pub entries-nothing : (buffers : Buffers) (input : List ℕ) → HasEntries buffers buffers input []
+entries-nothing buffers input =
+    record {
+      readable = tt;
+      written = simp (append-nil, add-zero, or-false) refl;
+      first = stops_soon buffers.stops buffers.used [] (omega arith);
+    }
+
+pub entries-then : {old mid new : Buffers} {input : List ℕ} {front back : List Entry} → HasEntries old mid input front
+    → is_full mid ≡ false
+    → HasEntries mid new input back → HasEntries old new input (front ++ back)
+entries-then {old} {mid} {new} {input} {front} {back} a free b =
+    let before = records_from old.used front in
+    let s = subst (λ (r : Buffers). StopsAtKind r.stops (kinds_of (records_from r.used back))) a.written b.first in
+    record {
+      readable = readable-append input front back a.readable b.readable;
+      written = b.written ∙ ap (λ (r : Buffers). with_entries r back) a.written ∙ with_entries-append old front back;
+      first = record {
+        before = kinds_of before ++ s.before;
+        last = s.last;
+        parts = rw (records-append old.used front back, map-append, append_assoc (kinds_of before), ← s.parts) refl;
+        others = no_kind_stops-append old.stops (kinds_of before) s.before (unmet a free) s.others;
+        at_most = s.at_most;
+      };
+    }
+
+-- ---- before a write the area holds no data of the event
+
+pub holds_nothing : (events : EventWriter) → Holds (buffers_of events) events events.used []
+holds_nothing events = record {
+  same = refl;
+  ends = omega (arith, events.used_limit, events.size_limit);
+  held = λ within. sym (append-nil (take events.used events.area.now));
+}
+
+-- ---- a run of the input
+
+-- What is written has no bit for lost data.
+run_plain : (run : Run) (start size : ℕ)
+    → without_loss (run_record (run_kind run) start size) ≡ run_record (run_kind run) start size
+unfolding without_loss
+run_plain TextRun start size = refl
+run_plain DataRun start size = refl
+
+bell_plain : (bell : Bool) → flag_byte bell % 2 ≡ flag_byte bell
+bell_plain true = refl
+bell_plain false = refl
+
+single_plain : (offset : ℕ) (event : Event)
+    → without_loss (record_at offset (Single event)) ≡ record_at offset (Single event)
+unfolding without_loss
+single_plain offset (OscDispatch pieces bell) = rw (bell_plain bell) refl
+single_plain offset (Print c) = refl
+single_plain offset (Execute byte) = refl
+single_plain offset (Hook groups ints ignore final) = refl
+single_plain offset (Put byte) = refl
+single_plain offset Unhook = refl
+single_plain offset (CsiDispatch groups ints ignore final) = refl
+single_plain offset (EscDispatch ints ignore final) = refl
+
+pub entries-run : {old new : Buffers} (input : List ℕ) (run : Run) (start size : ℕ) → is_full old ≡ false
+    → IsRunAt input run start size
+    → new ≡ with_one old (run_record (run_kind run) start size)
+    → HasEntries old new input (InInput run start size ∷ [])
+unfolding with_one
+entries-run {old} {new} input run start size free is_run is =
+    let some : nat_lt old.count old.capacity ≡ true = grind (arith, nat_tests) in
+    record {
+      readable = (is_run, tt);
+      written = rw (is, some, run_plain run start size) (simp (append-nil, add-zero, or-false));
+      first = stops_soon old.stops old.used (InInput run start size ∷ []) (omega arith);
+    }
+
+-- ---- a pause, apart from which an event is written the same (`resumed`)
+
+pub resumed_same : (buffers : Buffers) → buffers.paused ≡ false → resumed buffers ≡ buffers
+resumed_same buffers none = ap (λ (paused : Bool). record buffers { paused = paused }) (sym none)
+
+pub unpaused : (buffers : Buffers) → is_full buffers ≡ false → buffers.paused ≡ false
+unpaused buffers free = grind (arith, nat_tests)
+
+pub resumed_free : (buffers : Buffers) → is_full buffers ≡ false → is_full (resumed buffers) ≡ false
+resumed_free buffers free = ap is_full (resumed_same buffers (unpaused buffers free)) ∙ free
+
+either : (choice : Bool) (a b c d : Buffers) → resumed a ≡ resumed c → resumed b ≡ resumed d
+    → resumed (if choice then a else b) ≡ resumed (if choice then c else d)
+either true a b c d f g = f
+either false a b c d f g = g
+
+either_paused : (choice paused : Bool) (a b : Buffers) → a.paused ≡ paused → b.paused ≡ paused
+    → (if choice then a else b).paused ≡ paused
+either_paused true paused a b f g = f
+either_paused false paused a b f g = g
+
+-- An event is written in the same way after a pause.
+with_event_resumed : (buffers : Buffers) (event : Event)
+    → resumed (buffers_with_event buffers event) ≡ resumed (buffers_with_event (resumed buffers) event)
+unfolding with_one with_record
+with_event_resumed buffers event =
+    either (has buffers.kinds (event_kind event)) _ _ _ _
+    (either (has_room_for buffers (length (data_of event))) _ _ _ _
+    (either (nat_lt buffers.count buffers.capacity) _ _ _ _ refl refl) refl) refl
+
+pub paused_after : (buffers : Buffers) (event : Event) → may_have_lost event ≡ false
+    → (buffers_with_event buffers event).paused ≡ buffers.paused
+unfolding with_one with_record
+paused_after buffers event kept =
+    either_paused (has buffers.kinds (event_kind event)) buffers.paused _ _
+    (rw kept
+    (either_paused (has_room_for buffers (length (data_of event))) buffers.paused _ _
+    (either_paused (nat_lt buffers.count buffers.capacity) buffers.paused _ _ refl refl) refl)) refl
+
+-- ---- events of the parser
+
+-- There is room for `count` events and `size` bytes of data.
+pub record HasRoomFor (buffers : Buffers) (count size : ℕ) : Type 0 where
+  pub events : buffers.count + count ≤ buffers.capacity
+  pub data_fits : buffers.used + size ≤ buffers.size
+
+-- Buffers that aren't full have room for what one byte adds.
+has_room : (buffers : Buffers) → is_full buffers ≡ false → HasRoomFor buffers 2 max_added
+has_room buffers free = record { events = grind (arith, nat_tests); data_fits = grind (arith, nat_tests) }
+
+pub event_written : (buffers : Buffers) (event : Event) → buffers.paused ≡ false
+    → HasRoomFor buffers 1 (length (data_of event))
+    → has buffers.kinds (event_kind event) ≡ true
+    → resumed (buffers_with_event buffers event) ≡ with_entries buffers (Single event ∷ [])
+unfolding with_one with_record
+event_written buffers event going room_for wanted =
+    let has_both : has_room_for buffers (length (data_of event)) ≡ true = grind (arith, nat_tests) in
+    let some : nat_lt buffers.count buffers.capacity ≡ true = grind (arith, nat_tests) in
+    rw (wanted, has_both, some, single_plain buffers.used event, going) (simp (append-nil, or-false))
+
+-- An event that isn't reported leaves the buffers as they are.
+pub event_passed : (buffers : Buffers) (event : Event) → buffers.paused ≡ false
+    → has buffers.kinds (event_kind event) ≡ false
+    → resumed (buffers_with_event buffers event) ≡ buffers
+event_passed buffers event going other = rw other (resumed_same buffers going)
+
+-- Each event that is reported has an entry.
+abbrev pub entries_of : Buffers → List Event → List Entry
+entries_of buffers events = map Single (reported buffers.kinds events)
+
+entries-event : (input : List ℕ) (buffers : Buffers) (event : Event) → IsBounded usual_limit event
+    → buffers.paused ≡ false
+    → HasRoomFor buffers 1 (length (data_of event))
+    → HasEntries buffers (resumed (buffers_with_event buffers event)) input (entries_of buffers (event ∷ []))
+entries-event input buffers event bounded going room_for = elim (cases_Bool (has buffers.kinds (event_kind event))) [
+  | inl wanted ↦
+      rw (event_written buffers event going room_for wanted, wanted)
+      (record {
+        readable = (bounded, tt);
+        written = refl;
+        first = stops_soon buffers.stops buffers.used (Single event ∷ []) (omega arith);
+      })
+  | inr other ↦ rw (event_passed buffers event going other, other) (entries-nothing buffers input)
+]
+
+-- One event has at most one entry, with no more data.
+record AreFew (buffers : Buffers) (event : Event) : Type 0 where
+  pub count : length (entries_of buffers (event ∷ [])) ≤ 1
+  pub size : length (flat_map entry_data (entries_of buffers (event ∷ []))) ≤ length (data_of event)
+
+are_few : (buffers : Buffers) (event : Event) → AreFew buffers event
+are_few buffers event = elim (cases_Bool (has buffers.kinds (event_kind event))) [
+  | inl wanted ↦
+      record { count = rw wanted (omega arith); size = rw wanted (omega (arith, length-append (data_of event) [])) }
+  | inr other ↦ record { count = rw other (omega arith); size = rw other (omega arith) }
+]
+
+entries-unit : (input : List ℕ) (buffers : Buffers) (unit : List Event) → AreFromOneByte usual_limit unit
+    → is_full buffers ≡ false
+    → HasEntries buffers (resumed (after buffers_with_event buffers unit)) input (entries_of buffers unit)
+entries-unit input buffers [] brief free =
+    rw (resumed_same buffers (unpaused buffers free)) (entries-nothing buffers input)
+entries-unit input buffers (event ∷ []) brief free =
+    let room_for = has_room buffers free in
+    let size = data_of-at_most event brief in
+    entries-event input buffers event brief (unpaused buffers free)
+    (record { events = omega (arith, room_for.events); data_fits = omega (arith, room_for.data_fits) })
+entries-unit input buffers (event ∷ last ∷ []) brief free =
+    let room_for = has_room buffers free in
+    -- The first event has at most 1,088 bytes of data, and the last one at most four.
+    let size = data_of-at_most event brief.0 in
+    let short = data_of-short last brief.1 in
+    -- Each has at most one entry, with no more data than the event.
+    let at_most = are_few buffers event in
+    let more = are_few buffers last in
+    let next : Buffers = resumed (buffers_with_event buffers event) in
+    -- The buffers aren't full, so they have room for the first event.
+    let first =
+    entries-event input buffers event brief.0 (unpaused buffers free)
+    (record { events = omega (arith, room_for.events); data_fits = omega (arith, room_for.data_fits) }) in
+    -- After that event, the buffers differs from the old one by the entry alone.
+    let kinds : next.kinds ≡ buffers.kinds = ap (λ (r : Buffers). r.kinds) first.written in
+    let count = ap (λ (r : Buffers). r.count) first.written in
+    let most = ap (λ (r : Buffers). r.capacity) first.written in
+    let used = ap (λ (r : Buffers). r.used) first.written in
+    let whole = ap (λ (r : Buffers). r.size) first.written in
+    -- So what is left is enough for the last event.
+    let room_for_last : HasRoomFor next 1 (length (data_of last)) = record {
+      events = omega (arith, room_for.events, at_most.count, count, most);
+      data_fits = omega (arith, room_for.data_fits, at_most.size, size, short, used, whole);
+    } in
+    -- The last event is written into that buffers, which reports the same kinds.
+    let second =
+    subst
+    (λ (k : ℕ). HasEntries next (resumed (buffers_with_event next last)) input (map Single (reported k (last ∷ []))))
+    kinds
+    (entries-event input next last (short_bounded usual_limit last brief.1) refl room_for_last) in
+    -- The entries of both events are those of the first, followed by those of the last.
+    let both : entries_of buffers (event ∷ last ∷ [])
+    ≡ entries_of buffers (event ∷ []) ++ entries_of buffers (last ∷ []) =
+    ap (map Single) (filter-append (λ e. has buffers.kinds (event_kind e)) (event ∷ []) (last ∷ []))
+    ∙ map-append Single _ _ in
+    -- A pause after the first event doesn't change how the last one is written, so the two steps join.
+    rw (with_event_resumed (buffers_with_event buffers event) last, both) (record {
+      readable = readable-append input _ _ first.readable second.readable;
+      written =
+          second.written ∙ ap (λ (r : Buffers). with_entries r (entries_of buffers (last ∷ []))) first.written
+          ∙ with_entries-append buffers _ _;
+      first = stops_soon buffers.stops buffers.used (entries_of buffers (event ∷ []) ++ entries_of buffers (last ∷ []))
+          (omega (
+            arith,
+            at_most.count,
+            more.count,
+            length-append (entries_of buffers (event ∷ [])) (entries_of buffers (last ∷ [])),
+          ));
+    })
+entries-unit input buffers (event ∷ last ∷ more ∷ events) brief free = absurd brief
+
+pub entries-unit_more : {old : Buffers} (input : List ℕ) (buffers : Buffers) (before unit : List Event)
+    → HasEntries old (resumed (after buffers_with_event buffers before)) input (entries_of old before)
+    → is_full (after buffers_with_event buffers before) ≡ false → AreFromOneByte usual_limit unit
+    → HasEntries old (resumed (after buffers_with_event buffers (before ++ unit))) input
+    (entries_of old (before ++ unit))
+entries-unit_more {old} input buffers before unit h free brief =
+    let mid : Buffers = after buffers_with_event buffers before in
+    -- The buffers before the unit isn't full, so it isn't paused either.
+    let same : resumed mid ≡ mid = resumed_same mid (unpaused mid free) in
+    let first : HasEntries old mid input (entries_of old before) = rw same at h in
+    let kinds : mid.kinds ≡ old.kinds = ap (λ (r : Buffers). r.kinds) first.written in
+    -- The unit is written into that buffers, which reports the kinds of the old one.
+    rw (after_events-append buffers_with_event buffers before unit, filter-append, map-append)
+    (entries-then first free
+    (subst
+    (λ (k : ℕ). HasEntries mid (resumed (after buffers_with_event mid unit)) input (map Single (reported k unit)))
+    kinds
+    (entries-unit input mid unit brief free)))

@@ -1,0 +1,14 @@
+-- The records of buffers leave out whether data was lost, so they stay as they are (`loss_unseen`).
+use Rattle.vte_c.proofs.Common.{length, length-set, map, refl, set, take, without_loss, ◌≡◌}
+use Rattle.vte_c.proofs.ReadBack.{loss_unseen}
+use Rattle.vte_c.proofs.events.EventWriter.add_loss.Goals as goal
+
+pub returns-then-self-index-eq-OSC : goal.returns-then-self-index-eq-OSC
+returns-then-self-index-eq-OSC c =
+    let writer = c.args.self.now in
+    let size : length (set writer.events.now writer.command c.with_loss.result) ≡ length writer.events.now =
+    length-set writer.events.now writer.command c.with_loss.result in
+    let written : map without_loss (take writer.count (set writer.events.now writer.command c.with_loss.result))
+    ≡ map without_loss (take writer.count writer.events.now) =
+    rw c.with_loss.ensures (loss_unseen writer.events.now writer.count writer.command _ c.if-self-index-eq-OSC.true) in
+    rw (size, written) refl

@@ -1,8 +1,0 @@
--- Four bytes with the length are written, and then the piece.
-use Rattle.vte_c.proofs.Common.{append_assoc}
-use Rattle.vte_c.proofs.events.Events.write_piece.Goals as goal
-
-pub returns : goal.returns
-returns c = λ room text h.
-    rw (← append_assoc text, ← c.min-length.ensures)
-    (c.write.ensures.holds room _ (c.write-place.ensures.holds room text h))

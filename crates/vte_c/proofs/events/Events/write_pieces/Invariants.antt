@@ -1,8 +1,0 @@
--- The pieces so far are written.
-use Rattle.vte_c.proofs.Common.{Holds, flat_map, map, piece_bytes, room_of, take}
-use Rattle.vte_c.proofs.events.Events.write_pieces.Given as goal
-
-abbrev pub invariant-loop-piece : goal.invariant-loop-piece
-invariant-loop-piece l =
-    Holds (room_of l.fn.self) l.self l.end
-    (flat_map piece_bytes (map (λ piece. piece.now) (take l.piece-index l.pieces)))

@@ -1,9 +1,0 @@
--- A run is written as its characters are, one after another (`writes_run`).
-use Rattle.vte_c.proofs.Common.{text_room_of, ◌∙◌}
-use Rattle.vte_c.proofs.Stripping.{writes_run}
-use Rattle.vte_c.proofs.text.TextPerformText.print_text.Goals as goal
-
-pub returns : goal.returns
-returns c =
-    let added = rw c.as_bytes.ensures.value at c.add.ensures in
-    added ∙ writes_run (text_room_of c.args.self.now) c.args.text.now c.utf8.text c.requires.some

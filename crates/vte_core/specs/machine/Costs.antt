@@ -1,0 +1,67 @@
+-- How far the function of a state reads, and what that costs: looks at bytes, and memory.
+use Rattle.std.specs.Prelude.{◌≡◌, ℕ, ◌<◌, ◌≤◌, ◌+◌, ◌*◌, List, length, Result, IfOk}
+use Rattle.vte_core.specs.Looks.{looked}
+use Rattle.vte_core.specs.declared.parser.machine.Machine.{Machine}
+use Rattle.vte_core.specs.declared.parser.refused.Refused.{Refused}
+use Rattle.vte_core.specs.declared.reader.Reader.{Reader}
+use Rattle.vte_core.specs.machine.Progress.{ChunkCall, IsRefusedInCommand, IsSettled, MayGoOn}
+
+-- Where the looks go: by characters a byte of text takes at most 3, and 1 more where ESC is
+-- searched; a byte of a sequence takes 3. In runs the search for the end of a run takes at most 4
+-- per byte, and its events 1: 5, the rate of a call. Where a call returns runs, such a search may
+-- find none, and then takes 4; the byte is read with the 3 that are left of 7. A search takes 11/3
+-- per byte, so 66 bytes leave 22: for the three before the blocks of a long run, and the window of
+-- 19 in which it ends.
+
+-- The bounds of each state's function, which reads from position i to position j, and gives back no
+-- memory. It takes at least one look per byte and at most `rate`. The caller has taken `seen` of
+-- them: those at the first bytes, by which it chose this function.
+pub record MovesWithin (rate seen : ℕ) {B : Type 0} (bytes : List ℕ) (i j : ℕ)
+    (parser next : Machine B)
+    (earlier later : Reader) : Type 0 where
+  pub low : i ≤ j
+  pub progress : i < length bytes → i < j
+  pub high : j ≤ length bytes
+  pub count : looked later + rate * i + seen ≤ looked earlier + rate * j
+  pub at_least : looked earlier + j ≤ looked later + i + seen
+  pub memory : parser.command.capacity ≤ next.command.capacity
+
+-- The same bounds for a function that may read nothing; `ahead` of its looks may be at bytes left
+-- unread.
+pub record SpendsWithin (rate seen ahead : ℕ) {B : Type 0} (bytes : List ℕ) (i j : ℕ)
+    (parser next : Machine B) (earlier later : Reader) : Type 0 where
+  pub low : i ≤ j
+  pub high : j ≤ length bytes
+  pub count : looked later + rate * i + seen ≤ looked earlier + rate * j + ahead
+  pub at_least : looked earlier + j ≤ looked later + i + seen
+  pub memory : parser.command.capacity ≤ next.command.capacity
+
+-- The bounds of a function that handles a byte at which its caller looked: no character is open
+-- afterwards, and it takes at most `most` looks.
+pub record HandlesByte (most : ℕ) {B : Type 0} (parser next : Machine B)
+    (earlier later : Reader) : Type 0 where
+  pub settled : IsSettled next.state
+  pub count : looked later ≤ looked earlier + most
+  pub at_least : looked earlier ≤ looked later
+  pub memory : parser.command.capacity ≤ next.command.capacity
+
+-- The bounds of a call with this result, which read n of its bytes: at most `rate` looks per byte
+-- read and 8 more. If memory was refused, the bytes left unread count too.
+pub record Costs (rate : ℕ) {Answer B : Type 0} (bytes : List ℕ) (result : Result Answer Refused)
+    (n : ℕ) (parser next : Machine B) (before after : ℕ) : Type 0 where
+  pub count : after ≤ before + rate * length bytes + 8
+  pub count_if_ok : IfOk result (λ _. after ≤ before + rate * n + 8)
+  pub at_least : before + n ≤ after
+  pub memory : parser.command.capacity ≤ next.command.capacity
+
+-- The bounds of a function that reads nothing at position i, because memory was refused. It
+-- searched for the end of the data: it took at least one look, and at most one for each byte from
+-- there on.
+pub record Refuses {V B : Type 0} (call : ChunkCall V) (value : V) (i read : ℕ)
+    (parser next : Machine B) (earlier later : Reader) : Type 0 where
+  pub stays : read ≡ i
+  pub refused : IsRefusedInCommand call.limit next.state next.command call.bytes read
+  pub may_go_on : MayGoOn call value
+  pub searched : looked earlier < looked later
+  pub within : looked later + i ≤ looked earlier + length call.bytes
+  pub memory : parser.command.capacity ≤ next.command.capacity

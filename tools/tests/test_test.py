@@ -1,4 +1,4 @@
-"""Tests of tools/test."""
+"""Tests of tools/test. Run as a program, this file is tools/test with the parts below."""
 import os
 import re
 import subprocess
@@ -6,26 +6,29 @@ import sys
 from dataclasses import dataclass
 
 import pytest
+from lib.testing.program import Part
 
-from tests.support import TOOLS, write
+from tests.support import Tool, write
 
-# runs tools/test with parts in the place of its own: those at once, and those after them
-RUN = """import runpy, sys
-test = runpy.run_path("tools/test"); Part = test["Part"]
-first = [Part("first", "bash", ["try first", "try again"]),
+FIRST = [Part("first", "bash", ["try first", "try again"]),
          Part("lacking", "bash no-such-command", ["try lacking"]),
          Part("far", "rust=1.0 no-such-program", ["try far"])]
-later = [Part("second", "bash crates rust-1.2", ["try second 'missing: a thing: not tried'"],
-              "no-such-tool"), Part("proofs", "rt", ["rt ci"])]
-sys.exit(test["main"](sys.argv[1:], (first, later, [])))"""
+LATER = [Part("second", "bash crates rust-1.2", ["try second 'missing: a thing: not tried'"],
+              optional="no-such-tool"),
+         Part("proofs", "rt", ["rt ci"])]
+# a command of a part, which fails if its word is $FAILS, or if cargo finds no crates
+TRY = """
+echo "$1" >>asked
+echo "said by $1"
+echo "$2"
+[ "$1" != "$FAILS" ] && cargo"""
 PROGRAMS = {
-    "bin/try": '#!/bin/sh\necho $1 >>asked\necho said by $1\necho $2\n'
-               '[ $1 != "$FAILS" ] && [ "$CARGO_HOME" = next ]\n',
-    "bin/rt": "#!/bin/sh\ntry proofs && echo 5 passed, 0 failed || ! echo 4 passed, 1 failed\n",
-    # it has its crates only from there
-    "bin/cargo": '#!/bin/sh\n[ "$CARGO_HOME" = next ]\n',
-    "tools/next_release": '#!/bin/sh\n[ "$FAILS" != crates ] && echo export CARGO_HOME=next\n',
-    "bin/rustc": "#!/bin/sh\necho rustc 1.63.0\n"}
+    "bin/try": TRY,
+    "bin/rt": "try proofs && echo 5 passed, 0 failed || ! echo 4 passed, 1 failed",
+    # it finds crates only in packages of Debian's next release
+    "bin/cargo": '[ "$CARGO_HOME" = next ]',
+    "tools/next_release": '[ "$FAILS" != crates ] && echo export CARGO_HOME=next',
+    "bin/rustc": "echo rustc 1.63.0"}
 LACKING, FAR = "lacking: it needs no-such-command", "far: it needs rustc 1.0, no-such-program"
 WAITS = "it needs all parts before it to pass"
 
@@ -46,7 +49,8 @@ class Case:
 SECOND = {"ran": "second", "untested": ["a thing: not tried"], "packages": "no-such-tool",
           "counts": [(1, 0)]}
 CASES = {
-    "all": Case(), "all, strictly": Case("--strict", status=1),
+    "all": Case(),
+    "all, strictly": Case("--strict", status=1),
     "first fails": Case(
         fails="first", ran="first", untested=[FAR, LACKING, f"proofs: {WAITS}", f"second: {WAITS}"],
         packages="no-such-command", status=1, counts=[(0, 1)]),
@@ -56,7 +60,8 @@ CASES = {
     "first and proofs, strictly": Case("--strict first proofs", ran="first proofs", untested=(),
                                        packages="", counts=[(2, 0), (7, 0)]),
     "second": Case("second", **SECOND),
-    "second, strictly": Case("--strict second", **SECOND, status=1), "second without crates": Case(
+    "second, strictly": Case("--strict second", **SECOND, status=1),
+    "second without crates": Case(
         "second", fails="crates", ran="", packages="", status=1, counts=[(0, 0)],
         untested=["second: it needs what cargo gets from a network"]),
     "first and lacking": Case("first lacking", ran="first", untested=[LACKING],
@@ -66,13 +71,13 @@ CASES = {
 
 def run(folder, words, fails=""):
     """The status and the lines of tools/test, and what was tried."""
-    for name, program in {**PROGRAMS, "tools/test": (TOOLS / "test").read_text()}.items():
-        write(name, program, 0o755)
+    for place, text in PROGRAMS.items():
+        write(place, f"#!/bin/sh\n{text}\n", 0o755)
     (folder / "temporary").mkdir()
     asked = write("asked", "")
-    given = {**os.environ, "PATH": f"{folder}/bin:{os.environ['PATH']}",
-             "TMPDIR": f"{folder}/temporary", "FAILS": fails}
-    done = subprocess.run([sys.executable, "-c", RUN, *words.split()], env=given,
+    variables = {**os.environ, "PATH": f"{folder}/bin:{os.environ['PATH']}",
+                 "TMPDIR": f"{folder}/temporary", "FAILS": fails}
+    done = subprocess.run([sys.executable, "-m", "tests.test_test", *words.split()], env=variables,
                           capture_output=True, text=True)
     assert not any((folder / "temporary").iterdir())
     lines = [re.sub(r"^ *\d+ s ", "", line) for line in done.stdout.splitlines()]
@@ -88,7 +93,7 @@ def test_what_is_run_and_listed(folder, case):
     assert status == case.status
     first, *last = (f"{passed} passed, {failed} failed" for passed, failed in case.counts)
     wanted = [*["not tested:"] * bool(case.untested), *(f"    {line}" for line in case.untested),
-            f"{first}, {len(case.untested)} not tested"]
+              f"{first}, {len(case.untested)} not tested"]
     if case.packages:
         wanted.append(f"apt install {case.packages}  # on Debian 12, to test more")
     wanted += last
@@ -103,3 +108,7 @@ def test_what_is_run_and_listed(folder, case):
 @pytest.mark.parametrize("words", ["unknown", "first unknown", "fir.t", "bash"])
 def test_names_of_no_part(folder, words):
     assert run(folder, words) == (2, [f"test: no part is named {words.split()[-1]}"], [])
+
+
+if __name__ == "__main__":
+    sys.exit(Tool("test", FIRST=FIRST, LATER=LATER, LAST=[]).main())

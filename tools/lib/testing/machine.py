@@ -1,0 +1,110 @@
+"""What this machine has of what the parts of tools/test need."""
+import os
+import re
+import shutil
+import subprocess
+from collections.abc import Callable
+from dataclasses import dataclass
+
+# the packages of programs that have another name, or none
+PACKAGES = {"apt-get": None, "c++": "g++", "cargo": "cargo-web", "cc": "gcc",
+            "clang": "clang libclang-rt-14-dev", "dpkg-shlibdeps": "dpkg-dev", "go": "golang-go",
+            "node": "nodejs", "objdump": "binutils", "ps": "procps", "rt": None,
+            "rustfmt": "rustfmt-web"}
+# cargo finds its crates
+HAS_CRATES = "cargo metadata --format-version 1 --manifest-path rust/vte/Cargo.toml"
+# the same, with packages of Debian's next release, and the variables that let it find them
+NEXT_RELEASE = f"""words=$(tools/next_release "${{XDG_CACHE_HOME:-$HOME/.cache}}/naqshuve")
+eval "$words"; {HAS_CRATES} >&2; env -0"""
+# pip finds what builds ./python, cargo its crates, and venv what it puts into each environment
+HAS_PIP = """cargo metadata --format-version 1 --manifest-path python/Cargo.toml
+python3 -c 'import ensurepip'
+python3 -m pip install --dry-run --no-deps --target "$ROOM/pip" ./python"""
+
+
+def bash(command):
+    return ["bash", "-euo", "pipefail", "-c", command]
+
+
+def answer(command):
+    """What a command prints, if it succeeds."""
+    done = subprocess.run(bash(command), stdin=subprocess.DEVNULL, capture_output=True)
+    return done.stdout if done.returncode == 0 else None
+
+
+def version(rustc):
+    return (answer(f"{rustc} --version") or b"").decode().partition(" ")[2].partition(" ")[0]
+
+
+def numbers(version):
+    return [int(number) for number in re.findall(r"\d+", version)]
+
+
+def has_modules(*names):
+    """Whether Debian's Python has these modules."""
+    has_all = "all(map(importlib.util.find_spec, sys.argv[1:]))"
+    return answer(f"/usr/bin/python3 -c 'import importlib.util, sys; sys.exit(not {has_all})' "
+                  + " ".join(names)) is not None
+
+
+@dataclass
+class Need:
+    """Something that parts need: whether a machine has it, what is missing if not, and the packages
+    of Debian 12 that bring it, if they do."""
+
+    is_met: Callable
+    missing: str
+    packages: str | None = None
+
+
+# Needs by the patterns of their names. Any other one is a program.
+NEEDS = {
+    "crates": Need(lambda machine: machine.has_crates, "what cargo gets from a network"),
+    "pip": Need(lambda machine: machine.has_pip, "what pip and cargo get from a network"),
+    "pytest": Need(lambda _: has_modules("pip", "pytest"), "pytest", "python3-pip python3-pytest"),
+    "python3-(.*)": Need(lambda _, name: has_modules(name), r"python3-\1", r"python3-\1"),
+    "old-rust": Need(lambda machine: machine.has_old_rust(),
+                     "Debian 12's rustc 1.63 beside another"),
+    "rust=(.*)": Need(lambda machine, wanted: machine.rust.startswith(f"{wanted}."), r"rustc \1"),
+    "rust-(.*)": Need(lambda machine, least: numbers(machine.rust) >= numbers(least),
+                      r"rustc \1 or later", "cargo-web")}
+
+
+class Machine:
+    """This machine: the version of its rustc, and whether cargo and pip find what they need."""
+
+    def __init__(self):
+        self.rust = version("rustc")
+        self.has_crates = self.has_pip = False
+
+    def find_crates(self):
+        """Finds what cargo gets from a network: where it looks by itself or, if it isn't there, in
+        packages of Debian's next release."""
+        self.has_crates = answer(HAS_CRATES) is not None
+        if not self.has_crates and (words := answer(NEXT_RELEASE)):
+            os.environ.update(word.split("=", 1) for word in words.decode().split("\0") if word)
+            self.has_crates = True
+        os.environ["HAS_CRATES"] = "yes" if self.has_crates else "no"
+
+    def find_pip(self, is_needed):
+        """Finds what pip gets from a network, if it is needed."""
+        self.has_pip = is_needed and self.has_crates and answer(HAS_PIP) is not None
+        os.environ["HAS_PIP"] = "yes" if self.has_pip else "no"
+
+    def has_old_rust(self):
+        """Whether Debian 12's rustc is there, and isn't the one that is used."""
+        return (not self.rust.startswith("1.63.")
+                and version("/usr/bin/rustc").startswith("1.63."))
+
+    def lack(self, name):
+        """What is missing for a need, and the packages of Debian 12 that bring it, if they do; or
+        None if nothing is."""
+        for pattern, need in NEEDS.items():
+            if match := re.fullmatch(pattern, name):
+                packages = need.packages and match.expand(need.packages)
+                is_met = need.is_met(self, *match.groups())
+                return None if is_met else (match.expand(need.missing), packages)
+        return None if shutil.which(name) else (name, PACKAGES.get(name, name))
+
+    def lacks(self, needs):
+        return [lack for name in needs.split() if (lack := self.lack(name))]

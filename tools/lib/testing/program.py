@@ -1,0 +1,75 @@
+"""The program tools/test, without its list of parts."""
+import os
+import signal
+import sys
+import tempfile
+from concurrent.futures import ThreadPoolExecutor
+from dataclasses import dataclass
+
+from lib.testing.machine import Machine
+from lib.testing.report import Report
+from lib.testing.runner import Runner, cores
+
+
+@dataclass
+class Part:
+    """A part of the tests: what it needs, commands for bash, of which each is run, and what it can
+    do without: then it says itself what it doesn't test."""
+
+    name: str
+    needs: str
+    commands: list
+    optional: str = ""
+
+
+def set_environment(room):
+    """Sets what all parts find in the environment."""
+    # what is built once in a while is built in half the time without what helps to build it
+    # again; tests check all that they check without optimization, but run longer without it;
+    # and one job per proof, as many proofs at a time as there are cores
+    os.environ.update(CARGO_INCREMENTAL="0", CARGO_PROFILE_DEV_DEBUG="0",
+                      CARGO_PROFILE_DEV_OPT_LEVEL="1", CARGO_NET_RETRY="0",
+                      CARGO_TERM_QUIET="true", NAQSHUVE_ALLOW_MISSING="1", ROOM=room)
+    os.environ.setdefault("RT_JOBS", str(cores()))
+    # for each virtual environment pyo3 would be built again
+    os.environ.setdefault("PYO3_PYTHON", os.path.realpath(sys.executable))
+
+
+def run_groups(groups):
+    """Runs the first parts, then, if none failed, the later ones, and, once proofs end, the last
+    ones. Returns a report."""
+    first, later, last = groups
+    with tempfile.TemporaryDirectory() as room:
+        set_environment(room)
+        machine, report = Machine(), Report()
+        runner = Runner(room, machine, report)
+        for number in (signal.SIGINT, signal.SIGTERM):
+            signal.signal(number, runner.stop)
+        print("test: looking for what cargo and pip get from a network", flush=True)
+        machine.find_crates()
+        needs_pip = any("pip" in f"{part.needs} {part.optional}".split() for part in later)
+        with ThreadPoolExecutor(1) as pool:
+            pool.submit(machine.find_pip, needs_pip)
+            runner.run_all(first)
+        runner.run_all(later, last)
+        report.show()
+    return report
+
+
+def run_tests(words, about, top, groups):
+    """Runs the parts that words name, or all of three groups, in the folder `top`, as the text
+    `about` says, and returns the status."""
+    is_strict = words[:1] == ["--strict"]
+    names = words[is_strict:]
+    if names and names[0].startswith("-"):
+        print(about.strip())
+        return 0 if names[0] in ("-h", "--help") else 2
+    for name in names:
+        if name not in (part.name for group in groups for part in group):
+            print(f"test: no part is named {name}")
+            return 2
+    os.chdir(top)
+    report = run_groups([[part for part in group if not names or part.name in names]
+                         for group in groups])
+    is_complete = not (report.missing if is_strict else names and report.left_out)
+    return 0 if is_complete and report.count("FAILED") == 0 else 1

@@ -1,0 +1,102 @@
+"""Runs parts of tools/test beside each other, and says at once how each ended."""
+import os
+import subprocess
+import sys
+import threading
+import time
+from concurrent.futures import ThreadPoolExecutor
+from pathlib import Path
+
+from lib.testing.machine import bash
+
+SAYING = threading.Lock()
+
+
+def say(text):
+    """Prints lines that no part which ends at the same time breaks."""
+    with SAYING:
+        print(f"{text}\n", end="", flush=True)
+
+
+def cores():
+    return len(os.sched_getaffinity(0))
+
+
+class Runner:
+    """Runs what this machine can, with logs in the folder `room`, and adds to a report."""
+
+    def __init__(self, room, machine, report):
+        self.room, self.machine, self.report = room, machine, report
+        # the commands that run, and whether no other may begin
+        self.running, self.is_stopped = set(), False
+
+    def stop(self, *_):
+        """Ends what runs, and this program."""
+        self.is_stopped = True
+        for process in self.running.copy():
+            process.terminate()
+        sys.exit(130)
+
+    def can_run(self, part, has_failed):
+        """Whether a part can be run. If not, or if it has to leave something out, it is noted."""
+        needed, optional = self.machine.lacks(part.needs), self.machine.lacks(part.optional)
+        missing = [what for what, _ in needed]
+        packages = [names for _, names in needed] + [names for _, names in optional if names]
+        if has_failed:
+            missing = ["all parts before it to pass"]
+        elif None not in packages:
+            self.report.packages.update(name for names in packages for name in names.split())
+        if missing:
+            self.report.leave_out(part.name, missing)
+        return not missing
+
+    def run_part(self, part, niceness):
+        """Runs the commands of a part, also after one that failed. One that hangs ends, and fails.
+        Prints what a part says that failed, and what proofs say at once."""
+        is_shown, has_failed, begun = part.name == "proofs", False, time.monotonic()
+        log = Path(self.room, part.name.replace("/", " "))
+        say(f"test: {part.name} begins")
+        for command in part.commands:
+            if self.is_stopped:
+                return
+            has_failed |= self.run(command, log, is_shown, niceness) != 0
+        text, seconds = log.read_text(errors="replace"), time.monotonic() - begun
+        self.report.add(part.name, seconds, has_failed, text)
+        said = text if has_failed and not is_shown else ""
+        say(f"{said}test: {seconds:.0f} s  {'FAILED' if has_failed else 'passed'}  {part.name}")
+
+    def run(self, command, log, is_shown, niceness):
+        """Runs a command, whose output goes to a log and may be shown, too, and returns its
+        status."""
+        if is_shown:
+            command = f"{command} 2>&1 | tee '{log}'"
+        with log.open("ab") as file, subprocess.Popen(
+                # it has a group of processes, all of which end with it
+                ["timeout", "150m", "nice", "-n", str(niceness), *bash(command)],
+                stdin=subprocess.DEVNULL, stderr=subprocess.STDOUT,
+                stdout=None if is_shown else file) as process:
+            self.running.add(process)
+            if self.is_stopped:
+                process.terminate()
+            status = process.wait()
+            self.running.remove(process)
+        return status
+
+    def run_all(self, parts, last=(), niceness=0):
+        """Runs parts beside each other, as many as there are cores, and one. The last ones begin
+        once proofs end, if these are among the others."""
+        has_failed = self.report.count("FAILED") > 0
+        can_run = [part for part in parts if self.can_run(part, has_failed)]
+        has_proofs = "proofs" in (part.name for part in can_run)
+
+        def run(part):
+            # the others take what the proofs leave; of these two take longest
+            yielding = {"proofs": 0, "release": 10, "Python": 10}.get(part.name, 19)
+            self.run_part(part, yielding if has_proofs else niceness)
+            if part.name == "proofs":
+                self.run_all(last, niceness=19)
+
+        with ThreadPoolExecutor(cores() + 1) as pool:
+            list(pool.map(run, can_run))
+        if not has_proofs and last:
+            self.run_all(last)

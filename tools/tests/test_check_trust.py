@@ -8,59 +8,71 @@ from tests.support import TOOLS, Tool, write
 CORE, CARGO = "crates/vte_core/src/", "rust/vte/src/proved/vte_core/"
 # a file, its `unsafe`, and a text with just that
 READER, ONE, TEXT = f"{CORE}reader.rt", "1 text_between", "fn text_between() { unsafe { g() } }"
-MADE, USED, UNCOUNTED = (f":1: {it}" for it in (
+DENIES_NOT = ": it doesn't deny `unsafe_code`"
+MADE, USED, UNCOUNTED = (f":1: {fault}" for fault in (
     "other modules can make this", "the bytes of a call are used", "bytes are read uncounted"))
 
 
-def stands(fault, allowed="0"):
-    return f": `unsafe` stands here {fault}; allowed is {allowed}"
+def stands(places, allowed="0"):
+    return f": `unsafe` stands here {places}; allowed is {allowed}"
 
 
-# what is shown: a file, its text, and its fault
-CASES = {
-    "unsafe in another file": ("a.rt", f"{TEXT} // unsafe, as unsafe_code is", stands(ONE)),
-    "unsafe in a file of the same name": (f"old/{READER}", TEXT, stands(ONE)),
-    "unsafe where it may be": (READER, TEXT, ""), "unsafe in another function":
-        (READER, "fn text_between() {} fn g() { unsafe { h() } }", stands("1 g", ONE)),
-    "unsafe twice": (READER, TEXT.replace("g()", "unsafe"), stands("2 text_between", ONE)),
-    "unsafe not even once": (READER, "", stands("0", ONE)),
+# a file, its text, and its fault: `unsafe` in files that may have some, or none
+UNSAFE = {
+    "in another file": ("a.rt", f"{TEXT} // unsafe, as unsafe_code is", stands(ONE)),
+    "in a file of the same name": (f"old/{READER}", TEXT, stands(ONE)),
+    "where it may be": (READER, TEXT, ""),
+    "in another function": (
+        READER, "fn text_between() {} fn g() { unsafe { h() } }", stands("1 g", ONE)),
+    "twice": (READER, TEXT.replace("g()", "unsafe"), stands("2 text_between", ONE)),
+    "not even once": (READER, "", stands("0", ONE)),
     # a call of `text_between` says why it is right, so that one isn't safe to call
-    "a function that became safe to call":
-        (f"{CARGO}reader.rs", f"{TEXT} unsafe fn take_run() {{ unsafe {{ f() }} }}",
-         stands("3 text_between take_run", "4 text_between take_run")), "a call without unsafe":
-        (f"{CARGO}reader/calls.rs", "fn advance_to_run() { take_run(bytes, range) }",
-         stands("0", "1 advance_to_run")),
-    "unsafe of attributes, functions, traits, types and macros":
-        ("a.rs", "unsafe #[unsafe(no_mangle)]\npub extern \"C\" fn f() {} unsafe impl T for U {} "
-         "\npub unsafe extern \"C\" fn g(h: unsafe fn()) { unsafe {} } macro_rules! m { unsafe }",
-         stands("7 - f T g m")), "unsafe in strings, and after one that looks like a comment":
-        ("a.rs", 'fn f() { g("//"); unsafe { h("unsafe", r#"unsafe"#) } }', stands("1 f")),
-    "unsafe after '\"'": ("a.rs", "fn f() { g('\"'); unsafe {} } // \" unsafe", stands("1 f")),
-    "unsafe in an unclosed string": ("a.rs", '\nfn f() { unsafe { " } }', ":2: unclosed quote: \""),
-    "a root that forbids unsafe": ("rust/vtlog/src/main.rs", "#![forbid(unsafe_code)]", ""),
-    **{f"{place} {how}": (place, f"{text}\nfn f() {{}}", ": it doesn't deny `unsafe_code`")
+    "in a function that became safe to call": (
+        f"{CARGO}reader.rs", f"{TEXT} unsafe fn take_run() {{ unsafe {{ f() }} }}",
+        stands("3 text_between take_run", "4 text_between take_run")),
+    "not around a call": (f"{CARGO}reader/calls.rs",
+                          "fn advance_to_run() { take_run(bytes, range) }",
+                          stands("0", "1 advance_to_run")),
+    "of attributes, functions, traits, types and macros": (
+        "a.rs", "unsafe #[unsafe(no_mangle)]\npub extern \"C\" fn f() {} unsafe impl T for U {} "
+        "\npub unsafe extern \"C\" fn g(h: unsafe fn()) { unsafe {} } macro_rules! m { unsafe }",
+        stands("7 - f T g m")),
+    "in strings, and after one that looks like a comment": (
+        "a.rs", 'fn f() { g("//"); unsafe { h("unsafe", r#"unsafe"#) } }', stands("1 f")),
+    "after '\"'": ("a.rs", "fn f() { g('\"'); unsafe {} } // \" unsafe", stands("1 f")),
+    "in an unclosed string": ("a.rs", '\nfn f() { unsafe { " } }', ":2: unclosed quote: \"")}
+# the same for the root of a crate, which must refuse `unsafe` elsewhere
+ROOTS = {
+    "forbids unsafe": ("rust/vtlog/src/main.rs", "#![forbid(unsafe_code)]", ""),
+    **{f"{place} {how}": (place, f"{text}\nfn f() {{}}", DENIES_NOT)
        for place in ("python/rust/lib.rs", "rust/vte/src/lib.rs")
        for how, text in (("denies unsafe in a comment", "// #![deny(unsafe_code)]"),
-                         ("denies something else", "#![deny(unsafe_code_of_others)]"))},
-    "its own module makes a reader": (READER, f"fn new(bytes: &'a [u8]) -> Self {TEXT}", ""),
-    "others make a reader": (READER, f"pub(crate) fn new(bytes: &'a [u8]) {TEXT}", MADE),
-    "others set the tally of a reader": (READER, f"pub tally: Snapshot<Tally>, {TEXT}", MADE),
-    "others make a parser": (f"{CORE}parser.rt", "pub(crate) fn new(bytes: B) -> Self", ""),
-    **{what: (f"{CORE}reader/{name}.rt", line, fault) for what, name, line, fault in (
-        ("others set the looks of a parser", "looks", "pub tally: Snapshot<Tally>,", MADE),
-        ("a call passes its bytes on", "calls",
-         "self.drive::<P, InRuns, true>(performer, Chunk::new(bytes)) // bytes", ""),
-        ("a call takes a run", "long_calls", "Ok(take_run(bytes, range))", ""),
-        ("a call reads bytes", "calls", "for byte in bytes {}", USED),
-        ("a call gives its bytes to others", "long_calls", "f(bytes); Chunk::new(bytes)", USED),
-        ("a call opens a chunk", "calls", "let (reader, input) = Chunk::new(bytes).open();", USED),
-        ("a call keeps a run", "calls", "let run = take_run(bytes, range);", USED),
-        ("bytes by another name", "calls", "    pub fn advance(&mut self, data: &[u8])", USED),
-        ("a search reads a byte", "run_end", "if input.bytes[at] == 0 {", UNCOUNTED),
-        ("a search counts by itself", "run_blocks", "self.count_looks(0);", UNCOUNTED),
-        ("a search sets the tally", "run_end", "reader.tally = tally_before;", UNCOUNTED),
-        ("a search takes a reader apart", "run_blocks", "let Reader { tally } = self;", UNCOUNTED),
-        ("a contract names bytes", "run_end", "requires in { to ≤ length input.bytes.now }", ""))}}
+                         ("denies something else", "#![deny(unsafe_code_of_others)]"))}}
+# the same for files of the parser, by their names
+PARSER = {
+    "its own module makes a reader": ("reader", f"fn new(bytes: &'a [u8]) -> Self {TEXT}", ""),
+    "others make a reader": ("reader", f"pub(crate) fn new(bytes: &'a [u8]) {TEXT}", MADE),
+    "others set its tally": ("reader", f"pub tally: Snapshot<Tally>, {TEXT}", MADE),
+    "others make a parser": ("parser", "pub(crate) fn new(bytes: B) -> Self", ""),
+    "others set its looks": ("reader/looks", "pub tally: Snapshot<Tally>,", MADE),
+    "a call passes its bytes on": (
+        "reader/calls", "self.drive::<P, InRuns, true>(performer, Chunk::new(bytes)) // bytes", ""),
+    "a call takes a run": ("reader/long_calls", "Ok(take_run(bytes, range))", ""),
+    "a call reads bytes": ("reader/calls", "for byte in bytes {}", USED),
+    "a call gives its bytes to others": ("reader/long_calls", "f(bytes); Chunk::new(bytes)", USED),
+    "a call opens a chunk": (
+        "reader/calls", "let (reader, input) = Chunk::new(bytes).open();", USED),
+    "a call keeps a run": ("reader/calls", "let run = take_run(bytes, range);", USED),
+    "bytes by another name": (
+        "reader/calls", "    pub fn advance(&mut self, data: &[u8])", USED),
+    "a search reads a byte": ("reader/run_end", "if input.bytes[at] == 0 {", UNCOUNTED),
+    "a search counts by itself": ("reader/run_blocks", "self.count_looks(0);", UNCOUNTED),
+    "a search sets the tally": ("reader/run_end", "reader.tally = tally_before;", UNCOUNTED),
+    "a search takes a reader apart": (
+        "reader/run_blocks", "let Reader { tally } = self;", UNCOUNTED),
+    "a contract names bytes": ("reader/run_end", "requires in { to ≤ length input.bytes.now }", "")}
+CASES = {**UNSAFE, **ROOTS, **{name: (f"{CORE}{file}.rt", text, fault)
+                               for name, (file, text, fault) in PARSER.items()}}
 
 
 @pytest.mark.parametrize("place, text, fault", CASES.values(), ids=CASES)
@@ -68,7 +80,7 @@ def test_what_is_refused_in_a_file(place, text, fault):
     write(place, text)
     write("HANDLES", "Handles allowed: none.\n")
     status, output = Tool("check_trust", listed=lambda _: [place], unused=lambda _: []).run()
-    wanted = [*[place + fault] * bool(fault), f"1 files, {fault > '':d} places that are refused"]
+    wanted = [*[place + fault] * bool(fault), f"1 files, {bool(fault):d} places that are refused"]
     assert (status, output.splitlines()) == (bool(fault), wanted)
 
 
@@ -88,7 +100,8 @@ def test_all_files_and_handles():
     ("reader", "tally", r"nothing there is \btally:"),
     ("reader", "count_looks", r"nothing there is \bfn count_looks\("),
     ("reader/calls", "take_run", r"nothing there is ^ *take_run\(bytes, range\)$"),
-    ("reader/run_end", "", "it isn't there"), ("reader", "no word of it", None)])
+    ("reader/run_end", "", "it isn't there"),
+    ("reader", "no word of it", None)])
 def test_a_name_that_nothing_has_any_more(place, word, fault):
     tool = Tool("check_trust", PLACES={}, ROOTS=())
     files = {*tool.parts["MAKERS"], *tool.parts["CALLS"], *tool.parts["RUNS"]}

@@ -41,6 +41,8 @@ def test_what_is_fuzzed(words, targets, seconds, failing, status):
 
 
 def test_lines_that_are_not_run_are_there():
+    listed = (TOOLS / "lib/fuzzing/unreached.txt").read_text()
+    assert re.fullmatch(r"(#.*\n)+(\n\S.*:\n( {4}\S.*\n)+)+", listed)
     fuzz = Tool("fuzz").parts
     for place in fuzz["UNREACHED"]:
         file, function, line = re.fullmatch(r"(\S+) (\w+): (.*)", place).groups()

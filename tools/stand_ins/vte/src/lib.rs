@@ -1,5 +1,5 @@
 //! Stands in for rust/vte with one difference, which the variable DIFFERENCE names: a type, and
-//! when it reads otherwise. tools/lib/generating/differences.py has an input for each, from which a
+//! when it reads otherwise. tools/lib/fuzzing/differences.py has an input for each, from which a
 //! target of rust/vte/fuzz must find it.
 
 mod parsers;

@@ -7,6 +7,7 @@ from pathlib import Path
 
 import pytest
 from tests.missing import need
+from tests.support import write_program
 
 from c_library.library import EXAMPLES, HERE, TOOLS, output_of
 from c_library.test_examples import STREAM, TEXT
@@ -31,7 +32,7 @@ class Place:
                             "VTLOG": "/bin/true", "TMPDIR": str(folder / "temporary"),
                             "PKG_CONFIG_PATH": "prefix/lib/pkgconfig",
                             "LD_LIBRARY_PATH": str(folder / "prefix/lib")}
-        others = () if library.is_whole else HEADERS[1:]
+        others = () if library.is_complete else HEADERS[1:]
         self.wanted = OF_LIBRARY - {f"include/{name}" for name in others}
 
     def run(self, *words, status=0, says="", **variables):
@@ -80,7 +81,7 @@ def place(library, tmp_path):
 def prefix(place):
     """A place with the library alone, below a relative prefix."""
     # cargo has built the library by now
-    given = {"VTE_ARCHIVE": ""} if place.library.is_whole else {}
+    given = {"VTE_ARCHIVE": ""} if place.library.is_complete else {}
     output = place.run("install", f"--{place.library.build}", "--library", **given)
     assert place.installed("prefix") == place.wanted
     assert set(output.split()) == {f"{place.folder}/prefix/{name}" for name in place.wanted}
@@ -114,12 +115,12 @@ def test_pkg_config(prefix):
     for file in prefix.folder / "prefix/lib/pkgconfig/libvte_c.pc", TOOLS.parent / "docs/C.md":
         page = file.read_text()
         assert "`libvte_c = 6`" in page and "libvte_c >= " not in page
-    build = "cargo" if prefix.library.is_whole else "given"
+    build = "cargo" if prefix.library.is_complete else "given"
     assert prefix.run("pkg-config", "--variable=build", "libvte_c") == f"{build}\n"
     flags = prefix.run("pkg-config", "--cflags", "--libs", "libvte_c").split()
     prefix.run("cc", EXAMPLES / "c/stripper.c", *flags, "-o", "stripper")
     prefix.assert_strips("stripper")
-    if prefix.library.is_whole:
+    if prefix.library.is_complete:
         prefix.run("cc", EXAMPLES / "c/clipboards.c", *flags, "-o", "clipboards")
         if shutil.which("c++"):
             outline = ["c++", EXAMPLES / "cpp/outline.cpp", *flags, "-o", "outline"]
@@ -180,8 +181,7 @@ def test_without_tools(place):
     place.uninstall("without_cc", **variables)
     build = "build_c_library", "--cargo", place.folder / "none"
     place.run(*build, status=70, says="cargo isn't installed", **variables)
-    (tools / "cargo").write_text("#!/bin/sh\necho it is too old >&2\nexit 1\n")
-    (tools / "cargo").chmod(0o755)
+    write_program(tools / "cargo", "echo it is too old >&2; exit 1")
     place.run(*build, status=70, **variables,
               says="it is too old\nbuild_c_library: the library could not be built")
     place.run("install", "--cargo", **{**variables, "VTLOG": ""}, says=(
@@ -191,9 +191,8 @@ def test_without_tools(place):
     # cargo builds for the machine that is named to it, in another folder
     other = place.folder / "other.a"
     place.run("objcopy", "--redefine-sym", "vte_version=vte_other", place.library.archive, other)
-    (tools / "cargo").write_text(
-        f"#!/bin/sh\nmade={other}\ncase $* in *vtlog*) made=/bin/true; esac\n"
-        """echo '{"reason":"compiler-artifact","filenames":["'"$made"'"]}'\n""")
+    write_program(tools / "cargo", f"made={other}; case $* in *vtlog*) made=/bin/true; esac\n"
+                  """echo '{"reason":"compiler-artifact","filenames":["'"$made"'"]}'""")
     place.run("install", "--cargo", **{**variables, "VTLOG": "", "VTE_ARCHIVE": ""})
     assert place.installed("without_cc") == wanted
     installed = place.folder / "without_cc/usr/local"

@@ -16,10 +16,10 @@ TOOLS = Path(__file__).resolve().parents[1]
 class Tool:
     """A tool of tools/ over the files of a test's folder."""
 
-    def __init__(self, name, **given):
+    def __init__(self, name, **replaced):
         self.name, self.main = name, run_path(str(TOOLS / name))["main"]
         self.parts = self.main.__globals__
-        self.parts.update(TOP=Path.cwd(), **given)
+        self.parts.update(TOP=Path.cwd(), **replaced)
 
     def run(self, *words):
         """The status or the message of its end, and what it printed."""
@@ -41,6 +41,11 @@ def write(place, text, mode=0o644):
     return file
 
 
+def write_program(place, text):
+    """Writes a program of the shell."""
+    return write(place, f"#!/bin/sh\n{text}\n", 0o755)
+
+
 def wait_until(condition, message=""):
     """Waits for something, for minutes if the machine is busy."""
     end = time.monotonic() + 1200
@@ -53,7 +58,7 @@ def run_here(tool, *words, **programs):
     """The status and lines of a shell tool that stands here, and finds these programs first."""
     write(f"tools/{tool}", (TOOLS / tool).read_text(), 0o755)
     for name, text in programs.items():
-        write(f"bin/{name}", f"#!/bin/sh\n{text}\n", 0o755)
+        write_program(f"bin/{name}", text)
     done = subprocess.run([f"tools/{tool}", *words], stdout=subprocess.PIPE, text=True,
                           env={**os.environ, "PATH": f"{Path.cwd()}/bin:{os.environ['PATH']}"})
     return done.returncode, done.stdout.splitlines()

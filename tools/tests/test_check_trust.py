@@ -8,7 +8,6 @@ from tests.support import TOOLS, Tool, write
 CORE, CARGO = "crates/vte_core/src/", "rust/vte/src/proved/vte_core/"
 # a file, its `unsafe`, and a text with just that
 READER, ONE, TEXT = f"{CORE}reader.rt", "1 text_between", "fn text_between() { unsafe { g() } }"
-DENIES_NOT = ": it doesn't deny `unsafe_code`"
 MADE, USED, UNCOUNTED = (f":1: {fault}" for fault in (
     "other modules can make this", "the bytes of a call are used", "bytes are read uncounted"))
 
@@ -22,17 +21,16 @@ UNSAFE = {
     "in another file": ("a.rt", f"{TEXT} // unsafe, as unsafe_code is", stands(ONE)),
     "in a file of the same name": (f"old/{READER}", TEXT, stands(ONE)),
     "where it may be": (READER, TEXT, ""),
-    "in another function": (
-        READER, "fn text_between() {} fn g() { unsafe { h() } }", stands("1 g", ONE)),
+    "elsewhere": (READER, "fn text_between() {} fn g() { unsafe { h() } }", stands("1 g", ONE)),
     "twice": (READER, TEXT.replace("g()", "unsafe"), stands("2 text_between", ONE)),
     "not even once": (READER, "", stands("0", ONE)),
     # a call of `text_between` says why it is right, so that one isn't safe to call
     "in a function that became safe to call": (
         f"{CARGO}reader.rs", f"{TEXT} unsafe fn take_run() {{ unsafe {{ f() }} }}",
         stands("3 text_between take_run", "4 text_between take_run")),
-    "not around a call": (f"{CARGO}reader/calls.rs",
-                          "fn advance_to_run() { take_run(bytes, range) }",
-                          stands("0", "1 advance_to_run")),
+    "not around a call": (
+        f"{CARGO}reader/calls.rs", "fn advance_to_run() { take_run(bytes, range) }",
+        stands("0", "1 advance_to_run")),
     "of attributes, functions, traits, types and macros": (
         "a.rs", "unsafe #[unsafe(no_mangle)]\npub extern \"C\" fn f() {} unsafe impl T for U {} "
         "\npub unsafe extern \"C\" fn g(h: unsafe fn()) { unsafe {} } macro_rules! m { unsafe }",
@@ -44,10 +42,9 @@ UNSAFE = {
 # the same for the root of a crate, which must refuse `unsafe` elsewhere
 ROOTS = {
     "forbids unsafe": ("rust/vtlog/src/main.rs", "#![forbid(unsafe_code)]", ""),
-    **{f"{place} {how}": (place, f"{text}\nfn f() {{}}", DENIES_NOT)
+    **{f"{place} with {text}": (place, text, ": it doesn't deny `unsafe_code`")
        for place in ("python/rust/lib.rs", "rust/vte/src/lib.rs")
-       for how, text in (("denies unsafe in a comment", "// #![deny(unsafe_code)]"),
-                         ("denies something else", "#![deny(unsafe_code_of_others)]"))}}
+       for text in ("// #![deny(unsafe_code)]", "#![deny(unsafe_code_of_others)]")}}
 # the same for files of the parser, by their names
 PARSER = {
     "its own module makes a reader": ("reader", f"fn new(bytes: &'a [u8]) -> Self {TEXT}", ""),
@@ -60,16 +57,13 @@ PARSER = {
     "a call takes a run": ("reader/long_calls", "Ok(take_run(bytes, range))", ""),
     "a call reads bytes": ("reader/calls", "for byte in bytes {}", USED),
     "a call gives its bytes to others": ("reader/long_calls", "f(bytes); Chunk::new(bytes)", USED),
-    "a call opens a chunk": (
-        "reader/calls", "let (reader, input) = Chunk::new(bytes).open();", USED),
+    "a call opens a chunk": ("reader/calls", "let reader = Chunk::new(bytes).open();", USED),
     "a call keeps a run": ("reader/calls", "let run = take_run(bytes, range);", USED),
-    "bytes by another name": (
-        "reader/calls", "    pub fn advance(&mut self, data: &[u8])", USED),
+    "bytes by another name": ("reader/calls", "    pub fn advance(&mut self, data: &[u8])", USED),
     "a search reads a byte": ("reader/run_end", "if input.bytes[at] == 0 {", UNCOUNTED),
     "a search counts by itself": ("reader/run_blocks", "self.count_looks(0);", UNCOUNTED),
     "a search sets the tally": ("reader/run_end", "reader.tally = tally_before;", UNCOUNTED),
-    "a search takes a reader apart": (
-        "reader/run_blocks", "let Reader { tally } = self;", UNCOUNTED),
+    "a search opens a reader": ("reader/run_blocks", "let Reader { tally } = self;", UNCOUNTED),
     "a contract names bytes": ("reader/run_end", "requires in { to ≤ length input.bytes.now }", "")}
 CASES = {**UNSAFE, **ROOTS, **{name: (f"{CORE}{file}.rt", text, fault)
                                for name, (file, text, fault) in PARSER.items()}}

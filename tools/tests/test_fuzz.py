@@ -5,14 +5,14 @@ from pathlib import Path
 
 import pytest
 
-from tests.support import TOOLS, Tool, write
+from tests.support import TOOLS, Tool, write_program
 
 # what a target does at a difference, or always
 @pytest.mark.parametrize("does, is_found", [
     ('[ -z "$DIFFERENCE" ] || ! echo shown', True), ('[ -z "$DIFFERENCE" ] || ! echo more', False),
     ("! echo shown", False), ("echo shown", False)])
 def test_a_difference_is_found(does, is_found):
-    program = write("program", f"#!/bin/sh\n{{ {does}; }} >&2\n", 0o755)
+    program = write_program("program", f"{{ {does}; }} >&2")
     fuzz = Tool("fuzz", FOLDER=Path.cwd(), DIFFERENCES={"target": [("it", "shown", b"")]})
     assert fuzz.parts["finds"]("target", program) == is_found
 

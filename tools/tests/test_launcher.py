@@ -10,7 +10,7 @@ from pathlib import Path
 import pytest
 
 from tests.missing import need
-from tests.support import wait_until, write
+from tests.support import wait_until, write, write_program
 
 TOP = Path(__file__).resolve().parents[2]
 WHOLE_PATH = os.environ["PATH"]
@@ -28,7 +28,7 @@ ALL = "vte_core lib\nevent_log lib\nvtlog run\n"
 # They note their folder, their words and what they read, and make a program that prints its own.
 # Files beside the launcher say what else happens to a build: `fails`, `idles` and `unstamped` let
 # it fail, make nothing, and no stamp; it waits while `hangs` is there. It prints `log`.
-RT = r"""#!/bin/sh
+RT = r"""
 echo "${PWD##*/} $*" >>"$TOP/asked"
 cat >>"$TOP/asked"
 [ -e "$TOP/fails" ] && { cat "$TOP/log"; echo "no proof"; exit 1; }
@@ -42,9 +42,8 @@ fi
 mkdir -p out
 printf "#!/bin/sh\necho ran \"\$@\"\nexit 7\n" >out/vtlog
 chmod +x out/vtlog
-[ -e "$TOP/unstamped" ] || touch out/vtlog.stamp
-"""
-CARGO = r"""#!/bin/sh
+[ -e "$TOP/unstamped" ] || touch out/vtlog.stamp"""
+CARGO = r"""
 echo "cargo $*" >>"$TOP/asked"
 [ ! -e "$TOP/fails" ] || { echo "no crate" >&2; exit 101; }
 made=$TOP/built/$CARGO_BUILD_TARGET
@@ -53,8 +52,7 @@ mkdir -p "$made"
 chmod +x "$made/vtlog"
 echo '{"reason":"compiler-artifact","filenames":["/of/another/crate"],"fresh":true}'
 echo '{"reason":"compiler-artifact","filenames":["'"$made/vtlog"'"],"executable":null}'
-echo '{"reason":"build-finished","success":true}'
-"""
+echo '{"reason":"build-finished","success":true}'"""
 
 
 @pytest.fixture(autouse=True)
@@ -75,8 +73,8 @@ def checkout(folder, monkeypatch):
         monkeypatch.setenv(name, str(top / place))
     write("crates.txt", "vte_core: std\nevent_log: std vte_core\nvtlog: std event_log\n")
     write("log", "")
-    write("bin/rt", RT, 0o755)
-    write("bin/sleep", '#!/bin/sh\nexec /bin/sleep "$@"\n', 0o755)
+    write_program("bin/rt", RT)
+    write_program("bin/sleep", 'exec /bin/sleep "$@"')
     yield top
     # a build that was left ends
     (top / "hangs").unlink(missing_ok=True)
@@ -117,7 +115,7 @@ def test_cargo(checkout, monkeypatch, target):
     """It says what it runs if cargo has built it, wherever that put it."""
     monkeypatch.setenv("CARGO_BUILD_TARGET", target)
     Path("bin/rt").unlink()
-    cargo = write("bin/cargo", CARGO, 0o755)
+    cargo = write_program("bin/cargo", CARGO)
     asked = ("cargo build --message-format=json-render-diagnostics --quiet --release "
              f"--manifest-path {checkout}/rust/vtlog/Cargo.toml\n")
     assert runs("text") == (5, "ran text\ninput\n", UNPROVED, asked)
@@ -157,7 +155,7 @@ def test_where_cargo_puts_what_it_makes(checkout, monkeypatch, place, variables)
 def test_builds():
     """It is built once after each of these, and not again. However long it takes, no progress is
     shown: `sleep` fails."""
-    write("bin/sleep", "#!/bin/sh\nexit 1\n", 0o755)
+    write_program("bin/sleep", "exit 1")
     for change in ("true", "touch crates/vte_core/src/lib.rt", "touch crates/vte_core/specs/A.antt",
                    "touch crates/event_log/src/lib.rt", "touch crates/vtlog/proofs/Lib.antt",
                    "touch crates/vtlog/src/main.rt", "sed -i 's/std$/std memchr/' crates.txt",
@@ -205,8 +203,8 @@ def test_progress():
     """20 seconds are over at once, once the build hangs, or has ended."""
     hangs = write("hangs", "")
     write("log", "begun\nso far: 3 of 12 functions\n")
-    write("bin/sleep", "#!/bin/sh\n/bin/sleep 0.1\n"
-          'while [ -e "$TOP/hangs" ] && [ ! -s "$TOP/hangs" ]; do /bin/sleep 0.01; done\n', 0o755)
+    write_program("bin/sleep", "/bin/sleep 0.1\n"
+                  'while [ -e "$TOP/hangs" ] && [ ! -s "$TOP/hangs" ]; do /bin/sleep 0.01; done')
     launcher = start()
     wait_until(lambda: " s: " in Path("errors").read_text())
     hangs.unlink()

@@ -11,7 +11,7 @@ import pytest
 from c_library import conftest
 from lib.generating.streams import generate
 
-from tests.support import TOOLS, run_here, write
+from tests.support import TOOLS, run_here, write, write_program
 
 
 def test_streams():
@@ -88,7 +88,7 @@ def test_functions_that_may_panic(function, is_known):
 @pytest.mark.parametrize("words, count, seed", [
     ("", 20_000, 1), ("--short", 400, 1), ("--streams 250", 250, 1), ("--seed 7", 20_000, 7)])
 def test_streams_of_c(monkeypatch, words, count, seed):
-    write("tools/run_pytest", "#!/bin/sh\nshift; echo $*", 0o755)
+    write_program("tools/run_pytest", "shift; echo $*")
     assert run_here("test_c_library", *words.split()) == (0, [words])
     parser, of_c = ArgumentParser(), import_module("c_library.test_streams")
     conftest.pytest_addoption(SimpleNamespace(addoption=parser.add_argument))

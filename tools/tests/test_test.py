@@ -3,12 +3,11 @@ import os
 import re
 import subprocess
 import sys
-from dataclasses import dataclass
 
 import pytest
 from lib.testing.program import Part
 
-from tests.support import Tool, write
+from tests.support import Tool, write, write_program
 
 FIRST = [Part("first", "bash", ["try first", "try again"]),
          Part("lacking", "bash no-such-command", ["try lacking"]),
@@ -30,49 +29,31 @@ PROGRAMS = {
     "tools/next_release": '[ "$FAILS" != crates ] && echo export CARGO_HOME=next',
     "bin/rustc": "echo rustc 1.63.0"}
 LACKING, FAR = "lacking: it needs no-such-command", "far: it needs rustc 1.0, no-such-program"
-WAITS = "it needs all parts before it to pass"
-
-
-@dataclass
-class Case:
-    """Words for tools/test, what fails, and what is wanted: the parts that run, those that aren't
-    tested, the packages for these, the status, and what passed and failed, last with `rt ci`."""
-    words: str = ""
-    fails: str = ""
-    ran: str = "first second proofs"
-    untested: tuple = ("a thing: not tried", FAR, LACKING)
-    packages: str = "no-such-command no-such-tool"
-    status: int = 0
-    counts: tuple = ((3, 0), (8, 0))
-
-
-SECOND = {"ran": "second", "untested": ["a thing: not tried"], "packages": "no-such-tool",
-          "counts": [(1, 0)]}
+LEFT_OUT = "a thing: not tried"
+ALL, UNTESTED = "first second proofs", [LEFT_OUT, FAR, LACKING]
+WAITING = [f"{part}: it needs all parts before it to pass" for part in ("proofs", "second")]
+# words for tools/test, the part that fails, those that run, what isn't tested, and the status
 CASES = {
-    "all": Case(),
-    "all, strictly": Case("--strict", status=1),
-    "first fails": Case(
-        fails="first", ran="first", untested=[FAR, LACKING, f"proofs: {WAITS}", f"second: {WAITS}"],
-        packages="no-such-command", status=1, counts=[(0, 1)]),
-    "second fails": Case(fails="second", status=1, counts=[(2, 1), (7, 1)]),
-    "proofs fail": Case(fails="proofs", status=1, counts=[(2, 1), (6, 2)]),
-    "first": Case("first", ran="first", untested=(), packages="", counts=[(1, 0)]),
-    "first and proofs, strictly": Case("--strict first proofs", ran="first proofs", untested=(),
-                                       packages="", counts=[(2, 0), (7, 0)]),
-    "second": Case("second", **SECOND),
-    "second, strictly": Case("--strict second", **SECOND, status=1),
-    "second without crates": Case(
-        "second", fails="crates", ran="", packages="", status=1, counts=[(0, 0)],
-        untested=["second: it needs what cargo gets from a network"]),
-    "first and lacking": Case("first lacking", ran="first", untested=[LACKING],
-                              packages="no-such-command", status=1, counts=[(1, 0)]),
-    "far": Case("far", ran="", untested=[FAR], packages="", status=1, counts=[(0, 0)])}
+    "all": ("", "", ALL, UNTESTED, 0),
+    "all, strictly": ("--strict", "", ALL, UNTESTED, 1),
+    "first fails": ("", "first", "first", [FAR, LACKING, *WAITING], 1),
+    "second fails": ("", "second", ALL, UNTESTED, 1),
+    "proofs fail": ("", "proofs", ALL, UNTESTED, 1),
+    "first": ("first", "", "first", [], 0),
+    "first and proofs, strictly": ("--strict first proofs", "", "first proofs", [], 0),
+    "second": ("second", "", "second", [LEFT_OUT], 0),
+    "second, strictly": ("--strict second", "", "second", [LEFT_OUT], 1),
+    "second without crates": (
+        "second", "crates", "", ["second: it needs what cargo gets from a network"], 1),
+    "first and lacking": ("first lacking", "", "first", [LACKING], 1),
+    "far": ("far", "", "", [FAR], 1)}
+PACKAGES = {LACKING: "no-such-command", LEFT_OUT: "no-such-tool"}
 
 
 def run(folder, words, fails=""):
     """The status and the lines of tools/test, and what was tried."""
     for place, text in PROGRAMS.items():
-        write(place, f"#!/bin/sh\n{text}\n", 0o755)
+        write_program(place, text)
     (folder / "temporary").mkdir()
     asked = write("asked", "")
     variables = {**os.environ, "PATH": f"{folder}/bin:{os.environ['PATH']}",
@@ -84,25 +65,25 @@ def run(folder, words, fails=""):
     return done.returncode, lines, asked.read_text().split()
 
 
-@pytest.mark.parametrize("case", CASES.values(), ids=CASES)
-def test_what_is_run_and_listed(folder, case):
-    status, lines, tried = run(folder, case.words, case.fails)
-    ran = case.ran.split()
+@pytest.mark.parametrize("words, fails, ran, untested, status", CASES.values(), ids=CASES)
+def test_what_is_run_and_listed(folder, words, fails, ran, untested, status):
+    found, lines, tried = run(folder, words, fails)
+    ran, has_failed, proofs_failed = ran.split(), fails in ran.split(), fails == "proofs"
     # after a command that failed, the others of a part are run
-    assert sorted(tried) == sorted([*ran, *["again"] * ("first" in ran)])
-    assert status == case.status
-    first, *last = (f"{passed} passed, {failed} failed" for passed, failed in case.counts)
-    wanted = [*["not tested:"] * bool(case.untested), *(f"    {line}" for line in case.untested),
-              f"{first}, {len(case.untested)} not tested"]
-    if case.packages:
-        wanted.append(f"apt install {case.packages}  # on Debian 12, to test more")
-    wanted += last
-    ended = [f" {'FAILED' if name == case.fails else 'passed'}  {name}" for name in ran]
+    assert found == status and sorted(tried) == sorted([*ran, *["again"] * ("first" in ran)])
+    passed = len(ran) - has_failed
+    wanted = [*["not tested:"] * bool(untested), *(f"    {line}" for line in untested),
+              f"{passed} passed, {has_failed:d} failed, {len(untested)} not tested"]
+    if packages := sorted(PACKAGES[line] for line in untested if line in PACKAGES):
+        wanted.append(f"apt install {' '.join(packages)}  # on Debian 12, to test more")
+    if "proofs" in ran:
+        wanted.append(f"{passed + 5 - proofs_failed} passed, {has_failed + proofs_failed} failed")
+    ended = [f" {'FAILED' if name == fails else 'passed'}  {name}" for name in ran]
     at = lines.index("tested:")
     assert sorted(lines[at + 1:-len(wanted)]) == sorted(ended) and lines[-len(wanted):] == wanted
     for name in ran:
         assert f"test: {name} begins" in lines
-        assert (f"said by {name}" in lines) == (name in (case.fails, "proofs"))
+        assert (f"said by {name}" in lines) == (name in (fails, "proofs"))
 
 
 @pytest.mark.parametrize("words", ["unknown", "first unknown", "fir.t", "bash"])

@@ -45,16 +45,13 @@ def rules_of(vector):
     stream, kind = b"".join(chunks_of(vector)), vector["kind"]
     used = {name for step in definition.steps_of(stream, House(limit=vector.get("limit", 1024)))
             for name in step.rules}
-    functions = kind in ("calls", "updates") and not is_repeated(vector)
+    # a vector with repetitions names no control functions
+    is_of_texts = all(isinstance(part, str) for name in ("pieces", "events", "calls")
+                      for part in vector.get(name, []))
+    has_functions = kind in ("calls", "updates") and is_of_texts
     return [*([FIRST_RULE[kind]] if kind in FIRST_RULE else []),
             *(name for name in RULES if name in used),
-            *(dict.fromkeys(functions_of(stream)) if functions else ())]
-
-
-def is_repeated(vector):
-    """Whether a vector has repetitions that aren't written out."""
-    return any(not isinstance(part, str)
-               for name in ("pieces", "events", "calls") for part in vector.get(name, []))
+            *(dict.fromkeys(functions_of(stream)) if has_functions else ())]
 
 
 def functions_of(stream):

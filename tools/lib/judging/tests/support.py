@@ -6,7 +6,6 @@ from types import SimpleNamespace
 
 from lib.judging import definition, house, views
 from lib.judging.judgement import Judge
-from tests.support import write
 
 TOOLS = Path(__file__).resolve().parents[3]
 VECTORS = TOOLS.parent / "vectors"
@@ -21,11 +20,6 @@ def run(*words, **how):
     done = subprocess.run(list(map(str, words)), stdout=subprocess.PIPE, stderr=subprocess.STDOUT,
                           text=True, **how)
     return done.returncode, done.stdout
-
-
-def program_in(folder, line):
-    """A program in a folder, of a line for the shell."""
-    return write(folder / "program", f"#!/bin/sh\n{line}\n", 0o755)
 
 
 class Side:

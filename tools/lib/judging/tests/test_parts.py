@@ -13,9 +13,9 @@ from lib.judging.cases import Case
 from lib.judging.classes import Difference
 from lib.judging.judgement import Finding, Judgement
 from lib.judging.rules import ALONE, CUT, RULES
-from support import FILES, TOOLS, program_in
+from support import FILES, TOOLS
 from tests.missing import miss
-from tests.support import write
+from tests.support import write, write_program
 
 
 # streams, house rules, and the events under them
@@ -136,7 +136,7 @@ def test_the_example_of_the_page():
 # ---- the reference
 
 def test_the_reference_and_the_definition_must_agree(tmp_path):
-    program = program_in(tmp_path, "echo print 0062")
+    program = write_program(tmp_path / "program", "echo print 0062")
     assert reference.Reference(program).answers([b"a"]) == [["print 0062"]]
     with pytest.raises(reference.NoReference, match="differ"):
         reference.Reference(program, house.house_of(["delete=drop"])).answers([b"a"])
@@ -154,7 +154,7 @@ def test_which_program_is_the_reference(tmp_path, monkeypatch, given, named, rep
     monkeypatch.setenv("VTLOG", f"./{named}")
     for name, line in {"right": "echo print 0061; echo 'csi [0] - false 6d'; echo print fffd",
                        "other": "cat", "failing": "echo why >&2; exit 3"}.items():
-        write(name, f"#!/bin/sh\n{line}\n", 0o755)
+        write_program(name, line)
     write("empty", "\n", 0o755), write("folder/file", "")
     write("text", "", 0o644)
     with pytest.raises(reference.NoReference, match=reported) if reported else nullcontext():
@@ -180,8 +180,8 @@ def test_a_vtlog_of_this_repository_comes_before_others(tmp_path, monkeypatch):
 
 def test_the_vtlog_of_this_repository_is_built(tmp_path, monkeypatch, capsys):
     made = '{"reason":"compiler-artifact","filenames":["/made/vtlog"]}'
-    line = f'echo "$@" >>"$0.said"; echo why >&2; echo \'{made}\'; exit $FAILS'
-    program_in(tmp_path, line).rename(tmp_path / "cargo")
+    write_program(tmp_path / "cargo",
+                  f'echo "$@" >>"$0.said"; echo why >&2; echo \'{made}\'; exit $FAILS')
     monkeypatch.setenv("PATH", str(tmp_path), prepend=os.pathsep)
     for fails, built in ("0", "/made/vtlog"), ("1", None):
         monkeypatch.setenv("FAILS", fails)

@@ -9,8 +9,8 @@ import sys
 import pytest
 from lib.judging import candidate
 from lib.judging.cases import from_recordings
-from support import TOOLS, TOY, program_in, run
-from tests.support import wait_until
+from support import TOOLS, TOY, run
+from tests.support import wait_until, write_program
 
 
 def toy(fault=None, chunks=True, once=False):
@@ -137,7 +137,7 @@ def test_the_children_of_a_program_are_ended(takes_chunks):
 
 def test_the_time_is_over_for_a_reference_too(judge, tmp_path):
     """The reference wakes up long after the end, also if the machine is busy."""
-    vtlog = program_in(tmp_path, f"sleep 100; touch {tmp_path}/awake; sleep 3600")
+    vtlog = write_program(tmp_path / "vtlog", f"sleep 100; touch {tmp_path}/awake; sleep 3600")
     said = judge(1, "--vtlog", vtlog, "--seconds", 1, *toy())
     assert "ended early: the time was over" in said and not (tmp_path / "awake").exists()
 

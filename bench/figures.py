@@ -80,8 +80,8 @@ def by_build(ratios, kinds):
     for kind in kinds:
         of_kind = [ratios[kind, name] for name in COMMON_STREAMS if (kind, name) in ratios]
         medians = [[of_stream[build].median for of_stream in of_kind] for build in BUILDS]
-        rows.append([f"`{kind}`", *(f"{min(some):.2f} to {max(some):.2f}" if some else ""
-                                    for some in medians)])
+        rows.append([f"`{kind}`", *(f"{min(each):.2f} to {max(each):.2f}" if each else ""
+                                    for each in medians)])
     return table(["", *BUILDS], rows)
 
 

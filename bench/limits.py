@@ -27,9 +27,10 @@ def conditions():
 
 
 def said(*words):
-    """The first line that a program says, or nothing if it isn't here."""
-    found = shutil.which(words[0]) and subprocess.run(words, capture_output=True, text=True)
-    return found.stdout.partition("\n")[0] if found and found.returncode == 0 else ""
+    """The first line that a program says here, or nothing if it isn't installed or fails."""
+    done = shutil.which(words[0]) and subprocess.run(words, cwd=TABLE.parent, capture_output=True,
+                                                     text=True)
+    return done.stdout.partition("\n")[0] if done and done.returncode == 0 else ""
 
 
 class Table:
@@ -69,10 +70,10 @@ def judged(table, counts):
     """What is to be said of counts, and whether it is a fault."""
     for (row, column), count in counts.items():
         cell, (kind, stream, chunk) = table.rows[row][column], row
-        what = f"{kind} `{stream}` in calls of {chunk:,} B, {column}: {count:.3f}"
+        place = f"{kind} `{stream}` in calls of {chunk:,} B, {column}: {count:.3f}"
         if cell == "?":
-            yield f"{what}, and the table has none", True
+            yield f"{place}, and the table has none", True
         elif count > float(cell) * MOST:
-            yield f"{what}, above {float(cell) * MOST:.3f}", True
+            yield f"{place}, above {float(cell) * MOST:.3f}", True
         elif count * MOST < float(cell):
-            yield f"{what}, below {cell}", False
+            yield f"{place}, below {cell}", False

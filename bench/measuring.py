@@ -150,19 +150,20 @@ def compare_checksums(name, sides, place):
         builder.stop(f"the checksums of {name} differ: {checksums}")
 
 
-def rows(kind, programs, given):
-    """Measures each side over the given streams: nanoseconds per byte, a number for each round and
+def rows(kind, programs, options):
+    """Measures each side over each stream: nanoseconds per byte, a number for each round and
     placement."""
     sides = programs.commands(kind)
-    asked = {4096: given.streams} if given.streams else STREAMS_OF[kind]
+    asked = {4096: options.streams} if options.streams else STREAMS_OF[kind]
     for name, chunk in ((name, chunk) for chunk, names in asked.items() for name in names):
         commands = {side: of_side for side, of_side in sides.items()
                     if name not in LEFT_OUT.get(side, [])}
         if kind != "calls":
             compare_checksums(name, commands, programs.stream(name, CHECKED))
-        place = programs.stream(name, given.bytes)
-        times = in_rounds(given.rounds, {side: [in_passes(words, place, chunk) for words in of_side]
-                                         for side, of_side in commands.items()})
-        found = {side: [[its / given.bytes * 1e9 for its in seconds] for seconds in of_side]
+        place = programs.stream(name, options.bytes)
+        passes = {side: [in_passes(words, place, chunk) for words in of_side]
+                  for side, of_side in commands.items()}
+        times = in_rounds(options.rounds, passes)
+        found = {side: [[time / options.bytes * 1e9 for time in seconds] for seconds in of_side]
                  for side, of_side in times.items()}
         yield {"kind": kind, "stream": name, "chunk": chunk, "nanoseconds": found}

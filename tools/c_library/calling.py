@@ -58,7 +58,7 @@ class Parser:
 
 def parsers(library):
     """New parsers of all kinds that the library has."""
-    return [Parser(library, is_long) for is_long in (False, True)[:1 + library.is_whole]]
+    return [Parser(library, is_long) for is_long in (False, True)[:1 + library.is_complete]]
 
 
 class Processor:

@@ -48,6 +48,7 @@ static void begin(const char *name, void *user) {
 /* calls.inc has functions that write what they get, and CALLS(EACH), which lists them:
  * test_calls.py writes it from vte_handler.h */
 #ifdef __cplusplus
+extern "C" int __wrap_clock_gettime(clockid_t, struct timespec *);
 static void write_text(std::string_view of) {
     write_bytes(reinterpret_cast<const uint8_t *>(of.data()), of.size());
 }
@@ -91,9 +92,6 @@ static void renew(void) {
 /* The clock is asked for the beginning of an update alone. */
 static uint64_t now = 12345678901;
 
-#ifdef __cplusplus
-extern "C" int __wrap_clock_gettime(clockid_t, struct timespec *);
-#endif
 int __wrap_clock_gettime(clockid_t clock, struct timespec *time) {
     if (clock != CLOCK_MONOTONIC) abort();
     now += 777777777;

@@ -38,6 +38,6 @@ def library(request, built):
 
 
 @pytest.fixture(scope="session")
-def whole(built):
+def cargo_build(built):
     """The build that has what takes memory."""
     return built("cargo")

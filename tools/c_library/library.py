@@ -48,8 +48,8 @@ class Library:
         assert is_built, output
         self.archive, self.shared = folder / "libvte_c.a", folder / "libvte_c.so"
         # whether it has what takes memory
-        self.is_whole = build == "cargo"
-        self.of_events = ["-DWITH_LONG"] if self.is_whole else []
+        self.is_complete = build == "cargo"
+        self.of_events = ["-DWITH_LONG"] if self.is_complete else []
 
     def program(self, source, *words, compiler="cc", name=None, optional=False):
         """Compiles a program. Returns its path, or None if it is optional and doesn't compile."""
@@ -64,7 +64,7 @@ class Library:
         """The shared library for ctypes."""
         functions = CDLL(self.shared)
         of_64_bits = "feed strip long_feed long_parser_new processor_new".split()
-        for name in of_64_bits[:None if self.is_whole else 2]:
+        for name in of_64_bits[:None if self.is_complete else 2]:
             getattr(functions, f"vte_{name}").restype = c_size_t
         return functions
 

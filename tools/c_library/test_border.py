@@ -82,11 +82,11 @@ def test_places(library, kind, sent, wanted):
             parser.feed(b"\x18")
 
 
-def test_places_of_long_texts(whole):
+def test_places_of_long_texts(cargo_build):
     """A parser without a limit reads 64 KiB at most, and has a place for all of these."""
     sent, at = bytearray(b"a" * 200_000), 0
     sent[150_009::10_000] = b"\r" * 5
-    parser = Parser(whole, is_long=True)
+    parser = Parser(cargo_build, is_long=True)
     while at < len(sent):
         read, events, data = parser.feed(bytes(sent[at:]), rooms=(4 + at % 3, 0))
         assert 0 < read <= 65536 and data == 0
@@ -115,18 +115,18 @@ CALLS = (b"a\a\b\t\r\n\x1b[1;2H\x1b[31mb\x1b]2;t\a\x1b[18t\x1b[?25lc",
 
 
 @pytest.mark.parametrize("count", [0, 1, 3, len(FUNCTIONS), len(FUNCTIONS) + 3])
-def test_tables(whole, count):
+def test_tables(cargo_build, count):
     """A table may be that of an earlier version or a later one. A part of a function is none."""
-    processor, known = Processor(whole, 8 * count), [name for name, _ in FUNCTIONS[:count]]
+    processor, known = Processor(cargo_build, 8 * count), [name for name, _ in FUNCTIONS[:count]]
     assert processor.advance(CALLS[0]) == (OK, len(CALLS[0]))
     assert processor.made == [name for name in CALLS[1] if name in known]
     assert processor.call("free") == OK
-    assert not any(Processor(whole, 8 * count + part).place for part in range(1, 8))
+    assert not any(Processor(cargo_build, 8 * count + part).place for part in range(1, 8))
 
 
-def test_processor(whole):
+def test_processor(cargo_build):
     """A call may have no bytes. A text comes in runs, also one that was held."""
-    processor = Processor(whole)
+    processor = Processor(cargo_build)
     assert processor.advance(b"") == (OK, 0) and processor.sync() == (OK, 0, 0, 0)
     assert processor.advance(b"a" * 40 + b"\x1b[?2026h" + b"a" * 40) == (OK, 88)
     assert 1 < len(processor.made) < 40 and {*processor.made[:-1]} == {"input"}
@@ -135,13 +135,13 @@ def test_processor(whole):
     processor.made.clear()
     assert processor.call("stop_sync") == OK
     assert 1 < len(processor.made) < 40 and processor.sync() == (OK, 0, 0, 0)
-    assert processor.call("free") == OK and whole.functions.vte_processor_free(None) == OK
+    assert processor.call("free") == OK and cargo_build.functions.vte_processor_free(None) == OK
 
 
 @pytest.mark.parametrize("chunks, ends", [(1, 3), (2, 4)])
-def test_each_stop_of_an_update_adds_a_call(whole, chunks, ends):
+def test_each_stop_of_an_update_adds_a_call(cargo_build, chunks, ends):
     """Where a stream is cut decides how many stops there are."""
-    processor, update = Processor(whole), b"\x1b[?2026ha\x1b[?2026l"
+    processor, update = Processor(cargo_build), b"\x1b[?2026ha\x1b[?2026l"
     for _ in range(chunks):
         processor.advance(update * (2 // chunks))
     assert [processor.made.count(it) for it in ("input", "unset_private_mode")] == [2, ends]
@@ -162,11 +162,11 @@ SEVEN_COLOURS = b";".join(b"%d;#111" % index for index in range(7))
     (b"\x1b]2;t\x1b[m", ["set_title", "terminal_attribute"], {OSC, CSI}, ord("m"), 0),
     (b"\x1b_Gf=100;YQ==\x1b\\", [], {ESC}, 0x5c, 0),
     (b"\x1b[1" + b";1" * 32 + b"i", [], {CSI}, ord("i"), 1)])
-def test_what_a_second_parser_has(whole, stream, calls, kinds, code, flag):
+def test_what_a_second_parser_has(cargo_build, stream, calls, kinds, code, flag):
     """What a processor doesn't pass on is in a parser beside it, as docs/C.md says."""
-    processor = Processor(whole)
+    processor = Processor(cargo_build)
     processor.advance(stream)
-    _, events, _ = Parser(whole).feed(stream)
+    _, events, _ = Parser(cargo_build).feed(stream)
     assert (processor.made, {event.kind for event in events}) == (calls, kinds)
     assert (events[-1].code, events[0].flag) == (code, flag)
     processor.call("free")

@@ -19,7 +19,7 @@ OF_INDICES = re.compile(r"panicking\d+panic_(bounds_check|fmt|nounwind_fmt)|slic
 
 def declared(library):
     """The functions that the library's headers declare and don't define."""
-    others = sorted((BESIDE / "include").glob("*.h")) if library.is_whole else []
+    others = sorted((BESIDE / "include").glob("*.h")) if library.is_complete else []
     text = "".join(header.read_text() for header in [CRATE / "include/vte.h", *others])
     function = r"^(?!static|typedef|#| \*)\w[\w ]*[ *](vte_\w+)\([^;{]*\);"
     return set(re.findall(function, text, re.M | re.S))
@@ -51,9 +51,9 @@ def test_random_bytes_as_a_parser(library):
     assert output_of([library.program(EXAMPLES / "any_parser.c", *SANITIZERS)]) == b""
 
 
-def test_refused_memory(whole):
+def test_refused_memory(cargo_build):
     words = [f"-Wl,--wrap={name}" for name in ("malloc", "realloc", "free")]
-    program = whole.program(HERE / "refused.c", *words)
+    program = cargo_build.program(HERE / "refused.c", *words)
     # pieces without a byte take eight each
     empty, groups = b"\x1b]" + b";" * 15 + b"\a", b"\x1b[" + b"1;" * 31 + b"1m"
     stream = empty + groups + empty * 5000 + b"text\x1b]52;c;" + b"Q" * 100_000 + b"\x1b\\more"
@@ -64,10 +64,10 @@ def test_refused_memory(whole):
         assert min(map(int, counts.split())) > least
 
 
-def test_threads(whole):
+def test_threads(cargo_build):
     """Also with the library and the program under the thread sanitizer."""
-    assert output_of([whole.program(HERE / "threads.c", "-pthread")]) == b"busy\n"
-    folder = whole.folder / "for_threads"
+    assert output_of([cargo_build.program(HERE / "threads.c", "-pthread")]) == b"busy\n"
+    folder = cargo_build.folder / "for_threads"
     environment = {"RUSTC_BOOTSTRAP": "1",
                    "CARGO_TARGET_DIR": f"{TOOLS.parent}/rust/target/for_threads",
                    "RUSTFLAGS": "-Zsanitizer=thread -Cunsafe-allow-abi-mismatch=sanitizer"}

@@ -180,8 +180,8 @@ def outputs_of(library, suffix, *words):
 
 
 @pytest.fixture(scope="module")
-def outputs(whole):
-    return outputs_of(whole, "c")
+def outputs(cargo_build):
+    return outputs_of(cargo_build, "c")
 
 
 def test_calls(outputs):
@@ -202,8 +202,8 @@ def test_calls(outputs):
 
 
 @pytest.mark.parametrize("suffix", ["c", "cpp"])
-def test_with_sanitizers(whole, outputs, suffix):
-    others = outputs_of(whole, suffix, *SANITIZERS)
+def test_with_sanitizers(cargo_build, outputs, suffix):
+    others = outputs_of(cargo_build, suffix, *SANITIZERS)
     for (name, *_), output, wanted in zip(SCRIPTS, others, outputs):
         assert output == wanted, name
 

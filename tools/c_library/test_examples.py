@@ -104,11 +104,11 @@ def test_pty_events(library, place, tmp_path):
     assert running.returncode == 0
 
 
-def test_clipboards(whole, tmp_path):
+def test_clipboards(cargo_build, tmp_path):
     texts = [b"Q" * 1_000_000, b"", b"YWJj"] + [b"YQ=="] * 20
     stream = b"a\x1b]52;c;?\x07\x1b]2;c;title\x07\x1b]52;c\x07" + b"".join(
         b"b\x1b]52;c;%b\x1b\\" % text for text in texts)
-    clipboards = program(whole, "c/clipboards.c")
+    clipboards = program(cargo_build, "c/clipboards.c")
     few_files = ["sh", "-c", 'ulimit -n 12; exec "$0" "$1"']
     assert output_of([*few_files, clipboards, tmp_path], stream) == b"23\n"
     assert [(tmp_path / str(at)).read_bytes() for at in range(23)] == texts
@@ -116,8 +116,8 @@ def test_clipboards(whole, tmp_path):
         assert status_of(clipboards, *words, input=stream, stdout=subprocess.DEVNULL) in (1, 2)
 
 
-def test_outline(whole):
-    outline = program(whole, "cpp/outline.cpp", "-std=c++17")
+def test_outline(cargo_build):
+    outline = program(cargo_build, "cpp/outline.cpp", "-std=c++17")
     output = output_of([outline], STREAM + b"\x1b[3;5H\x1b[?2026hend").decode()
     assert output == "aü[bold][title a;b]\ufffd[go to 2, 4]end"
     assert_slow([outline], [(b"a\x1b[1m", b"a[bold]"), (b"b", b"b")])

@@ -61,7 +61,7 @@ def test_names():
         name: number for name, number in wanted.items() if name}
 
 
-def test_handler(whole):
+def test_handler(cargo_build):
     need("c++", "c++, so vte.hpp was not tested")
     words = ["-std=c++17", "-Wl,--wrap=malloc", "-Wl,--wrap=realloc"]
-    assert output_of([whole.program(HERE / "handler.cpp", *words, compiler="c++")]) == b""
+    assert output_of([cargo_build.program(HERE / "handler.cpp", *words, compiler="c++")]) == b""

@@ -31,7 +31,7 @@ def compare(library, name, stream, wanted, ways):
     watched = ways[sum(stream) % 3::3] if library.is_short else ways
     for program, some in (library.events, ways), (library.sanitized, watched):
         for way in some if program else []:
-            if library.is_whole or "long" not in way:
+            if library.is_complete or "long" not in way:
                 found = output_of([program, *way], stream)
                 assert found == wanted, f"{name}, {program.name} {' '.join(way)}, {stream[:60]}"
 

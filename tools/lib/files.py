@@ -22,7 +22,7 @@ def parser_of(about, **how):
     return argparse.ArgumentParser(description=about, formatter_class=layout, **how)
 
 
-def write_or_check(about, make, top=TOP):
+def write_or_check(about, make, top):
     """Writes the files that aren't up to date, or with --check ends the program with their names.
     `make` yields the path of each below `top`, and its text, or None for one that is to go."""
     parser = parser_of(about)

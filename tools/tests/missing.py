@@ -6,17 +6,17 @@ import shutil
 import pytest
 
 
-def miss(what):
+def miss(message):
     """Fails for something that isn't there, or says so and skips what needs it."""
     if os.environ.get("NAQSHUVE_ALLOW_MISSING") != "1":
-        pytest.fail(f"{what}. NAQSHUVE_ALLOW_MISSING=1 lets it pass")
-    pytest.skip(what)
+        pytest.fail(f"{message}. NAQSHUVE_ALLOW_MISSING=1 lets it pass")
+    pytest.skip(message)
 
 
-def need(command, what):
+def need(command, message):
     """Misses something if there is no such command."""
     if shutil.which(command) is None:
-        miss(what)
+        miss(message)
 
 
 def pytest_terminal_summary(terminalreporter):

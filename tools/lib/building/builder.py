@@ -109,8 +109,8 @@ def has_libvterm():
     return Path("/usr/include/vterm.h").exists()
 
 
-def run(words, what, environment=None, folder=None):
-    """Runs a command and returns what it prints, or ends the program with that if it fails."""
+def run(words, product, environment=None, folder=None):
+    """Runs a command for a product, and returns what it prints. If it fails, the program ends."""
     try:
         done = subprocess.run(words, cwd=folder, stdin=subprocess.DEVNULL, capture_output=True,
                               env=environment)
@@ -119,5 +119,5 @@ def run(words, what, environment=None, folder=None):
     if done.returncode != 0:
         sys.stderr.buffer.write(done.stderr[-6000:])
         sys.stderr.buffer.write(done.stdout[-6000:])
-        stop(f"{what}: {words[0]} failed with status {done.returncode}")
+        stop(f"{product}: {words[0]} failed with status {done.returncode}")
     return done.stdout

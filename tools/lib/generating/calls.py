@@ -23,6 +23,6 @@ class Call(NamedTuple):
 def calls_of(trait):
     """The calls by their names, from the text of the trait."""
     text = trait[:trait.index("pub trait HandlerText")]
-    return {name: Call(name, dict(re.findall(r"(\w+): (.*?)(?:,\s+(?=\w+:)|,?\s*$)", given)),
+    return {name: Call(name, dict(re.findall(r"(\w+): (.*?)(?:,\s+(?=\w+:)|,?\s*$)", parameters)),
                        re.sub(r"\s*/// ?", " ", about).strip())
-            for about, name, given in METHOD.findall(text)}
+            for about, name, parameters in METHOD.findall(text)}

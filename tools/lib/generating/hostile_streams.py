@@ -199,8 +199,8 @@ def damaged(chance, stream):
 def places_of_cuts(chance, stream):
     every = range(len(stream) + 1)
     likely = [at + 1 for at, byte in enumerate(stream) if byte in b"\x1b[]P?;:" or byte >= 0x80]
-    some = [places for places in (every, likely, likely) if places]
-    cuts = [chance.sample(places, chance.randint(1, min(len(places), 8))) for places in some]
+    choices = [places for places in (every, likely, likely) if places]
+    cuts = [chance.sample(places, chance.randint(1, min(len(places), 8))) for places in choices]
     cuts = chance.choice([[], [*every[1:-1]] if len(stream) <= 4000 else [], *cuts])
     # sometimes an empty chunk
     return sorted(cuts + cuts[:1] * (chance.random() < 0.06))

@@ -108,8 +108,8 @@ class Program:
             return list(self.threads.map(self.answer, cases))
         answers = []
         while len(answers) < len(cases):
-            some = cases[len(answers):len(answers) + self.for_one_process]
-            answers += self.answers_of_process(some)
+            batch = cases[len(answers):len(answers) + self.for_one_process]
+            answers += self.answers_of_process(batch)
         return answers
 
     def answer_aloud(self, chunks):

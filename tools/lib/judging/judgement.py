@@ -191,9 +191,9 @@ class Judge:
                 self.find(case, rest, excluded, kind)
         if signatures and self.result.unexplained == before:
             rule, _, kind = signatures[0]
-            of_rule = (it for it, finding in self.result.findings.items() if finding.rule == rule)
+            names = (it.name for it in self.result.findings.values() if it.rule == rule)
             if not self.result.count(f"{rule}/{kind}"):
-                self.result.count(next(of_rule, None))
+                self.result.count(next(names, None))
 
     def find(self, case, rest, excluded, kind=None):
         """Shrinks a difference without some rules, and reports its class if it is new."""

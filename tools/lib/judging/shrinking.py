@@ -28,9 +28,9 @@ def shrunk(streams, asked, at_once=1):
     def first(texts):
         """The first of some texts whose streams differ, or None."""
         texts = iter(texts)
-        while some := list(islice(texts, at_once)):
-            differ = threads.map(answer, some) if at_once > 1 else map(answer, some)
-            found = next((text for text, is_different in zip(some, differ) if is_different), None)
+        while batch := list(islice(texts, at_once)):
+            differ = threads.map(answer, batch) if at_once > 1 else map(answer, batch)
+            found = next((text for text, is_different in zip(batch, differ) if is_different), None)
             if found is not None:
                 return found
         return None

@@ -11,13 +11,14 @@ PACKAGES = {"apt-get": None, "c++": "g++", "cargo": "cargo-web", "cc": "gcc",
             "clang": "clang libclang-rt-14-dev", "dpkg-shlibdeps": "dpkg-dev", "go": "golang-go",
             "node": "nodejs", "objdump": "binutils", "ps": "procps", "rt": None,
             "rustfmt": "rustfmt-web"}
+METADATA = "cargo metadata --format-version 1 --manifest-path"
 # cargo finds its crates
-HAS_CRATES = "cargo metadata --format-version 1 --manifest-path rust/vte/Cargo.toml"
+HAS_CRATES = f"{METADATA} rust/vte/Cargo.toml"
 # the same, with packages of Debian's next release, and the variables that let it find them
 NEXT_RELEASE = f"""words=$(tools/next_release "${{XDG_CACHE_HOME:-$HOME/.cache}}/naqshuve")
 eval "$words"; {HAS_CRATES} >&2; env -0"""
 # pip finds what builds ./python, cargo its crates, and venv what it puts into each environment
-HAS_PIP = """cargo metadata --format-version 1 --manifest-path python/Cargo.toml
+HAS_PIP = f"""{METADATA} python/Cargo.toml
 python3 -c 'import ensurepip'
 python3 -m pip install --dry-run --no-deps --target "$ROOM/pip" ./python"""
 

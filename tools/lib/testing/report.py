@@ -9,20 +9,15 @@ class Report:
     """How parts ended, and what wasn't tested."""
 
     def __init__(self):
-        # of each part that was run: its seconds, whether it passed, its name and what it said
+        # of each part that was run: its seconds, `passed` or `FAILED`, its name and what it said
         self.ended = []
-        # what wasn't tested and why, the packages that let it be, and the parts that weren't run
-        self.missing, self.packages, self.left_out = set(), set(), []
+        # what wasn't tested and why, and the packages that let it be
+        self.missing, self.packages = set(), set()
 
-    def add(self, name, seconds, has_failed, text):
+    def add(self, seconds, ended, name, text):
         """Adds a part that was run, with what it says itself that it didn't test."""
-        self.ended.append((seconds, "FAILED" if has_failed else "passed", name, text))
+        self.ended.append((seconds, ended, name, text))
         self.missing.update(re.findall("^missing: (.*)", text, re.MULTILINE))
-
-    def leave_out(self, name, needs):
-        """Adds a part that can't be run, and what it needs for that."""
-        self.left_out.append(name)
-        self.missing.add(f"{name}: it needs {', '.join(needs)}")
 
     def count(self, how):
         return sum(ended == how for _, ended, *_ in self.ended)

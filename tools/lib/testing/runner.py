@@ -40,14 +40,14 @@ class Runner:
     def can_run(self, part, has_failed):
         """Whether a part can be run. If not, or if it has to leave something out, it is noted."""
         needed, optional = self.machine.lacks(part.needs), self.machine.lacks(part.optional)
-        missing = [what for what, _ in needed]
+        missing = [name for name, _ in needed]
         packages = [names for _, names in needed] + [names for _, names in optional if names]
         if has_failed:
             missing = ["all parts before it to pass"]
         elif None not in packages:
             self.report.packages.update(name for names in packages for name in names.split())
         if missing:
-            self.report.leave_out(part.name, missing)
+            self.report.missing.add(f"{part.name}: it needs {', '.join(missing)}")
         return not missing
 
     def run_part(self, part, niceness):
@@ -61,9 +61,10 @@ class Runner:
                 return
             has_failed |= self.run(command, log, is_shown, niceness) != 0
         text, seconds = log.read_text(errors="replace"), time.monotonic() - begun
-        self.report.add(part.name, seconds, has_failed, text)
+        ended = "FAILED" if has_failed else "passed"
+        self.report.add(seconds, ended, part.name, text)
         said = text if has_failed and not is_shown else ""
-        say(f"{said}test: {seconds:.0f} s  {'FAILED' if has_failed else 'passed'}  {part.name}")
+        say(f"{said}test: {seconds:.0f} s  {ended}  {part.name}")
 
     def run(self, command, log, is_shown, niceness):
         """Runs a command, whose output goes to a log and may be shown, too, and returns its

@@ -26,7 +26,7 @@ def built(tmp_path_factory, pytestconfig):
     @cache
     def build_by(build):
         for command in "cc", build:
-            need(command, f"{command}, so the C library was not tested")
+            need(command, "the C library was not tested")
         return Library(build, tmp_path_factory.mktemp(build), pytestconfig.option.short)
     return build_by
 

@@ -6,7 +6,8 @@ from concurrent.futures import ThreadPoolExecutor
 from functools import cached_property
 from pathlib import Path
 
-TOOLS = Path(__file__).resolve().parent.parent
+from tests.support import TOOLS
+
 HERE = TOOLS / "c_library"
 CRATE = TOOLS.parent / "crates/vte_c"
 # what cargo's build has beside the proved functions

@@ -34,7 +34,7 @@ def symbols(library, *options):
 def test_symbols(library):
     """It has the functions of its headers and needs few of C. rt's has no panic, and cargo's none
     but those of an index and of memory."""
-    need("nm", "nm (Debian: binutils), so the library's symbols were not checked")
+    need("nm", "the library's symbols were not checked")
     wanted = declared(library)
     assert {name for _, name in symbols(library.archive, "-g", "--defined-only")} == wanted
     assert {name for _, name in symbols(library.shared, "-D", "--defined-only")} == wanted

@@ -116,10 +116,6 @@ def lines_for(line):
     return [" ".join(line)]
 
 
-def advances(chunks):
-    return [f"advance {chunk.hex()}" for chunk in chunks]
-
-
 def scripts():
     """The name of each, its steps with a new processor, and whether these set the timeout."""
     for vector in all_vectors():
@@ -128,7 +124,8 @@ def scripts():
             stream = b"".join(chunks)
             by_bytes = [stream[at:at + 1] for at in range(len(stream))]
             for cut in (chunks, [stream], by_bytes)[:3 if len(stream) < MAX_CUT else 2]:
-                step = advances(cut), lines_of(vector["calls"]), (None, None, None)
+                acts = [f"advance {chunk.hex()}" for chunk in cut]
+                step = acts, lines_of(vector["calls"]), (None, None, None)
                 yield f"{vector['name']}, in {len(cut)}", [step], "timeouts" in vector
         elif vector["kind"] == "updates" and vector["timeout"] in ("counting", "expiring"):
             yield vector["name"], [*map(step_of, vector["steps"])], False
@@ -141,8 +138,8 @@ def step_of(step):
         return ["stop_sync"], lines_of(step["calls"]), (0, 0, None)
     sets = step["timeouts"].count("set") if "timeouts" in step else None
     is_pending = min(1, step["count"]) if "count" in step else None
-    acts = advances([bytes_of(step["advance"])]) if "advance" in step else ["stop_sync"]
-    return acts, lines_of(step["calls"]), (step.get("held"), is_pending, sets)
+    act = f"advance {bytes_of(step['advance']).hex()}" if "advance" in step else "stop_sync"
+    return [act], lines_of(step["calls"]), (step.get("held"), is_pending, sets)
 
 
 SCRIPTS = list(scripts())
@@ -165,7 +162,7 @@ def functions():
 def outputs_of(library, suffix, *words):
     """What the program in C or C++ writes for each script."""
     compiler = {"c": "cc", "cpp": "c++"}[suffix]
-    need(compiler, f"{compiler}, so calls.{suffix} was not built")
+    need(compiler, f"calls.{suffix} was not built")
     (library.folder / "calls.inc").write_text(functions())
     made = library.program(HERE / f"calls.{suffix}", "-Wl,--wrap=clock_gettime",
                            f"-I{library.folder}", *words, compiler=compiler, optional=words)

@@ -27,7 +27,7 @@ def program(library, place, *words):
     """An example, in the language of its file."""
     source = EXAMPLES / place
     compiler = {".c": "cc", ".cpp": "c++", ".go": "go"}[source.suffix]
-    need(compiler, f"{compiler}, so {place} was not built")
+    need(compiler, f"{place} was not built")
     if compiler != "go":
         return library.program(source, OF_PTY, *words, compiler=compiler)
     made = library.folder / f"{source.parent.name}_go"

@@ -71,8 +71,7 @@ def test_recorded(library):
     recorded = {name: b"".join(chunks) for name, chunks in streams.recorded()}
     for name in "vim", "tmux", "sixel", "malformed-text":
         assert output_of([forward], recorded[name]) == recorded[name]
-    large = b"a\x1b]52;c;" + b"YQ==" * 30000
-    assert output_of([forward], large + b"\x1b\\b") == b"a\x1b\\b"
+    assert output_of([forward], b"a\x1b]52;c;" + b"YQ==" * 30000 + ST + b"b") == b"a\x1b\\b"
     assert_slow([forward], [(b"a\xc3\x1b]52;c;", b"a\xc3"), (b"YQ==\x07b\x1b", b"\x1b\\b"),
                             (b"[mc\x1b_", b"\x1b[mc\x1b_")])
     assert_ends_by_errors(forward)

@@ -107,7 +107,7 @@ def test_build_in_a_folder_with_a_blank(place):
 
 
 def test_pkg_config(prefix):
-    need("pkg-config", "pkg-config, so the installed library was not looked for by it")
+    need("pkg-config", "the installed library was not looked for by it")
     assert "soname: [libvte_c.so.6]" in prefix.run("readelf", "-d", "prefix/lib/libvte_c.so")
     # what the pages and the file itself say to ask for: each other version is incompatible
     for version, status in ("= 6", 0), ("= 5", 1), ("= 7", 1), (">= 7", 1):
@@ -129,7 +129,7 @@ def test_pkg_config(prefix):
 
 
 def cmake(place, *words, **how):
-    need("cmake", "cmake, so the installed library was not looked for by it")
+    need("cmake", "the installed library was not looked for by it")
     source = f"-DSOURCE={EXAMPLES / 'c/stripper.c'}"
     place.run("cmake", source, *words, "-S", HERE, "-B", "built", **how)
 

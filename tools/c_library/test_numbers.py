@@ -62,6 +62,6 @@ def test_names():
 
 
 def test_handler(cargo_build):
-    need("c++", "c++, so vte.hpp was not tested")
+    need("c++", "vte.hpp was not tested")
     words = ["-std=c++17", "-Wl,--wrap=malloc", "-Wl,--wrap=realloc"]
     assert output_of([cargo_build.program(HERE / "handler.cpp", *words, compiler="c++")]) == b""

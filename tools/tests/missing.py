@@ -13,10 +13,10 @@ def miss(message):
     pytest.skip(message)
 
 
-def need(command, message):
-    """Misses something if there is no such command."""
+def need(command, consequence):
+    """Misses a command if it isn't there, with what comes of that."""
     if shutil.which(command) is None:
-        miss(message)
+        miss(f"{command}, so {consequence}")
 
 
 def pytest_terminal_summary(terminalreporter):

@@ -42,7 +42,6 @@ def write(place, text, mode=0o644):
 
 
 def write_program(place, text):
-    """Writes a program of the shell."""
     return write(place, f"#!/bin/sh\n{text}\n", 0o755)
 
 

@@ -8,11 +8,11 @@ import time
 from pathlib import Path
 
 import pytest
+from lib.files import TOP
 
 from tests.missing import need
 from tests.support import wait_until, write, write_program
 
-TOP = Path(__file__).resolve().parents[2]
 WHOLE_PATH = os.environ["PATH"]
 # what the launcher may use
 USED = ("bash cat chmod dirname env find grep iconv mkdir mktemp readlink rm sed sh tail "
@@ -138,7 +138,7 @@ def test_cargo(checkout, monkeypatch, target):
     ("c/HOST/", {"CARGO_BUILD_TARGET": "HOST", "CARGO_TARGET_DIR": "c"})])
 def test_where_cargo_puts_what_it_makes(checkout, monkeypatch, place, variables):
     monkeypatch.setenv("PATH", WHOLE_PATH)
-    need("cargo", "cargo, so it was not asked where it puts what it makes")
+    need("cargo", "it was not asked where it puts what it makes")
     host = re.search(r"^host: (.*)", subprocess.check_output(["rustc", "-vV"], text=True), re.M)[1]
     for name in "CARGO_BUILD_TARGET", "CARGO_TARGET_DIR":
         monkeypatch.delenv(name, raising=False)

@@ -14,8 +14,8 @@ import sys
 from pathlib import Path
 
 TOOLS = Path(__file__).resolve().parents[2]
-OURS, KEPT = TOOLS.parent / "rust" / "vte", TOOLS.parent / "rust" / "target"
-CARGO_PRODUCT = TOOLS / "lib" / "building" / "cargo_product"
+OURS, KEPT = TOOLS.parent / "rust/vte", TOOLS.parent / "rust/target"
+CARGO_PRODUCT = TOOLS / "lib/building/cargo_product"
 PROFILES = {
     "fat": {"LTO": "fat", "CODEGEN_UNITS": "1"},
     "release": {"LTO": "false", "CODEGEN_UNITS": "16"},

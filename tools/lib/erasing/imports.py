@@ -18,6 +18,7 @@ def words_of_code(source):
 
 
 def renamed(source, at, path, crate, plan):
+    """A path with its root in the Rust crate."""
     root, _, rest = path.partition("::")
     if root == "std":
         module, _, rest = rest.partition("::")

@@ -47,6 +47,7 @@ def sort_attributes(source):
 
 
 def _derive(source, at, end, names):
+    """Keeps the names that rustc knows; Serde's get a condition."""
     if unknown := set(names) - DERIVES - SERDE - {"Drop"}:
         source.refuse(f"unknown derive: {', '.join(unknown)}", at)
     plain, serde = (", ".join(name for name in names if name in known)

@@ -37,6 +37,7 @@ def find(source, at, pattern):
 
 
 def _fit(source, at, parts, places):
+    """The last place of parts that begin at a place, and the places of names; or None."""
     end = source.before(at)
     for index, (count, name) in enumerate(parts):
         if count == 0:
@@ -53,6 +54,7 @@ def _fit(source, at, parts, places):
 
 
 def _fit_run(source, at, parts, places):
+    """The same if the first part stands for any number of tokens."""
     (count, name), rest = parts[0], parts[1:]
     # the comments before it are its own
     last = source.before(at)

@@ -87,18 +87,18 @@ class Reader:
         self.steps = []
         if self.place < len(self.text):
             if self.is_hooked:
-                self.device_byte(self.place)
+                self.read_device_byte(self.place)
             elif self.text[self.place] == ESC:
-                self.body(self.place)
+                self.read_body(self.place)
             else:
-                self.character(self.place)
+                self.read_character(self.place)
         return self.steps
 
     def add(self, rules, start, end, *lines):
         self.steps.append(Step(tuple(rules), start, end, lines))
         self.place = end
 
-    def first(self, wanted, start):
+    def find_first(self, wanted, start):
         """The first place of a character that is wanted, or that ends any sequence and string."""
         found = re.compile(f"[{wanted}{ESC}{ENDS}]").search(self.text, start)
         return found.start() if found else len(self.text)
@@ -108,14 +108,14 @@ class Reader:
 
     # ---- text
 
-    def character(self, start):
+    def read_character(self, start):
         segment, is_whole = segment_at(self.text, start, self.house)
         house, end = self.house, start + len(segment)
         if not is_whole:
             if "\x80" <= segment < "\xa0":
                 lines = {"execute": [execute(segment)], "replace": ["print fffd"], "drop": []}
                 return self.add(["c1-byte"], start, end, *lines[house.c1_bytes])
-            return self.malformed(start, segment)
+            return self.read_malformed(start, segment)
         code = ord(segment if len(segment) == 1 else segment.encode("latin-1").decode())
         shown = f"print {code:04x}"
         if code < 0x20:
@@ -128,7 +128,7 @@ class Reader:
         else:
             self.add(["text"], start, end, shown)
 
-    def malformed(self, start, segment):
+    def read_malformed(self, start, segment):
         end = start + len(segment)
         begun = "\xc2" <= segment[0] <= "\xf4"
         # whether its bytes are those of a character but for their values
@@ -145,23 +145,24 @@ class Reader:
 
     # ---- sequences
 
-    def body(self, escape):
+    def read_body(self, escape):
         """What ESC begins."""
         was_open, self.is_open = self.is_open, False
         if was_open and self.at(escape + 1) == "\\":
             lines = ["esc - false 5c"] * (self.house.terminator == "event")
             return self.add(["escape-sequence", "terminator"], escape, escape + 2, *lines)
-        key = self.final(escape, escape + 1, " -~")
+        key = self.find_final(escape, escape + 1, " -~")
         if key:
-            by_key = {"[": self.control_sequence, "P": self.device_control,
-                      "]": self.system_command, **dict.fromkeys("X^_", self.ignored_string)}
-            read = by_key.get(self.text[key], self.escape_sequence)
+            by_key = {"[": self.read_control_sequence, "P": self.read_device_control,
+                      "]": self.read_system_command,
+                      **dict.fromkeys("X^_", self.read_ignored_string)}
+            read = by_key.get(self.text[key], self.read_escape_sequence)
             read(escape, key)
 
-    def final(self, escape, start, wanted, dropped="dropped-in-sequence"):
+    def find_final(self, escape, start, wanted, dropped="dropped-in-sequence"):
         """The place of a final byte, or None if the sequence ends without one: by the next ESC, or
         CAN or SUB. Until then C0 is executed, or dropped as what isn't in a head."""
-        end = self.first(wanted, start)
+        end = self.find_first(wanted, start)
         for place, byte in enumerate(self.text[start:end], start):
             if byte < " " and dropped == "dropped-in-sequence":
                 self.add(["control-in-sequence"], place, place + 1, execute(byte))
@@ -177,8 +178,8 @@ class Reader:
             return end
         return None
 
-    def escape_sequence(self, escape, key):
-        final = self.final(escape, key, "0-~")
+    def read_escape_sequence(self, escape, key):
+        final = self.find_final(escape, key, "0-~")
         if final:
             collected = re.sub("[^ -/]", "", self.text[key:final])
             rules = {"intermediates": collected, "many-intermediates": len(collected) > 2}
@@ -186,13 +187,13 @@ class Reader:
                      f"esc {hex_of(collected[:2])} {str(len(collected) > 2).lower()} "
                      f"{hex_of(self.text[final])}")
 
-    def control_sequence(self, escape, key):
-        final = self.final(escape, key + 1, "@-~")
+    def read_control_sequence(self, escape, key):
+        final = self.find_final(escape, key + 1, "@-~")
         if final:
-            rules, lines = self.head("csi", "control-sequence", key + 1, final)
+            rules, lines = self.read_head("csi", "control-sequence", key + 1, final)
             self.add(rules or ["malformed-head"], escape, final + 1, *lines)
 
-    def head(self, method, rule, start, final):
+    def read_head(self, method, rule, start, final):
         """The rules and the line of a head, without what is dropped or executed in it; none if it
         is malformed."""
         house, text = self.house, re.sub("[^ -?]", "", self.text[start:final])
@@ -214,16 +215,16 @@ class Reader:
 
     # ---- strings
 
-    def device_control(self, escape, key):
-        final = self.final(escape, key + 1, "@-~", "dropped-in-device-head")
+    def read_device_control(self, escape, key):
+        final = self.find_final(escape, key + 1, "@-~", "dropped-in-device-head")
         if final:
-            rules, lines = self.head("hook", "device-control", key + 1, final)
+            rules, lines = self.read_head("hook", "device-control", key + 1, final)
             if not rules:
-                return self.dropped_string(escape, final + 1, "malformed-device-head")
+                return self.read_dropped_string(escape, final + 1, "malformed-device-head")
             self.add(rules, escape, final + 1, *lines)
             self.is_hooked = True
 
-    def device_byte(self, start):
+    def read_device_byte(self, start):
         """A byte of data, or the end. If that is ESC, it also begins what comes next."""
         byte = self.text[start]
         if byte < "\x7f" and byte not in ESC + ENDS:
@@ -238,12 +239,12 @@ class Reader:
             rule = "byte-9c" if byte == ST else "dropped-in-device-data"
             self.add([rule], start, start + 1)
 
-    def ignored_string(self, escape, key):
-        self.dropped_string(escape, key + 1, "ignored-string")
+    def read_ignored_string(self, escape, key):
+        self.read_dropped_string(escape, key + 1, "ignored-string")
 
-    def dropped_string(self, escape, start, rule):
+    def read_dropped_string(self, escape, start, rule):
         """A string of which nothing is reported, up to ESC, CAN or SUB."""
-        stop = self.first(ST * (self.house.ignored_9c == "ends"), start)
+        stop = self.find_first(ST * (self.house.ignored_9c == "ends"), start)
         last, text = self.at(stop), self.text[start:stop]
         has_other = rule == "ignored-string" and re.search("[^\x08-\x0d -~]", text)
         self.add([rule, *["byte-9c"] * (ST in text + last),
@@ -252,9 +253,10 @@ class Reader:
             self.add(["cancel"], stop, stop + 1, *executed(last))
         self.is_open = last == ESC
 
-    def system_command(self, escape, key):
+    def read_system_command(self, escape, key):
         house = self.house
-        stop = self.first(BEL * (house.bell == "ends") + ST * (house.command_9c == "ends"), key + 1)
+        ends = BEL * (house.bell == "ends") + ST * (house.command_9c == "ends")
+        stop = self.find_first(ends, key + 1)
         for place, byte in enumerate(self.text[key + 1:stop], key + 1):
             if byte < " ":
                 rule = "command-bell" if byte == BEL else "control-in-command"

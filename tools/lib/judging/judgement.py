@@ -125,6 +125,7 @@ class Judge:
         return reference, answer
 
     def judge_batch(self, batch):
+        """Judges cases at once, and examines what differs."""
         streams = [freed(case.chunks, self.left_out, self.house) for case in batch]
         differing = []
         for index, (reference, answer) in enumerate(self.sides.answers(streams)):

@@ -6,13 +6,13 @@ import subprocess
 import sys
 from pathlib import Path
 
+from lib.files import TOP
 from lib.judging.definition import lines_of
 from lib.judging.house import DEFAULT
 
-TOP = Path(__file__).resolve().parents[3]
 # the longest time for one stream, on a machine that is busy
 SECONDS = 120
-CARGO_CRATE = TOP / "rust" / "vtlog"
+CARGO_CRATE = TOP / "rust/vtlog"
 
 
 class NoReference(Exception):
@@ -30,6 +30,7 @@ class Reference:
             raise NoReference(f"{self.vtlog} isn't vtlog: it prints other lines")
 
     def answer(self, stream):
+        """The lines of a stream."""
         try:
             done = subprocess.run([self.vtlog], input=stream, capture_output=True, timeout=SECONDS)
         except subprocess.TimeoutExpired:
@@ -59,7 +60,7 @@ def find_vtlog(given=None):
         if not os.access(named, os.X_OK) or Path(named).is_dir():
             raise NoReference(f"not a program: {named}")
         return str(Path(named).resolve())
-    proved = TOP / "crates" / "vtlog" / "out" / "vtlog"
+    proved = TOP / "crates/vtlog/out/vtlog"
     found = built_by_cargo() or (proved if proved.is_file() else shutil.which("vtlog"))
     if not found:
         raise NoReference("there is no vtlog: give --vtlog PROGRAM, install cargo 1.63 or later, "

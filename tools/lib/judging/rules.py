@@ -29,7 +29,7 @@ class Rule(NamedTuple):
     source: str
 
 
-FILE = TOP / "vectors" / "events.json"
+FILE = TOP / "vectors/events.json"
 RULES = {name: Rule(**rule) for name, rule in json.loads(FILE.read_text())["rules"].items()}
 # how many U+FFFD stand for what is malformed is recommended; what Unicode demands is in the sources
 MALFORMED = ("unfinished", "malformed", "surrogate", "overlong")

@@ -3,8 +3,6 @@ import os
 import re
 import shutil
 import subprocess
-from collections.abc import Callable
-from dataclasses import dataclass
 
 # the packages of programs that have another name, or none
 PACKAGES = {"apt-get": None, "c++": "g++", "cargo": "cargo-web", "cc": "gcc",
@@ -48,27 +46,18 @@ def has_modules(*names):
                   + " ".join(names)) is not None
 
 
-@dataclass
-class Need:
-    """Something that parts need: whether a machine has it, what is missing if not, and the packages
-    of Debian 12 that bring it, if they do."""
-
-    is_met: Callable
-    missing: str
-    packages: str | None = None
-
-
-# Needs by the patterns of their names. Any other one is a program.
+# What parts need, by patterns of names: whether a machine has it, what is missing if not, and the
+# packages of Debian 12 that bring it, if they do. Any other need is a program.
 NEEDS = {
-    "crates": Need(lambda machine: machine.has_crates, "what cargo gets from a network"),
-    "pip": Need(lambda machine: machine.has_pip, "what pip and cargo get from a network"),
-    "pytest": Need(lambda _: has_modules("pip", "pytest"), "pytest", "python3-pip python3-pytest"),
-    "python3-(.*)": Need(lambda _, name: has_modules(name), r"python3-\1", r"python3-\1"),
-    "old-rust": Need(lambda machine: machine.has_old_rust(),
-                     "Debian 12's rustc 1.63 beside another"),
-    "rust=(.*)": Need(lambda machine, wanted: machine.rust.startswith(f"{wanted}."), r"rustc \1"),
-    "rust-(.*)": Need(lambda machine, least: numbers(machine.rust) >= numbers(least),
-                      r"rustc \1 or later", "cargo-web")}
+    "crates": (lambda machine: machine.has_crates, "what cargo gets from a network", None),
+    "pip": (lambda machine: machine.has_pip, "what pip and cargo get from a network", None),
+    "pytest": (lambda _: has_modules("pip", "pytest"), "pytest", "python3-pip python3-pytest"),
+    "python3-(.*)": (lambda _, name: has_modules(name), r"python3-\1", r"python3-\1"),
+    "old-rust": (lambda machine: machine.has_old_rust(),
+                 "Debian 12's rustc 1.63 beside another", None),
+    "rust=(.*)": (lambda machine, wanted: machine.rust.startswith(f"{wanted}."), r"rustc \1", None),
+    "rust-(.*)": (lambda machine, least: numbers(machine.rust) >= numbers(least),
+                  r"rustc \1 or later", "cargo-web")}
 
 
 class Machine:
@@ -97,15 +86,14 @@ class Machine:
         return (not self.rust.startswith("1.63.")
                 and version("/usr/bin/rustc").startswith("1.63."))
 
-    def lack(self, name):
-        """What is missing for a need, and the packages of Debian 12 that bring it, if they do; or
-        None if nothing is."""
-        for pattern, need in NEEDS.items():
-            if match := re.fullmatch(pattern, name):
-                packages = need.packages and match.expand(need.packages)
-                is_met = need.is_met(self, *match.groups())
-                return None if is_met else (match.expand(need.missing), packages)
-        return None if shutil.which(name) else (name, PACKAGES.get(name, name))
+    def lack(self, need):
+        """What is missing for a need, and the packages that bring it; or None if nothing is."""
+        for pattern, (is_met, missing, packages) in NEEDS.items():
+            if match := re.fullmatch(pattern, need):
+                if is_met(self, *match.groups()):
+                    return None
+                return match.expand(missing), packages and match.expand(packages)
+        return None if shutil.which(need) else (need, PACKAGES.get(need, need))
 
     def lacks(self, needs):
-        return [lack for name in needs.split() if (lack := self.lack(name))]
+        return [lack for need in needs.split() if (lack := self.lack(need))]

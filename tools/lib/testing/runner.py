@@ -90,7 +90,7 @@ class Runner:
         can_run = [part for part in parts if self.can_run(part, has_failed)]
         has_proofs = "proofs" in (part.name for part in can_run)
 
-        def run(part):
+        def run_nicely(part):
             # the others take what the proofs leave; of these two take longest
             yielding = {"proofs": 0, "release": 10, "Python": 10}.get(part.name, 19)
             self.run_part(part, yielding if has_proofs else niceness)
@@ -98,6 +98,6 @@ class Runner:
                 self.run_all(last, niceness=19)
 
         with ThreadPoolExecutor(cores() + 1) as pool:
-            list(pool.map(run, can_run))
+            list(pool.map(run_nicely, can_run))
         if not has_proofs and last:
             self.run_all(last)

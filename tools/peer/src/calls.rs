@@ -53,23 +53,18 @@ macro_rules! numbers {
     };
 }
 
+macro_rules! casts {
+    ($($kind:ty),*) => { numbers! { $($kind: |value| value;)* } };
+}
+
+casts! {
+    u8, u16, usize, char, bool, LineClearMode, ClearMode, TabulationClearMode, CursorShape,
+    CharsetIndex, StandardCharset, ModifyOtherKeys, ScpCharPath, ScpUpdateMode,
+    KeyboardModesApplyBehavior
+}
+
 numbers! {
-    u8: |number| number;
-    u16: |number| number;
-    usize: |number| number;
     i32: |line| line.unsigned_abs();
-    char: |c| c;
-    bool: |it| it;
-    LineClearMode: |part| part;
-    ClearMode: |part| part;
-    TabulationClearMode: |which| which;
-    CursorShape: |shape| shape;
-    CharsetIndex: |index| index;
-    StandardCharset: |charset| charset;
-    ModifyOtherKeys: |keys| keys;
-    ScpCharPath: |path| path;
-    ScpUpdateMode: |update| update;
-    KeyboardModesApplyBehavior: |behavior| behavior;
     KeyboardModes: |modes| modes.bits();
     Mode: |mode| mode.raw();
     PrivateMode: |mode| mode.raw();

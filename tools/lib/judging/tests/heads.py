@@ -34,9 +34,8 @@ def head_of(vector, rules):
                     key=LEVELS.index) or [MUST]
     head = {"level": levels[-1], "rules": used}
     if vector["kind"] == "events":
-        limits = ["limit"] * ("limit" in used)
-        head["house"] = [*house_rules(vector), *limits]
-        head["strongest"] = levels[0]
+        house = [*house_rules(vector), *["limit"] * ("limit" in used)]
+        head |= {"house": house, "strongest": levels[0]}
     return head
 
 

@@ -6,8 +6,8 @@ from types import SimpleNamespace
 
 from lib.judging import definition, house, views
 from lib.judging.judgement import Judge
+from tests.support import TOOLS
 
-TOOLS = Path(__file__).resolve().parents[3]
 VECTORS = TOOLS.parent / "vectors"
 TOY = Path(__file__).with_name("toy.py")
 NAMES = ["events", "calls"]

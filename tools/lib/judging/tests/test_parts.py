@@ -66,7 +66,7 @@ def test_houses(stream, rules, lines):
 
 def test_each_house_rule_is_tested_and_on_the_page():
     tried = {word for _, rules, _ in HOUSES for word in rules.split()}
-    page = (TOOLS.parent / "docs" / "JUDGE.md").read_text()
+    page = (TOOLS.parent / "docs/JUDGE.md").read_text()
     page = page.partition("## House rules")[2].partition("\n## ")[0]
     for name, choices in house.CHOICES.items():
         others = choices[1:] if isinstance(choices, tuple) else ["none"]
@@ -105,9 +105,9 @@ def test_a_byte_is_replaced_by_plainer_ones(last, first, plain):
     for byte in map(chr, range(first, last + 1)):
         wanted = plain[:plain.index(byte)] if byte in plain else plain
         assert shrinking.plainer(f"b{byte}b{byte}", 1) == [f"b{it}b{byte}" for it in wanted]
-        long = f"b{byte}" * 21
-        assert shrinking.plainer(long, 1) == [long.replace(byte, it) if byte != "b" else
-                                              "b" + it * 41 for it in wanted]
+        text = f"b{byte}" * 21
+        assert shrinking.plainer(text, 1) == [
+            text.replace(byte, it) if byte != "b" else "b" + it * 41 for it in wanted]
 
 
 @pytest.mark.parametrize("chunks, shown", [
@@ -123,7 +123,7 @@ def test_the_example_of_the_page():
     case = Case("vector number-far-past-the-limit", [b"a" * 20, b"bc"])
     shown = report.shown_finding(Finding("largest/numbers", difference, case),
                                  "tools/judge --case '{}' python3 /tmp/my_parser.py".format)
-    page = (TOOLS.parent / "docs" / "JUDGE.md").read_text()
+    page = (TOOLS.parent / "docs/JUDGE.md").read_text()
     assert "".join(f"    {line}\n" for line in shown.splitlines()) in page
     rest = Finding("cut:c1-byte/crash", difference._replace(before=[[b"x"]]), case, False, 1, False)
     lines = report.shown_finding(rest, str).splitlines()
@@ -253,10 +253,10 @@ def test_answers_come_in_parts(monkeypatch):
 
 
 def test_what_is_reserved_is_not_used():
-    this = SimpleNamespace(pid=os.getpid())
-    before = candidate.used_memory(this)
+    process = SimpleNamespace(pid=os.getpid())
+    before = candidate.used_memory(process)
     with mmap.mmap(-1, 1 << 29, mmap.MAP_PRIVATE | mmap.MAP_ANONYMOUS):
-        assert candidate.used_memory(this) - before < 1 << 28
+        assert candidate.used_memory(process) - before < 1 << 28
 
 
 @pytest.mark.parametrize("output", [

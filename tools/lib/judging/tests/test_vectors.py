@@ -91,7 +91,7 @@ RUNNERS = {
 @pytest.fixture(params=RUNNERS)
 def language(request):
     command = next(filter(None, RUNNERS[request.param][:2])).split()[0]
-    need(command, f"vectors/run.{request.param} needs a language that isn't here")
+    need(command, f"vectors/run.{request.param} was not tried")
     return request.param
 
 

@@ -106,7 +106,7 @@ def by_run(rows):
 
 
 def by_call(rows):
-    """The C library over libvterm."""
+    """The times of the C library over those of libvterm."""
     return table(["stream", "call", *comparisons(rows[0])], [
         [f"`{row['stream']}`", f"{row['chunk']:,} B", *map(str, comparisons(row).values())]
         for row in rows])

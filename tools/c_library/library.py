@@ -10,7 +10,7 @@ from tests.support import TOOLS
 
 HERE = TOOLS / "c_library"
 CRATE = TOOLS.parent / "crates/vte_c"
-# what cargo's build has beside the proved functions
+# what cargo's build has besides the proved functions
 BESIDE = TOOLS.parent / "rust/vte_c"
 EXAMPLES = CRATE / "examples"
 INCLUDES = [f"-I{CRATE / 'include'}", f"-I{BESIDE / 'include'}"]

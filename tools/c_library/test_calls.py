@@ -206,6 +206,6 @@ def test_with_sanitizers(cargo_build, outputs, suffix):
 
 
 def test_each_call_has_a_vector():
-    """.. but for `newline`, which no sequence gives."""
+    """No sequence gives `newline`."""
     made = set().union(*(calls for _, steps, _ in SCRIPTS for _, calls, _ in steps))
     assert CALLS.keys() - {call.split()[0] for call in made} == {"newline"}

@@ -1,4 +1,4 @@
-"""The example forward.c, which drops commands for clipboards: beside a filter of whole streams."""
+"""The example forward.c, which drops commands for clipboards, and a filter of whole streams."""
 import random
 import re
 

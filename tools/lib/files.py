@@ -24,7 +24,7 @@ def parser_of(about, **how):
 
 def write_or_check(about, make, top):
     """Writes the files that aren't up to date, or with --check ends the program with their names.
-    `make` yields the path of each below `top`, and its text, or None for one that is to go."""
+    `make` yields the path of each below `top`, and its text, or None to remove it."""
     parser = parser_of(about)
     parser.add_argument("--check", action="store_true", help="only check that files are up to date")
     is_check = parser.parse_args().check

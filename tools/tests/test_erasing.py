@@ -1,4 +1,4 @@
-"""Tests of tools/erase, and of tools/check_erased beside it."""
+"""Tests of tools/erase, and of tools/check_erased on what it writes."""
 import re
 
 import pytest

@@ -1,9 +1,8 @@
 """Builds programs to measure or compare: by rt those of crates/, by cargo programs over the crate
 `vte` 0.15.0, or over ours in rust/vte.
 
-Crates come from Debian's next release, by tools/next_release. Two profiles: `fat` has link-time
-optimization over everything and one codegen unit, which is what a terminal ships with; `release`
-is cargo's default release profile.
+Crates come from Debian's next release, by tools/next_release. The profile `fat` is what terminals
+ship with, `release` is cargo's default, and `checked` compiles fast and has assertions.
 """
 import functools
 import os

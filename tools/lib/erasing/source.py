@@ -21,7 +21,7 @@ class Source:
         return self.tokens[at].kind if 0 <= at < len(self.tokens) else None
 
     def between(self, first, last):
-        """The text from one place to another, which it has too."""
+        """The text between two places, with both."""
         return "".join(token.text for token in self.tokens[first : last + 1])
 
     def is_sign(self, at, signs):

@@ -23,7 +23,7 @@ PARSER = [
     ("to text", "of_parsers.rs", WHOLE + b"a"),
     ("to data", "of_parsers.rs", WHOLE + b"\x1bPqab"),
     ("to nothing", "no run", WHOLE + b"\x1bc"), ("closed to a run", "to runs", WHOLE + b"\x1b["),
-    # the longest stream that both read alike
+    # the longest stream that both read the same way
     ("closed", "both parsers", WHOLE + b"a" * 62 + b"\x1b["),
     ("open as another", "both parsers", WHOLE + b"\x1b[")]
 PROCESSOR = [

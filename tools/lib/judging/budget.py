@@ -51,7 +51,7 @@ class Time:
 
 
 class Tries:
-    """So many questions that may be asked, as long as there is time."""
+    """A number of questions that may be asked while there is time."""
 
     def __init__(self, time, most):
         self.time, self.left = time, iter(range(most))
@@ -61,7 +61,7 @@ class Tries:
         return None if self.is_over() else self.time.ask(question, *about)
 
     def is_over(self):
-        """Whether there is no try left, or no time. Takes a try."""
+        """Takes a try, and returns whether none was left, or no time."""
         return self.time.is_over or next(self.left, None) is None
 
 

@@ -1,5 +1,5 @@
-"""Somebody's program: streams go in, whole or in framed chunks (docs/JUDGE.md), and event lines
-come back.
+"""The program that is judged: it reads streams, whole or in framed chunks (docs/JUDGE.md), and
+prints the lines of events.
 
 If the program doesn't answer as it should, the last line of its answer is a mark, such as
 `(crash: signal 11)`.
@@ -176,7 +176,7 @@ class Program:
 
     @contextmanager
     def running(self, data):
-        """A process that reads some bytes. In the end it is ended, and what it started."""
+        """A process that reads some bytes. In the end it is killed, and what it started too."""
         with tempfile.TemporaryFile() as file:
             file.write(data)
             file.seek(0)
@@ -197,7 +197,7 @@ class Program:
             self.guard.stdin.flush()
 
     def read_some(self, process, output, until):
-        """Reads what comes next. False is the end of the output."""
+        """Reads what comes next. Returns False at the end of the output."""
         pipe = process.stdout.fileno()
         while True:
             now = time.monotonic()
@@ -218,7 +218,7 @@ class Program:
                 return False
 
     def check_status(self, process, until):
-        """Whether a process that ended its output ended well, and in time."""
+        """Raises Broken for a process that closed its output, and fails or doesn't end in time."""
         try:
             status = process.wait(max(0, until - time.monotonic()))
         except subprocess.TimeoutExpired:

@@ -59,8 +59,8 @@ def level_of(name):
 
 
 def rule_needed(chunks, depends_on_cut, same, kind, house, but=()):
-    """The name of the rule that a case is about that differs after some lines, but not certain
-    ones. It is exact if the case is shrunk."""
+    """The name of the rule that a case is about whose answers begin with the same lines: none of
+    the rules `but`. It is exact if the case is shrunk."""
     steps = steps_of(b"".join(chunks), house)
     if depends_on_cut:
         divided = {name for index in steps_at_cuts(steps, cuts_of(chunks)).values()

@@ -12,7 +12,7 @@ from lib.judging.house import DEFAULT
 
 # a stream is read as a text with a character for each byte
 ESC, BEL, ST = "\x1b", "\x07", "\x9c"
-# what ends any sequence and string, beside ESC: CAN and SUB
+# what ends any sequence and string, besides ESC: CAN and SUB
 ENDS = "\x18\x1a"
 WELL_SHAPED = re.compile("([<-?]?)([0-;]*)([ -/]*)")
 # Unicode's table of well-formed sequences, and the fronts of these; or any byte

@@ -61,7 +61,7 @@ class Judgement:
         return rules | {NEAR + name for name in rules}
 
     def count(self, name):
-        """Counts a stream for a class. Whether there is one."""
+        """Counts a stream for a class, and returns whether there is one."""
         if name in self.findings:
             self.findings[name].streams += 1
         return name in self.findings
@@ -114,7 +114,7 @@ class Judge:
         return not kind
 
     def judge_case(self, streams):
-        """Judges the last of some streams, which one process gets in a row. Both answers."""
+        """Judges the last of some streams, which one process reads, and returns both answers."""
         *before, chunks = [freed(chunks, self.left_out, self.house) for chunks in streams]
         reference, answer = self.sides.last_answers([*before, chunks])
         self.result.streams, self.result.different = 1, int(reference != answer)
@@ -264,7 +264,7 @@ class Judge:
     # ---- what differs only at times
 
     def repeated(self, case, difference, tries=1):
-        """The difference that a stream has alone, each time in a new process, or None: then it is
+        """The difference that a stream has alone, each time in a new process; or None, once it has
         reported why."""
         # a program that doesn't end takes its time again
         for _ in range(min(tries, 2) if mark_of(difference.candidate) in LIMITS else tries):
@@ -287,7 +287,7 @@ class Judge:
                      case)
 
     def after_others(self, difference):
-        """The smallest streams of which the last is answered so after the others alone, or None."""
+        """The smallest streams whose last one is answered so only after the others, or None."""
         if KEPT_STATE in self.result.findings:
             return difference
         tries = Tries(self.time, MAX_CASES // 10)

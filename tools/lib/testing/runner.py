@@ -1,4 +1,4 @@
-"""Runs parts of tools/test beside each other, and says at once how each ended."""
+"""Runs parts of tools/test side by side, and says at once how each ended."""
 import os
 import subprocess
 import sys
@@ -84,7 +84,7 @@ class Runner:
         return status
 
     def run_all(self, parts, last=(), niceness=0):
-        """Runs parts beside each other, as many as there are cores, and one. The last ones begin
+        """Runs parts side by side, one more at a time than there are cores. The last ones begin
         once proofs end, if these are among the others."""
         has_failed = self.report.count("FAILED") > 0
         can_run = [part for part in parts if self.can_run(part, has_failed)]

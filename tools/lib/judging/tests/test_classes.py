@@ -62,7 +62,7 @@ def test_a_breach_of_a_house_rule_has_its_rule(breach, rules):
     ({"execute 0f": "execute 1f", "execute 0e\nexecute 10": "print 0010", "execute 0e\n": "",
       "esc - false 41": "unhook"}, [b"\x1bA", b"\x0f", b"\x0e", *[b"\x0e\x10"] * 4],
      {"escape-sequence/other": 1, "control/character": 2, "control/missing": 4}),
-    # a kind that only shows beside another rule is looked for till it shows alone
+    # a kind that shows only with another rule is looked for until it shows alone
     ({"execute 0e\n": "", "esc - false 41": "execute 41", "execute 0f": "execute 1f"},
      [b"\x0e", b"\x1bA", *[b"\x0e\x1bA"] * 9, b"\x0f"],
      {"control/missing": 10, "escape-sequence/other": 1, "control/character": 1}),

@@ -129,7 +129,7 @@ LEFT_OUT = {"py": "delete", "c": "differs", "js": "colon", "go": "should"}
 
 
 def test_a_runner_counts_what_is_wrong(language, tmp_path):
-    """The example gets all vectors wrong but those of text and C0. Nothing tried is no success."""
+    """The example gets all vectors wrong but those of text and C0. It fails if none is tried."""
     built(tmp_path, language)
     levels = {name: rule["level"] for name, rule in FILES[0]["rules"].items()}
 

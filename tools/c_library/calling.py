@@ -36,12 +36,12 @@ class Parser:
     def feed(self, sent, kinds=ALL_KINDS, stops=0, rooms=ROOMS):
         """Returns how many bytes are read, the events, and how many data bytes these have."""
         counts, events, data = (c_size_t * 2)(77, 77), (Event * rooms[0])(), (c_uint8 * rooms[1])()
-        given = (self.place, sent or None, c_size_t(len(sent)), c_uint32(kinds), c_uint32(stops),
+        common = (self.place, sent or None, c_size_t(len(sent)), c_uint32(kinds), c_uint32(stops),
                  events or None, c_size_t(len(events)))
         if self.is_long:
-            read = self.c.vte_long_feed(*given, byref(c_void_p()), counts)
+            read = self.c.vte_long_feed(*common, byref(c_void_p()), counts)
         else:
-            read = self.c.vte_feed(*given, data or None, c_size_t(len(data)), counts)
+            read = self.c.vte_feed(*common, data or None, c_size_t(len(data)), counts)
         return read, events[:counts[0]], counts[1]
 
     def strip(self, sent, room):

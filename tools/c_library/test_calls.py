@@ -148,10 +148,10 @@ SCRIPTS = list(scripts())
 def functions():
     """The functions of calls.c, in its macros: each writes what it was passed."""
     written = []
-    for name, given in FUNCTIONS:
-        parameters = [*PARAMETER.finditer(given)]
-        words = [f"TEXT({it['text']})" if it["text"] else it[0] for it in parameters]
-        writes = "".join(f"write_{it.lastgroup}({it[it.lastgroup]}), " for it in parameters)
+    for name, text in FUNCTIONS:
+        parameters = [*PARAMETER.finditer(text)]
+        words = [f"TEXT({part['text']})" if part["text"] else part[0] for part in parameters]
+        writes = "".join(f"write_{part.lastgroup}({part[part.lastgroup]}), " for part in parameters)
         head = f"SOME({name}, {', '.join(words)})" if words else f"NONE({name})"
         tries = "must_be_busy(), " * (name == "bell")
         written.append(f'{head} {{ {tries}BEGIN("{name}"), {writes}puts(""); }}\n')

@@ -38,8 +38,8 @@ def program(library, place, *words):
     return made
 
 
-def status_of(*words, **given):
-    return subprocess.run(words, **given).returncode
+def status_of(*words, **options):
+    return subprocess.run(words, **options).returncode
 
 
 def assert_ends_by_errors(program):

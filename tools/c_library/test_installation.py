@@ -81,8 +81,8 @@ def place(library, tmp_path):
 def prefix(place):
     """A place with the library alone, below a relative prefix."""
     # cargo has built the library by now
-    given = {"VTE_ARCHIVE": ""} if place.library.is_complete else {}
-    output = place.run("install", f"--{place.library.build}", "--library", **given)
+    archive = {"VTE_ARCHIVE": ""} if place.library.is_complete else {}
+    output = place.run("install", f"--{place.library.build}", "--library", **archive)
     assert place.installed("prefix") == place.wanted
     assert set(output.split()) == {f"{place.folder}/prefix/{name}" for name in place.wanted}
     yield place

@@ -35,8 +35,8 @@ NAME = re.compile(r"^\s*(\w+)(?:\([^)]*\))?(?: = (-?\d+))?,?\s*$", re.M)
 def numbered(text):
     """The names of an enum, with their numbers."""
     numbers, next_number = {}, 0
-    for name, given in NAME.findall(re.sub(r"//.*|#\[.*?\]", "", text)):
-        numbers[name] = int(given or next_number)
+    for name, number in NAME.findall(re.sub(r"//.*|#\[.*?\]", "", text)):
+        numbers[name] = int(number or next_number)
         next_number = numbers[name] + 1
     return numbers
 

@@ -92,7 +92,7 @@ def test_commands(library):
     compare_losses(library, "commands", stream)
 
 
-def all_streams(given):
+def all_streams(option):
     """Vectors joined, recorded streams and groups of random ones, with their names. With --short no
     recorded one is longer than 4,000 bytes."""
     # CAN is between them, after which a stream starts afresh
@@ -100,10 +100,10 @@ def all_streams(given):
         each = [stream for _, stream in VECTORS if (len(stream) > LIMIT) == is_long]
         yield name, b"\x18".join(each)
     for name, chunks in recorded():
-        yield name, b"".join(chunks)[:4_000 if given.short else None]
-    count = given.streams or (400 if given.short else 20_000)
+        yield name, b"".join(chunks)[:4_000 if option.short else None]
+    count = option.streams or (400 if option.short else 20_000)
     for at in range(0, count, 200):
-        group = (b"".join(hostile_stream(given.seed, number, OF_TEXT))
+        group = (b"".join(hostile_stream(option.seed, number, OF_TEXT))
                  for number in range(at, min(at + 200, count)))
         yield f"random streams {at // 200}", b"\x18".join(group)
 
@@ -111,16 +111,16 @@ def all_streams(given):
 def test_streams(library, request):
     """All programs write, in all ways, what vtlog does. With --short, what the C program does in
     chunks of 65,536 bytes, with stops after one kind of event."""
-    given = request.config.option
-    program, text, *chunk = ((library.events, "strip", "65536") if given.short else
+    option = request.config.option
+    program, text, *chunk = ((library.events, "strip", "65536") if option.short else
                              (builder.proved_program("vtlog"), "text"))
 
     def test_stream(numbered):
         number, (name, stream) = numbered
         stops = STOPS_WAYS[:2] if name.startswith("random") else STOPS_WAYS
-        stops = [STOPS_WAYS[number % 9]] if given.short else stops
+        stops = [STOPS_WAYS[number % 9]] if option.short else stops
         compare_lines(library, name, stream, output_of([program, *chunk], stream), WAYS + stops)
         compare(library, name, stream, output_of([program, text, *chunk], stream), STRIP_WAYS)
         compare_losses(library, name, stream)
 
-    at_once(test_stream, enumerate(all_streams(given)))
+    at_once(test_stream, enumerate(all_streams(option)))

@@ -39,16 +39,16 @@ def count(monkeypatch):
 
 
 # a table's cell for a count of 4, its compiler, its fault, and how many counts there are
-@pytest.mark.parametrize("given, status, fault, counts", [
+@pytest.mark.parametrize("table, status, fault, counts", [
     ({"cell": "-"}, 0, [], 2), *(({"cell": it}, 0, [], 3) for it in ("4.000", "3.961", "4.039")),
     *(({"cell": cell}, status, [f"parser `ascii` in calls of 4,096 B, release: 4.000, {fault}"], 3)
       for cell, status, fault in (
           ("3.960", 1, "above 4.000"), ("3.900", 1, "above 3.939"), ("4.100", 0, "below 4.100"),
           ("?", 1, "and the table has none"))),
     ({"cell": "3.000", "rustc": "old"}, 0, OLD, 0), ({"rustc": "old", "allowed": ""}, 1, OLD, 0)])
-def test_counts_above_their_limits(count, given, status, fault, counts):
+def test_counts_above_their_limits(count, table, status, fault, counts):
     last = f"{counts} counts, {status * (counts > 0)} above their limits"
-    assert count("--check", **given)[:2] == (status, [*fault, last])
+    assert count("--check", **table)[:2] == (status, [*fault, last])
 
 
 def test_limits_are_written(count):

@@ -39,7 +39,7 @@ def test_how_long_a_line_may_be(place, begin, most):
     ("x.antt", "", "a\n", "", 400, "a file of 401 lines"),
     *((place, "", "a\n", "", 500, "") for place in (
         "crates/vte_handler/src/by_call.rt", "rust/x/src/proved/f.rs", "vectors/x.json")),
-    *((*given, "f: a function of 47 lines") for given in (
+    *((*case, "f: a function of 47 lines") for case in (
         ("x.py", "class A:\n    def f(self):\n", "        a\n", "a\n", 45),
         ("x.rs", "    fn g();\n    fn f(a: [u8; 2])\n    {\n", "        a;\n", "    }\n", 43),
         ("x.rt", "fn g();\nfn f(\n)\n    ensures {\n        b\n    }\n{\n", "    a;\n", "}\n", 44),

@@ -11,8 +11,8 @@ from lib.erasing.tokens import Refused, split
 from tests.support import Tool, write
 
 
-def plan(**given):
-    return Plan(folder="o", modules={"a": "crate::a", "b": "crate::b"}, **given)
+def plan(**entries):
+    return Plan(folder="o", modules={"a": "crate::a", "b": "crate::b"}, **entries)
 
 
 # what is in ‹ › goes, and what is in « » comes
@@ -158,16 +158,16 @@ def test_traps():
     assert tests == {"a/x/cases", "a/x/tests"}
 
 
-@pytest.mark.parametrize("given, marked", TEXTS, ids=[
+@pytest.mark.parametrize("entries, marked", TEXTS, ids=[
     " ".join(re.sub("[‹›«»]", "", marked).split())[:50] for _, marked in TEXTS])
-def test_texts(given, marked):
+def test_texts(entries, marked):
     """What the eraser writes has no difference for the tool that shares no rule with it."""
-    (before, after), of_test = before_and_after(marked), plan(**given)
+    (before, after), of_test = before_and_after(marked), plan(**entries)
     assert words(erase(before, "a", "a/x", of_test)[0]) == words(after)
     write("crates/a/src/x.rt", before)
     write("o/a/x.rs", after)
     status, output = Tool("check_erased", PLANS=(of_test,), REPEATED={}).run()
-    assert status == ("rules" in given), output
+    assert status == ("rules" in entries), output
 
 
 @pytest.mark.parametrize("text, line", [
@@ -193,8 +193,8 @@ def test_which_files_are_written(is_reversed):
                   "left.rt": "#[x]", "left/over.rt": "#[x]", "leftover.rt": ""},
             "b": {"main.rt": "#[cfg(test)] mod x; #[cfg(test)] mod c;", "x.rt": "#[x]",
                   "c.rt": "#[x]", "old.rt": "fn f() {}"}}
-    given = plan(conditions={"b": "x"}, allowed_lints=("y", "z"))
-    files = write_crate(given, lambda crate: dict(sorted(made[crate].items(), reverse=is_reversed)))
+    ours = plan(conditions={"b": "x"}, allowed_lints=("y", "z"))
+    files = write_crate(ours, lambda crate: dict(sorted(made[crate].items(), reverse=is_reversed)))
     assert sorted(files) == ["a/leftover.rs", "a/mod.rs", "a/y.rs", "a/z.rs",
                              "a/z/lib.rs", "b/mod.rs", "b/old.rs", "mod.rs"]
     assert files["b/old.rs"] == ("// Written by tools/erase from crates/b/src/old.rt: "
@@ -204,12 +204,12 @@ def test_which_files_are_written(is_reversed):
         "pub(crate) mod a;", "#[cfg(x)]", "pub(crate) mod b;"]
 
 
-@pytest.mark.parametrize("given", [
+@pytest.mark.parametrize("entries", [
     dict(of_std={"gone": "b"}), dict(other_crates={"gone": "b"}), dict(imports={"gone": ""}),
     dict(homes={"b": "gone"}), dict(rules=[("gone", "")])])
-def test_each_entry_is_needed(given):
+def test_each_entry_is_needed(entries):
     with pytest.raises(Failure, match="what no file needs: gone"):
-        write_crate(plan(**given), lambda _crate: {"x.rt": "fn f() {}"})
+        write_crate(plan(**entries), lambda _crate: {"x.rt": "fn f() {}"})
 
 
 @pytest.mark.parametrize("text, pattern, stays", [

@@ -27,15 +27,15 @@ def test_a_difference_is_found(does, is_found):
     ("--coverage", "", 0, "fuzz finds", 0), ("--coverage", "", 0, "coverage", 1)])
 def test_what_is_fuzzed(words, targets, seconds, failing, status):
     def fake(name):
-        def function(*given):
-            print(*given)
+        def function(*words):
+            print(*words)
             return name not in failing
         return function
 
-    fuzz = Tool("fuzz", missing=lambda: (), build=lambda *given: given, build_different=str,
+    fuzz = Tool("fuzz", missing=lambda: (), build=lambda *words: words, build_different=str,
                 fuzz=fake("fuzz"), finds=fake("finds"), coverage=lambda: "coverage" not in failing)
-    wanted = [line for it in targets.split()
-              for line in (f"{it} {(it, seconds)} {seconds}", f"{it} {it}")]
+    wanted = [line for target in targets.split()
+              for line in (f"{target} {(target, seconds)} {seconds}", f"{target} {target}")]
     found, output = fuzz.run(*words.split())
     assert (found, sorted(output.splitlines())) == (status, sorted(wanted))
 

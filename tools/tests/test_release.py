@@ -23,12 +23,12 @@ RELEASE = {
 # what stands in a file instead, and what is reported
 @pytest.mark.parametrize("place, old, new, reported", [
     ("CHANGELOG.md", "unreleased", "2026-01-02", None),
-    *((it, "1.2.3", "1.2.4", f"{it} has 1.2.4") for it in MANIFESTS),
-    *((it, old, new, f"{it} begins with {shown}")
-      for it in ("CHANGELOG.md", "rust/vte/CHANGELOG.md")
+    *((file, "1.2.3", "1.2.4", f"{file} has 1.2.4") for file in MANIFESTS),
+    *((file, old, new, f"{file} begins with {shown}")
+      for file in ("CHANGELOG.md", "rust/vte/CHANGELOG.md")
       for old, new, shown in (("## 1.2.3", "## 1.2.4", "1.2.4, unreleased"),
                               ("unreleased", "soon", "1.2.3, soon"))),
-    *((it, old, "1.2.4", f'{it} has no "{RELEASE[it]}"') for it, old in (
+    *((file, old, "1.2.4", f'{file} has no "{RELEASE[file]}"') for file, old in (
         ("crates/vtlog/src/main.rt", "1.2.3"), ("docs/vtlog.1", "1.2.3"), ("docs/C.md", "7"),
         ("vectors/events.json", "1.2.3"), ("vectors/calls.json", "1.2.3"))),
     ("CHANGELOG.md", "| 1.2.3", "| 1.2.4", 'CHANGELOG.md has no "| 1.2.3 | the crate"'),

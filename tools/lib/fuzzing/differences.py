@@ -74,5 +74,5 @@ DIFFERENCES = {
                                      (("Processor", "LongProcessor"), PROCESSOR))
                  for name in names for difference, *rest in rows],
     "beside_vte": [("Parser inside a character", "programs.rs", SINGLE), *(
-        (difference, "beside_vte.rs", given) for difference, given in BESIDE_VTE)],
+        (difference, "beside_vte.rs", data) for difference, data in BESIDE_VTE)],
     "c_library": LIBRARY}

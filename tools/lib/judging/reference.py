@@ -52,10 +52,10 @@ class Reference:
         return list(self.threads.map(self.answer, streams))
 
 
-def find_vtlog(given=None):
-    """The program: the given one, $VTLOG, the one of this repository, which cargo keeps up to date,
+def find_vtlog(named=None):
+    """The program: the named one, $VTLOG, the one of this repository, which cargo keeps up to date,
     or the one that is installed."""
-    named = given or os.environ.get("VTLOG")
+    named = named or os.environ.get("VTLOG")
     if named:
         if not os.access(named, os.X_OK) or Path(named).is_dir():
             raise NoReference(f"not a program: {named}")

@@ -23,7 +23,6 @@ class Part:
 
 
 def set_environment(room):
-    """Sets what all parts find in the environment."""
     # what is built once in a while is built in half the time without what helps to build it
     # again; tests check all that they check without optimization, but run longer without it;
     # and one job per proof, as many proofs at a time as there are cores

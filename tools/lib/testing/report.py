@@ -6,8 +6,6 @@ PROVED = re.compile(r"^(\d+) passed, (\d+) failed.*\n*\Z", re.MULTILINE)
 
 
 class Report:
-    """How parts ended, and what wasn't tested."""
-
     def __init__(self):
         # of each part that was run: its seconds, `passed` or `FAILED`, its name and what it said
         self.ended = []

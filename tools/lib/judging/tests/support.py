@@ -37,8 +37,8 @@ class Side:
         self.answers([chunks])
 
 
-def judge_of(answer, **given):
+def judge_of(answer, **options):
     """A judge of a function, or of a side. The definition is the reference."""
     defined = SimpleNamespace(answers=lambda streams: [*map(definition.lines_of, streams)])
     side = answer if isinstance(answer, Side) else Side(answer)
-    return Judge(defined, side, views.View(), house.DEFAULT, **given)
+    return Judge(defined, side, views.View(), house.DEFAULT, **options)

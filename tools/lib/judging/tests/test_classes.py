@@ -17,12 +17,12 @@ CASES = [case for case in cases.all_cases(("vectors", "random"), "1", 240)
     cases.Case("", [b"\x1b]" + front + b"\x9c\xa0\x1b"]) for front in (b";" * 16, b"a" * 1024)]
 
 
-def judged(answer, some=CASES, **given):
+def judged(answer, tried=CASES, **options):
     """What the judge says of a function. Each finding must show itself again, alone."""
-    result = judge_of(answer, **given).run(iter(some))
+    result = judge_of(answer, **options).run(iter(tried))
     for finding in result.findings.values():
         if finding.name != "not-deterministic":
-            again = judge_of(answer, **given)
+            again = judge_of(answer, **options)
             again.judge_case(report.case_shown(report.shown_case(finding.difference)))
             assert [*again.result.findings] == [finding.name], (finding, again.result)
     return result

@@ -142,14 +142,14 @@ def test_the_reference_and_the_definition_must_agree(tmp_path):
         reference.Reference(program, house.house_of(["delete=drop"])).answers([b"a"])
 
 
-# what is given, what $VTLOG names, and why it is none
-@pytest.mark.parametrize("given, named, reported", [
+# what --vtlog and $VTLOG name, and why it is none
+@pytest.mark.parametrize("option, named, reported", [
     ("./right", "failing", None), ("./failing", "right", "failed with status 3: why"),
     (None, "right", None), (None, "failing", "failed with status 3: why"),
     *((None, name, "not a program: ./") for name in ("no", "folder", "text")),
     (None, "other", "other isn't vtlog: it prints other lines"),
     (None, "empty", "empty can't be run: Exec format error")])
-def test_which_program_is_the_reference(tmp_path, monkeypatch, given, named, reported):
+def test_which_program_is_the_reference(tmp_path, monkeypatch, option, named, reported):
     monkeypatch.chdir(tmp_path)
     monkeypatch.setenv("VTLOG", f"./{named}")
     for name, line in {"right": "echo print 0061; echo 'csi [0] - false 6d'; echo print fffd",
@@ -158,7 +158,7 @@ def test_which_program_is_the_reference(tmp_path, monkeypatch, given, named, rep
     write("empty", "\n", 0o755), write("folder/file", "")
     write("text", "", 0o644)
     with pytest.raises(reference.NoReference, match=reported) if reported else nullcontext():
-        reference.Reference(reference.find_vtlog(given)).check()
+        reference.Reference(reference.find_vtlog(option)).check()
 
 
 def test_a_vtlog_of_this_repository_comes_before_others(tmp_path, monkeypatch):
@@ -279,9 +279,9 @@ def test_lines_that_are_none(wrong):
 
 # ---- results
 
-def result(is_new=True, **given):
+def result(is_new=True, **fields):
     found = Finding("text/missing", Difference([b"a"], [], []), Case("", [b""]), is_new, 3)
-    return Judgement(**{"streams": 9, "different": 3, "findings": {found.name: found}, **given})
+    return Judgement(**{"streams": 9, "different": 3, "findings": {found.name: found}, **fields})
 
 
 @pytest.mark.parametrize("status, judgement", [
@@ -304,26 +304,26 @@ def test_what_is_summed_up():
     assert report.shown_sum(Judgement(9), "1").startswith("9 streams, 0 differ; 0 classes, 0 of ")
 
 
-def formatted(kind, **given):
+def formatted(kind, **fields):
     """What a format makes of two rules, with texts that it has to escape: one is known, of the
     other a kind is new."""
     lines = ["print 0061", "(protocol: this is no event line: '<&#\">')"]
     difference, case = Difference([b"a#"], ["unhook"], lines), Case("x # y", [b"ab"])
     found = {name: Finding(name, difference, case, name == "colon/leaked")
              for name in ("text/missing", "colon/numbers", "colon/leaked")}
-    judgement = Judgement(**{"streams": 9, "different": 3, "findings": found, **given})
+    judgement = Judgement(**{"streams": 9, "different": 3, "findings": found, **fields})
     return formats.FORMATS[kind](judgement, "# \x1b]]>&", lambda case: f"judge '{case}' # <&>")
 
 
-@pytest.mark.parametrize("given, others", [
+@pytest.mark.parametrize("fields, others", [
     ({}, []), ({"different": 4}, ["each difference has a class"]),
     *((it, ["all streams are judged"]) for it in ({"streams": 0}, {"ended_early": "a < b"}))])
-def test_junit_is_read_by_its_library(given, others):
+def test_junit_is_read_by_its_library(fields, others):
     try:
         import junitparser
     except ImportError:
         miss("there is no python3-junitparser")
-    suite = junitparser.JUnitXml.fromstring(formatted("junit", **given).encode())
+    suite = junitparser.JUnitXml.fromstring(formatted("junit", **fields).encode())
     results = {case.name: case.result for case in suite}
     assert len(results) == len(formats.TESTS) + 2
     failed, skipped = ([name for name, it in results.items() if it and isinstance(it[0], kind)]

@@ -63,10 +63,10 @@ class Table:
 
 
 def line(kind, stream, chunk, *cells):
-    return f"{kind:<14}{stream:<13}{chunk:>5}{''.join(f'{cell:>9}' for cell in cells)}"
+    return f"{kind:<14}{stream:<13}{chunk:>5}{''.join(f'{cell:>8}' for cell in cells)}"
 
 
-def judged(table, counts):
+def compare(table, counts):
     """What is to be said of counts, and whether it is a fault."""
     for (row, column), count in counts.items():
         cell, (kind, stream, chunk) = table.rows[row][column], row

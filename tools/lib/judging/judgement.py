@@ -120,8 +120,8 @@ class Judge:
         self.result.streams, self.result.different = 1, int(reference != answer)
         if reference != answer:
             case, difference = Case("--case", chunks), Difference(chunks, reference, answer, before)
-            if repeated := self.repeated(case, difference, MORE_TRIES):
-                self.add(self.named(repeated), repeated, case)
+            if repeated := self.confirm(case, difference, MORE_TRIES):
+                self.add(self.class_of(repeated), repeated, case)
         return reference, answer
 
     def judge_batch(self, batch):
@@ -139,7 +139,7 @@ class Judge:
         explained = self.explained([difference for _, difference in differing])
         for (case, difference), is_explained in zip(differing, explained):
             before, self.examined = self.result.unexplained, (case, difference)
-            repeated = difference if is_explained else self.repeated(case, difference)
+            repeated = difference if is_explained else self.confirm(case, difference)
             if repeated:
                 self.examine(case, repeated, is_explained)
             elif self.result.unexplained == before:  # it was only slow
@@ -175,7 +175,7 @@ class Judge:
         before, excluded = self.result.unexplained, self.excluded()
         rest = not is_explained and self.sides.rest_without(difference, excluded)
         if rest and self.patience.is_left():
-            self.find(case, rest, excluded)
+            self.report_shrunk(case, rest, excluded)
         places = differences_of(*difference[1:3]) if self.result.rules() else []
         signatures = [(*nearest(difference.chunks, place, self.result.rules(), self.house), kind)
                       for place, kind in places]
@@ -189,14 +189,14 @@ class Judge:
             excluded = self.excluded(of_step)
             if rest := self.sides.rest_without(difference, excluded, kind):
                 self.patience.tries[rule, kind] += 1
-                self.find(case, rest, excluded, kind)
+                self.report_shrunk(case, rest, excluded, kind)
         if signatures and self.result.unexplained == before:
             rule, _, kind = signatures[0]
             names = (it.name for it in self.result.findings.values() if it.rule == rule)
             if not self.result.count(f"{rule}/{kind}"):
                 self.result.count(next(names, None))
 
-    def find(self, case, rest, excluded, kind=None):
+    def report_shrunk(self, case, rest, excluded, kind=None):
         """Shrinks a difference without some rules, and reports its class if it is new."""
         most = (MAX_OVER_LIMIT if mark_of(rest.candidate) in LIMITS else
                 MAX_CASES // 4 if kind else MAX_CASES)
@@ -212,10 +212,10 @@ class Judge:
             self.examined = case, difference or rest
         if self.time.is_over and not difference:
             raise OutOfTime
-        if not difference or is_mixed or not self.repeated(
+        if not difference or is_mixed or not self.confirm(
                 case, difference, 1 if self.time.is_over else MORE_TRIES):
             return
-        name = self.named(difference)
+        name = self.class_of(difference)
         name = self.same_as(name, difference) or name
         if self.result.count(name):
             self.patience.again += 1
@@ -235,7 +235,7 @@ class Judge:
             if not self.result.count(name):
                 self.add(name, difference, case, is_smallest=False)
 
-    def named(self, difference):
+    def class_of(self, difference):
         """The class of a difference that is shrunk."""
         chunks, reference, candidate, _ = difference
         same, kind = differences_of(reference, candidate)[0]
@@ -263,7 +263,7 @@ class Judge:
 
     # ---- what differs only at times
 
-    def repeated(self, case, difference, tries=1):
+    def confirm(self, case, difference, tries=1):
         """The difference that a stream has alone, each time in a new process; or None, once it has
         reported why."""
         # a program that doesn't end takes its time again
@@ -272,7 +272,7 @@ class Judge:
             if again and is_alike(again, difference):
                 continue
             if mark_of(difference.candidate) == "hang":  # it was only slow
-                return again and self.repeated(case, again, tries)
+                return again and self.confirm(case, again, tries)
             return self.report_unrepeated(case, difference, again)
         return difference._replace(before=[])
 

@@ -71,5 +71,5 @@ def field_kind(one, other):
         return "bell" if fields[0] != others[0] else "data" if is_data else "pieces"
     if method in ("csi", "hook", "esc"):
         names = ["numbers", "intermediates", "ignore", "final"][method == "esc":]
-        return next(it for it, here, there in zip(names, fields, others) if here != there)
+        return next(name for name, field, other in zip(names, fields, others) if field != other)
     return "character"

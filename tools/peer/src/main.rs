@@ -1,11 +1,13 @@
-//! Times the parser or processor of the crate `vte` 0.15.0, or of rust/vte (`--cfg runs`), alone,
-//! as crates/benchmark does ours, for bench/: `peer KIND CHUNK PASSES` reads a stream from standard
-//! input. Standard output gets the checksum, standard error the nanoseconds of the fastest pass.
-//! The kinds are `parser` and `processor`, with a performer or handler that folds all into a
-//! checksum, `screen` and `terminal`, with a screen as the parser's performer or the processor's
-//! handler, and `strip` and `filter`, which put text into memory. Over rust/vte the last four are
-//! there with `_runs` too, and get text in runs. `utf8` and `copy` do a part of the work of
-//! `strip_runs`: they only check text, or only copy it.
+//! Times the parser or processor of the crate `vte` 0.15.0, or of rust/vte (`--cfg runs`), for
+//! bench/: `peer KIND CHUNK PASSES` reads a stream from standard input. Standard output gets the
+//! checksum, standard error the nanoseconds of the fastest pass.
+//!
+//! - `parser`, `processor`: the performer or handler folds all into a checksum
+//! - `screen`, `terminal`: the performer or handler is a screen
+//! - `strip`, `filter`: the performer or handler puts text into memory
+//! - `utf8`, `copy`: a part of the work of `strip_runs`, to check text or to copy it
+//!
+//! Over rust/vte there are `screen_runs` and so on, too, which get text in runs.
 
 mod calls;
 mod cell;

@@ -22,6 +22,10 @@ def run(*words, **how):
     return done.returncode, done.stdout
 
 
+def right_lines(chunks, _=()):
+    return definition.lines_of(b"".join(chunks))
+
+
 class Side:
     """A function of the chunks of a stream, and of the streams before it, as a program."""
 

@@ -7,7 +7,7 @@ from lib.judging import (candidate, cases, classes, definition, house, judgement
 from lib.judging.classes import Difference
 from lib.judging.rules import CUT, LEVELS, RULES
 from lib.judging.sides import is_alike
-from support import FILES, judge_of
+from support import FILES, judge_of, right_lines
 
 
 # there are enough to find several differences in a row, which are no class of their own; in the
@@ -80,7 +80,7 @@ def test_what_is_counted(faults, streams, found):
 
     def wrong(chunks, _):
         asked.append(chunks)
-        text = "".join(f"{line}\n" for line in definition.lines_of(b"".join(chunks)))
+        text = "".join(f"{line}\n" for line in right_lines(chunks))
         for pattern, other in faults.items():
             text = re.sub(pattern, other, text)
         return text.splitlines()
@@ -149,9 +149,9 @@ def test_what_binds_has_a_sentence():
     (b"a\x1b]b\x1b\\", "5c", "5d", "terminator/final")])
 def test_which_rule_is_named(stream, pattern, other, name):
     def answer(chunks, _=None):
-        return re.sub(pattern, other, "\n".join(definition.lines_of(b"".join(chunks)))).splitlines()
+        return re.sub(pattern, other, "\n".join(right_lines(chunks))).splitlines()
     judge = judge_of(answer)
-    assert judge.named(judge.sides.difference([stream])) == name
+    assert judge.class_of(judge.sides.difference([stream])) == name
 
 
 @pytest.mark.parametrize("case", CASES[::3], ids=lambda case: case.name)
@@ -224,7 +224,7 @@ def test_what_depends_on_a_cut():
                                   "execute 0f", ["control/missing", "kept-state"])])
 def test_what_depends_on_other_streams(some, lost, names):
     def shifted(chunks, history):
-        lines = definition.lines_of(b"".join(chunks))
+        lines = right_lines(chunks)
         was_shifted = any(b"\x0e" in b"".join(before) for before in history)
         return [line for line in lines if line != lost and not (
             was_shifted and line.startswith("print"))]
@@ -256,7 +256,7 @@ def test_what_is_left_out():
     dropped = breaks("delete=drop")
     assert judged(dropped, left_out=["delete"]).different == 0
     assert judged(dropped).findings["delete/missing"].streams == sum(
-        dropped(case.chunks, []) != definition.lines_of(b"".join(case.chunks)) for case in CASES)
+        dropped(case.chunks, []) != right_lines(case.chunks) for case in CASES)
     # what is left out doesn't come back in what is shrunk
     result = judged(breaks("c1-characters=print", "malformed=drop"),
                     left_out=["malformed", "unfinished"])

@@ -5,11 +5,7 @@ from types import SimpleNamespace
 import pytest
 import toy
 from lib.judging import budget, candidate, cases, classes, definition, formats, house, report
-from support import Side, judge_of
-
-
-def right(chunks, _):
-    return definition.lines_of(b"".join(chunks))
+from support import Side, judge_of, right_lines
 
 
 # ---- long streams
@@ -84,7 +80,7 @@ class SlowSide(Side):
     (0, [2, 4, 8, 16, 32, 50, 50, 50, 50, 50, 50, 38], None, 0), (3, [2] + [1] * 9, None, 0),
     (0.4, [2, 4, 8, 4, 8, 4, 8, 4, 8, 4], None, 0), (3, [2, 1], 13, 0), (3, [2, 1], 13, 9)])
 def test_long_batches_are_followed_by_smaller_ones(monkeypatch, seconds, sizes, deadline, left):
-    side = SlowSide(monkeypatch, right, seconds, deadline)
+    side = SlowSide(monkeypatch, right_lines, seconds, deadline)
     result = judge_of(side).run([cases.Case("", [b"a"])] * (sum(sizes) + left))
     assert side.asked == [1, *sizes, *[1] * bool(left)]
     assert (result.streams, result.status()) == (sum(sizes), 3 if left else 0)
@@ -98,7 +94,7 @@ def test_long_batches_are_followed_by_smaller_ones(monkeypatch, seconds, sizes, 
     (b"a" * 30, 0.3, 40, "text/missing"), (b"b" * 30, 0.05, 1, "text/missing")])
 def test_a_slow_program_has_an_example(monkeypatch, stream, seconds, count, name):
     end = 60 if count > 1 else 30
-    side = SlowSide(monkeypatch, lambda *it: right(*it)[:27], seconds, deadline=end)
+    side = SlowSide(monkeypatch, lambda *it: right_lines(*it)[:27], seconds, deadline=end)
     result = judge_of(side).run([cases.Case("", [stream])] * count)
     assert [*result.findings] == [name] and bool(result.ended_early) == (count > 1)
     assert end <= side.now <= end + budget.GRACE + side.timeout

@@ -68,8 +68,8 @@ class Machine:
         self.has_crates = self.has_pip = False
 
     def find_crates(self):
-        """Finds what cargo gets from a network: where it looks by itself or, if it isn't there, in
-        packages of Debian's next release."""
+        """Finds crates: where cargo looks by itself or, failing that, in packages of Debian's next
+        release."""
         self.has_crates = answer(HAS_CRATES) is not None
         if not self.has_crates and (words := answer(NEXT_RELEASE)):
             os.environ.update(word.split("=", 1) for word in words.decode().split("\0") if word)

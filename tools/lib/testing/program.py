@@ -23,14 +23,13 @@ class Part:
 
 
 def set_environment(room):
-    # what is built once in a while is built in half the time without what helps to build it
-    # again; tests check all that they check without optimization, but run longer without it;
-    # and one job per proof, as many proofs at a time as there are cores
+    # builds take half the time without incremental files and debug information, and tests take
+    # less with some optimization; as many proofs run at a time as there are cores
     os.environ.update(CARGO_INCREMENTAL="0", CARGO_PROFILE_DEV_DEBUG="0",
                       CARGO_PROFILE_DEV_OPT_LEVEL="1", CARGO_NET_RETRY="0",
                       CARGO_TERM_QUIET="true", NAQSHUVE_ALLOW_MISSING="1", ROOM=room)
     os.environ.setdefault("RT_JOBS", str(cores()))
-    # for each virtual environment pyo3 would be built again
+    # otherwise pyo3 would be built again for each virtual environment
     os.environ.setdefault("PYO3_PYTHON", os.path.realpath(sys.executable))
 
 

@@ -13,7 +13,7 @@ class Report:
         self.missing, self.packages = set(), set()
 
     def add(self, seconds, ended, name, text):
-        """Adds a part that was run, with what it says itself that it didn't test."""
+        """Adds a part that was run, and what it says that it didn't test."""
         self.ended.append((seconds, ended, name, text))
         self.missing.update(re.findall("^missing: (.*)", text, re.MULTILINE))
 

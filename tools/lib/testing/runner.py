@@ -13,7 +13,7 @@ SAYING = threading.Lock()
 
 
 def say(text):
-    """Prints lines that no part which ends at the same time breaks."""
+    """Prints lines without those of another part between them."""
     with SAYING:
         print(f"{text}\n", end="", flush=True)
 
@@ -38,7 +38,7 @@ class Runner:
         sys.exit(130)
 
     def can_run(self, part, has_failed):
-        """Whether a part can be run. If not, or if it has to leave something out, it is noted."""
+        """Whether a part can be run. Reports what it lacks."""
         needed, optional = self.machine.lacks(part.needs), self.machine.lacks(part.optional)
         missing = [name for name, _ in needed]
         packages = [names for _, names in needed] + [names for _, names in optional if names]
@@ -51,8 +51,8 @@ class Runner:
         return not missing
 
     def run_part(self, part, niceness):
-        """Runs the commands of a part, also after one that failed. One that hangs ends, and fails.
-        Prints what a part says that failed, and what proofs say at once."""
+        """Runs the commands of a part, even after one has failed. Prints the output of a part that
+        failed, and that of proofs while they run."""
         is_shown, has_failed, begun = part.name == "proofs", False, time.monotonic()
         log = Path(self.room, part.name.replace("/", " "))
         say(f"test: {part.name} begins")
@@ -67,12 +67,12 @@ class Runner:
         say(f"{said}test: {seconds:.0f} s  {ended}  {part.name}")
 
     def run(self, command, log, is_shown, niceness):
-        """Runs a command, whose output goes to a log and may be shown, too, and returns its
-        status."""
+        """Runs a command, whose output goes to a log and may be shown, too, and returns its status.
+        A command that hangs is ended."""
         if is_shown:
             command = f"{command} 2>&1 | tee '{log}'"
         with log.open("ab") as file, subprocess.Popen(
-                # it has a group of processes, all of which end with it
+                # timeout ends all processes of its group
                 ["timeout", "150m", "nice", "-n", str(niceness), *bash(command)],
                 stdin=subprocess.DEVNULL, stderr=subprocess.STDOUT,
                 stdout=None if is_shown else file) as process:
@@ -91,7 +91,7 @@ class Runner:
         has_proofs = "proofs" in (part.name for part in can_run)
 
         def run_nicely(part):
-            # the others take what the proofs leave; of these two take longest
+            # other parts yield to the proofs, least the two that take longest
             yielding = {"proofs": 0, "release": 10, "Python": 10}.get(part.name, 19)
             self.run_part(part, yielding if has_proofs else niceness)
             if part.name == "proofs":

@@ -62,6 +62,7 @@ def split(text):
 
 
 def _token_at(text, at):
+    """The kind and the end of the token at a place."""
     if text.startswith("/*", at):
         raise Refused("a comment of several lines")
     found = TOKEN.match(text, at)

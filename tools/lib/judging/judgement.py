@@ -13,9 +13,8 @@ from lib.judging.rules import ALONE, RULES
 from lib.judging.shrinking import shrunk
 from lib.judging.sides import LIMITS, Sides, is_alike, kinds_of
 
-# how many cases are tried to shrink one: with planted faults half of these take 39, nine of ten
-# 129, and some of long streams more than this. And to shrink one at which the program passes a
-# limit, as each may take its whole time: by trial
+# how many cases are tried to shrink one: with planted faults nine of ten take 129 or fewer. And if
+# the program passes a limit, where each case may take its whole time
 MAX_CASES, MAX_OVER_LIMIT = 2000, 200
 # how often a case is tried again before it is reported: a program whose answer changes every other
 # time passes all of these once in 64

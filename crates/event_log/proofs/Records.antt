@@ -1,6 +1,7 @@
 -- What a record holds after texts, and a collector from call to call. A record holds the texts of all events if there
--- is room at each start: by induction over the places, from one start to the next.
-use Rattle.event_log.proofs.Common.{◌≡◌, ℕ, zero, suc, ◌+◌, ◌<◌, ◌≤◌, Bool, false, List, [], ◌∷◌, ◌++◌, length, inl, inr, refl, sym, ap, subst, ◌∙◌, usual_limit, append_assoc, append-nil, length-append, arith, take-append_seam, cases_Bool, le-leb, nat_tests, flat_map-append, flat_map, AreFromOneByte, IsStart, reported_before, Event, after, ReportsUnits, Record, BeginsLine, ExtendsLine, EndsLine, has_room_after, record_in, is_to_be_written, capacity, record_with_event, record_with_text, Lines, ◌-◌, take, HasRead, added, Parser, AddsUpTo, HasKept, HasReadSome}
+-- is room at each start: from one start to the next (`passed-at`).
+use Rattle.event_log.proofs.Common.{◌≡◌, ℕ, ◌+◌, ◌<◌, ◌≤◌, Bool, false, List, [], ◌∷◌, ◌++◌, length, inl, inr, refl, sym, ap, ◌∙◌, usual_limit, append_assoc, append-nil, length-append, arith, take-append_seam, cases_Bool, le-leb, nat_tests, flat_map-append, flat_map, AreFromOneByte, IsStart, reported_before, Event, after, ReportsUnits, Record, BeginsLine, ExtendsLine, EndsLine, has_room_after, record_in, is_to_be_written, capacity, record_with_event, record_with_text, Lines, ◌-◌, take, HasRead, added, Parser, AddsUpTo, HasKept, HasReadSome}
+use Rattle.vte_core.proofs.EarlyStops.{passed-at}
 use Rattle.vte_core.proofs.streams.After.{after_events-append}
 
 -- ---- one text
@@ -97,31 +98,15 @@ module _ (text_of : Event → List ℕ) (small : IsSmall text_of) (units : Repor
       (omega (arith, small unit brief, ap (λ (r : Record). length r.bytes) taken))
       ∙ same_record (simp (append_assoc, flat_map-append)) refl
 
-  -- By induction on m: if there was room at each earlier start, what was reported before a place is taken.
-  takes_below : (m i : ℕ) → i < m → i ≤ length bytes
-      → ((j : ℕ) → j < i → IsStart stream bytes j
-      → HasRoomForUnit (after (record_with_event text_of) old (reported_before usual_limit stream bytes j)))
-      → Takes (reported_before usual_limit stream bytes i)
-  takes_below zero i below within rooms = absurd (omega arith)
-  takes_below (suc m) i below within rooms =
-      let u = units stream bytes i within in
-      subst Takes (sym u.parts) (elim u.begun [
-        | inl none ↦ rw none (takes_unit [] u.unit (same_record (sym (append-nil old.bytes)) kept) room u.brief)
-        | inr t ↦
-            let earlier : t.start < i = t.earlier in
-            let before = takes_below m t.start (omega arith) (omega arith) (λ j h. rooms j (omega arith)) in
-            rw t.events_are
-            (takes_unit (reported_before usual_limit stream bytes t.start) u.unit before
-            (rooms t.start earlier t.starts) u.brief)
-      ])
-
   -- If there was room at each start before a place, all texts were taken.
   pub takes_reported : (i : ℕ) → i ≤ length bytes
       → ((j : ℕ) → j < i → IsStart stream bytes j
       → HasRoomForUnit (after (record_with_event text_of) old (reported_before usual_limit stream bytes j)))
       → after (record_with_event text_of) old (reported_before usual_limit stream bytes i)
       ≡ record_of (old.bytes ++ flat_map text_of (reported_before usual_limit stream bytes i)) false
-  takes_reported i within rooms = takes_below (i + 1) i (omega arith) within rooms
+  takes_reported =
+      passed-at Takes (λ events. HasRoomForUnit (after (record_with_event text_of) old events)) stream bytes units
+      (same_record (sym (append-nil old.bytes)) kept) room takes_unit
 
 -- ---- what a collector holds
 

@@ -27,6 +27,13 @@ module _ (t s f b : ℕ) (fit : Fits t s f b) where
   continues : 0xc0 ≤ f → is_in (from_to 0x80 0xbf) b ≡ true
   continues high = search (rules, arith)
 
+  -- A byte that fits continues a character unless none is open.
+  byte-continues : ((f < 0xc0) × (s < 0xe0) × (t < 0xf0) → ⊥) → is_in (from_to 0x80 0xbf) b ≡ true
+  byte-continues some = elim (cases_Bool (is_in (from_to 0x80 0xbf) b)) [
+    | inl is ↦ is
+    | inr not ↦ absurd (some (fit.none_open not))
+  ]
+
   begun : (next : AutomatonState) → next_between b ≡ next → Trails next s f b → Trails (next_between b) s f b
   begun next is trails = subst (λ n. Trails n s f b) (sym is) trails
 
@@ -38,20 +45,10 @@ module _ (t s f b : ℕ) (fit : Fits t s f b) where
   unfolding next_state
   leads Between old = first-byte old
   leads NeedsOne old =
-      -- If the byte didn't continue a character, none would be open, but in this state one is.
-      let cont : is_in (from_to 0x80 0xbf) b ≡ true = elim (cases_Bool (is_in (from_to 0x80 0xbf) b)) [
-        | inl is ↦ is
-        | inr not ↦
-            let none = fit.none_open not in absurd (omega (arith, old.0 none.0 none.1, none.2))
-      ] in
+      let cont = byte-continues (λ none. omega (arith, old.0 none.0 none.1, none.2)) in
       more (from_to 0x80 0xbf) Between cont (grind (arith, nat_tests, cont), old.1, old.2)
   leads NeedsTwo old =
-      -- The same is true here.
-      let cont : is_in (from_to 0x80 0xbf) b ≡ true = elim (cases_Bool (is_in (from_to 0x80 0xbf) b)) [
-        | inl is ↦ is
-        | inr not ↦
-            let none = fit.none_open not in absurd (omega (arith, old.0 (omega (arith, none.0)), none.1))
-      ] in
+      let cont = byte-continues (λ none. omega (arith, old.0 (omega (arith, none.0)), none.1)) in
       more (from_to 0x80 0xbf) NeedsOne cont
       ((λ _ low. old.0 low), grind (arith, nat_tests, cont), old.1)
   leads NeedsThree old =

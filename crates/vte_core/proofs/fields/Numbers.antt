@@ -191,14 +191,10 @@ pub filled_take_more : (xs : List ℕ) (i : ℕ) → i < length xs → All (λ n
 filled_take_more xs i some all first =
     rw (take_more xs i 0 some) (All-push (λ n. 0 < n) (take i xs) (get_or xs i 0) all first)
 
--- ---- a byte more
-
--- A digit changes the last number, a separator begins another. The definition reads from the prefix, so it is first
--- restated with what came before.
-
 -- ---- the numbers of a text, from its prefix
 
--- Cutting at separators is reading byte by byte, with the digits since the last separator carried along.
+-- A further digit changes the last number, and a separator begins another. So cutting at separators is reading byte by
+-- byte, with the digits since the last separator carried along.
 
 abbrev pub IsNoSeparator : ℕ → Type 0
 IsNoSeparator b = is_separator b ≡ false

@@ -65,11 +65,7 @@ loop-position-preserved-in-None g c =
           (advances-text c.requires.no_stop v.may_go_on (v.settled within) run.progress run.high run.prints);
       may_go_on = may_go_on-text (call_at g c.args.input.bytes.now) c.requires.no_stop v.may_go_on run.prints;
       settled = λ _. v.settled within;
-      low = search rules;
-      high = search rules;
-      count = search rules;
-      at_least = search rules;
-      memory = search rules;
+      spends = search rules;
       progress = search rules;
     }
 
@@ -129,11 +125,7 @@ loop-position-preserved g c =
         | then-byte-lt160+else-byte-eq-ESCAPE w ↦ rw w.self-is (λ _. here.begun)
         | else-byte-lt160+then-is_lead w ↦ rw (w.self-is, w.position-is) w.read_run_at_lead-position.ensures.text
       ];
-      low = search rules;
-      high = search rules;
-      count = search rules;
-      at_least = search rules;
-      memory = search rules;
+      spends = search rules;
       progress = search rules;
     }
 
@@ -153,10 +145,6 @@ loop-position-preserved-else-is_lead g c =
           c.requires.no_stop here.may_go_on (omega (arith, c.if-byte-lt160.false))
           (reported.malformed (omega (arith, c.if-byte-lt160.false)));
       settled = λ _. here.begun;
-      low = search rules;
-      high = search rules;
-      count = search rules;
-      at_least = search rules;
-      memory = search rules;
+      spends = search rules;
       progress = search rules;
     }

@@ -1,5 +1,5 @@
 -- The call is at this position, between characters if bytes are left. A byte has five looks at most.
-use Rattle.vte_core.proofs.Common.{◌≡◌, ◌+◌, ◌-◌, ◌*◌, ◌<◌, ◌≤◌, not, eqb, List, ℕ, length, Text, Nothing, looked, Advances, MayGoOn, ChunkCall, chunk_call}
+use Rattle.vte_core.proofs.Common.{◌≡◌, ◌-◌, ◌<◌, not, eqb, List, ℕ, length, Text, Nothing, SpendsWithin, Advances, MayGoOn, ChunkCall, chunk_call}
 use Rattle.vte_core.proofs.parser.machine.Machine.read_runs.Given as goal
 
 -- The call that reads these bytes.
@@ -14,11 +14,7 @@ invariant-loop-position g l = record {
       (g.P.CountedPerform.value_of l.performer) l.from l.position l.fn.self l.self;
   may_go_on : MayGoOn (call_at g l.input.bytes.now) (g.P.CountedPerform.value_of l.performer);
   settled : l.position < length l.input.bytes.now → l.self.state ≡ Text Nothing;
-  low : l.from ≤ l.position;
-  high : l.position ≤ length l.input.bytes.now;
-  count : looked l.reader + 5 * l.from ≤ looked l.fn.reader + 5 * l.position;
-  at_least : looked l.fn.reader + l.position ≤ looked l.reader + l.from;
-  memory : l.fn.self.command.capacity ≤ l.self.command.capacity;
+  spends : SpendsWithin 5 0 0 l.input.bytes.now l.from l.position l.fn.self l.self l.fn.reader l.reader;
   progress : l.from ≡ l.position → l.position < length l.input.bytes.now;
 }
 

@@ -1,6 +1,9 @@
 -- The bytes of a head, and the byte that ends it. A function that reads several of them goes on by each; `ReadsHead`
 -- says which, without the performer, which learns of a head only at its end. So both shapes, a control sequence's and
 -- a device control string's, share it (`advances-head`, `advances-past_head`).
+use Rattle.vte_core.specs.declared.head.HeadEnd.{HeadEnd}
+use Rattle.vte_core.specs.machine.ParserFields.{ReadsHeadUpTo}
+use Rattle.vte_core.specs.machine.Progress.{MayRead}
 use Rattle.vte_core.specs.machine.ToRun.{IsOutsideRunsInState}
 use Rattle.vte_core.proofs.Common.{◌≡◌, ℕ, zero, suc, ◌+◌, ◌-◌, ◌<◌, ◌≤◌, ◌⊎◌, Option, List, [], ◌∷◌, ◌++◌, true, false, length, take, drop, refl, sym, subst, append_assoc, arith, append-nil, drop-drop, drop_more, take-add, slice_index, MatchOption, class_of, is_final, is_head_byte, is_parameter_text, AreInClass, Collected, HeadProgress, Entry, Parameters, Machine, State, ControlSequence, DeviceControl, Event, ChunkCall, Leads, CountsNumbers, SameIntermediates, IsAtPlace, IsPlaceOfState, HasReadHead, Place, InControlSequence, InDeviceControl, IsSettledPlace, Advances, ProgressAt, IsAtPosition, IsSettled, MayGoOn, TakesBytes, TakesByte, ends_body, progress_after, ReadsHead, Some, None, false≢true, rules}
 use Rattle.vte_core.proofs.bytes.Classes.{head_ends_nothing, AreInClass-append, final_ends_nothing, parameter_is_head}
@@ -234,3 +237,14 @@ advances-control_sequence {progress} begun reads at may_go_on final takes settle
     advances-to_same (sym end)
     (advances-past_head ControlHead begun reads at may_go_on
     (takes_bytes-head ControlHead progress refl (final_ends_nothing _ final) takes) settled)
+
+-- The same holds if the head is read up to its end (`ReadsHeadUpTo`), and the final byte is there.
+pub advances-final_byte : {V B outside : Type 0} {call : ChunkCall V} {old new : V} {i k b : ℕ}
+    {reached : HeadProgress} {end : HeadEnd} {parser next : Machine B} {held : Collected}
+    → MayRead call old (ControlSequence reached) parser i
+    → ReadsHeadUpTo call.bytes i reached end parser.collected held → end.next ≡ Some b → is_final (class_of b) ≡ true
+    → ((head : List ℕ) → HasReadHead held end.progress head
+    → TakesByte call.step old new call.limit (InControlSequence head) b next)
+    → IsSettled next.state → k ≡ end.position + 1 → Advances outside call old new i k parser next
+advances-final_byte may_read reads is =
+    advances-control_sequence may_read.begun reads.head (rw is at reads.next) may_read.may_go_on

@@ -1,21 +1,15 @@
 -- Numbers first, then a final byte at once, nothing, or the rest of the head.
 use Rattle.vte_core.proofs.Common.{refl, sym, ◌∙◌, rules}
-use Rattle.vte_core.proofs.positions.HeadStretches.{advances-control_sequence, ControlHead, advances-head}
+use Rattle.vte_core.proofs.positions.HeadStretches.{advances-final_byte, ControlHead, advances-head}
 use Rattle.vte_core.proofs.positions.Stretches.{advances-then}
 use Rattle.vte_core.proofs.parser.machine.Machine.continue_control_sequence.Goals as goal
 
 -- After the numbers comes a final byte.
-pub returns-then-is_final : goal.returns-then-is_final
-returns-then-is_final g c =
-    let read = c.read_numbers-head.ensures in
-    let next = rw c.in-Some.is at read.reads.next in
-    let d = c.end_control_sequence.ensures in
-    record {
-      advances =
-          advances-control_sequence c.requires.begun read.reads.head next c.requires.may_go_on
-          (sym c.is_final.ensures ∙ c.if-is_final.true) d.takes d.handles.settled d.next;
-      moves = search rules;
-    }
+pub returns-then-is_final-clause-advances : goal.returns-then-is_final-clause-advances
+returns-then-is_final-clause-advances g c =
+    let ended = c.end_control_sequence.ensures in
+    advances-final_byte c.requires c.read_numbers-head.ensures.reads c.in-Some.is
+    (sym c.is_final.ensures ∙ c.if-is_final.true) ended.takes ended.handles.settled ended.next
 
 pub end_control_sequence-requires-clause-no_overflow : goal.end_control_sequence-requires-clause-no_overflow
 end_control_sequence-requires-clause-no_overflow g c =

@@ -3,24 +3,18 @@
 use Rattle.vte_core.proofs.Common.{refl, sym, ◌∙◌, rules, class_of}
 use Rattle.vte_core.proofs.bytes.Classes.{class-control, other_is_dropped}
 use Rattle.vte_core.proofs.positions.Stretches.{takes-byte}
-use Rattle.vte_core.proofs.positions.HeadStretches.{advances-control_sequence, ControlHead, advances-head, advances-past_head, takes_bytes-head}
+use Rattle.vte_core.proofs.positions.HeadStretches.{advances-final_byte, ControlHead, advances-head, advances-past_head, takes_bytes-head}
 use Rattle.vte_core.proofs.fields.PlaceOfState.{is_at-by}
 use Rattle.vte_core.proofs.places.PlaceLeads.{byte-dropped, byte-executed}
 use Rattle.vte_core.proofs.parser.machine.Machine.read_rest_of_head.Goals.{then-ends_body, else-ends_body+then-is_plain_control, else-ends_body+else-is_plain_control}
 use Rattle.vte_core.proofs.parser.machine.Machine.read_rest_of_head.Goals as goal
 
 -- A final byte ends the sequence.
-pub returns-then-is_final : goal.returns-then-is_final
-returns-then-is_final g c =
-    let read = c.read_head-head.ensures in
-    let next = rw c.in-Some.is at read.reads.next in
-    let d = c.end_control_sequence.ensures in
-    record {
-      advances =
-          advances-control_sequence c.requires.begun read.reads.head next c.requires.may_go_on
-          (sym c.is_final.ensures ∙ c.if-is_final.true) d.takes d.handles.settled d.next;
-      moves = search rules;
-    }
+pub returns-then-is_final-clause-advances : goal.returns-then-is_final-clause-advances
+returns-then-is_final-clause-advances g c =
+    let ended = c.end_control_sequence.ensures in
+    advances-final_byte c.requires c.read_head-head.ensures.reads c.in-Some.is
+    (sym c.is_final.ensures ∙ c.if-is_final.true) ended.takes ended.handles.settled ended.next
 
 pub end_control_sequence-requires-clause-no_overflow : goal.end_control_sequence-requires-clause-no_overflow
 end_control_sequence-requires-clause-no_overflow g c =

@@ -80,7 +80,7 @@ pub added_from : (limit : Option ℕ) (stream prefix rest : List ℕ) (broken : 
     ++ added limit (if broken then [] else stream ++ prefix) rest
 added_from limit stream prefix rest true is =
     added-append limit stream prefix rest
-    ∙ ap (λ (es : List Event). added limit stream prefix ++ es)
+    ∙ ap (λ (events : List Event). added limit stream prefix ++ events)
     (rw append-nil at (added-broken limit (stream ++ prefix) rest [] (is refl)))
     ∙ sym (append_assoc (added limit stream prefix) (Print replacement ∷ []) (added limit [] rest))
 added_from limit stream prefix rest false is = rw append-nil (added-append limit stream prefix rest)
@@ -88,16 +88,16 @@ added_from limit stream prefix rest false is = rw append-nil (added-append limit
 pub after_from : {limit : Option ℕ} (stream rest : List ℕ) {place : Place} (broken : Bool)
     → (broken ≡ true → breaks (open_character stream) rest ≡ true)
     → IsAfter limit ((if broken then [] else stream) ++ rest) place → IsAfter limit (stream ++ rest) place
-after_from {limit} stream rest {place} true is a = resumes-after limit stream rest place (is refl) a
-after_from stream rest false is a = a
+after_from {limit} stream rest {place} true is is_after = resumes-after limit stream rest place (is refl) is_after
+after_from stream rest false is is_after = is_after
 
 ends_from : (stream rest : List ℕ) (broken : Bool) → (broken ≡ true → breaks (open_character stream) rest ≡ true)
     → open_character (stream ++ rest) ≡ open_character ((if broken then [] else stream) ++ rest)
 ends_from stream rest broken is =
-    let a : LeadsTo None ((if broken then [] else stream) ++ rest) = leads_to in
+    let leads : LeadsTo None ((if broken then [] else stream) ++ rest) = leads_to in
     after-open_character
-    (after_from stream rest broken is a.is_after) a.is_place
-    ∙ sym (after-open_character a.is_after a.is_place)
+    (after_from stream rest broken is leads.is_after) leads.is_place
+    ∙ sym (after-open_character leads.is_after leads.is_place)
 
 -- What the bytes before a position add, divided at the last start before it.
 record Added (limit : Option ℕ) (stream bytes : List ℕ) (i : ℕ) : Type 0 where
@@ -159,22 +159,22 @@ module _ (limit : Option ℕ) (stream bytes : List ℕ) (i : ℕ) (within : i < 
   from_carried : Added limit stream bytes i → (open_character here ≡ [] → ⊥)
       → breaks (open_character here) (b ∷ []) ≡ false
       → Added limit stream bytes (i + 1)
-  from_carried a some unbroken =
+  from_carried adds some unbroken =
       let little = reports_little limit here b some unbroken in
       let last : List Event = added limit here (b ∷ []) in
       record {
-        before = a.before;
-        unit = a.unit ++ last;
+        before = adds.before;
+        unit = adds.unit ++ last;
         parts =
             ap (added limit stream) one ∙ added-append limit stream (take i bytes) (b ∷ [])
-            ∙ ap (λ (es : List Event). es ++ last) a.parts ∙ append_assoc a.before a.unit last;
-        brief = one_short-append limit a.unit last (a.one_short some) little.0;
+            ∙ ap (λ (events : List Event). events ++ last) adds.parts ∙ append_assoc adds.before adds.unit last;
+        brief = one_short-append limit adds.unit last (adds.one_short some) little.0;
         one_short =
             λ open_there. elim little.1 [
               | inl none ↦ absurd (open_there (joined ∙ none))
-              | inr nothing ↦ rw (nothing, append-nil) (a.one_short some)
+              | inr nothing ↦ rw (nothing, append-nil) (adds.one_short some)
             ];
-        begun = elim a.begun [
+        begun = elim adds.begun [
           | inl none ↦ inl none
           | inr t ↦
               inr (record {
@@ -187,11 +187,11 @@ module _ (limit : Option ℕ) (stream bytes : List ℕ) (i : ℕ) (within : i < 
       }
 
   added_further : Added limit stream bytes i → Added limit stream bytes (i + 1)
-  added_further a = elim (none_or_some (open_character here)) [
+  added_further adds = elim (none_or_some (open_character here)) [
     | inl none ↦ from_start (starts-settled within none)
     | inr some ↦ elim (cases_Bool (breaks (open_character here) (b ∷ []))) [
       | inl broken ↦ from_start (starts-broken within (breaks_here ∙ broken))
-      | inr unbroken ↦ from_carried a some unbroken
+      | inr unbroken ↦ from_carried adds some unbroken
     ]
   ]
 
@@ -205,9 +205,9 @@ added_to limit stream bytes zero within = record {
   begun = inl refl;
 }
 added_to limit stream bytes (suc i) within =
-    let b : Added limit stream bytes (i + 1) =
+    let adds : Added limit stream bytes (i + 1) =
     added_further limit stream bytes i (omega arith) (added_to limit stream bytes i (omega arith)) in
-    rw add-one at b
+    rw add-one at adds
 
 pub reports_units : (limit : Option ℕ) → ReportsUnits limit
 unfolding reported_before
@@ -215,7 +215,7 @@ reports_units limit stream bytes i within = record {
   before = a.before;
   unit = a.unit ++ (if breaks_at stream bytes i then Print replacement ∷ [] else []);
   parts =
-      ap (λ (es : List Event). es ++ (if breaks_at stream bytes i then Print replacement ∷ [] else [])) a.parts
+      ap (λ (events : List Event). events ++ (if breaks_at stream bytes i then Print replacement ∷ [] else [])) a.parts
       ∙ append_assoc a.before a.unit _;
   brief = by_break (breaks_at stream bytes i) refl;
   begun = a.begun;
@@ -239,8 +239,8 @@ unfolding breaks_at
 breaks_there stream bytes n broken = broken
 
 -- A character that unread bytes break is broken whatever follows them.
-breaks-more : (u unread more : List ℕ) → breaks u unread ≡ true → breaks u (unread ++ more) ≡ true
-breaks-more u unread more is = search (rules, arith)
+breaks-more : (opened unread more : List ℕ) → breaks opened unread ≡ true → breaks opened (unread ++ more) ≡ true
+breaks-more opened unread more is = search (rules, arith)
 
 pub goes_on_from : (limit : Option ℕ) → GoesOnFromPositions limit
 unfolding reported_before resumed_stream

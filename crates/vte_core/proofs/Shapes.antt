@@ -8,14 +8,16 @@ use Rattle.vte_core.proofs.bytes.Utf8.{AtMostOne-first, AtMostOne-rows_after_byt
 
 -- Events that are reported first pass through what follows unchanged.
 
-pub report-append : (es fs : List Event) (outcome : Outcome) → report (es ++ fs) outcome ≡ report es (report fs outcome)
-report-append es fs outcome =
-    ap (λ (all : List Event). record { reported = all; left = outcome.left }) (append_assoc es fs outcome.reported)
+pub report-append : (events others : List Event) (outcome : Outcome)
+    → report (events ++ others) outcome ≡ report events (report others outcome)
+report-append events others outcome =
+    ap (λ (all : List Event). record { reported = all; left = outcome.left })
+    (append_assoc events others outcome.reported)
 
-pub with_bodies-report : (limit : Option ℕ) (es : List Event) (part : Outcome) (bodies : List (List ℕ))
-    → with_bodies limit (report es part) bodies ≡ report es (with_bodies limit part bodies)
-with_bodies-report limit es part [] = refl
-with_bodies-report limit es part (body ∷ bodies) = search (rules, arith, append_assoc, report-append)
+pub with_bodies-report : (limit : Option ℕ) (events : List Event) (part : Outcome) (bodies : List (List ℕ))
+    → with_bodies limit (report events part) bodies ≡ report events (with_bodies limit part bodies)
+with_bodies-report limit events part [] = refl
+with_bodies-report limit events part (body ∷ bodies) = search (rules, arith, append_assoc, report-append)
 
 -- ---- heads
 
@@ -26,9 +28,9 @@ abbrev BeginsWithout : (Class → Bool) → List ℕ → Type 0
 BeginsWithout has [] = Unit {0}
 BeginsWithout has (b ∷ rest) = has (class_of b) ≡ false
 
-parameter_is_no_marker : (k : Class) → is_parameter_text k ≡ true → is_marker k ≡ false
-parameter_is_no_marker Marker h = cc
-parameter_is_no_marker _ h = refl
+parameter_is_no_marker : (class : Class) → is_parameter_text class ≡ true → is_marker class ≡ false
+parameter_is_no_marker Marker parameter = cc
+parameter_is_no_marker _ parameter = refl
 
 head_after-parts : (marker parameters rest : List ℕ) → AreInClass is_parameter_text parameters
     → BeginsWithout is_parameter_text rest
@@ -55,8 +57,9 @@ head_of-parts (m ∷ n ∷ marker) parameters rest is are none _ = absurd is
 pub begins-intermediates : (has : Class → Bool) → has Intermediate ≡ false → (intermediates more : List ℕ)
     → AreInClass is_intermediate intermediates
     → (intermediates ≡ [] → BeginsWithout has more) → BeginsWithout has (intermediates ++ more)
-begins-intermediates has h [] more are none = none refl
-begins-intermediates has h (b ∷ bytes) more are none = rw (class-intermediate (class_of b) are.0) h
+begins-intermediates has no_intermediates [] more are none = none refl
+begins-intermediates has no_intermediates (b ∷ bytes) more are none = rw
+    (class-intermediate (class_of b) are.0) no_intermediates
 
 list_all-AreInClass : (bytes : List ℕ) → AreInClass is_intermediate bytes
     → list_all (λ b. is_intermediate (class_of b)) bytes ≡ true
@@ -65,8 +68,8 @@ list_all-AreInClass (b ∷ bytes) are = rw are.0 (list_all-AreInClass bytes are.
 
 pub list_all-not : (bytes : List ℕ) (b : ℕ) (more : List ℕ) → is_intermediate (class_of b) ≡ false
     → list_all (λ b. is_intermediate (class_of b)) (bytes ++ b ∷ more) ≡ false
-list_all-not [] b more h = rw h refl
-list_all-not (a ∷ bytes) b more h = grind (arith, nat_tests, list_all-not bytes b more h)
+list_all-not [] b more no_intermediate = rw no_intermediate refl
+list_all-not (a ∷ bytes) b more no_intermediate = grind (arith, nat_tests, list_all-not bytes b more no_intermediate)
 
 -- `head_of` finds the parts of a head that is well shaped so far.
 pub held-parts : (marker parameters intermediates : List ℕ) → IsMarker marker → AreInClass is_parameter_text parameters
@@ -85,54 +88,58 @@ held-well_shaped marker parameters intermediates is are these = search (rules, a
 
 -- ---- no sequence is both well formed and truncated: at most one row is left after its bytes
 
-well_formed_not_truncated : (u : List ℕ) → is_well_formed u ≡ true → is_truncated u ≡ false
+well_formed_not_truncated : (opened : List ℕ) → is_well_formed opened ≡ true → is_truncated opened ≡ false
 unfolding is_well_formed is_truncated
 well_formed_not_truncated [] whole = refl
-well_formed_not_truncated (a ∷ u) whole =
-    whole_not_open (rows_after_bytes u (rows_after_byte a utf8_rows))
-    (AtMostOne-rows_after_bytes u _ (AtMostOne-first a)) whole
+well_formed_not_truncated (a ∷ opened) whole =
+    whole_not_open (rows_after_bytes opened (rows_after_byte a utf8_rows))
+    (AtMostOne-rows_after_bytes opened _ (AtMostOne-first a)) whole
 
-truncated_not_well_formed : (u : List ℕ) → is_truncated u ≡ true → is_well_formed u ≡ false
+truncated_not_well_formed : (opened : List ℕ) → is_truncated opened ≡ true → is_well_formed opened ≡ false
 unfolding is_well_formed is_truncated
 truncated_not_well_formed [] more = cc
-truncated_not_well_formed (a ∷ u) more =
-    open_not_whole (rows_after_bytes u (rows_after_byte a utf8_rows))
-    (AtMostOne-rows_after_bytes u _ (AtMostOne-first a)) more
+truncated_not_well_formed (a ∷ opened) more =
+    open_not_whole (rows_after_bytes opened (rows_after_byte a utf8_rows))
+    (AtMostOne-rows_after_bytes opened _ (AtMostOne-first a)) more
 
 -- ---- how far a segment goes
 
 -- The rest of a segment is as long as the rows allow: up to the end of a sequence, or to what breaks a truncated one.
 
-pub trailing_count-whole : (a : ℕ) (u x : List ℕ) → is_well_formed (a ∷ u) ≡ true → trailing_count a (u ++ x) ≡ length u
+pub trailing_count-whole : (a : ℕ) (rest following : List ℕ) → is_well_formed (a ∷ rest) ≡ true
+    → trailing_count a (rest ++ following) ≡ length rest
 unfolding is_well_formed trailing_count
-trailing_count-whole a u x whole = allowed_length-whole (rows_after_byte a utf8_rows) u x (AtMostOne-first a) whole
+trailing_count-whole a rest following whole = allowed_length-whole (rows_after_byte a utf8_rows) rest following
+    (AtMostOne-first a) whole
 
-trailing_count-broken : (a : ℕ) (u : List ℕ) (b : ℕ) (x : List ℕ) → is_truncated (a ∷ u) ≡ true
-    → is_well_formed (a ∷ u ++ b ∷ []) ≡ false → is_truncated (a ∷ u ++ b ∷ []) ≡ false
-    → trailing_count a (u ++ b ∷ x) ≡ length u
+trailing_count-broken : (a : ℕ) (rest : List ℕ) (b : ℕ) (following : List ℕ) → is_truncated (a ∷ rest) ≡ true
+    → is_well_formed (a ∷ rest ++ b ∷ []) ≡ false → is_truncated (a ∷ rest ++ b ∷ []) ≡ false
+    → trailing_count a (rest ++ b ∷ following) ≡ length rest
 unfolding is_well_formed is_truncated trailing_count
-trailing_count-broken a u b x more whole more_after =
+trailing_count-broken a rest b following more whole more_after =
     search (rules, arith, allowed_length-broken, rows_after_bytes-append, neither_whole_nor_open)
 
-trailing_count-end : (a : ℕ) (u : List ℕ) → is_truncated (a ∷ u) ≡ true → trailing_count a u ≡ length u
+trailing_count-end : (a : ℕ) (rest : List ℕ) → is_truncated (a ∷ rest) ≡ true → trailing_count a rest ≡ length rest
 unfolding is_truncated trailing_count
-trailing_count-end a u more = allowed_length-end (rows_after_byte a utf8_rows) u more
+trailing_count-end a rest more = allowed_length-end (rows_after_byte a utf8_rows) rest more
 
-trailing_count-lone : (b : ℕ) (x : List ℕ) → is_well_formed (b ∷ []) ≡ false → is_truncated (b ∷ []) ≡ false
-    → trailing_count b x ≡ 0
+trailing_count-lone : (b : ℕ) (following : List ℕ) → is_well_formed (b ∷ []) ≡ false → is_truncated (b ∷ []) ≡ false
+    → trailing_count b following ≡ 0
 unfolding is_well_formed is_truncated trailing_count
-trailing_count-lone b x whole more =
-    rw (neither_whole_nor_open (rows_after_byte b utf8_rows) whole more) (allowed_length-none x)
+trailing_count-lone b following whole more =
+    rw (neither_whole_nor_open (rows_after_byte b utf8_rows) whole more) (allowed_length-none following)
 
 -- ---- the first segment of a text
 
-segments_after-length : (u x : List ℕ) → segments_after (length u) (u ++ x) ≡ segments x
-segments_after-length [] x = refl
-segments_after-length (a ∷ u) x = segments_after-length u x
+segments_after-length : (bytes following : List ℕ)
+    → segments_after (length bytes) (bytes ++ following) ≡ segments following
+segments_after-length [] following = refl
+segments_after-length (a ∷ bytes) following = segments_after-length bytes following
 
-pub segments-first : (a : ℕ) (u x : List ℕ) → trailing_count a (u ++ x) ≡ length u
-    → segments (a ∷ u ++ x) ≡ (a ∷ u) ∷ segments x
-segments-first a u x far = rw (far, take-append_seam u x, segments_after-length u x) refl
+pub segments-first : (a : ℕ) (rest following : List ℕ) → trailing_count a (rest ++ following) ≡ length rest
+    → segments (a ∷ rest ++ following) ≡ (a ∷ rest) ∷ segments following
+segments-first a rest following far = rw (far, take-append_seam rest following, segments_after-length rest following)
+    refl
 
 -- ---- its event
 
@@ -144,60 +151,65 @@ segments_outcome-first segment more whole = search (rules, arith)
 not_control : (a : ℕ) → 0xc2 ≤ a → is_control_character a ≡ false
 not_control a low = grind (arith, nat_tests)
 
-malformed_event-truncated : (u : List ℕ) → is_truncated u ≡ true → malformed_event u ≡ Print replacement
+malformed_event-truncated : (opened : List ℕ) → is_truncated opened ≡ true → malformed_event opened ≡ Print replacement
 unfolding malformed_event
-malformed_event-truncated u more = search (rules, arith, not_control, truncated-first)
+malformed_event-truncated opened more = search (rules, arith, not_control, truncated-first)
 
-segment_event-truncated : (u : List ℕ) → is_truncated u ≡ true → segment_event u ≡ Print replacement
+segment_event-truncated : (opened : List ℕ) → is_truncated opened ≡ true → segment_event opened ≡ Print replacement
 unfolding segment_event
-segment_event-truncated u more = rw (truncated_not_well_formed u more) (malformed_event-truncated u more)
+segment_event-truncated opened more = rw (truncated_not_well_formed opened more) (malformed_event-truncated opened more)
 
 -- ---- what a text gives, from the prefix
 
 -- The event of its first segment, and then what the rest gives as a text.
 
-text_outcome-first : (a : ℕ) (u x : List ℕ) → trailing_count a (u ++ x) ≡ length u → is_truncated (a ∷ u) ≡ false
-    → text_outcome (a ∷ u ++ x) ≡ report (segment_event (a ∷ u) ∷ []) (text_outcome x)
+text_outcome-first : (a : ℕ) (rest following : List ℕ) → trailing_count a (rest ++ following) ≡ length rest
+    → is_truncated (a ∷ rest) ≡ false
+    → text_outcome (a ∷ rest ++ following) ≡ report (segment_event (a ∷ rest) ∷ []) (text_outcome following)
 unfolding text_outcome
-text_outcome-first a u x far whole =
-    ap segments_outcome (segments-first a u x far) ∙ segments_outcome-first (a ∷ u) (segments x) whole
+text_outcome-first a rest following far whole =
+    ap segments_outcome (segments-first a rest following far) ∙ segments_outcome-first (a ∷ rest)
+    (segments following) whole
 
 pub not_well_formed-nothing : is_well_formed [] ≡ false
 unfolding is_well_formed utf8_rows
 not_well_formed-nothing = refl
 
-pub text_outcome-well_formed : (p x : List ℕ) → is_well_formed p ≡ true
-    → text_outcome (p ++ x) ≡ report (character_event (scalar_of p) ∷ []) (text_outcome x)
+pub text_outcome-well_formed : (bytes following : List ℕ) → is_well_formed bytes ≡ true
+    → text_outcome (bytes ++ following) ≡ report (character_event (scalar_of bytes) ∷ []) (text_outcome following)
 unfolding segment_event
-text_outcome-well_formed p x whole =
+text_outcome-well_formed bytes following whole =
     search (rules, arith, not_well_formed-nothing, text_outcome-first, trailing_count-whole, well_formed_not_truncated)
 
 -- After the U+FFFD of a broken character, the text goes on from the byte that broke it.
-pub text_outcome-broken : (u : List ℕ) (b : ℕ) → is_truncated u ≡ true → is_well_formed (u ++ b ∷ []) ≡ false
-    → is_truncated (u ++ b ∷ []) ≡ false
-    → (x : List ℕ) → text_outcome (u ++ b ∷ x) ≡ report (Print replacement ∷ []) (text_outcome (b ∷ x))
+pub text_outcome-broken : (opened : List ℕ) (b : ℕ) → is_truncated opened ≡ true
+    → is_well_formed (opened ++ b ∷ []) ≡ false
+    → is_truncated (opened ++ b ∷ []) ≡ false
+    → (following : List ℕ)
+    → text_outcome (opened ++ b ∷ following) ≡ report (Print replacement ∷ []) (text_outcome (b ∷ following))
 unfolding text_outcome is_truncated
-text_outcome-broken u b more whole more_after x =
+text_outcome-broken opened b more whole more_after following =
     search (rules, arith, segments-first, trailing_count-broken, segment_event-truncated)
 
-pub text_outcome-lone : (x : List ℕ) (b : ℕ) → is_well_formed (b ∷ []) ≡ false → is_truncated (b ∷ []) ≡ false
-    → text_outcome (b ∷ x) ≡ report (malformed_event (b ∷ []) ∷ []) (text_outcome x)
+pub text_outcome-lone : (following : List ℕ) (b : ℕ) → is_well_formed (b ∷ []) ≡ false → is_truncated (b ∷ []) ≡ false
+    → text_outcome (b ∷ following) ≡ report (malformed_event (b ∷ []) ∷ []) (text_outcome following)
 unfolding segment_event
-text_outcome-lone x b whole more = text_outcome-first b [] x (trailing_count-lone b x whole more) more ∙ rw whole refl
+text_outcome-lone following b whole more = text_outcome-first b [] following
+    (trailing_count-lone b following whole more) more ∙ rw whole refl
 
 -- The bytes of an unfinished character alone report nothing, and leave it open.
-pub text_outcome-end : (u : List ℕ) → is_truncated u ≡ true
-    → text_outcome u ≡ leaves (CharacterToClose u)
+pub text_outcome-end : (opened : List ℕ) → is_truncated opened ≡ true
+    → text_outcome opened ≡ leaves (CharacterToClose opened)
 unfolding text_outcome is_truncated
 text_outcome-end [] more = cc
-text_outcome-end (a ∷ u) more =
+text_outcome-end (a ∷ opened) more =
     ap segments_outcome one_segment ∙ rw more refl
   where
-    one_segment : segments (a ∷ u) ≡ (a ∷ u) ∷ []
+    one_segment : segments (a ∷ opened) ≡ (a ∷ opened) ∷ []
     one_segment =
-        let same : u ++ [] ≡ u = append-nil u in
-        subst (λ (v : List ℕ). segments (a ∷ v) ≡ (a ∷ u) ∷ []) same
-        (segments-first a u [] (ap (trailing_count a) same ∙ trailing_count-end a u more))
+        let same : opened ++ [] ≡ opened = append-nil opened in
+        subst (λ (v : List ℕ). segments (a ∷ v) ≡ (a ∷ opened) ∷ []) same
+        (segments-first a opened [] (ap (trailing_count a) same ∙ trailing_count-end a opened more))
 
 pub text_outcome-nothing : text_outcome [] ≡ leaves NothingToClose
 unfolding text_outcome
@@ -211,33 +223,35 @@ text_outcome-nothing = refl
 
 -- ---- a byte breaks the open character if both together are neither well formed nor truncated
 
-pub breaks-broken : (u : List ℕ) (b : ℕ) → is_truncated u ≡ true → is_well_formed (u ++ b ∷ []) ≡ false
-    → is_truncated (u ++ b ∷ []) ≡ false → breaks u (b ∷ []) ≡ true
+pub breaks-broken : (opened : List ℕ) (b : ℕ) → is_truncated opened ≡ true → is_well_formed (opened ++ b ∷ []) ≡ false
+    → is_truncated (opened ++ b ∷ []) ≡ false → breaks opened (b ∷ []) ≡ true
 unfolding is_truncated
-breaks-broken u b more whole next = search (rules, arith)
+breaks-broken opened b more whole next = search (rules, arith)
 
-pub breaks-unfinished : (u : List ℕ) (b : ℕ) → is_truncated (u ++ b ∷ []) ≡ true → breaks u (b ∷ []) ≡ false
+pub breaks-unfinished : (opened : List ℕ) (b : ℕ) → is_truncated (opened ++ b ∷ []) ≡ true
+    → breaks opened (b ∷ []) ≡ false
 breaks-unfinished [] b next = refl
-breaks-unfinished (a ∷ u) b next = rw next refl
+breaks-unfinished (a ∷ opened) b next = rw next refl
 
-pub breaks-whole : (u : List ℕ) (b : ℕ) → is_well_formed (u ++ b ∷ []) ≡ true → breaks u (b ∷ []) ≡ false
-breaks-whole u b whole = search (rules, arith)
+pub breaks-whole : (opened : List ℕ) (b : ℕ) → is_well_formed (opened ++ b ∷ []) ≡ true → breaks opened (b ∷ []) ≡ false
+breaks-whole opened b whole = search (rules, arith)
 
-pub breaks-no_byte : (u : List ℕ) → breaks u [] ≡ false
+pub breaks-no_byte : (opened : List ℕ) → breaks opened [] ≡ false
 breaks-no_byte [] = refl
-breaks-no_byte (a ∷ u) = refl
+breaks-no_byte (a ∷ opened) = refl
 
 -- Whether unread bytes break a character depends on the next one alone.
-pub breaks-next : (u : List ℕ) (b : ℕ) (rest other : List ℕ) → breaks u (b ∷ rest) ≡ breaks u (b ∷ other)
+pub breaks-next : (opened : List ℕ) (b : ℕ) (rest other : List ℕ) → breaks opened (b ∷ rest) ≡ breaks opened (b ∷ other)
 breaks-next [] b rest other = refl
-breaks-next (a ∷ u) b rest other = refl
+breaks-next (a ∷ opened) b rest other = refl
 
-pub breaks_at-byte : (stream bytes : List ℕ) {u : List ℕ} (i : ℕ) {b : ℕ} → i < length bytes → b ≡ slice_index bytes i
-    → open_character (stream ++ take i bytes) ≡ u
-    → breaks_at stream bytes i ≡ breaks u (b ∷ [])
+pub breaks_at-byte : (stream bytes : List ℕ) {opened : List ℕ} (i : ℕ) {b : ℕ} → i < length bytes
+    → b ≡ slice_index bytes i
+    → open_character (stream ++ take i bytes) ≡ opened
+    → breaks_at stream bytes i ≡ breaks opened (b ∷ [])
 unfolding breaks_at
-breaks_at-byte stream bytes {u} i within is ends =
-    rw (ends, drop_more bytes i 0 within, is) (breaks-next u (get_or bytes i 0) (drop (i + 1) bytes) [])
+breaks_at-byte stream bytes {opened} i within is ends =
+    rw (ends, drop_more bytes i 0 within, is) (breaks-next opened (get_or bytes i 0) (drop (i + 1) bytes) [])
 
 pub breaks_at-settled : (stream bytes : List ℕ) (i : ℕ) → open_character (stream ++ take i bytes) ≡ []
     → breaks_at stream bytes i ≡ false
@@ -259,9 +273,9 @@ pub starts-broken : {stream bytes : List ℕ} {i : ℕ} → i < length bytes →
 starts-broken within broken = record { within = within; starts = inr broken }
 
 -- A byte that continues an open character is no start.
-pub no_start : {stream bytes u : List ℕ} {i b : ℕ} → i < length bytes → b ≡ slice_index bytes i
-    → open_character (stream ++ take i bytes) ≡ u
-    → (u ≡ [] → ⊥) → breaks u (b ∷ []) ≡ false
+pub no_start : {stream bytes opened : List ℕ} {i b : ℕ} → i < length bytes → b ≡ slice_index bytes i
+    → open_character (stream ++ take i bytes) ≡ opened
+    → (opened ≡ [] → ⊥) → breaks opened (b ∷ []) ≡ false
     → IsStart stream bytes i → ⊥
 no_start {stream} {bytes} {i} within is ends some whole start = search (rules, arith, breaks_at-byte)
 

@@ -26,10 +26,10 @@ after_colon number = colon ∷ decimal number
 abbrev pub after_semicolon : List ℕ → List ℕ
 after_semicolon group = semicolon ∷ group_text group
 
-join_from_front : (c : ℕ) (x : List ℕ) (xs : List (List ℕ))
-    → join_with_byte c (x ∷ xs) ≡ x ++ flat_map (λ y. c ∷ y) xs
-join_from_front c x [] = sym (append-nil x)
-join_from_front c x (y ∷ xs) = ap (λ (l : List ℕ). x ++ c ∷ l) (join_from_front c y xs)
+join_from_front : (byte : ℕ) (x : List ℕ) (xs : List (List ℕ))
+    → join_with_byte byte (x ∷ xs) ≡ x ++ flat_map (λ y. byte ∷ y) xs
+join_from_front byte x [] = sym (append-nil x)
+join_from_front byte x (y ∷ xs) = ap (λ (l : List ℕ). x ++ byte ∷ l) (join_from_front byte y xs)
 
 group_text_from_front : (first : ℕ) (rest : List ℕ)
     → group_text (first ∷ rest) ≡ decimal first ++ flat_map after_colon rest
@@ -83,16 +83,16 @@ no_separators n small = search (rules, arith, is_digit_no_separator, digits-deci
 -- Such a text is read from the front: each separator ends the number before it (`spelled_after`).
 
 abbrev separator : Number → ℕ
-separator n = if n.joined then colon else semicolon
+separator number = if number.joined then colon else semicolon
 
 abbrev spelled : Number → List ℕ
-spelled n = separator n ∷ decimal n.value
+spelled number = separator number ∷ decimal number.value
 
-separates : (n : Number) → is_separator (separator n) ≡ true
-separates n = search (rules, arith)
+separates : (number : Number) → is_separator (separator number) ≡ true
+separates number = search (rules, arith)
 
-is_colon-separator : (n : Number) → is_colon (separator n) ≡ n.joined
-is_colon-separator n = search (rules, arith)
+is_colon-separator : (number : Number) → is_colon (separator number) ≡ number.joined
+is_colon-separator number = search (rules, arith)
 
 digits_after : (joined : Bool) (digits more text : List ℕ) → All IsNoSeparator more
     → numbers_from joined digits (more ++ text) ≡ numbers_from joined (digits ++ more) text
@@ -101,14 +101,14 @@ digits_after joined digits (b ∷ more) text none =
     let rest = digits_after joined (digits ++ b ∷ []) more text (All-tail IsNoSeparator b more none) in
     rw (All-head IsNoSeparator b more none) (rw (append_assoc digits (b ∷ []) more) at rest)
 
-spelled_after : (joined : Bool) (digits : List ℕ) {ns : List Number} → All IsSmall ns
-    → numbers_from joined digits (flat_map spelled ns) ≡ numbered joined (number_of digits) ∷ ns
-spelled_after joined digits {ns = []} all = refl
-spelled_after joined digits {ns = n ∷ ns} all =
-    let small = All-head IsSmall n ns all in
-    let rest = digits_after n.joined [] (decimal n.value) (flat_map spelled ns) (no_separators n.value small)
-    ∙ spelled_after n.joined (decimal n.value) (All-tail IsSmall n ns all)
-    ∙ ap (λ value. numbered n.joined value ∷ ns) (number_of-decimal n.value small) in
+spelled_after : (joined : Bool) (digits : List ℕ) {numbers : List Number} → All IsSmall numbers
+    → numbers_from joined digits (flat_map spelled numbers) ≡ numbered joined (number_of digits) ∷ numbers
+spelled_after joined digits {numbers = []} all = refl
+spelled_after joined digits {numbers = n ∷ numbers} all =
+    let small = All-head IsSmall n numbers all in
+    let rest = digits_after n.joined [] (decimal n.value) (flat_map spelled numbers) (no_separators n.value small)
+    ∙ spelled_after n.joined (decimal n.value) (All-tail IsSmall n numbers all)
+    ∙ ap (λ value. numbered n.joined value ∷ numbers) (number_of-decimal n.value small) in
     rw (separates n, is_colon-separator n) (ap (λ (l : List Number). numbered joined (number_of digits) ∷ l) rest)
 
 -- ---- groups as such numbers
@@ -215,9 +215,9 @@ digit_is_parameter : (b : ℕ) → IsDigit b → is_parameter_text (class_of b) 
 unfolding class_of
 digit_is_parameter b digit = grind (arith, nat_tests)
 
-separator_is_parameter : (n : Number) → is_parameter_text (class_of (separator n)) ≡ true
+separator_is_parameter : (number : Number) → is_parameter_text (class_of (separator number)) ≡ true
 unfolding class_of
-separator_is_parameter n = search (rules, arith)
+separator_is_parameter number = search (rules, arith)
 
 parameters-digits : (ds more : List ℕ) → All IsDigit ds → AreInClass is_parameter_text more
     → AreInClass is_parameter_text (ds ++ more)
@@ -225,13 +225,15 @@ parameters-digits [] more digits are = are
 parameters-digits (d ∷ ds) more digits are =
     (digit_is_parameter d (All-head IsDigit d ds digits), parameters-digits ds more (All-tail IsDigit d ds digits) are)
 
-parameters-spelled : (ns : List Number) → All IsSmall ns → AreInClass is_parameter_text (flat_map spelled ns)
+parameters-spelled : (numbers : List Number) → All IsSmall numbers
+    → AreInClass is_parameter_text (flat_map spelled numbers)
 parameters-spelled [] all = tt
-parameters-spelled (n ∷ ns) all =
+parameters-spelled (number ∷ numbers) all =
     let rest =
-    parameters-digits (decimal n.value) (flat_map spelled ns) (digits-decimal n.value (All-head IsSmall n ns all))
-    (parameters-spelled ns (All-tail IsSmall n ns all)) in
-    (separator_is_parameter n, rest)
+    parameters-digits (decimal number.value) (flat_map spelled numbers)
+    (digits-decimal number.value (All-head IsSmall number numbers all))
+    (parameters-spelled numbers (All-tail IsSmall number numbers all)) in
+    (separator_is_parameter number, rest)
 
 parameters-shown : (groups : List (List ℕ)) → AreParameters groups → AreInClass is_parameter_text (shown groups)
 parameters-shown groups ok = search (rules, arith, shown-spelled, parameters-spelled, in_group, IsSmall-groups)

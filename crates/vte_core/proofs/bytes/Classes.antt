@@ -27,13 +27,13 @@ unfolding class_of
 class_of-spans b = grind (arith, nat_tests)
 
 -- A byte of class `k` is in the range of `k`.
-pub spans : (b : ℕ) {k : Class} → class_of b ≡ k → Spans k b
-spans b e = rw e at (class_of-spans b)
+pub spans : (b : ℕ) {class : Class} → class_of b ≡ class → Spans class b
+spans b is_class = rw is_class at (class_of-spans b)
 
 -- A byte of a head is below each final byte.
 pub below_final : (b : ℕ) → is_head_byte (class_of b) ≡ true → b < 0x40
 unfolding class_of
-below_final b h = grind (arith, nat_tests)
+below_final b is_head = grind (arith, nat_tests)
 
 -- ---- keys
 
@@ -48,17 +48,18 @@ is_dropped _ = false
 -- A class of bytes that are dropped in the head of a device control string.
 abbrev pub is_dropped_in_head : Class → Bool
 is_dropped_in_head Control = true
-is_dropped_in_head k = is_dropped k
+is_dropped_in_head class = is_dropped class
 
 -- Keys other than [, P and ] begin an ignored string or an escape sequence.
 pub other_key : (b : ℕ) → (b ≡ 0x5b → ⊥) → (b ≡ 0x50 → ⊥) → (b ≡ 0x5d → ⊥)
     → sequence_kind b ≡ (if begins_ignored_string b then IgnoredString else EscapeSequence)
 unfolding sequence_kind
-other_key b c d o = simp (ne_eqb b 0x5b c, ne_eqb b 0x50 d, ne_eqb b 0x5d o)
+other_key b no_bracket no_device_control no_command = simp (ne_eqb b 0x5b no_bracket, ne_eqb b 0x50 no_device_control,
+    ne_eqb b 0x5d no_command)
 
 pub below_finals : (b : ℕ) → b < 0x40 → sequence_kind b ≡ EscapeSequence
 unfolding sequence_kind
-below_finals b h = search (rules, arith)
+below_finals b below = search (rules, arith)
 
 -- ---- texts of bytes of the same classes join
 
@@ -69,79 +70,80 @@ AreInClass-append has (b ∷ prefix) rest are more = (are.0, AreInClass-append h
 
 -- ---- tests that only one class passes
 
-pub class-control : (k : Class) → is_plain_control k ≡ true → k ≡ Control
-class-control Control h = refl
-class-control _ h = cc
+pub class-control : (class : Class) → is_plain_control class ≡ true → class ≡ Control
+class-control Control control = refl
+class-control _ control = cc
 
-pub class-intermediate : (k : Class) → is_intermediate k ≡ true → k ≡ Intermediate
-class-intermediate Intermediate h = refl
-class-intermediate _ h = cc
+pub class-intermediate : (class : Class) → is_intermediate class ≡ true → class ≡ Intermediate
+class-intermediate Intermediate intermediate = refl
+class-intermediate _ intermediate = cc
 
-pub class-final : (k : Class) → is_final k ≡ true → k ≡ Final
-class-final Final h = refl
-class-final _ h = cc
+pub class-final : (class : Class) → is_final class ≡ true → class ≡ Final
+class-final Final final = refl
+class-final _ final = cc
 
 -- ---- bytes that end no body; those that do are CAN, SUB and ESC
 
-pub head_ends_nothing : (k : Class) → is_head_byte k ≡ true → ends_body k ≡ false
-head_ends_nothing k i = search (rules, arith)
+pub head_ends_nothing : (class : Class) → is_head_byte class ≡ true → ends_body class ≡ false
+head_ends_nothing class is_head = search (rules, arith)
 
-pub dispatch_ends_nothing : (k : Class) → dispatches_escape k ≡ true → ends_body k ≡ false
-dispatch_ends_nothing k i = search (rules, arith)
+pub dispatch_ends_nothing : (class : Class) → dispatches_escape class ≡ true → ends_body class ≡ false
+dispatch_ends_nothing class dispatches = search (rules, arith)
 
-pub data_ends_nothing : (k : Class) → is_device_data k ≡ true → ends_body k ≡ false
-data_ends_nothing k i = search (rules, arith)
+pub data_ends_nothing : (class : Class) → is_device_data class ≡ true → ends_body class ≡ false
+data_ends_nothing class is_data = search (rules, arith)
 
-pub final_ends_nothing : (k : Class) → is_final k ≡ true → ends_body k ≡ false
-final_ends_nothing Final h = refl
-final_ends_nothing _ h = cc
+pub final_ends_nothing : (class : Class) → is_final class ≡ true → ends_body class ≡ false
+final_ends_nothing Final final = refl
+final_ends_nothing _ final = cc
 
 -- A byte that ends a body and isn't ESC is CAN or SUB.
 pub ends_by_cancel : (b : ℕ) → ends_body (class_of b) ≡ true → (b ≡ 0x1b → ⊥) → class_of b ≡ Cancel
 unfolding class_of
-ends_by_cancel b h n = grind (arith, nat_tests)
+ends_by_cancel b ends is_no_escape = grind (arith, nat_tests)
 
-pub ends_not_cancel : (k : Class) → ends_body k ≡ false → is_cancel k ≡ false
-ends_not_cancel Cancel h = cc
-ends_not_cancel _ h = refl
+pub ends_not_cancel : (class : Class) → ends_body class ≡ false → is_cancel class ≡ false
+ends_not_cancel Cancel no_end = cc
+ends_not_cancel _ no_end = refl
 
 -- ---- bytes of a head
 
-pub head_is_no_control : (k : Class) → is_head_byte k ≡ true → is_plain_control k ≡ false
-head_is_no_control Control h = cc
-head_is_no_control _ h = refl
+pub head_is_no_control : (class : Class) → is_head_byte class ≡ true → is_plain_control class ≡ false
+head_is_no_control Control is_head = cc
+head_is_no_control _ is_head = refl
 
-pub head_is_no_end : (k : Class) → is_head_byte k ≡ true → ends_head k ≡ false
-head_is_no_end k i = search (rules, arith)
+pub head_is_no_end : (class : Class) → is_head_byte class ≡ true → ends_head class ≡ false
+head_is_no_end class is_head = search (rules, arith)
 
-pub parameter_is_head : (k : Class) → is_parameter_text k ≡ true → is_head_byte k ≡ true
-parameter_is_head k i = search (rules, arith)
+pub parameter_is_head : (class : Class) → is_parameter_text class ≡ true → is_head_byte class ≡ true
+parameter_is_head class parameter = search (rules, arith)
 
 -- ---- the class that is left if others are excluded
 
 -- After ESC, a byte 30..3F ends an escape sequence.
-pub other_dispatches : (k : Class) → is_head_byte k ≡ true → is_intermediate k ≡ false → dispatches_escape k ≡ true
-other_dispatches k i j = search (rules, arith)
+pub other_dispatches : (class : Class) → is_head_byte class ≡ true → is_intermediate class ≡ false
+    → dispatches_escape class ≡ true
+other_dispatches class is_head no_intermediate = search (rules, arith)
 
 -- A class other than those of 20..7E, CAN, SUB, ESC and C0 is that of DEL or of 80..FF.
-pub other_is_dropped : (k : Class) → is_head_byte k ≡ false → is_final k ≡ false → ends_body k ≡ false
-    → is_plain_control k ≡ false
-    → is_dropped k ≡ true
-other_is_dropped k i f e c = search (rules, arith)
+pub other_is_dropped : (class : Class) → is_head_byte class ≡ false → is_final class ≡ false → ends_body class ≡ false
+    → is_plain_control class ≡ false
+    → is_dropped class ≡ true
+other_is_dropped class no_head no_final no_end no_control = search (rules, arith)
 
-pub other_than_intermediate : (k : Class) → is_intermediate k ≡ false → dispatches_escape k ≡ false
-    → ends_body k ≡ false
-    → is_plain_control k ≡ false → is_dropped k ≡ true
-other_than_intermediate k i d e c = search (rules, arith)
+pub other_than_intermediate : (class : Class) → is_intermediate class ≡ false → dispatches_escape class ≡ false
+    → ends_body class ≡ false
+    → is_plain_control class ≡ false → is_dropped class ≡ true
+other_than_intermediate class no_intermediate no_dispatch no_end no_control = search (rules, arith)
 
 -- In the head of a device control string, bytes of C0 are dropped too.
-pub other_in_head : (k : Class) → is_head_byte k ≡ false → is_final k ≡ false → ends_body k ≡ false
-    → is_dropped_in_head k ≡ true
-other_in_head k i f e = search (rules, arith)
+pub other_in_head : (class : Class) → is_head_byte class ≡ false → is_final class ≡ false → ends_body class ≡ false
+    → is_dropped_in_head class ≡ true
+other_in_head class no_head no_final no_end = search (rules, arith)
 
 -- A byte other than CAN, SUB, ESC and 9C doesn't end the data of a device control string.
 pub ends_no_data : (b : ℕ) → ends_body (class_of b) ≡ false → (b ≡ 0x9c → ⊥) → ends_device_data b ≡ false
-ends_no_data b e n = search (rules, arith)
+ends_no_data b no_end no_terminator = search (rules, arith)
 
 pub terminator_is_high : {b : ℕ} → b ≡ 0x9c → class_of b ≡ High
 unfolding class_of
@@ -151,4 +153,4 @@ terminator_is_high is = rw is refl
 pub other_is_control : (b : ℕ) → ends_body (class_of b) ≡ false → (IsCommandData b → ⊥) → (b ≡ 0x3b → ⊥)
     → class_of b ≡ Control
 unfolding class_of
-other_is_control b e d n = grind (arith, nat_tests)
+other_is_control b no_end no_data no_separator = grind (arith, nat_tests)

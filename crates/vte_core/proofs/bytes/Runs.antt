@@ -64,36 +64,36 @@ each-block holds bytes block from n m is at_most all k low high =
 
 -- All characters but controls stay in a run, and with `layout` HT, LF and CR do too.
 
-pub no_control-stays : (layout : Bool) (c : ℕ) → is_control_character c ≡ false → StaysInRun layout c
-no_control-stays layout c e = search (rules, arith)
+pub no_control-stays : (layout : Bool) (scalar : ℕ) → is_control_character scalar ≡ false → StaysInRun layout scalar
+no_control-stays layout scalar no_control = search (rules, arith)
 
-pub layout-stays : (c : ℕ) → is_layout c ≡ true → StaysInRun true c
-layout-stays c e = rw e refl
+pub layout-stays : (scalar : ℕ) → is_layout scalar ≡ true → StaysInRun true scalar
+layout-stays scalar is_layout_character = rw is_layout_character refl
 
-pub layout-is_control_character : (c : ℕ) → is_layout c ≡ true → is_control_character c ≡ true
-layout-is_control_character c e = grind (arith, nat_tests)
+pub layout-is_control_character : (scalar : ℕ) → is_layout scalar ≡ true → is_control_character scalar ≡ true
+layout-is_control_character scalar is_layout_character = grind (arith, nat_tests)
 
-pub layout-is_ascii : (c : ℕ) → is_layout c ≡ true → c < 0x80
-layout-is_ascii c e = grind (arith, nat_tests)
+pub layout-is_ascii : (scalar : ℕ) → is_layout scalar ≡ true → scalar < 0x80
+layout-is_ascii scalar is_layout_character = grind (arith, nat_tests)
 
 no_layout : (b : ℕ) → IsPrintedAscii b → is_layout b ≡ false
-no_layout b p = let low = p.0 in let high = p.1 in grind (arith, nat_tests)
+no_layout b printed = let low = printed.0 in let high = printed.1 in grind (arith, nat_tests)
 
 pub run_event-printed : (layout : Bool) (b : ℕ) → IsPrintedAscii b → run_event layout b ≡ Print b
-run_event-printed false b p = refl
-run_event-printed true b p = rw (no_layout b p) refl
+run_event-printed false b printed = refl
+run_event-printed true b printed = rw (no_layout b printed) refl
 
 plain-stays : (layout : Bool) (b : ℕ) → IsPrintedAscii b → StaysInRun layout b
-plain-stays layout b p = search (rules, arith)
+plain-stays layout b printed = search (rules, arith)
 
 -- ---- printed ASCII is a run, and two runs joined are one
 
 utf8_run-ascii : {layout : Bool} {bytes : List ℕ} → IsAscii bytes → All (StaysInRun layout) bytes
     → IsUtf8Run layout bytes
-utf8_run-ascii {layout} {bytes} a stay =
+utf8_run-ascii {layout} {bytes} ascii stay =
     record {
-      utf8 = IsUtf8-from_ascii bytes a;
-      plain = subst (All (StaysInRun layout)) (sym (chars-IsAscii bytes a)) stay;
+      utf8 = IsUtf8-from_ascii bytes ascii;
+      plain = subst (All (StaysInRun layout)) (sym (chars-IsAscii bytes ascii)) stay;
     }
 
 utf8_run-printed : (layout : Bool) (bytes : List ℕ) (n : ℕ) → ArePrintedAscii bytes 0 n
@@ -116,35 +116,38 @@ utf8_run-nil layout =
 
 pub utf8_run-append : {layout : Bool} {xs ys : List ℕ} → IsUtf8Run layout xs → IsUtf8Run layout ys
     → IsUtf8Run layout (xs ++ ys)
-utf8_run-append {layout} {xs} {ys} a b = record {
-  utf8 = IsUtf8-append xs ys a.utf8 b.utf8;
+utf8_run-append {layout} {xs} {ys} are b = record {
+  utf8 = IsUtf8-append xs ys are.utf8 b.utf8;
   plain =
-      subst (All (StaysInRun layout)) (sym (chars-append xs ys a.utf8))
-      (All-append (StaysInRun layout) (chars xs) (chars ys) a.plain b.plain);
+      subst (All (StaysInRun layout)) (sym (chars-append xs ys are.utf8))
+      (All-append (StaysInRun layout) (chars xs) (chars ys) are.plain b.plain);
 }
 
 -- ---- one character: its bytes decode to it alone, and a run of it is its event
 
-pub chars-encode : (c : ℕ) → IsScalar c → chars (encode c) ≡ c ∷ []
-chars-encode c is =
-    chars_past_char (encode c) [] c (IsUtf8-encode c is) (sym (append-nil (encode c))) ∙ ap (λ cs. c ∷ cs) chars-nil
+pub chars-encode : (scalar : ℕ) → IsScalar scalar → chars (encode scalar) ≡ scalar ∷ []
+chars-encode scalar is =
+    chars_past_char (encode scalar) [] scalar (IsUtf8-encode scalar is) (sym (append-nil (encode scalar))) ∙ ap
+    (λ cs. scalar ∷ cs) chars-nil
 
-pub run_one : (layout : Bool) (c : ℕ) → IsScalar c → StaysInRun layout c
-    → All (StaysInRun layout) (chars (encode c))
-run_one layout c is stays = subst (All (StaysInRun layout)) (sym (chars-encode c is))
-    (All-cons (StaysInRun layout) c [] stays (All-nil (StaysInRun layout)))
+pub run_one : (layout : Bool) (scalar : ℕ) → IsScalar scalar → StaysInRun layout scalar
+    → All (StaysInRun layout) (chars (encode scalar))
+run_one layout scalar is stays = subst (All (StaysInRun layout)) (sym (chars-encode scalar is))
+    (All-cons (StaysInRun layout) scalar [] stays (All-nil (StaysInRun layout)))
 
-pub after-character : {V : Type 0} (layout : Bool) (step : V → Event → V) (old : V) (c : ℕ) → IsScalar c
-    → after step old (map (run_event layout) (chars (encode c))) ≡ step old (run_event layout c)
-after-character layout step old c is = ap (λ cs. after step old (map (run_event layout) cs)) (chars-encode c is)
+pub after-character : {V : Type 0} (layout : Bool) (step : V → Event → V) (old : V) (scalar : ℕ) → IsScalar scalar
+    → after step old (map (run_event layout) (chars (encode scalar))) ≡ step old (run_event layout scalar)
+after-character layout step old scalar is = ap (λ cs. after step old (map (run_event layout) cs))
+    (chars-encode scalar is)
 
-pub run_event-no_control : (layout : Bool) {c : ℕ} → is_control_character c ≡ false → run_event layout c ≡ Print c
-run_event-no_control layout {c} e = grind (arith, nat_tests, layout-is_control_character c)
+pub run_event-no_control : (layout : Bool) {scalar : ℕ} → is_control_character scalar ≡ false
+    → run_event layout scalar ≡ Print scalar
+run_event-no_control layout {scalar} no_control = grind (arith, nat_tests, layout-is_control_character scalar)
 
 -- ---- runs from one position of the bytes to another
 
 pub printed-in_range : (b : ℕ) → is_in (from_to 0x20 0x7f) b ≡ true → IsPrintedAscii b
-printed-in_range b e = grind (arith, nat_tests)
+printed-in_range b in_range = grind (arith, nat_tests)
 
 pub chars-one : (bytes : List ℕ) (from b : ℕ) → from < length bytes → b ≡ slice_index bytes from → IsPrintedAscii b
     → chars (take (from + 1 - from) (drop from bytes)) ≡ b ∷ []
@@ -172,31 +175,32 @@ run-ascii layout bytes from to are = utf8_run-printed layout (drop from bytes) (
 
 pub run-append : (layout : Bool) (bytes : List ℕ) (i j k : ℕ) → i ≤ j → j ≤ k → IsRun layout bytes i j
     → IsRun layout bytes j k → IsRun layout bytes i k
-run-append layout bytes i j k first second a b =
+run-append layout bytes i j k first second are more =
     let same : drop (j - i) (drop i bytes) ≡ drop j bytes =
     drop-drop (j - i) i bytes ∙ ap (λ n. drop n bytes) (let e : i + (j - i) ≡ j = omega (arith, first) in e) in
     let whole : take (k - i) (drop i bytes) ≡ take (j - i) (drop i bytes) ++ take (k - j) (drop j bytes) =
     ap (λ n. take n (drop i bytes)) (let e : k - i ≡ j - i + (k - j) = omega (arith, first, second) in e)
     ∙ take-add (j - i) (k - j) (drop i bytes) ∙ ap (λ x. take (j - i) (drop i bytes) ++ take (k - j) x) same in
     subst (IsUtf8Run layout) (sym whole)
-    (utf8_run-append a b)
+    (utf8_run-append are more)
 
 -- ---- a search goes on where another ended
 
 -- Runs join (`run-append`), and a block adds its first bytes.
 
-pub scans-run : {layout : Bool} {bytes : List ℕ} {i j k : ℕ} {s t u : Reader}
-    → Scans (IsRun layout) bytes i j s t → Scans (IsRun layout) bytes j k t u → Scans (IsRun layout) bytes i k s u
-scans-run a b = search (rules, arith, run-append)
+pub scans-run : {layout : Bool} {bytes : List ℕ} {i j k : ℕ} {earlier middle later : Reader}
+    → Scans (IsRun layout) bytes i j earlier middle → Scans (IsRun layout) bytes j k middle later
+    → Scans (IsRun layout) bytes i k earlier later
+scans-run scans scans_on = search (rules, arith, run-append)
 
 -- A scan goes on by one byte of printed ASCII and the printed ASCII after it.
-pub scans-ascii : {layout : Bool} {bytes : List ℕ} {i j k byte : ℕ} {s t u v : Reader}
-    → Scans (IsRun layout) bytes i j s t → byte ≡ slice_index bytes j → looked u ≡ looked t + 1
-    → is_in (from_to 0x20 0x7f) byte ≡ true → Scans ArePrintedAscii bytes (j + 1) k u v
-    → Scans (IsRun layout) bytes i k s v
-scans-ascii {bytes} {j} {byte} a is count printed more =
+pub scans-ascii : {layout : Bool} {bytes : List ℕ} {i j k byte : ℕ} {earlier middle later last : Reader}
+    → Scans (IsRun layout) bytes i j earlier middle → byte ≡ slice_index bytes j → looked later ≡ looked middle + 1
+    → is_in (from_to 0x20 0x7f) byte ≡ true → Scans ArePrintedAscii bytes (j + 1) k later last
+    → Scans (IsRun layout) bytes i k earlier last
+scans-ascii {bytes} {j} {byte} scans is count printed more =
     let first : IsPrintedAscii (slice_index bytes j) = subst IsPrintedAscii is (printed-in_range byte printed) in
-    scans-run a (record {
+    scans-run scans (record {
       low = omega (arith, more.low);
       high = more.high;
       passed = run-ascii _ _ _ _ (each-both IsPrintedAscii _ _ _ _ (each-one IsPrintedAscii bytes j first) more.passed);
@@ -204,18 +208,18 @@ scans-ascii {bytes} {j} {byte} a is count printed more =
     })
 
 -- A scan goes on by a further run, such as another character or a kept control.
-pub scans-other : {layout : Bool} {bytes : List ℕ} {i j k : ℕ} {s t u : Reader}
-    → Scans (IsRun layout) bytes i j s t → j < k → k ≤ length bytes → IsRun layout bytes j k
-    → looked u + j ≡ looked t + k → Scans (IsRun layout) bytes i k s u
-scans-other a low high run count =
-    scans-run a (record { low = omega (arith, low); high = high; passed = run; at_least = omega (arith, count) })
+pub scans-other : {layout : Bool} {bytes : List ℕ} {i j k : ℕ} {earlier middle later : Reader}
+    → Scans (IsRun layout) bytes i j earlier middle → j < k → k ≤ length bytes → IsRun layout bytes j k
+    → looked later + j ≡ looked middle + k → Scans (IsRun layout) bytes i k earlier later
+scans-other scans low high run count =
+    scans-run scans (record { low = omega (arith, low); high = high; passed = run; at_least = omega (arith, count) })
 
 -- A scan goes on over the first bytes of a block, if its property holds of them.
 pub scans-block : (holds : ℕ → Type 0) (bytes : List ℕ) {block : List ℕ} {i j n : ℕ} (m : ℕ)
-    {s t u : Reader} → Scans (Each holds) bytes i j s t
-    → (j + n ≤ length bytes) × (block ≡ take n (drop j bytes)) × (looked u ≡ looked t + n) → m ≤ n
-    → Each holds block 0 m → Scans (Each holds) bytes i (j + m) s u
-scans-block holds bytes m a block at_most all = search (rules, arith, each-both, each-block)
+    {earlier middle later : Reader} → Scans (Each holds) bytes i j earlier middle
+    → (j + n ≤ length bytes) × (block ≡ take n (drop j bytes)) × (looked later ≡ looked middle + n) → m ≤ n
+    → Each holds block 0 m → Scans (Each holds) bytes i (j + m) earlier later
+scans-block holds bytes m scans block at_most all = search (rules, arith, each-both, each-block)
 
 -- ---- where a run ends
 
@@ -239,9 +243,9 @@ fits-in (range ∷ ranges) bytes i (suc m) fit = elim (cases_lt i (length bytes)
   | inr past ↦ absurd (false≢true (rw (drop_all i bytes (omega (arith, past))) at fit))
 ]
 
-fits-none : (u : List ℕ) → fits [] u ≡ true → u ≡ []
+fits-none : (bytes : List ℕ) → fits [] bytes ≡ true → bytes ≡ []
 fits-none [] fit = refl
-fits-none (b ∷ u) fit = cc
+fits-none (b ∷ bytes) fit = cc
 
 -- There is one byte, in its range.
 record OneIn (range : Range) (bytes : List ℕ) (i m : ℕ) : Type 0 where
@@ -281,9 +285,9 @@ module _ (layout : Bool) (bytes : List ℕ) (from a : ℕ) (within : from < leng
       ap (take (suc m)) (drop_more bytes from 0 within) ∙ ap (λ x. x ∷ later m) (sym is) in
       record { m = m; parts = parts; well = subst (λ (x : List ℕ). is_well_formed x ≡ true) parts whole }
 
-  control-ends : (c : ℕ) → is_control_character c ≡ true → (layout ≡ true → is_layout c ≡ false)
-      → ends_run layout c ≡ true
-  control-ends c control other = search (rules, arith)
+  control-ends : (scalar : ℕ) → is_control_character scalar ≡ true → (layout ≡ true → is_layout scalar ≡ false)
+      → ends_run layout scalar ≡ true
+  control-ends scalar control other = search (rules, arith)
 
   -- A run ends at a byte that is neither printed nor kept, and begins no longer sequence.
   pub no_run-single : is_in (from_to 0x20 0x7f) a ≡ false → is_in (from_to 0xc2 0xf4) a ≡ false

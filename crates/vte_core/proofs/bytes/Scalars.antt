@@ -44,12 +44,12 @@ in_range-four : (a b c d : ℕ) → 0xf0 ≤ a → a < 0xf5 → SecondByte a b �
 in_range-four a b c d low high second third fourth = search (rules, arith)
 
 -- There are as many bytes as ranges that they fit.
-fits-length : (ranges : List Range) (u : List ℕ) → fits ranges u ≡ true → length u ≡ length ranges
+fits-length : (ranges : List Range) (bytes : List ℕ) → fits ranges bytes ≡ true → length bytes ≡ length ranges
 fits-length [] [] fit = refl
-fits-length [] (b ∷ u) fit = absurd (false≢true fit)
+fits-length [] (b ∷ bytes) fit = absurd (false≢true fit)
 fits-length (range ∷ ranges) [] fit = absurd (false≢true fit)
-fits-length (range ∷ ranges) (b ∷ u) fit =
-    ap suc (fits-length ranges u (and_parts (is_in range b) (fits ranges u) fit).1)
+fits-length (range ∷ ranges) (b ∷ bytes) fit =
+    ap suc (fits-length ranges bytes (and_parts (is_in range b) (fits ranges bytes) fit).1)
 
 -- A well-formed sequence, by its bytes.
 pub data Sequence (p : List ℕ) : Type 0 where
@@ -59,48 +59,49 @@ pub data Sequence (p : List ℕ) : Type 0 where
   whole_four : (a b c d : ℕ) → p ≡ a ∷ b ∷ c ∷ d ∷ [] → 0xf0 ≤ a → a < 0xf5 → SecondByte a b → IsContinuation c
       → IsContinuation d → Sequence p
 
-fit-two : (a : ℕ) (u : List ℕ) → 0xc2 ≤ a → a < 0xe0 → fits (second_range a ∷ []) u ≡ true → Sequence (a ∷ u)
+fit-two : (a : ℕ) (rest : List ℕ) → 0xc2 ≤ a → a < 0xe0 → fits (second_range a ∷ []) rest ≡ true → Sequence (a ∷ rest)
 fit-two a (b ∷ []) low high fit = whole_two a b refl low high (second_byte (and_parts _ _ fit).0)
-fit-two a u low high fit = search (rules, arith, fits-length)
+fit-two a rest low high fit = search (rules, arith, fits-length)
 
-fit-three : (a : ℕ) (u : List ℕ) → 0xe0 ≤ a → a < 0xf0 → fits (second_range a ∷ continuation ∷ []) u ≡ true
-    → Sequence (a ∷ u)
+fit-three : (a : ℕ) (rest : List ℕ) → 0xe0 ≤ a → a < 0xf0 → fits (second_range a ∷ continuation ∷ []) rest ≡ true
+    → Sequence (a ∷ rest)
 fit-three a (b ∷ c ∷ []) low high fit =
     let parts : (is_in (second_range a) b ≡ true) × ((is_in continuation c && true) ≡ true) = and_parts _ _ fit in
     whole_three a b c refl low high (second_byte parts.0) (continuation-bounds c (and_parts _ _ parts.1).0)
-fit-three a u low high fit = search (rules, arith, fits-length, continuation)
+fit-three a rest low high fit = search (rules, arith, fits-length, continuation)
 
-fit-four : (a : ℕ) (u : List ℕ) → 0xf0 ≤ a → a < 0xf5
-    → fits (second_range a ∷ continuation ∷ continuation ∷ []) u ≡ true → Sequence (a ∷ u)
+fit-four : (a : ℕ) (following : List ℕ) → 0xf0 ≤ a → a < 0xf5
+    → fits (second_range a ∷ continuation ∷ continuation ∷ []) following ≡ true → Sequence (a ∷ following)
 fit-four a (b ∷ c ∷ d ∷ []) low high fit =
     let parts : (is_in (second_range a) b ≡ true) × ((is_in continuation c && (is_in continuation d && true)) ≡ true) =
     and_parts _ _ fit in
     let rest : (is_in continuation c ≡ true) × ((is_in continuation d && true) ≡ true) = and_parts _ _ parts.1 in
     whole_four a b c d refl low high (second_byte parts.0) (continuation-bounds c rest.0)
     (continuation-bounds d (and_parts _ _ rest.1).0)
-fit-four a u low high fit = search (rules, arith, fits-length, continuation)
+fit-four a following low high fit = search (rules, arith, fits-length, continuation)
 
-by_first : (a : ℕ) (u : List ℕ) → FirstByte a → is_well_formed (a ∷ u) ≡ true → Sequence (a ∷ u)
+by_first : (a : ℕ) (rest : List ℕ) → FirstByte a → is_well_formed (a ∷ rest) ≡ true → Sequence (a ∷ rest)
 by_first a [] (ascii high) whole = whole_one a refl high
-by_first a (b ∷ u) (ascii high) whole = absurd (false≢true (sym (tests-ascii a high (b ∷ u)).is_whole ∙ whole))
-by_first a u (lone none) whole = absurd (false≢true (sym (tests-none a none u).is_whole ∙ whole))
-by_first a u (of_two low high) whole = fit-two a u low high (sym (tests-two a low high u).is_whole ∙ whole)
-by_first a u (of_three low high) whole = fit-three a u low high (sym (tests-three a low high u).is_whole ∙ whole)
-by_first a u (of_four low high) whole = fit-four a u low high (sym (tests-four a low high u).is_whole ∙ whole)
+by_first a (b ∷ rest) (ascii high) whole = absurd (false≢true (sym (tests-ascii a high (b ∷ rest)).is_whole ∙ whole))
+by_first a rest (lone none) whole = absurd (false≢true (sym (tests-none a none rest).is_whole ∙ whole))
+by_first a rest (of_two low high) whole = fit-two a rest low high (sym (tests-two a low high rest).is_whole ∙ whole)
+by_first a rest (of_three low high) whole = fit-three a rest low high
+    (sym (tests-three a low high rest).is_whole ∙ whole)
+by_first a rest (of_four low high) whole = fit-four a rest low high (sym (tests-four a low high rest).is_whole ∙ whole)
 
-pub sequence : (p : List ℕ) → is_well_formed p ≡ true → Sequence p
+pub sequence : (bytes : List ℕ) → is_well_formed bytes ≡ true → Sequence bytes
 unfolding is_well_formed utf8_rows
 sequence [] whole = absurd (false≢true whole)
-sequence (a ∷ u) whole = by_first a u (first_byte a) whole
+sequence (a ∷ bytes) whole = by_first a bytes (first_byte a) whole
 
-scalar_of-in_range : (p : List ℕ) → is_well_formed p ≡ true → InScalarRange (scalar_of p)
-scalar_of-in_range p whole = search (rules, arith, sequence, in_range-two, in_range-three, in_range-four)
+scalar_of-in_range : (bytes : List ℕ) → is_well_formed bytes ≡ true → InScalarRange (scalar_of bytes)
+scalar_of-in_range bytes whole = search (rules, arith, sequence, in_range-two, in_range-three, in_range-four)
 
 is_scalar : (c : ℕ) → InScalarRange c → IsScalar c
 is_scalar c i = search (rules, arith)
 
-pub well_formed_is_scalar : (p : List ℕ) → is_well_formed p ≡ true → IsScalar (scalar_of p)
-well_formed_is_scalar p well = is_scalar (scalar_of p) (scalar_of-in_range p well)
+pub well_formed_is_scalar : (bytes : List ℕ) → is_well_formed bytes ≡ true → IsScalar (scalar_of bytes)
+well_formed_is_scalar bytes well = is_scalar (scalar_of bytes) (scalar_of-in_range bytes well)
 
 -- ---- one more byte
 
@@ -143,17 +144,17 @@ pub spells-four : {a b c d : ℕ} → 0xf0 ≤ a → a < 0xf5 → is_in (second_
 spells-four {a} {b} {c} {d} low high second third fourth =
     search (rules, arith, second_byte, continuation-bounds, tests-four, and_from)
 
-pub spells-scalar : (p : List ℕ) (number : ℕ) → Spells p number → IsScalar number
-spells-scalar p number spells = subst IsScalar (sym spells.same) (well_formed_is_scalar p spells.is_whole)
+pub spells-scalar : (bytes : List ℕ) (number : ℕ) → Spells bytes number → IsScalar number
+spells-scalar bytes number spells = subst IsScalar (sym spells.same) (well_formed_is_scalar bytes spells.is_whole)
 
 -- `Spells` holds of an equal number too.
-pub spells-same : {p : List ℕ} {number other : ℕ} → Spells p number → other ≡ number → Spells p other
+pub spells-same : {bytes : List ℕ} {number other : ℕ} → Spells bytes number → other ≡ number → Spells bytes other
 spells-same spells same = search (rules, arith)
 
 -- A byte that completes a well-formed sequence carries the character to `Whole`, with its number.
-whole_by : (u : List ℕ) (b : ℕ) {number : ℕ} (r : Carried) → Spells (u ++ b ∷ []) number
-    → (InScalarRange number → r ≡ Whole number) → Carries u b r
-whole_by u b r spells makes = search (rules, arith, scalar_of-in_range)
+whole_by : (bytes : List ℕ) (b : ℕ) {number : ℕ} (carried : Carried) → Spells (bytes ++ b ∷ []) number
+    → (InScalarRange number → carried ≡ Whole number) → Carries bytes b carried
+whole_by bytes b carried spells makes = search (rules, arith, scalar_of-in_range)
 
 -- ---- the second byte of a character
 
@@ -169,10 +170,10 @@ pub second-lone : (a b : ℕ) → is_in continuation b ≡ false → is_in (seco
 unfolding second_range
 second-lone a b misfits = grind (arith, nat_tests)
 
-pub second-whole : (a b number : ℕ) (r : Carried) → is_truncated (a ∷ []) ≡ true
+pub second-whole : (a b number : ℕ) (carried : Carried) → is_truncated (a ∷ []) ≡ true
     → is_in (second_range a) b ≡ true → a < 0xe0
-    → number ≡ a % 32 * 0x40 + b % 64 → (InScalarRange number → r ≡ Whole number) → Carries (a ∷ []) b r
-second-whole a b number r more second below same makes =
+    → number ≡ a % 32 * 0x40 + b % 64 → (InScalarRange number → carried ≡ Whole number) → Carries (a ∷ []) b carried
+second-whole a b number carried more second below same makes =
     search (rules, arith, truncated-first, continuation, second_plain, whole_by, spells-same, spells-two)
 
 pub second-open : (a b : ℕ) → is_truncated (a ∷ []) ≡ true → is_in (second_range a) b ≡ true → 0xe0 ≤ a
@@ -187,11 +188,11 @@ pub third-broken : (a b c : ℕ) → is_truncated (a ∷ b ∷ []) ≡ true → 
 unfolding is_well_formed is_truncated utf8_rows
 third-broken a b c more misfits = (grind (arith, nat_tests), grind (arith, nat_tests))
 
-pub third-whole : (a b c number : ℕ) (r : Carried) → is_truncated (a ∷ b ∷ []) ≡ true
+pub third-whole : (a b c number : ℕ) (carried : Carried) → is_truncated (a ∷ b ∷ []) ≡ true
     → is_in continuation c ≡ true → a < 0xf0
-    → number ≡ (a % 16 * 0x40 + b % 64) * 0x40 + c % 64 → (InScalarRange number → r ≡ Whole number)
-    → Carries (a ∷ b ∷ []) c r
-third-whole a b c number r more third below same makes =
+    → number ≡ (a % 16 * 0x40 + b % 64) * 0x40 + c % 64 → (InScalarRange number → carried ≡ Whole number)
+    → Carries (a ∷ b ∷ []) c carried
+third-whole a b c number carried more third below same makes =
     search (rules, arith, truncated-two, whole_by, spells-same, spells-three)
 
 pub third-open : (a b c : ℕ) → is_truncated (a ∷ b ∷ []) ≡ true → is_in continuation c ≡ true → 0xf0 ≤ a
@@ -206,9 +207,10 @@ pub fourth-broken : (a b c d : ℕ) → is_truncated (a ∷ b ∷ c ∷ []) ≡ 
 unfolding is_well_formed is_truncated utf8_rows
 fourth-broken a b c d more misfits = (grind (arith, nat_tests), grind (arith, nat_tests))
 
-pub fourth-whole : (a b c d number : ℕ) (r : Carried) → is_truncated (a ∷ b ∷ c ∷ []) ≡ true
+pub fourth-whole : (a b c d number : ℕ) (carried : Carried) → is_truncated (a ∷ b ∷ c ∷ []) ≡ true
     → is_in continuation d ≡ true
-    → number ≡ ((a % 8 * 0x40 + b % 64) * 0x40 + c % 64) * 0x40 + d % 64 → (InScalarRange number → r ≡ Whole number)
-    → Carries (a ∷ b ∷ c ∷ []) d r
-fourth-whole a b c d number r more fourth same makes =
+    → number ≡ ((a % 8 * 0x40 + b % 64) * 0x40 + c % 64) * 0x40 + d % 64
+    → (InScalarRange number → carried ≡ Whole number)
+    → Carries (a ∷ b ∷ c ∷ []) d carried
+fourth-whole a b c d number carried more fourth same makes =
     search (rules, arith, truncated-three, whole_by, spells-same, spells-four)

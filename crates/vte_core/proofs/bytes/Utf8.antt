@@ -67,10 +67,10 @@ pub rows_after_bytes-none : (bytes : List ℕ) → rows_after_bytes bytes [] ≡
 rows_after_bytes-none [] = refl
 rows_after_bytes-none (b ∷ bytes) = rows_after_bytes-none bytes
 
-pub rows_after_bytes-append : (u v : List ℕ) (rows : List (List Range))
-    → rows_after_bytes (u ++ v) rows ≡ rows_after_bytes v (rows_after_bytes u rows)
+pub rows_after_bytes-append : (bytes v : List ℕ) (rows : List (List Range))
+    → rows_after_bytes (bytes ++ v) rows ≡ rows_after_bytes v (rows_after_bytes bytes rows)
 rows_after_bytes-append [] v rows = refl
-rows_after_bytes-append (b ∷ u) v rows = rows_after_bytes-append u v (rows_after_byte b rows)
+rows_after_bytes-append (b ∷ bytes) v rows = rows_after_bytes-append bytes v (rows_after_byte b rows)
 
 -- ---- the two tests of what is left
 
@@ -210,58 +210,63 @@ fits_prefix [] bytes = false
 fits_prefix (range ∷ ranges) [] = true
 fits_prefix (range ∷ ranges) (b ∷ bytes) = is_in range b && fits_prefix ranges bytes
 
-some_whole-row : (ranges : List Range) (u : List ℕ) → some_whole (rows_after_bytes u (ranges ∷ [])) ≡ fits ranges u
+some_whole-row : (ranges : List Range) (bytes : List ℕ)
+    → some_whole (rows_after_bytes bytes (ranges ∷ [])) ≡ fits ranges bytes
 some_whole-row [] [] = refl
-some_whole-row [] (b ∷ u) = ap some_whole (rows_after_bytes-none u)
+some_whole-row [] (b ∷ bytes) = ap some_whole (rows_after_bytes-none bytes)
 some_whole-row (range ∷ ranges) [] = refl
-some_whole-row (range ∷ ranges) (b ∷ u) = search (rules, arith, (some_whole-row ranges u), rows_after_bytes-none)
+some_whole-row (range ∷ ranges) (b ∷ bytes) = search (rules, arith,
+    (some_whole-row ranges bytes), rows_after_bytes-none)
 
-some_open-row : (ranges : List Range) (u : List ℕ) → some_open (rows_after_bytes u (ranges ∷ [])) ≡ fits_prefix ranges u
+some_open-row : (ranges : List Range) (bytes : List ℕ)
+    → some_open (rows_after_bytes bytes (ranges ∷ [])) ≡ fits_prefix ranges bytes
 some_open-row [] [] = refl
-some_open-row [] (b ∷ u) = ap some_open (rows_after_bytes-none u)
+some_open-row [] (b ∷ bytes) = ap some_open (rows_after_bytes-none bytes)
 some_open-row (range ∷ ranges) [] = refl
-some_open-row (range ∷ ranges) (b ∷ u) = search (rules, arith, (some_open-row ranges u), rows_after_bytes-none)
+some_open-row (range ∷ ranges) (b ∷ bytes) = search (rules, arith, (some_open-row ranges bytes), rows_after_bytes-none)
 
 -- What the two tests say of bytes.
 pub record Tests (bytes : List ℕ) (whole more : Bool) : Type 0 where
   pub is_whole : is_well_formed bytes ≡ whole
   pub is_open : is_truncated bytes ≡ more
 
-pub tests-row : (a : ℕ) (ranges : List Range) → rows_after_byte a utf8_rows ≡ ranges ∷ [] → (u : List ℕ)
-    → Tests (a ∷ u) (fits ranges u) (fits_prefix ranges u)
+pub tests-row : (a : ℕ) (ranges : List Range) → rows_after_byte a utf8_rows ≡ ranges ∷ [] → (rest : List ℕ)
+    → Tests (a ∷ rest) (fits ranges rest) (fits_prefix ranges rest)
 unfolding is_well_formed is_truncated
-tests-row a ranges same u = search (rules, arith, some_whole-row, some_open-row)
+tests-row a ranges same rest = search (rules, arith, some_whole-row, some_open-row)
 
-pub tests-none : (a : ℕ) → rows_after_byte a utf8_rows ≡ [] → (u : List ℕ) → Tests (a ∷ u) false false
+pub tests-none : (a : ℕ) → rows_after_byte a utf8_rows ≡ [] → (rest : List ℕ) → Tests (a ∷ rest) false false
 unfolding is_well_formed is_truncated
-tests-none a none u = search (rules, arith, rows_after_bytes-none)
+tests-none a none rest = search (rules, arith, rows_after_bytes-none)
 
-pub tests-ascii : (a : ℕ) → a < 0x80 → (u : List ℕ) → Tests (a ∷ u) (fits [] u) false
+pub tests-ascii : (a : ℕ) → a < 0x80 → (rest : List ℕ) → Tests (a ∷ rest) (fits [] rest) false
 unfolding utf8_rows
-tests-ascii a high u = tests-row a [] (grind (arith, nat_tests)) u
+tests-ascii a high rest = tests-row a [] (grind (arith, nat_tests)) rest
 
-pub tests-two : (a : ℕ) → 0xc2 ≤ a → a < 0xe0 → (u : List ℕ)
-    → Tests (a ∷ u) (fits (second_range a ∷ []) u) (fits_prefix (second_range a ∷ []) u)
+pub tests-two : (a : ℕ) → 0xc2 ≤ a → a < 0xe0 → (rest : List ℕ)
+    → Tests (a ∷ rest) (fits (second_range a ∷ []) rest) (fits_prefix (second_range a ∷ []) rest)
 unfolding utf8_rows second_range
-tests-two a low high u = tests-row a (second_range a ∷ []) (grind (arith, nat_tests)) u
+tests-two a low high rest = tests-row a (second_range a ∷ []) (grind (arith, nat_tests)) rest
 
-pub tests-three : (a : ℕ) → 0xe0 ≤ a → a < 0xf0 → (u : List ℕ)
-    → Tests (a ∷ u) (fits (second_range a ∷ continuation ∷ []) u) (fits_prefix (second_range a ∷ continuation ∷ []) u)
+pub tests-three : (a : ℕ) → 0xe0 ≤ a → a < 0xf0 → (rest : List ℕ)
+    → Tests (a ∷ rest) (fits (second_range a ∷ continuation ∷ []) rest)
+    (fits_prefix (second_range a ∷ continuation ∷ []) rest)
 unfolding utf8_rows second_range
-tests-three a low high u = tests-row a (second_range a ∷ continuation ∷ []) (grind (arith, nat_tests)) u
+tests-three a low high rest = tests-row a (second_range a ∷ continuation ∷ []) (grind (arith, nat_tests)) rest
 
-pub tests-four : (a : ℕ) → 0xf0 ≤ a → a < 0xf5 → (u : List ℕ)
-    → Tests (a ∷ u) (fits (second_range a ∷ continuation ∷ continuation ∷ []) u)
-    (fits_prefix (second_range a ∷ continuation ∷ continuation ∷ []) u)
+pub tests-four : (a : ℕ) → 0xf0 ≤ a → a < 0xf5 → (rest : List ℕ)
+    → Tests (a ∷ rest) (fits (second_range a ∷ continuation ∷ continuation ∷ []) rest)
+    (fits_prefix (second_range a ∷ continuation ∷ continuation ∷ []) rest)
 unfolding utf8_rows second_range
-tests-four a low high u = tests-row a (second_range a ∷ continuation ∷ continuation ∷ []) (grind (arith, nat_tests)) u
+tests-four a low high rest = tests-row a (second_range a ∷ continuation ∷ continuation ∷ [])
+    (grind (arith, nat_tests)) rest
 
 -- ---- the bytes of a truncated sequence, up to three
 
-pub truncated-first : (a : ℕ) (u : List ℕ) → is_truncated (a ∷ u) ≡ true → (0xc2 ≤ a) × (a < 0xf5)
-truncated-first a u more = elim (first_byte a) [
-  | ascii high ↦ absurd (false≢true (sym (tests-ascii a high u).is_open ∙ more))
-  | lone none ↦ absurd (false≢true (sym (tests-none a none u).is_open ∙ more))
+pub truncated-first : (a : ℕ) (rest : List ℕ) → is_truncated (a ∷ rest) ≡ true → (0xc2 ≤ a) × (a < 0xf5)
+truncated-first a rest more = elim (first_byte a) [
+  | ascii high ↦ absurd (false≢true (sym (tests-ascii a high rest).is_open ∙ more))
+  | lone none ↦ absurd (false≢true (sym (tests-none a none rest).is_open ∙ more))
   | of_two low high ↦ (low, omega arith)
   | of_three low high ↦ (omega arith, omega arith)
   | of_four low high ↦ (omega arith, high)
@@ -299,21 +304,25 @@ truncated-three a b c more =
 pub ascii-alone : (b : ℕ) → b < 0x80 → Tests (b ∷ []) true false
 ascii-alone b high = tests-ascii b high []
 
-fits_prefix-long : (ranges : List Range) (u : List ℕ) → length ranges ≤ length u → fits_prefix ranges u ≡ false
-fits_prefix-long [] u long = refl
+fits_prefix-long : (ranges : List Range) (bytes : List ℕ) → length ranges ≤ length bytes
+    → fits_prefix ranges bytes ≡ false
+fits_prefix-long [] bytes long = refl
 fits_prefix-long (range ∷ ranges) [] long = absurd (omega (arith, long))
-fits_prefix-long (range ∷ ranges) (b ∷ u) long = and_right _ _ (fits_prefix-long ranges u (omega (arith, long)))
+fits_prefix-long (range ∷ ranges) (b ∷ bytes) long = and_right _ _ (fits_prefix-long ranges bytes (omega (arith, long)))
 
 -- No sequence of four bytes or more is truncated.
-pub truncated-long : (a : ℕ) (u : List ℕ) → 3 ≤ length u → is_truncated (a ∷ u) ≡ false
-truncated-long a u long = elim (first_byte a) [
-  | ascii high ↦ (tests-ascii a high u).is_open
-  | lone none ↦ (tests-none a none u).is_open
-  | of_two low high ↦ (tests-two a low high u).is_open ∙ fits_prefix-long (second_range a ∷ []) u (omega (arith, long))
+pub truncated-long : (a : ℕ) (rest : List ℕ) → 3 ≤ length rest → is_truncated (a ∷ rest) ≡ false
+truncated-long a rest long = elim (first_byte a) [
+  | ascii high ↦ (tests-ascii a high rest).is_open
+  | lone none ↦ (tests-none a none rest).is_open
+  | of_two low high ↦ (tests-two a low high rest).is_open ∙ fits_prefix-long (second_range a ∷ []) rest
+  (omega (arith, long))
   | of_three low high ↦
-      (tests-three a low high u).is_open ∙ fits_prefix-long (second_range a ∷ continuation ∷ []) u (omega (arith, long))
+      (tests-three a low high rest).is_open ∙ fits_prefix-long (second_range a ∷ continuation ∷ []) rest
+      (omega (arith, long))
   | of_four low high ↦
-      (tests-four a low high u).is_open ∙ fits_prefix-long (second_range a ∷ continuation ∷ continuation ∷ []) u long
+      (tests-four a low high rest).is_open ∙ fits_prefix-long
+      (second_range a ∷ continuation ∷ continuation ∷ []) rest long
 ]
 
 ascii_after-one : (a b : ℕ) → b < 0x80 → Tests (a ∷ b ∷ []) false false
@@ -329,7 +338,8 @@ unfolding is_well_formed utf8_rows
 ascii_after-three a c d b high = grind (arith, nat_tests)
 
 -- A byte of ASCII belongs to no sequence that others began.
-pub ascii-breaks : (u : List ℕ) (b : ℕ) → is_truncated u ≡ true → b < 0x80 → Tests (u ++ b ∷ []) false false
+pub ascii-breaks : (opened : List ℕ) (b : ℕ) → is_truncated opened ≡ true → b < 0x80
+    → Tests (opened ++ b ∷ []) false false
 unfolding is_truncated
 ascii-breaks [] b more high = cc
 ascii-breaks (a ∷ []) b more high = ascii_after-one a b high

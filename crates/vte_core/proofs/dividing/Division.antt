@@ -109,30 +109,32 @@ segments_after-drop (suc skip) [] = refl
 segments_after-drop (suc skip) (b ∷ bytes) = segments_after-drop skip bytes
 
 -- A prefix of the bytes is what `take` gives for its length.
-prefix_of : (u rest bytes : List ℕ) → u ++ rest ≡ bytes → (u ≡ take (length u) bytes) × (length u ≤ length bytes)
-prefix_of u rest bytes same = rw (← same) (sym (take-append_seam u rest), omega (arith, length-append u rest))
+prefix_of : (prefix rest bytes : List ℕ) → prefix ++ rest ≡ bytes
+    → (prefix ≡ take (length prefix) bytes) × (length prefix ≤ length bytes)
+prefix_of prefix rest bytes same = rw (← same) (sym (take-append_seam prefix rest), omega
+    (arith, length-append prefix rest))
 
 whole_is_segment : (b : ℕ) (bytes : List ℕ) → IsDividedRight b bytes → (prefix rest : List ℕ)
     → prefix ++ rest ≡ b ∷ bytes → is_well_formed prefix ≡ true → prefix ≡ b ∷ take (trailing_count b bytes) bytes
-whole_is_segment b bytes d [] rest same well = absurd (false≢true (sym not_well_formed-nothing ∙ well))
-whole_is_segment b bytes d (a ∷ u) rest same well =
+whole_is_segment b bytes divided [] rest same well = absurd (false≢true (sym not_well_formed-nothing ∙ well))
+whole_is_segment b bytes divided (a ∷ u) rest same well =
     let first : a ≡ b = cc in
     let later : u ++ rest ≡ bytes = cc in
     let prefix = prefix_of u rest bytes later in
     let is_kept : is_well_formed (b ∷ take (length u) bytes) ≡ true = rw (← prefix.0, ← first) well in
-    let far : trailing_count b bytes ≡ length u = d.whole (length u) prefix.1 is_kept in
+    let far : trailing_count b bytes ≡ length u = divided.whole (length u) prefix.1 is_kept in
     rw (far, ← prefix.0, first) refl
 
 truncated_is_shorter : (b : ℕ) (bytes : List ℕ) → IsDividedRight b bytes → (prefix rest : List ℕ)
     → prefix ++ rest ≡ b ∷ bytes
     → is_truncated prefix ≡ true → length prefix ≤ length (b ∷ take (trailing_count b bytes) bytes)
-truncated_is_shorter b bytes d [] rest same more = omega arith
-truncated_is_shorter b bytes d (a ∷ u) rest same more =
+truncated_is_shorter b bytes divided [] rest same more = omega arith
+truncated_is_shorter b bytes divided (a ∷ u) rest same more =
     let first : a ≡ b = cc in
     let later : u ++ rest ≡ bytes = cc in
     let prefix = prefix_of u rest bytes later in
     let is_kept : is_truncated (b ∷ take (length u) bytes) ≡ true = rw (← prefix.0, ← first) more in
-    let far : length u ≤ trailing_count b bytes = d.longest (length u) prefix.1 is_kept in
+    let far : length u ≤ trailing_count b bytes = divided.longest (length u) prefix.1 is_kept in
     omega (arith, length-take (trailing_count b bytes) bytes)
 
 right_segment : (b : ℕ) (bytes : List ℕ)
@@ -164,13 +166,14 @@ nonempty [] (inr (inr one)) = absurd (omega arith)
 nonempty (b ∷ segment) is = omega arith
 
 -- Of two right segments at the start of one text, neither is longer.
-not_longer : {p x q y : List ℕ} → p ++ x ≡ q ++ y → IsRightSegment p x → IsRightSegment q y → length p ≤ length q
-not_longer {p} {x} {q} same right other = search (rules, arith, nonempty)
+not_longer : {bytes x q y : List ℕ} → bytes ++ x ≡ q ++ y → IsRightSegment bytes x → IsRightSegment q y
+    → length bytes ≤ length q
+not_longer {bytes} {x} {q} same right other = search (rules, arith, nonempty)
 
-same_prefix : {p x q y : List ℕ} → p ++ x ≡ q ++ y → length p ≡ length q → (p ≡ q) × (x ≡ y)
-same_prefix {p} {x} {q} {y} same long =
-    let prefix : take (length p) (p ++ x) ≡ p = take-append_seam p x in
-    let later : drop (length p) (p ++ x) ≡ x = drop-append_seam p x in
+same_prefix : {bytes x q y : List ℕ} → bytes ++ x ≡ q ++ y → length bytes ≡ length q → (bytes ≡ q) × (x ≡ y)
+same_prefix {bytes} {x} {q} {y} same long =
+    let prefix : take (length bytes) (bytes ++ x) ≡ bytes = take-append_seam bytes x in
+    let later : drop (length bytes) (bytes ++ x) ≡ x = drop-append_seam bytes x in
     (sym prefix ∙ rw (same, long) (take-append_seam q y), sym later ∙ rw (same, long) (drop-append_seam q y))
 
 one_division : (these those : List (List ℕ)) → AreRightSegments these → AreRightSegments those

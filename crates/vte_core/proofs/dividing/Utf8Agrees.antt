@@ -31,8 +31,8 @@ encoded-four : (a b d e : ℕ) → 0xf0 ≤ a → a < 0xf5 → SecondByte a b �
 unfolding encode
 encoded-four a b d e low high second third fourth = search (rules, arith)
 
-pub well_formed_is_encoded : (p : List ℕ) → is_well_formed p ≡ true → encode (scalar_of p) ≡ p
-well_formed_is_encoded p well = elim (sequence p well) [
+pub well_formed_is_encoded : (bytes : List ℕ) → is_well_formed bytes ≡ true → encode (scalar_of bytes) ≡ bytes
+well_formed_is_encoded bytes well = elim (sequence bytes well) [
   | whole_one a is high ↦ rw is (encode_ascii a high)
   | whole_two a b is low high second ↦ rw is (encoded-two a b low high second)
   | whole_three a b d is low high second third ↦ rw is (encoded-three a b d low high second third)
@@ -57,16 +57,19 @@ scalar_of-encoded c is = search (rules, arith)
 
 -- ---- the segments of a UTF-8 text are the encodings of its characters
 
-segments-well_formed : (p x : List ℕ) → is_well_formed p ≡ true → segments (p ++ x) ≡ p ∷ segments x
-segments-well_formed [] x well = absurd (false≢true (sym not_well_formed-nothing ∙ well))
-segments-well_formed (a ∷ u) x well = segments-first a u x (trailing_count-whole a u x well)
+segments-well_formed : (bytes following : List ℕ) → is_well_formed bytes ≡ true
+    → segments (bytes ++ following) ≡ bytes ∷ segments following
+segments-well_formed [] following well = absurd (false≢true (sym not_well_formed-nothing ∙ well))
+segments-well_formed (a ∷ bytes) following well = segments-first a bytes following
+    (trailing_count-whole a bytes following well)
 
-segments-encodes : (cs : List ℕ) → scalars cs ≡ true → segments (encodes cs) ≡ map encode cs
+segments-encodes : (characters : List ℕ) → scalars characters ≡ true
+    → segments (encodes characters) ≡ map encode characters
 segments-encodes [] are = refl
-segments-encodes (c ∷ cs) are =
-    let parts : (scalar c ≡ true) × (scalars cs ≡ true) = and_parts (scalar c) (scalars cs) are in
-    segments-well_formed (encode c) (encodes cs) (encoded_is_well_formed c parts.0)
-    ∙ ap (λ more. encode c ∷ more) (segments-encodes cs parts.1)
+segments-encodes (c ∷ characters) are =
+    let parts : (scalar c ≡ true) × (scalars characters ≡ true) = and_parts (scalar c) (scalars characters) are in
+    segments-well_formed (encode c) (encodes characters) (encoded_is_well_formed c parts.0)
+    ∙ ap (λ more. encode c ∷ more) (segments-encodes characters parts.1)
 
 -- The segments of a text of the library are the encodings of its characters.
 pub segments_of_text : (text : List ℕ) → IsUtf8 text → segments text ≡ map encode (chars text)
@@ -89,16 +92,17 @@ text_of_segments text are = rw (all_divided text) at (concat-well_formed (segmen
 
 -- ---- the events of a text of the library
 
-pub text_outcome-encodes : (cs rest : List ℕ) → scalars cs ≡ true
-    → text_outcome (encodes cs ++ rest) ≡ report (map character_event cs) (text_outcome rest)
+pub text_outcome-encodes : (characters rest : List ℕ) → scalars characters ≡ true
+    → text_outcome (encodes characters ++ rest) ≡ report (map character_event characters) (text_outcome rest)
 text_outcome-encodes [] rest are = refl
-text_outcome-encodes (c ∷ cs) rest are =
-    let parts : (scalar c ≡ true) × (scalars cs ≡ true) = and_parts (scalar c) (scalars cs) are in
-    ap text_outcome (append_assoc (encode c) (encodes cs) rest)
-    ∙ text_outcome-well_formed (encode c) (encodes cs ++ rest) (encoded_is_well_formed c parts.0)
-    ∙ ap (λ n. report (character_event n ∷ []) (text_outcome (encodes cs ++ rest))) (scalar_of-encoded c parts.0)
-    ∙ ap (report (character_event c ∷ [])) (text_outcome-encodes cs rest parts.1)
-    ∙ sym (report-append (character_event c ∷ []) (map character_event cs) (text_outcome rest))
+text_outcome-encodes (c ∷ characters) rest are =
+    let parts : (scalar c ≡ true) × (scalars characters ≡ true) = and_parts (scalar c) (scalars characters) are in
+    ap text_outcome (append_assoc (encode c) (encodes characters) rest)
+    ∙ text_outcome-well_formed (encode c) (encodes characters ++ rest) (encoded_is_well_formed c parts.0)
+    ∙ ap (λ n. report (character_event n ∷ []) (text_outcome (encodes characters ++ rest)))
+    (scalar_of-encoded c parts.0)
+    ∙ ap (report (character_event c ∷ [])) (text_outcome-encodes characters rest parts.1)
+    ∙ sym (report-append (character_event c ∷ []) (map character_event characters) (text_outcome rest))
 
 pub cut-text : (text more : List ℕ) → All (λ b. b ≢ escape) text
     → cut_at_escape (text ++ more)
@@ -112,24 +116,26 @@ cut-text (b ∷ text) more none =
 
 -- The character has two to four bytes, at the front of some bytes or in a call's input, and is no control.
 
-utf8_run-whole : {layout : Bool} (p : List ℕ) → is_well_formed p ≡ true → is_control_character (scalar_of p) ≡ false
-    → IsUtf8Run layout p
-utf8_run-whole {layout} p whole plain =
-    let c : ℕ = scalar_of p in
-    let same : encodes (c ∷ []) ≡ p = append-nil (encode c) ∙ well_formed_is_encoded p whole in
-    let is : chars p ≡ c ∷ [] =
-    ap chars (sym same) ∙ chars-encodes (c ∷ []) (and_from (scalar c) true (well_formed_is_scalar p whole) refl) in
+utf8_run-whole : {layout : Bool} (bytes : List ℕ) → is_well_formed bytes ≡ true
+    → is_control_character (scalar_of bytes) ≡ false
+    → IsUtf8Run layout bytes
+utf8_run-whole {layout} bytes whole plain =
+    let c : ℕ = scalar_of bytes in
+    let same : encodes (c ∷ []) ≡ bytes = append-nil (encode c) ∙ well_formed_is_encoded bytes whole in
+    let is : chars bytes ≡ c ∷ [] =
+    ap chars (sym same) ∙ chars-encodes (c ∷ []) (and_from (scalar c) true (well_formed_is_scalar bytes whole) refl) in
     record {
-      utf8 = subst IsUtf8 (well_formed_is_encoded p whole) (IsUtf8-encode c (well_formed_is_scalar p whole));
+      utf8 = subst IsUtf8 (well_formed_is_encoded bytes whole) (IsUtf8-encode c (well_formed_is_scalar bytes whole));
       plain = subst (All (StaysInRun layout)) (sym is)
           (All-cons (StaysInRun layout) c [] (no_control-stays layout c plain)
           (All-nil (StaysInRun layout)));
     }
 
 -- A well-formed sequence of a lead byte, unless it is C2 and a byte below A0, is a character from A0 on.
-past_controls : (b : ℕ) (u : List ℕ) → 0xc2 ≤ b → (b ≡ 0xc2 → 0xa0 ≤ get_or u 0 0) → is_well_formed (b ∷ u) ≡ true
-    → 0xa0 ≤ scalar_of (b ∷ u)
-past_controls b u low plain whole = elim (sequence (b ∷ u) whole) [
+past_controls : (b : ℕ) (rest : List ℕ) → 0xc2 ≤ b → (b ≡ 0xc2 → 0xa0 ≤ get_or rest 0 0)
+    → is_well_formed (b ∷ rest) ≡ true
+    → 0xa0 ≤ scalar_of (b ∷ rest)
+past_controls b rest low plain whole = elim (sequence (b ∷ rest) whole) [
   | whole_one a is high ↦ absurd (omega (arith, low, high, ap (λ x. get_or x 0 0) is))
   | whole_two a c is from_c2 below second ↦ wide is (elim (cases_eq b 0xc2) [
     | inl c2 ↦ omega (arith, c2, plain c2, ap (λ x. get_or x 0 0) is, ap (λ x. get_or x 1 0) is, second.low)
@@ -141,16 +147,16 @@ past_controls b u low plain whole = elim (sequence (b ∷ u) whole) [
       wide is (omega (arith, four_from a c d e from_f0 second))
 ]
   where
-    wide : {p : List ℕ} → b ∷ u ≡ p → 0xa0 ≤ scalar_of p → 0xa0 ≤ scalar_of (b ∷ u)
+    wide : {p : List ℕ} → b ∷ rest ≡ p → 0xa0 ≤ scalar_of p → 0xa0 ≤ scalar_of (b ∷ rest)
     wide {p} is high = subst (λ p. 0xa0 ≤ scalar_of p) (sym is) high
 
 no_control : (c : ℕ) → 0xa0 ≤ c → is_control_character c ≡ false
 no_control c low = grind (arith, nat_tests)
 
-pub utf8_run-character : {layout : Bool} {b : ℕ} {u : List ℕ} → 0xc2 ≤ b → (b ≡ 0xc2 → 0xa0 ≤ get_or u 0 0)
-    → is_well_formed (b ∷ u) ≡ true → IsUtf8Run layout (b ∷ u)
-utf8_run-character {b} {u} low plain whole =
-    utf8_run-whole (b ∷ u) whole (no_control (scalar_of (b ∷ u)) (past_controls b u low plain whole))
+pub utf8_run-character : {layout : Bool} {b : ℕ} {rest : List ℕ} → 0xc2 ≤ b → (b ≡ 0xc2 → 0xa0 ≤ get_or rest 0 0)
+    → is_well_formed (b ∷ rest) ≡ true → IsUtf8Run layout (b ∷ rest)
+utf8_run-character {b} {rest} low plain whole =
+    utf8_run-whole (b ∷ rest) whole (no_control (scalar_of (b ∷ rest)) (past_controls b rest low plain whole))
 
 -- ---- the same among other bytes
 
@@ -160,21 +166,23 @@ AreBytesFrom bytes from k [] = Unit {0}
 AreBytesFrom bytes from k (b ∷ u) =
     (from + k < length bytes) × (b ≡ slice_index bytes (from + k)) × AreBytesFrom bytes from (suc k) u
 
-stand-take : (bytes : List ℕ) (from k : ℕ) (u : List ℕ) → AreBytesFrom bytes from k u
-    → take (length u) (drop (from + k) bytes) ≡ u
+stand-take : (bytes : List ℕ) (from k : ℕ) (opened : List ℕ) → AreBytesFrom bytes from k opened
+    → take (length opened) (drop (from + k) bytes) ≡ opened
 stand-take bytes from k [] at = refl
-stand-take bytes from k (b ∷ u) at = search (rules, arith, (stand-take bytes from (suc k) u at.2), drop_more)
+stand-take bytes from k (b ∷ opened) at = search (rules, arith, (stand-take bytes from (suc k) opened at.2), drop_more)
 
-run-of : {layout : Bool} (bytes : List ℕ) (from b : ℕ) (u : List ℕ) → from < length bytes → b ≡ slice_index bytes from
-    → AreBytesFrom bytes from 1 u
-    → 0xc2 ≤ b → (b ≡ 0xc2 → 0xa0 ≤ get_or u 0 0) → is_well_formed (b ∷ u) ≡ true
-    → IsRun layout bytes from (from + suc (length u))
-run-of {layout} bytes from b u within is at low plain whole =
-    let same : take (suc (length u)) (drop from bytes) ≡ b ∷ u =
-    ap (take (suc (length u))) (drop_more bytes from 0 within)
-    ∙ ap (λ c. c ∷ take (length u) (drop (from + 1) bytes)) (sym is) ∙ ap (λ x. b ∷ x) (stand-take bytes from 1 u at) in
+run-of : {layout : Bool} (bytes : List ℕ) (from b : ℕ) (rest : List ℕ) → from < length bytes
+    → b ≡ slice_index bytes from
+    → AreBytesFrom bytes from 1 rest
+    → 0xc2 ≤ b → (b ≡ 0xc2 → 0xa0 ≤ get_or rest 0 0) → is_well_formed (b ∷ rest) ≡ true
+    → IsRun layout bytes from (from + suc (length rest))
+run-of {layout} bytes from b rest within is at low plain whole =
+    let same : take (suc (length rest)) (drop from bytes) ≡ b ∷ rest =
+    ap (take (suc (length rest))) (drop_more bytes from 0 within)
+    ∙ ap (λ c. c ∷ take (length rest) (drop (from + 1) bytes)) (sym is) ∙ ap (λ x. b ∷ x)
+    (stand-take bytes from 1 rest at) in
     subst (λ n. IsUtf8Run layout (take n (drop from bytes)))
-    (let e : suc (length u) ≡ from + suc (length u) - from = omega arith in e)
+    (let e : suc (length rest) ≡ from + suc (length rest) - from = omega arith in e)
     (subst (IsUtf8Run layout) (sym same) (utf8_run-character low plain whole))
 
 pub run-two : {layout : Bool} (bytes : List ℕ) (from : ℕ) {first second : ℕ} → from + 2 ≤ length bytes

@@ -13,50 +13,52 @@ use Rattle.vte_core.proofs.bytes.Classes.{AreInClass-append}
 -- (`CountsNumbers`); `settles-X`: the last one is settled (`HoldsNumbers`).
 
 -- The numbers of the text are those before the last one, and the last one, which is being read.
-counts-numbers : (collected : Collected) (text : List ℕ) (k : CountsNumbers collected text)
-    → numbers text ≡ k.prefix ++ numbered collected.joined collected.number ∷ []
-counts-numbers collected text k =
-    sym (ap numbers (append-nil text)) ∙ k.goes_on []
-    ∙ ap (λ n. k.prefix ++ numbered collected.joined n ∷ []) (sym k.number)
+counts-numbers : (collected : Collected) (text : List ℕ) (counts : CountsNumbers collected text)
+    → numbers text ≡ counts.prefix ++ numbered collected.joined collected.number ∷ []
+counts-numbers collected text counts =
+    sym (ap numbers (append-nil text)) ∙ counts.goes_on []
+    ∙ ap (λ n. counts.prefix ++ numbered collected.joined n ∷ []) (sym counts.number)
 
-counts-held : (collected : Collected) (text : List ℕ) (k : CountsNumbers collected text)
-    → count_of collected.params ≡ min 32 (length k.prefix)
-counts-held collected text k =
-    ap count_of k.params ∙ count_of-grouped (take max_numbers k.prefix) ∙ length-take max_numbers k.prefix
+counts-held : (collected : Collected) (text : List ℕ) (counts : CountsNumbers collected text)
+    → count_of collected.params ≡ min 32 (length counts.prefix)
+counts-held collected text counts =
+    ap count_of counts.params ∙ count_of-grouped (take max_numbers counts.prefix) ∙ length-take max_numbers
+    counts.prefix
 
 -- If there is no room for the last number, the text has too many numbers.
 pub settles-full : {collected : Collected} {text : List ℕ} → CountsNumbers collected text
     → 32 ≤ count_of collected.params
     → HoldsNumbers collected true text
 unfolding groups_of has_too_many_numbers
-settles-full {collected} {text} k full =
-    let c = counts-held collected text k in
+settles-full {collected} {text} counts full =
+    let c = counts-held collected text counts in
     let last = numbered collected.joined collected.number in
-    let n : length (k.prefix ++ last ∷ []) ≡ length k.prefix + 1 = length-append k.prefix (last ∷ []) in
+    let n : length (counts.prefix ++ last ∷ []) ≡ length counts.prefix + 1 = length-append counts.prefix (last ∷ []) in
     record {
       groups =
-          k.params
-          ∙ rw (counts-numbers collected text k)
-          (ap grouped (sym (take-append-le max_numbers k.prefix (last ∷ []) (omega arith))));
-      more = rw (counts-numbers collected text k) (grind (arith, nat_tests));
+          counts.params
+          ∙ rw (counts-numbers collected text counts)
+          (ap grouped (sym (take-append-le max_numbers counts.prefix (last ∷ []) (omega arith))));
+      more = rw (counts-numbers collected text counts) (grind (arith, nat_tests));
     }
 
 -- If there is room for the last number, it is pushed.
 pub settles-push : {old new : Collected} {text : List ℕ} → CountsNumbers old text → count_of old.params < 32
     → new.params ≡ with_number old.params (numbered old.joined old.number) → HoldsNumbers new false text
 unfolding groups_of has_too_many_numbers
-settles-push {old} {text} k room pushed =
-    let c = counts-held old text k in
+settles-push {old} {text} counts room pushed =
+    let c = counts-held old text counts in
     let last = numbered old.joined old.number in
-    let n : length (k.prefix ++ last ∷ []) ≡ length k.prefix + 1 = length-append k.prefix (last ∷ []) in
-    let before : old.params ≡ grouped k.prefix = k.params ∙ ap grouped (take_all max_numbers k.prefix (omega arith)) in
-    let all : take max_numbers (numbers text) ≡ k.prefix ++ last ∷ [] =
-    rw (counts-numbers old text k) (take_all max_numbers (k.prefix ++ last ∷ []) (omega arith)) in
+    let n : length (counts.prefix ++ last ∷ []) ≡ length counts.prefix + 1 = length-append counts.prefix (last ∷ []) in
+    let before : old.params ≡ grouped counts.prefix = counts.params ∙ ap grouped
+    (take_all max_numbers counts.prefix (omega arith)) in
+    let all : take max_numbers (numbers text) ≡ counts.prefix ++ last ∷ [] =
+    rw (counts-numbers old text counts) (take_all max_numbers (counts.prefix ++ last ∷ []) (omega arith)) in
     record {
       groups =
-          pushed ∙ ap (λ groups. with_number groups last) before ∙ sym (grouped-push k.prefix last)
+          pushed ∙ ap (λ groups. with_number groups last) before ∙ sym (grouped-push counts.prefix last)
           ∙ ap grouped (sym all);
-      more = rw (counts-numbers old text k) (grind (arith, nat_tests));
+      more = rw (counts-numbers old text counts) (grind (arith, nat_tests));
     }
 
 -- A separator begins the next number, at 0.
@@ -64,22 +66,22 @@ pub counts-separator : {old settled new : Collected} {more : Bool} {text : List 
     → HoldsNumbers settled more text → is_separator b ≡ true
     → new.params ≡ settled.params → new.joined ≡ is_colon b → new.number ≡ 0 → CountsNumbers new (text ++ b ∷ [])
 unfolding groups_of
-counts-separator {old} {text} b k s is params joined number = record {
-  prefix = k.prefix ++ numbered old.joined old.number ∷ [];
+counts-separator {old} {text} b counts holds is params joined number = record {
+  prefix = counts.prefix ++ numbered old.joined old.number ∷ [];
   digits = [];
   goes_on =
-      λ later. ap numbers (append_assoc text (b ∷ []) later) ∙ k.goes_on (b ∷ later)
-      ∙ rw (is, joined, k.number, append_assoc k.prefix) refl;
-  params = params ∙ s.groups ∙ ap (λ ns. grouped (take max_numbers ns)) (counts-numbers old text k);
+      λ later. ap numbers (append_assoc text (b ∷ []) later) ∙ counts.goes_on (b ∷ later)
+      ∙ rw (is, joined, counts.number, append_assoc counts.prefix) refl;
+  params = params ∙ holds.groups ∙ ap (λ ns. grouped (take max_numbers ns)) (counts-numbers old text counts);
   number = number;
 }
 
 -- A digit is added to the number that is being read.
-pub counts-digit : {old new : Collected} {text : List ℕ} (d : ℕ) → CountsNumbers old text → 48 ≤ d → d < 58
+pub counts-digit : {old new : Collected} {text : List ℕ} (digit : ℕ) → CountsNumbers old text → 48 ≤ digit → digit < 58
     → new.params ≡ old.params
-    → new.joined ≡ old.joined → new.number ≡ min greatest_number (10 * old.number + (d - 48))
-    → CountsNumbers new (text ++ d ∷ [])
-counts-digit {text} d k low high params joined number =
+    → new.joined ≡ old.joined → new.number ≡ min greatest_number (10 * old.number + (digit - 48))
+    → CountsNumbers new (text ++ digit ∷ [])
+counts-digit {text} digit counts low high params joined number =
     search (rules, arith, append_assoc, is_digit_no_separator, number_of-push)
 
 pub counts-nothing : (new : Collected) → new.params ≡ [] → new.joined ≡ false → new.number ≡ 0 → CountsNumbers new []
@@ -99,11 +101,11 @@ counts-nothing new params joined number =
 -- Numbers that are kept are those of the same text.
 CountsNumbers-kept : {old new : Collected} {text : List ℕ} → SameNumbers old new → CountsNumbers old text
     → CountsNumbers new text
-CountsNumbers-kept k c = search (rules, arith)
+CountsNumbers-kept same_numbers counts = search (rules, arith)
 
 Holds-kept : {old new : Collected} {ints : List ℕ} → SameIntermediates old new → HoldsIntermediates old ints
     → HoldsIntermediates new ints
-Holds-kept k h = search (rules, arith)
+Holds-kept same_intermediates holds = search (rules, arith)
 
 -- A head can go on with an intermediate, however far it has come.
 pub holds-intermediate : {old new : Collected} {progress : HeadProgress} {head : List ℕ} (b : ℕ)
@@ -111,17 +113,18 @@ pub holds-intermediate : {old new : Collected} {progress : HeadProgress} {head :
     → class_of b ≡ Intermediate
     → SameNumbers old new → ((ints : List ℕ) → HoldsIntermediates old ints → HoldsIntermediates new (ints ++ b ∷ []))
     → HoldsHead new Intermediates (head ++ b ∷ [])
-holds-intermediate b h e k more = record {
-  marker = h.marker;
-  parameters = h.parameters;
-  intermediates = h.intermediates ++ b ∷ [];
-  shape = rw h.shape (simp append_assoc);
-  is_marker = h.is_marker;
-  are_parameters = h.are_parameters;
-  are_intermediates = AreInClass-append is_intermediate h.intermediates (b ∷ []) h.are_intermediates (rw e refl, tt);
+holds-intermediate b holds is_class same_numbers more = record {
+  marker = holds.marker;
+  parameters = holds.parameters;
+  intermediates = holds.intermediates ++ b ∷ [];
+  shape = rw holds.shape (simp append_assoc);
+  is_marker = holds.is_marker;
+  are_parameters = holds.are_parameters;
+  are_intermediates = AreInClass-append is_intermediate holds.intermediates (b ∷ []) holds.are_intermediates
+  (rw is_class refl, tt);
   reaches = omega (arith, length-append {A = ℕ});
-  holds = rw append_assoc at (more (h.marker ++ h.intermediates) h.holds);
-  counts = CountsNumbers-kept k h.counts;
+  holds = rw append_assoc at (more (holds.marker ++ holds.intermediates) holds.holds);
+  counts = CountsNumbers-kept same_numbers holds.counts;
 }
 
 -- A head can begin with a marker.
@@ -129,42 +132,42 @@ pub holds-marker : (old new : Collected) (head : List ℕ) (b : ℕ) → HoldsHe
     → SameNumbers old new
     → ((ints : List ℕ) → HoldsIntermediates old ints → HoldsIntermediates new (ints ++ b ∷ []))
     → HoldsHead new Parameters (head ++ b ∷ [])
-holds-marker old new head b h e k more =
-    let nothing : head ≡ [] = h.shape ∙ rw (h.reaches.0, h.reaches.1, h.reaches.2) refl in
-    let none : HoldsIntermediates old [] = rw (h.reaches.0, h.reaches.2) at h.holds in
+holds-marker old new head b holds is_class same_numbers more =
+    let nothing : head ≡ [] = holds.shape ∙ rw (holds.reaches.0, holds.reaches.1, holds.reaches.2) refl in
+    let none : HoldsIntermediates old [] = rw (holds.reaches.0, holds.reaches.2) at holds.holds in
     record {
       marker = b ∷ [];
-      parameters = h.parameters;
+      parameters = holds.parameters;
       intermediates = [];
-      shape = rw (nothing, h.reaches.1) refl;
-      is_marker = (rw e refl, tt);
-      are_parameters = h.are_parameters;
+      shape = rw (nothing, holds.reaches.1) refl;
+      is_marker = (rw is_class refl, tt);
+      are_parameters = holds.are_parameters;
       are_intermediates = tt;
       reaches = (omega arith, refl);
       holds = more [] none;
-      counts = CountsNumbers-kept k h.counts;
+      counts = CountsNumbers-kept same_numbers holds.counts;
     }
 
 -- A head without intermediates can go on with a byte of the parameters.
 after_no_intermediate : {old new : Collected} (progress : HeadProgress) (head : List ℕ) (b : ℕ)
-    (h : HoldsHead old progress head)
-    → h.intermediates ≡ []
+    (holds : HoldsHead old progress head)
+    → holds.intermediates ≡ []
     → is_parameter_text (class_of b) ≡ true → SameIntermediates old new
     → ((text : List ℕ) → CountsNumbers old text → CountsNumbers new (text ++ b ∷ []))
     → HoldsHead new Parameters (head ++ b ∷ [])
-after_no_intermediate {old} progress head b h none is k more =
-    let kept : HoldsIntermediates old (h.marker ++ []) = rw none at h.holds in
+after_no_intermediate {old} progress head b holds none is same_intermediates more =
+    let kept : HoldsIntermediates old (holds.marker ++ []) = rw none at holds.holds in
     record {
-      marker = h.marker;
-      parameters = h.parameters ++ b ∷ [];
+      marker = holds.marker;
+      parameters = holds.parameters ++ b ∷ [];
       intermediates = [];
-      shape = rw (h.shape, none) (simp (append-nil, append_assoc));
-      is_marker = h.is_marker;
-      are_parameters = AreInClass-append is_parameter_text h.parameters (b ∷ []) h.are_parameters (is, tt);
+      shape = rw (holds.shape, none) (simp (append-nil, append_assoc));
+      is_marker = holds.is_marker;
+      are_parameters = AreInClass-append is_parameter_text holds.parameters (b ∷ []) holds.are_parameters (is, tt);
       are_intermediates = tt;
       reaches = (omega (arith, length-append {A = ℕ}), refl);
-      holds = Holds-kept k kept;
-      counts = more h.parameters h.counts;
+      holds = Holds-kept same_intermediates kept;
+      counts = more holds.parameters holds.counts;
     }
 
 -- A head that has come no further than its parameters holds no intermediate, so a byte of the parameters fits.
@@ -173,55 +176,55 @@ pub holds-parameter : {old new : Collected} {progress : HeadProgress} (head : Li
     → is_parameter_text (class_of b) ≡ true → SameIntermediates old new
     → ((text : List ℕ) → CountsNumbers old text → CountsNumbers new (text ++ b ∷ []))
     → HoldsHead new Parameters (head ++ b ∷ [])
-holds-parameter {old} head b (inl e) s is k more = search (rules, arith, after_no_intermediate)
-holds-parameter {old} head b (inr e) s is k more =
-    let h : HoldsHead old Parameters head =
-    rw e at s in after_no_intermediate Parameters head b h h.reaches.1 is k more
+holds-parameter {old} head b (inl e) has_read is same_intermediates more = search (rules, arith, after_no_intermediate)
+holds-parameter {old} head b (inr e) has_read is same_intermediates more =
+    let holds : HoldsHead old Parameters head =
+    rw e at has_read in after_no_intermediate Parameters head b holds holds.reaches.1 is same_intermediates more
 
 -- A marker after a marker or a parameter makes the head ill-shaped for good.
 ill_shaped-marker : (old : Collected) (head : List ℕ) (b : ℕ) → HoldsHead old Parameters head → class_of b ≡ Marker
     → StaysIllShaped (head ++ b ∷ [])
 unfolding is_well_shaped
-ill_shaped-marker old head b h is = search (rules, arith, append-nil, append_assoc, head_of-parts, list_all-not)
+ill_shaped-marker old head b holds is = search (rules, arith, append-nil, append_assoc, head_of-parts, list_all-not)
 
 -- After an intermediate, any byte other than an intermediate makes the head ill-shaped for good.
 ill_shaped-after_intermediate : (old : Collected) (head : List ℕ) (b : ℕ) → HoldsHead old Intermediates head
     → is_intermediate (class_of b) ≡ false → StaysIllShaped (head ++ b ∷ [])
 unfolding is_well_shaped
-ill_shaped-after_intermediate old head b h is = record {
+ill_shaped-after_intermediate old head b holds is = record {
   stays = λ more.
-      let e : (head ++ b ∷ []) ++ more ≡ h.marker ++ (h.parameters ++ (h.intermediates ++ (b ∷ more))) =
-      rw h.shape (simp append_assoc) in
+      let e : (head ++ b ∷ []) ++ more ≡ holds.marker ++ (holds.parameters ++ (holds.intermediates ++ (b ∷ more))) =
+      rw holds.shape (simp append_assoc) in
       let begins = λ (has : Class → Bool) (h1 : has Intermediate ≡ false).
-      begins-intermediates has h1 h.intermediates (b ∷ more) h.are_intermediates
-      (λ none. absurd (omega (arith, ap length none, h.reaches))) in
+      begins-intermediates has h1 holds.intermediates (b ∷ more) holds.are_intermediates
+      (λ none. absurd (omega (arith, ap length none, holds.reaches))) in
       let p =
-      head_of-parts h.marker h.parameters (h.intermediates ++ b ∷ more) h.is_marker h.are_parameters
+      head_of-parts holds.marker holds.parameters (holds.intermediates ++ b ∷ more) holds.is_marker holds.are_parameters
       (begins is_parameter_text refl) (λ _. begins is_marker refl) in
-      rw (e, p) (list_all-not h.intermediates b more is);
+      rw (e, p) (list_all-not holds.intermediates b more is);
 }
 
 ill_shaped-more : (head : List ℕ) (b : ℕ) → StaysIllShaped head → StaysIllShaped (head ++ b ∷ [])
-ill_shaped-more head b s = record { stays = λ more. rw append_assoc (s.stays (b ∷ more)) }
+ill_shaped-more head b stays = record { stays = λ more. rw append_assoc (stays.stays (b ∷ more)) }
 
 pub ill_shaped-now : {head : List ℕ} → StaysIllShaped head → is_well_shaped (head_of head) ≡ false
-ill_shaped-now s = rw append-nil at (s.stays [])
+ill_shaped-now stays = rw append-nil at (stays.stays [])
 
 -- At the end of a head that is well shaped, what is held is ready.
 pub head-ready : {old new : Collected} (more : Bool) {ignored : Bool} {progress : HeadProgress} {head : List ℕ}
     → ((text : List ℕ) → CountsNumbers old text → HoldsNumbers new more text)
     → SameIntermediates old new → HoldsHead old progress head → ignored ≡ (new.too_many_intermediates || more)
     → IsReady new ignored head
-head-ready more settles k h is = search (rules, arith, held-parts, Holds-kept, held-well_shaped)
+head-ready more settles same_intermediates holds is = search (rules, arith, held-parts, Holds-kept, held-well_shaped)
 
 pub holds-nothing : (new : Collected) → HoldsIntermediates new [] → CountsNumbers new [] → HoldsHead new Entry []
 holds-nothing new holds counts = search (rules, arith)
 
 -- A class of head bytes that is neither of parameters nor of intermediates is that of markers.
-pub left_is_marker : (k : Class) → is_head_byte k ≡ true → is_parameter_text k ≡ false
-    → is_intermediate k ≡ false → k ≡ Marker
-left_is_marker Marker h p i = refl
-left_is_marker _ h p i = cc
+pub left_is_marker : (class : Class) → is_head_byte class ≡ true → is_parameter_text class ≡ false
+    → is_intermediate class ≡ false → class ≡ Marker
+left_is_marker Marker is_head no_parameter no_intermediate = refl
+left_is_marker _ is_head no_parameter no_intermediate = cc
 
 -- A marker that isn't first, or a digit or separator that may not come next, makes the head ill-shaped for good.
 pub ill_shaped-late : (old : Collected) (progress : HeadProgress) (head : List ℕ) (b : ℕ)
@@ -230,7 +233,7 @@ pub ill_shaped-late : (old : Collected) (progress : HeadProgress) (head : List �
     → is_intermediate (class_of b) ≡ false
     → ((progress ≡ Entry) ⊎ (progress ≡ Parameters) → is_parameter_text (class_of b) ≡ false)
     → (progress ≡ Entry → ⊥) → StaysIllShaped (head ++ b ∷ [])
-ill_shaped-late old progress head b s h i p e =
+ill_shaped-late old progress head b has_read is_head no_intermediate p no_entry =
     grind (arith, nat_tests, ill_shaped-marker, left_is_marker, ill_shaped-after_intermediate, ill_shaped-more)
 
 -- At the end of a head, the call has the event of the sequence.
@@ -239,9 +242,9 @@ pub dispatched-ready : (call : List (List ℕ) → List ℕ → Bool → ℕ →
     → IsReady held ignored head
     → call held.params held.intermediates.items ignored final ≡ sequence_event call (head_of head) final
 unfolding sequence_event
-dispatched-ready call final f = rw (f.groups, f.intermediates, f.ignore) refl
+dispatched-ready call final ready = rw (ready.groups, ready.intermediates, ready.ignore) refl
 
 pub head-holds : {held : Collected} {progress : HeadProgress} {head : List ℕ} → (progress ≡ IllShaped → ⊥)
     → HasReadHead held progress head → HoldsHead held progress head
-head-holds {progress = IllShaped} n s = absurd (n refl)
-head-holds n s = s
+head-holds {progress = IllShaped} well_shaped has_read = absurd (well_shaped refl)
+head-holds well_shaped has_read = has_read

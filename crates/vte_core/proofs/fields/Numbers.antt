@@ -221,20 +221,20 @@ numbers_are text = split_numbers false [] text (All-nil IsNoSeparator)
 
 -- ---- one more digit, and how large a number gets
 
-pub is_digit_no_separator : (d : ℕ) → 48 ≤ d → d < 58 → IsNoSeparator d
-is_digit_no_separator d low high = grind (arith, nat_tests)
+pub is_digit_no_separator : (digit : ℕ) → 48 ≤ digit → digit < 58 → IsNoSeparator digit
+is_digit_no_separator digit low high = grind (arith, nat_tests)
 
-digit_value_is : (d : ℕ) → 48 ≤ d → d < 58 → digit_value d ≡ d - 48
-digit_value_is d low high = grind (arith, nat_tests)
+digit_value_is : (digit : ℕ) → 48 ≤ digit → digit < 58 → digit_value digit ≡ digit - 48
+digit_value_is digit low high = grind (arith, nat_tests)
 
 -- One more digit counts from the number so far, even if this has stopped at the greatest.
-pub number_of-push : (digits : List ℕ) (d : ℕ) → 48 ≤ d → d < 58
-    → number_of (digits ++ d ∷ []) ≡ min greatest_number (10 * number_of digits + (d - 48))
-number_of-push digits d low high =
-    omega (arith, digits_value_push 10 digits d, digit_value_is d low high)
+pub number_of-push : (digits : List ℕ) (digit : ℕ) → 48 ≤ digit → digit < 58
+    → number_of (digits ++ digit ∷ []) ≡ min greatest_number (10 * number_of digits + (digit - 48))
+number_of-push digits digit low high =
+    omega (arith, digits_value_push 10 digits digit, digit_value_is digit low high)
 
 abbrev pub IsSmall : Number → Type 0
-IsSmall n = n.value ≤ greatest_number
+IsSmall number = number.value ≤ greatest_number
 
 -- There is at least one number, and each is at most 65,535.
 numbers_from-small : (joined : Bool) (digits text : List ℕ)
@@ -255,8 +255,9 @@ numbers_small text = rw (numbers_are text) (numbers_from-small false [] text)
 
 -- Number by number, what holds of every group is kept (`Keeps`).
 
-pub grouped-push : (ns : List Number) (n : Number) → grouped (ns ++ n ∷ []) ≡ with_number (grouped ns) n
-grouped-push ns n = fold_push with_number [] ns n
+pub grouped-push : (numbers : List Number) (number : Number)
+    → grouped (numbers ++ number ∷ []) ≡ with_number (grouped numbers) number
+grouped-push numbers number = fold_push with_number [] numbers number
 
 count_of-with_numbered : (groups : List (List ℕ)) (joined : Bool) (value : ℕ)
     → count_of (with_number groups (numbered joined value)) ≡ count_of groups + 1
@@ -266,16 +267,18 @@ count_of-with_numbered (group ∷ []) false value = omega arith
 count_of-with_numbered (group ∷ next ∷ groups) joined value =
     search (rules, arith, (count_of-with_numbered (next ∷ groups) joined value), sum_by-cons)
 
-count_of-with_number : (groups : List (List ℕ)) (n : Number) → count_of (with_number groups n) ≡ count_of groups + 1
-count_of-with_number groups n = count_of-with_numbered groups n.joined n.value
+count_of-with_number : (groups : List (List ℕ)) (number : Number)
+    → count_of (with_number groups number) ≡ count_of groups + 1
+count_of-with_number groups number = count_of-with_numbered groups number.joined number.value
 
-count_of-fold : (groups : List (List ℕ)) (ns : List Number)
-    → count_of (fold with_number groups ns) ≡ count_of groups + length ns
+count_of-fold : (groups : List (List ℕ)) (numbers : List Number)
+    → count_of (fold with_number groups numbers) ≡ count_of groups + length numbers
 count_of-fold groups [] = omega arith
-count_of-fold groups (n ∷ ns) = omega (arith, count_of-fold (with_number groups n) ns, count_of-with_number groups n)
+count_of-fold groups (number ∷ numbers) = omega (arith, count_of-fold
+    (with_number groups number) numbers, count_of-with_number groups number)
 
-pub count_of-grouped : (ns : List Number) → count_of (grouped ns) ≡ length ns
-count_of-grouped ns = omega (arith, count_of-fold [] ns)
+pub count_of-grouped : (numbers : List Number) → count_of (grouped numbers) ≡ length numbers
+count_of-grouped numbers = omega (arith, count_of-fold [] numbers)
 
 -- What holds of each group, if a number that begins a group and one that joins it keep it.
 record Keeps (Q : List ℕ → Type 0) (R : ℕ → Type 0) : Type 0 where
@@ -294,12 +297,13 @@ All-with_numbered {Q} keeps (group ∷ next ∷ groups) joined value r all =
     All-cons Q group (with_number (next ∷ groups) (numbered joined value)) (All-head Q group (next ∷ groups) all)
     (All-with_numbered keeps (next ∷ groups) joined value r (All-tail Q group (next ∷ groups) all))
 
-All-fold : {Q : List ℕ → Type 0} {R : ℕ → Type 0} (keeps : Keeps Q R) (groups : List (List ℕ)) (ns : List Number)
-    → All (λ n. R n.value) ns → All Q groups → All Q (fold with_number groups ns)
+All-fold : {Q : List ℕ → Type 0} {R : ℕ → Type 0} (keeps : Keeps Q R) (groups : List (List ℕ)) (numbers : List Number)
+    → All (λ n. R n.value) numbers → All Q groups → All Q (fold with_number groups numbers)
 All-fold keeps groups [] rs all = all
-All-fold {Q} {R} keeps groups (n ∷ ns) rs all =
-    All-fold keeps (with_number groups n) ns (All-tail (λ (m : Number). R m.value) n ns rs)
-    (All-with_numbered keeps groups n.joined n.value (All-head (λ (m : Number). R m.value) n ns rs) all)
+All-fold {Q} {R} keeps groups (number ∷ numbers) rs all =
+    All-fold keeps (with_number groups number) numbers (All-tail (λ (m : Number). R m.value) number numbers rs)
+    (All-with_numbered keeps groups number.joined number.value
+    (All-head (λ (m : Number). R m.value) number numbers rs) all)
 
 any_group : (groups : List (List ℕ)) → 0 < count_of groups → 0 < length groups
 any_group [] some = some
@@ -311,25 +315,26 @@ unfolding groups_of
 some_group text = search (rules, arith, any_group, count_of-grouped, length-take, numbers_small)
 
 -- No group is empty.
-filled-grouped : (ns : List Number) → All IsFilled (grouped ns)
-filled-grouped ns =
+filled-grouped : (numbers : List Number) → All IsFilled (grouped numbers)
+filled-grouped numbers =
     let keeps : Keeps IsFilled (λ value. Unit {0}) = record {
       begins = λ value _. omega arith;
       joins = λ group value _ filled. omega (arith, length-append group (value ∷ []));
     } in
-    All-fold keeps [] ns (λ k d h. tt) (All-nil IsFilled)
+    All-fold keeps [] numbers (λ k d h. tt) (All-nil IsFilled)
 
-AreGroups-grouped : (ns : List Number) → length ns ≤ max_numbers → All IsSmall ns → AreGroups (grouped ns)
-AreGroups-grouped ns at_most small =
+AreGroups-grouped : (numbers : List Number) → length numbers ≤ max_numbers → All IsSmall numbers
+    → AreGroups (grouped numbers)
+AreGroups-grouped numbers at_most small =
     let P : ℕ → Type 0 = λ value. value ≤ greatest_number in
     let keeps : Keeps (All P) P = record {
       begins = λ value r. All-cons P value [] r (All-nil P);
       joins = λ group value r all. All-push P group value all r;
     } in
     record {
-      at_most = omega (arith, count_of-grouped ns);
-      small = All-fold keeps [] ns small (All-nil (All P));
-      filled = filled-grouped ns;
+      at_most = omega (arith, count_of-grouped numbers);
+      small = All-fold keeps [] numbers small (All-nil (All P));
+      filled = filled-grouped numbers;
     }
 
 -- A parameter text gives at most 32 numbers, each up to 65,535.

@@ -13,23 +13,23 @@ use Rattle.vte_core.specs.Saved.{HasReadSaved}
 pub is_at-in : {B : Type 0} {limit : Option ℕ} {state : State} {parser : Machine B} {place : Place}
     → parser.state ≡ state → IsAtPlace limit parser place
     → IsPlaceOfState limit state parser place
-is_at-in {limit} {parser} {place} e s = search (rules, arith)
+is_at-in {limit} {parser} {place} begun is_at = search (rules, arith)
 
 -- A parser in a state is at the place that the state says.
 pub is_at-by : {B : Type 0} {limit : Option ℕ} {state : State} {parser : Machine B} {place : Place}
     → parser.state ≡ state → IsPlaceOfState limit state parser place
     → IsAtPlace limit parser place
-is_at-by {limit} {parser} {place} e by = search (rules, arith)
+is_at-by {limit} {parser} {place} begun by = search (rules, arith)
 
 escape-by_state : {B : Type 0} (limit : Option ℕ) (state : State) (parser : Machine B)
     → IsPlaceOfState limit state parser AtEscape
     → HoldsIntermediates parser.collected []
-escape-by_state limit Escape parser s = s
-escape-by_state limit _ parser s = absurd s
+escape-by_state limit Escape parser fields = fields
+escape-by_state limit _ parser fields = absurd fields
 
 pub is_at-escape : {B : Type 0} {limit : Option ℕ} (parser : Machine B) → IsAtPlace limit parser AtEscape
     → HoldsIntermediates parser.collected []
-is_at-escape {limit} parser s = escape-by_state limit parser.state parser s.fields
+is_at-escape {limit} parser is_at = escape-by_state limit parser.state parser is_at.fields
 
 -- In a command, there is one shape of places.
 pub record InCommandAt {B : Type 0} (limit : Option ℕ) (parser : Machine B) (place : Place) : Type 0 where
@@ -39,11 +39,11 @@ pub record InCommandAt {B : Type 0} (limit : Option ℕ) (parser : Machine B) (p
 
 command-by_place : {B : Type 0} {limit : Option ℕ} {parser : Machine B} {place : Place}
     → IsPlaceOfState limit SystemCommand parser place → InCommandAt limit parser place
-command-by_place s = search (rules, arith)
+command-by_place fields = search (rules, arith)
 
 pub in_command : {B : Type 0} {limit : Option ℕ} {parser : Machine B} {place : Place} → parser.state ≡ SystemCommand
     → IsAtPlace limit parser place → InCommandAt limit parser place
-in_command {limit} e s = command-by_place (is_at-in e s)
+in_command {limit} begun is_at = command-by_place (is_at-in begun is_at)
 
 -- `IsPlace` is true of each place at which some parser is.
 abbrev pub IsPlace : Place → Type 0
@@ -52,21 +52,21 @@ IsPlace _ = Unit {0}
 
 is_place-by_state : {B : Type 0} (limit : Option ℕ) (state : State) (parser : Machine B) (place : Place)
     → IsPlaceOfState limit state parser place → IsPlace place
-is_place-by_state limit state parser place s = search (rules, arith)
+is_place-by_state limit state parser place fields = search (rules, arith)
 
 pub is_at-place : {B : Type 0} {limit : Option ℕ} {parser : Machine B} {place : Place}
     → IsAtPlace limit parser place
     → IsPlace place
-is_at-place {limit} {parser} {place} s = is_place-by_state limit parser.state parser place s.fields
+is_at-place {limit} {parser} {place} is_at = is_place-by_state limit parser.state parser place is_at.fields
 
-pub may_continue-truncated : (u : List ℕ) → is_truncated u ≡ true → may_continue u ≡ true
+pub may_continue-truncated : (opened : List ℕ) → is_truncated opened ≡ true → may_continue opened ≡ true
 may_continue-truncated [] more = refl
-may_continue-truncated (a ∷ u) more = more
+may_continue-truncated (a ∷ opened) more = more
 
-text_outcome-open : (limit : Option ℕ) (u : List ℕ) → may_continue u ≡ true
-    → text_outcome (u ++ []) ≡ leaves (left_at limit (InText u))
-text_outcome-open limit [] o = text_outcome-nothing
-text_outcome-open limit (a ∷ u) o = rw append-nil (text_outcome-end (a ∷ u) o)
+text_outcome-open : (limit : Option ℕ) (opened : List ℕ) → may_continue opened ≡ true
+    → text_outcome (opened ++ []) ≡ leaves (left_at limit (InText opened))
+text_outcome-open limit [] continues = text_outcome-nothing
+text_outcome-open limit (a ∷ opened) continues = rw append-nil (text_outcome-end (a ∷ opened) continues)
 
 -- If no bytes follow, nothing is reported, and what is open at the place stays open.
 pub rest_outcome-nothing : (limit : Option ℕ) (place : Place) → IsPlace place
@@ -95,7 +95,7 @@ open_at-settled _ none = refl
 -- A parser between characters is at the place of a text with nothing open.
 pub is_at-text_begun : {B : Type 0} {limit : Option ℕ} {parser : Machine B} → parser.state ≡ Text Nothing
     → IsAtPlace limit parser (InText [])
-is_at-text_begun e = is_at-by e (refl, refl)
+is_at-text_begun begun = is_at-by begun (refl, refl)
 
 pub keeps-same : {limit : Option ℕ} {old new : Stored} {items : List ℕ} → SameItems old new → HoldsItems limit old items
     → HoldsItems limit new items
@@ -113,17 +113,18 @@ place_of_state-same : {B C : Type 0} (limit : Option ℕ) (state : State) (old :
     → (IsInHead state → HasIntermediates state → old.collected ≡ new.collected)
     → (state ≡ SystemCommand → SameItems old.command new.command)
     → IsPlaceOfState limit state old place → IsPlaceOfState limit state new place
-place_of_state-same limit (Text unfinished) old new (InText u) ints head items s = s
-place_of_state-same limit Escape old new AtEscape ints head items s = ints tt [] s
-place_of_state-same limit EscapeIntermediate old new (InEscape bytes) ints head items s = ints tt bytes s
-place_of_state-same limit (ControlSequence progress) old new (InControlSequence read) ints head items s =
-    subst (λ collected. HasReadHead collected progress read) (head tt tt) s
-place_of_state-same limit (DeviceControl progress) old new (InDeviceControl read) ints head items s =
-    subst (λ collected. HasReadHead collected progress read) (head tt tt) s
-place_of_state-same limit DeviceData old new InDeviceData ints head items s = tt
-place_of_state-same limit SystemCommand old new (InSystemCommand command) ints head items s = keeps-same (items refl) s
-place_of_state-same limit IgnoredString old new InIgnoredString ints head items s = tt
-place_of_state-same limit _ old new _ ints head items s = absurd s
+place_of_state-same limit (Text unfinished) old new (InText u) ints head items fields = fields
+place_of_state-same limit Escape old new AtEscape ints head items fields = ints tt [] fields
+place_of_state-same limit EscapeIntermediate old new (InEscape bytes) ints head items fields = ints tt bytes fields
+place_of_state-same limit (ControlSequence progress) old new (InControlSequence read) ints head items fields =
+    subst (λ collected. HasReadHead collected progress read) (head tt tt) fields
+place_of_state-same limit (DeviceControl progress) old new (InDeviceControl read) ints head items fields =
+    subst (λ collected. HasReadHead collected progress read) (head tt tt) fields
+place_of_state-same limit DeviceData old new InDeviceData ints head items fields = tt
+place_of_state-same limit SystemCommand old new (InSystemCommand command) ints head items fields = keeps-same
+    (items refl) fields
+place_of_state-same limit IgnoredString old new InIgnoredString ints head items fields = tt
+place_of_state-same limit _ old new _ ints head items fields = absurd fields
 
 pub reads_cloned : {B C : Type 0} (limit : Option ℕ) (old : Machine B) (new : Machine C) → new.state ≡ old.state
     → new.collected ≡ old.collected → SameItems old.command new.command
@@ -154,20 +155,20 @@ pub record HasSaved {B : Type 0} (saved : Saved) (machine : Machine B) : Type 0 
 holds-saved : {B C : Type 0} {saved : Saved} {old : Machine B} {new : Machine C} {ints : List ℕ} → HasSaved saved old
     → IsRestored saved new → HasIntermediates old.state → HasIntermediates new.state
     → HoldsIntermediates old.collected ints → HoldsIntermediates new.collected ints
-holds-saved h r has_old has_new holds = search (rules, arith)
+holds-saved has_saved restored has_old has_new holds = search (rules, arith)
 
 collected-saved : {B C : Type 0} {saved : Saved} {old : Machine B} {new : Machine C} → HasSaved saved old
     → IsRestored saved new → IsInHead old.state × HasIntermediates old.state
     → IsInHead new.state × HasIntermediates new.state → old.collected ≡ new.collected
-collected-saved h r in_old in_new = search (rules, arith)
+collected-saved has_saved restored in_old in_new = search (rules, arith)
 
 items-saved : {B C : Type 0} {saved : Saved} {old : Machine B} {new : Machine C} → HasSaved saved old
     → IsRestored saved new → old.state ≡ SystemCommand
     → new.state ≡ SystemCommand → SameItems old.command new.command
-items-saved h r old_is new_is = search (rules, arith)
+items-saved has_saved restored old_is new_is = search (rules, arith)
 
 -- What was saved has read what the machine has.
 pub reads_saved : {B : Type 0} {saved : Saved} {machine : Machine B} → HasSaved saved machine
     → (stream : List ℕ) → HasReadWithLimit usual_limit machine stream → HasReadSaved saved stream
-reads_saved {machine} h stream has_read =
+reads_saved {machine} has_saved stream has_read =
     search (rules, arith, is_at-by, place_of_state-same, holds-saved, collected-saved, items-saved)

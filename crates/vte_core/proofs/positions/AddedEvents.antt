@@ -30,33 +30,36 @@ after-keep given (event ∷ more) = after-keep (given ++ event ∷ []) more ∙ 
 progress-recorded : {V : Type 0} {call : ChunkCall V} {old value : V} {stream : List ℕ} {i : ℕ} {given : List Event}
     {read : List ℕ} {place : Place} → HasProgress call old value stream i given read place
     → HasProgress (keeping call.limit call.bytes) [] given stream i given read place
-progress-recorded {given} c =
-    record { performed = sym (after-keep [] given); is_after = c.is_after; earlier = λ does. absurd (false≢true does) }
+progress-recorded {given} progress =
+    record { performed = sym (after-keep [] given); is_after = progress.is_after; earlier = λ does. absurd
+    (false≢true does) }
 
 recorded-is : {limit : Option ℕ} {stream bytes : List ℕ} {i : ℕ} {value given : List Event} {read : List ℕ}
     {place : Place} → HasProgress (keeping limit bytes) [] value stream i given read place → value ≡ given
-recorded-is {given} c = c.performed ∙ after-keep [] given
+recorded-is {given} progress = progress.performed ∙ after-keep [] given
 
 module _ {V B : Type 0} {call : ChunkCall V} {old value : V} {stream : List ℕ} {i : ℕ} {parser : Machine B} where
   pub recorded-at : IsAtPosition call old value stream i parser
       → IsAtPosition (keeping call.limit call.bytes) [] (reported_before call.limit stream call.bytes i) stream i parser
-  recorded-at s =
-      record { place = s.place; is_at = s.is_at; settled = s.settled; progress = progress-recorded s.progress }
+  recorded-at position =
+      record { place = position.place; is_at = position.is_at; settled = position.settled; progress = progress-recorded
+      position.progress }
 
   pub recorded-inside : IsInsidePosition call old value stream i parser
       → IsInsidePosition (keeping call.limit call.bytes) []
       (added call.limit stream (take i call.bytes)) stream i parser
-  recorded-inside s = record { place = s.place; is_at = s.is_at; progress = progress-recorded s.progress }
+  recorded-inside inside = record { place = inside.place; is_at = inside.is_at; progress = progress-recorded
+      inside.progress }
 
 pub reported-at : {B : Type 0} {value : List Event} {limit : Option ℕ} {stream bytes : List ℕ} {i : ℕ}
     {parser : Machine B} → IsAtPosition (keeping limit bytes) [] value stream i parser
     → value ≡ reported_before limit stream bytes i
-reported-at s = recorded-is s.progress
+reported-at position = recorded-is position.progress
 
 pub added-inside : {B : Type 0} {value : List Event} {limit : Option ℕ} {stream bytes : List ℕ} {i : ℕ}
     {parser : Machine B} → IsInsidePosition (keeping limit bytes) [] value stream i parser
     → value ≡ added limit stream (take i bytes)
-added-inside s = recorded-is s.progress
+added-inside inside = recorded-is inside.progress
 
 -- ---- what a state reads outside of text and data, it reads so at its place
 
@@ -68,7 +71,7 @@ outside_runs-all (event ∷ next ∷ events) are = All-cons IsOutsideRuns event 
 
 pub outside_runs-place : {B : Type 0} (limit : Option ℕ) (state : State) (parser : Machine B) (place : Place) (b : ℕ)
     → IsOutsideRunsInState state b → IsPlaceOfState limit state parser place → IsOutsideRunsAtPlace place b
-outside_runs-place limit state parser place b outside s = search (rules, arith)
+outside_runs-place limit state parser place b outside fields = search (rules, arith)
 
 -- ---- what is reported between two positions
 
@@ -77,30 +80,30 @@ outside_runs-place limit state parser place b outside s = search (rules, arith)
 module _ {limit : Option ℕ} {stream bytes : List ℕ} {i : ℕ} where
   pub adds-same : {j : ℕ} → reported_before limit stream bytes i ≡ reported_before limit stream bytes j
       → AddsOutsideRuns limit stream bytes i j
-  adds-same e = search (rules, arith)
+  adds-same same = search (rules, arith)
 
   pub adds-then : {j k : ℕ} → AddsOutsideRuns limit stream bytes i j
       → AddsOutsideRuns limit stream bytes j k → AddsOutsideRuns limit stream bytes i k
-  adds-then a b = record {
-    events = a.events ++ b.events;
-    events_are = All-append IsOutsideRuns a.events b.events a.events_are b.events_are;
+  adds-then adds adds_more = record {
+    events = adds.events ++ adds_more.events;
+    events_are = All-append IsOutsideRuns adds.events adds_more.events adds.events_are adds_more.events_are;
     parts =
-        b.parts ∙ ap (λ (es : List Event). es ++ b.events) a.parts
-        ∙ append_assoc (reported_before limit stream bytes i) a.events b.events;
+        adds_more.parts ∙ ap (λ (events : List Event). events ++ adds_more.events) adds.parts
+        ∙ append_assoc (reported_before limit stream bytes i) adds.events adds_more.events;
   }
 
   pub adds-reads : {b : ℕ} {place next : Place} {these : List Event}
       → i < length bytes → b ≡ slice_index bytes i
       → IsAfter limit (resumed_stream stream bytes i) place → BytesLead limit place (b ∷ []) these next → IsPlace next
       → All IsOutsideRuns these → AddsOutsideRuns limit stream bytes i (i + 1)
-  adds-reads {b} {place} {next} {these} within is a r is_place are =
+  adds-reads {b} {place} {next} {these} within is is_after reads is_place are =
       let one = one_byte bytes i b within is in
       let before : List Event = reported_before limit stream bytes i in
       let all : added limit stream (take (i + 1) bytes) ≡ before ++ these =
       stretch-added limit stream bytes i (i + 1) (omega arith)
-      ∙ ap (λ (es : List Event). before ++ es)
+      ∙ ap (λ (events : List Event). before ++ events)
       (ap (added limit (resumed_stream stream bytes i)) one
-      ∙ added-reads a r is_place) in
+      ∙ added-reads is_after reads is_place) in
       elim (cases_Bool (breaks_at stream bytes (i + 1))) [
         | inl broken ↦ record {
           events = these ++ Print replacement ∷ [];
@@ -109,7 +112,7 @@ module _ {limit : Option ℕ} {stream bytes : List ℕ} {i : ℕ} where
               (All-cons IsOutsideRuns (Print replacement) [] refl (All-nil IsOutsideRuns));
           parts =
               reported-broken limit stream bytes (i + 1) broken
-              ∙ ap (λ (es : List Event). es ++ Print replacement ∷ []) all
+              ∙ ap (λ (events : List Event). events ++ Print replacement ∷ []) all
               ∙ append_assoc before these (Print replacement ∷ []);
         }
         | inr whole ↦ record {
@@ -123,15 +126,15 @@ module _ {limit : Option ℕ} {stream bytes : List ℕ} {i : ℕ} where
   pub adds-outside_runs : {b : ℕ} {place : Place} → i < length bytes
       → b ≡ slice_index bytes i → IsAfter limit (resumed_stream stream bytes i) place
       → IsPlace place → IsOutsideRunsAtPlace place b → AddsOutsideRuns limit stream bytes i (i + 1)
-  adds-outside_runs {b} {place} within is a is_place outside =
+  adds-outside_runs {b} {place} within is is_after is_place outside =
       let s = steps is_place in
-      adds-reads within is a s.reads s.is_place (outside_runs-all s.reported (s.outside_runs outside))
+      adds-reads within is is_after s.reads s.is_place (outside_runs-all s.reported (s.outside_runs outside))
 
   -- If the first byte of a character reported nothing, what is added from it on are the events of the character.
-  pub adds-character : {begun : List ℕ} {j : ℕ} (a : AddsCharacter limit stream begun bytes (i + 1) j)
-      → reported_before limit stream bytes i ≡ added limit stream (take (i + 1) bytes) → All IsOutsideRuns a.events
+  pub adds-character : {begun : List ℕ} {j : ℕ} (adds : AddsCharacter limit stream begun bytes (i + 1) j)
+      → reported_before limit stream bytes i ≡ added limit stream (take (i + 1) bytes) → All IsOutsideRuns adds.events
       → AddsOutsideRuns limit stream bytes i j
-  adds-character a silent are = search (rules, arith)
+  adds-character adds silent are = search (rules, arith)
 
 -- ---- before a run
 
@@ -148,9 +151,9 @@ after_first-append (event ∷ reported) events first are = All-append IsOutsideR
 -- At the start of a call, nothing is reported.
 pub reports-nothing : {B : Type 0} {limit : Option ℕ} {stream bytes : List ℕ} {parser : Machine B}
     → IsSettled parser.state → HasReadWithLimit limit parser stream → ReportsOutsideRuns limit stream bytes 0
-reports-nothing {limit} {stream} {bytes} settled h =
+reports-nothing {limit} {stream} {bytes} settled has_read =
     let none : [] ≡ reported_before limit stream bytes 0 =
-    reported-at (starts-at {call = keeping limit bytes} settled h) in
+    reported-at (starts-at {call = keeping limit bytes} settled has_read) in
     record {
       outside_runs = λ _. subst (All IsOutsideRuns) none (All-nil IsOutsideRuns);
       after_first = subst AllAfterFirst none (All-nil IsOutsideRuns);
@@ -160,17 +163,17 @@ reports-nothing {limit} {stream} {bytes} settled h =
 -- Of a character that was open before the call, all events but the first are outside runs, and none prints ASCII.
 pub reports-open : {limit : Option ℕ} {stream begun bytes : List ℕ} {j : ℕ} → AddsCharacter limit stream begun bytes 0 j
     → (open_character stream ≡ [] → ⊥) → ReportsOutsideRuns limit stream bytes j
-reports-open {limit} {stream} {bytes} {j} a opened =
-    let all : reported_before limit stream bytes j ≡ a.events =
-    a.parts ∙ ap (λ (es : List Event). es ++ a.events) (added-nothing limit stream) in
+reports-open {limit} {stream} {bytes} {j} adds opened =
+    let all : reported_before limit stream bytes j ≡ adds.events =
+    adds.parts ∙ ap (λ (events : List Event). events ++ adds.events) (added-nothing limit stream) in
     record {
       outside_runs = λ none. absurd (opened none);
-      after_first = subst AllAfterFirst (sym all) (elim a.events_are [
-        | inl others ↦ All-drop IsOutsideRuns 1 a.events others
+      after_first = subst AllAfterFirst (sym all) (elim adds.events_are [
+        | inl others ↦ All-drop IsOutsideRuns 1 adds.events others
         | inr whole ↦ subst AllAfterFirst (sym whole.event_is) (All-nil IsOutsideRuns)
       ]);
-      no_ascii = subst (All PrintsNoAscii) (sym all) (elim a.events_are [
-        | inl others ↦ prints_no_ascii-all a.events others
+      no_ascii = subst (All PrintsNoAscii) (sym all) (elim adds.events_are [
+        | inl others ↦ prints_no_ascii-all adds.events others
         | inr whole ↦
             subst (All PrintsNoAscii) (sym whole.event_is)
             (prints_no_ascii-character _ (prints_no_ascii _ whole.well_formed whole.several_bytes))
@@ -180,17 +183,17 @@ reports-open {limit} {stream} {bytes} {j} a opened =
 -- What is reported up to position i, and what is added up to position j, are reported up to j.
 pub reports-more : {limit : Option ℕ} {stream bytes : List ℕ} {i j : ℕ} → ReportsOutsideRuns limit stream bytes i
     → AddsOutsideRuns limit stream bytes i j → ReportsOutsideRuns limit stream bytes j
-reports-more {limit} {stream} {bytes} {i} t a = record {
+reports-more {limit} {stream} {bytes} {i} reports adds = record {
   outside_runs =
       λ none.
-      subst (All IsOutsideRuns) (sym a.parts)
-      (All-append IsOutsideRuns (reported_before limit stream bytes i) a.events (t.outside_runs none)
-      a.events_are);
+      subst (All IsOutsideRuns) (sym adds.parts)
+      (All-append IsOutsideRuns (reported_before limit stream bytes i) adds.events (reports.outside_runs none)
+      adds.events_are);
   after_first =
-      subst AllAfterFirst (sym a.parts)
-      (after_first-append (reported_before limit stream bytes i) a.events t.after_first a.events_are);
+      subst AllAfterFirst (sym adds.parts)
+      (after_first-append (reported_before limit stream bytes i) adds.events reports.after_first adds.events_are);
   no_ascii =
-      subst (All PrintsNoAscii) (sym a.parts)
-      (All-append PrintsNoAscii (reported_before limit stream bytes i) a.events t.no_ascii
-      (prints_no_ascii-all a.events a.events_are));
+      subst (All PrintsNoAscii) (sym adds.parts)
+      (All-append PrintsNoAscii (reported_before limit stream bytes i) adds.events reports.no_ascii
+      (prints_no_ascii-all adds.events adds.events_are));
 }

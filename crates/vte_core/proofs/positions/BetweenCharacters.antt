@@ -24,8 +24,8 @@ module _ {V B : Type 0} {step : V → Event → V} {old new : V} {limit : Option
   takes_bytes-whole : parser.state ≡ Text Nothing → b ≢ escape → is_well_formed (b ∷ []) ≡ true
       → new ≡ step old (character_event b) → (place : Place) → IsAtPlace limit parser place → IsSettledPlace place
       → TakesBytes step old new limit place (b ∷ []) parser
-  takes_bytes-whole e n whole performed =
-      takes_bytes-begun e n
+  takes_bytes-whole begun is_no_escape whole performed =
+      takes_bytes-begun begun is_no_escape
       (λ s. record {
         reported = character_event b ∷ [];
         next = InText [];
@@ -39,8 +39,8 @@ module _ {V B : Type 0} {step : V → Event → V} {old new : V} {limit : Option
       → is_well_formed (b ∷ []) ≡ false → is_truncated (b ∷ []) ≡ false → new ≡ step old (malformed_event (b ∷ []))
       → (place : Place) → IsAtPlace limit parser place → IsSettledPlace place
       → TakesBytes step old new limit place (b ∷ []) parser
-  takes_bytes-lone e n whole more performed =
-      takes_bytes-begun e n
+  takes_bytes-lone begun is_no_escape whole more performed =
+      takes_bytes-begun begun is_no_escape
       (λ s. record {
         reported = malformed_event (b ∷ []) ∷ [];
         next = InText [];
@@ -50,13 +50,13 @@ module _ {V B : Type 0} {step : V → Event → V} {old new : V} {limit : Option
       })
 
   -- A character of ASCII that is printed is reported by `Print`.
-  pub takes_bytes-printed : {c : ℕ} → parser.state ≡ Text Nothing → is_in (from_to 0x20 0x7f) b ≡ true → c ≡ b
-      → new ≡ step old (Print c) → (place : Place) → IsAtPlace limit parser place → IsSettledPlace place
+  pub takes_bytes-printed : {scalar : ℕ} → parser.state ≡ Text Nothing → is_in (from_to 0x20 0x7f) b ≡ true → scalar ≡ b
+      → new ≡ step old (Print scalar) → (place : Place) → IsAtPlace limit parser place → IsSettledPlace place
       → TakesBytes step old new limit place (b ∷ []) parser
-  takes_bytes-printed e printed same reported =
+  takes_bytes-printed begun printed same reported =
       let low : 0x20 ≤ b = grind (arith, nat_tests) in
       let high : b < 0x80 = grind (arith, nat_tests) in
-      takes_bytes-whole e (λ escape. omega (arith, escape, low)) (ascii-alone b high).is_whole
+      takes_bytes-whole begun (λ escape. omega (arith, escape, low)) (ascii-alone b high).is_whole
       (reported ∙ ap (λ x. step old (Print x)) same ∙ ap (step old) (sym (character_event-printed b printed)))
 
   -- A byte that is neither printed nor begins a longer character is a control or malformed.
@@ -64,22 +64,23 @@ module _ {V B : Type 0} {step : V → Event → V} {old new : V} {limit : Option
       → is_in (from_to 0xc2 0xf4) b ≡ false → (b < 0x80 → new ≡ step old (character_event b))
       → (0x80 ≤ b → new ≡ step old (malformed_event (b ∷ []))) → (place : Place)
       → IsAtPlace limit parser place → IsSettledPlace place → TakesBytes step old new limit place (b ∷ []) parser
-  takes_bytes-single e n no_lead control malformed = elim (cases_lt b 0x80) [
-    | inl low ↦ takes_bytes-whole e n (ascii-alone b low).is_whole (control low)
+  takes_bytes-single begun is_no_escape no_lead control malformed = elim (cases_lt b 0x80) [
+    | inl low ↦ takes_bytes-whole begun is_no_escape (ascii-alone b low).is_whole (control low)
     | inr high ↦
-        let lone = begins_none b high no_lead in takes_bytes-lone e n lone.is_whole lone.is_open (malformed high)
+        let lone = begins_none b high no_lead in takes_bytes-lone begun is_no_escape lone.is_whole lone.is_open
+        (malformed high)
   ]
 
 -- A byte that begins a longer character reports nothing, and opens it.
-takes_bytes-opened : {V B : Type 0} {step : V → Event → V} {value : V} {limit : Option ℕ} {b : ℕ} {v : Unfinished}
+takes_bytes-opened : {V B : Type 0} {step : V → Event → V} {value : V} {limit : Option ℕ} {b : ℕ} {longer : Unfinished}
     {parser next : Machine B} → parser.state ≡ Text Nothing
-    → b ≢ escape → Carries [] b (StillUnfinished v) → next.state ≡ Text v → (place : Place)
+    → b ≢ escape → Carries [] b (StillUnfinished longer) → next.state ≡ Text longer → (place : Place)
     → IsAtPlace limit parser place
     → IsSettledPlace place
     → TakesBytes step value value limit place (b ∷ []) next
-takes_bytes-opened {limit} {b} {v} {next} e n carries state =
+takes_bytes-opened {limit} {b} {longer} {next} begun is_no_escape carries state =
     let more : is_truncated (b ∷ []) ≡ true = rw carries.0 at carries.1 in
-    takes_bytes-begun e n
+    takes_bytes-begun begun is_no_escape
     (λ s. record {
       reported = [];
       next = InText (b ∷ []);
@@ -104,11 +105,11 @@ outside_runs-malformed b = search (rules, arith)
 byte-single : (limit : Option ℕ) (b : ℕ) → b ≢ escape → is_in (from_to 0x20 0x7f) b ≡ false
     → is_in (from_to 0xc2 0xf4) b ≡ false
     → Single limit b
-byte-single limit b n other no_lead = elim (cases_lt b 0x80) [
+byte-single limit b is_no_escape other no_lead = elim (cases_lt b 0x80) [
   | inl low ↦ record {
     reported = character_event b ∷ [];
     reads =
-        bytes_lead-byte (not_escape b n)
+        bytes_lead-byte (not_escape b is_no_escape)
         (text-whole (ascii-alone b low).is_whole);
     events_are = outside_runs-control b (grind (arith, nat_tests));
   }
@@ -117,7 +118,7 @@ byte-single limit b n other no_lead = elim (cases_lt b 0x80) [
       record {
         reported = malformed_event (b ∷ []) ∷ [];
         reads =
-            bytes_lead-byte (not_escape b n)
+            bytes_lead-byte (not_escape b is_no_escape)
             (text-lone lone.is_whole lone.is_open);
         events_are = outside_runs-malformed b;
       }
@@ -129,10 +130,10 @@ adds-single : {B : Type 0} {limit : Option ℕ} {stream bytes : List ℕ} {i b :
     → b ≡ slice_index bytes i
     → IsAtPlace limit parser place
     → IsAfter limit (resumed_stream stream bytes i) place → AddsOutsideRuns limit stream bytes i (i + 1)
-adds-single {limit} {stream} {bytes} {i} {b} {place} parser e n other no_lead within is s after =
-    let one = byte-single limit b n other no_lead in
+adds-single {limit} {stream} {bytes} {i} {b} {place} parser begun is_no_escape other no_lead within is is_at after =
+    let one = byte-single limit b is_no_escape other no_lead in
     adds-reads within is
-    (subst (IsAfter limit (resumed_stream stream bytes i)) (place-settled_text e s) after)
+    (subst (IsAfter limit (resumed_stream stream bytes i)) (place-settled_text begun is_at) after)
     one.reads refl one.events_are
 
 pub advances-single : {outside V B : Type 0} {call : ChunkCall V} {old mid new : V} {i j b : ℕ}
@@ -141,11 +142,13 @@ pub advances-single : {outside V B : Type 0} {call : ChunkCall V} {old mid new :
     → is_in (from_to 0xc2 0xf4) b ≡ false → (b < 0x80 → new ≡ call.step mid (character_event b))
     → (0x80 ≤ b → new ≡ call.step mid (malformed_event (b ∷ [])))
     → Advances outside call old new i (j + 1) parser next
-advances-single before r n other no_lead control malformed =
+advances-single before may_read is_no_escape other no_lead control malformed =
     advances-then before (advances-reporting
-    (advances-byte r.within r.looked_at r.may_go_on (takes_bytes-single r.begun n no_lead control malformed)
-    (settled-same_state r.begun tt))
-    (λ stream place s. adds-single _ r.begun n other no_lead r.within r.looked_at s))
+    (advances-byte may_read.within may_read.looked_at may_read.may_go_on
+    (takes_bytes-single may_read.begun is_no_escape no_lead control malformed)
+    (settled-same_state may_read.begun tt))
+    (λ stream place is_at. adds-single _ may_read.begun is_no_escape other no_lead may_read.within may_read.looked_at
+    is_at))
 
 -- ---- what a character reports that a lead byte begins
 
@@ -157,24 +160,26 @@ pub advances-first : {V B given : Type 0} {call : ChunkCall V} {old new : V} {i 
     → MayReadByte call old (Text Nothing) parser i first → 0xc2 ≤ first → first < 0xf5
     → Completes call old new (i + 1) j (One first) next
     → Advances (given × HasNoRunAt false call.bytes i) call old new i j parser next
-advances-first {call} {i} {first} {parser} r lead fits completes = record {
+advances-first {call} {i} {first} {parser} may_read lead fits completes = record {
   -- The first byte opens the character, and `completes` goes on from inside it.
-  goes_on = λ value stream s.
+  goes_on = λ value stream position.
       completes.is_at_position value stream (in_text parser (One first)) refl
-      (reads-byte_at r.within r.looked_at r.may_go_on
-      (takes_bytes-opened r.begun (λ e. omega (arith, e, lead)) (refl, first_truncated first lead fits) refl) s);
+      (reads-byte_at may_read.within may_read.looked_at may_read.may_go_on
+      (takes_bytes-opened may_read.begun (λ e. omega (arith, e, lead)) (refl, first_truncated first lead fits) refl)
+      position);
   -- If bytes are left, the parser is between characters again.
   settled = λ within. settled-same_state (completes.text within) tt;
   -- It remains to show that what the whole character reports is outside runs.
   outside_runs = λ given value stream s.
       -- After the first byte, the call is inside the character.
       let inside =
-      reads-byte_at r.within r.looked_at r.may_go_on
-      (takes_bytes-opened r.begun (λ e. omega (arith, e, lead)) (refl, first_truncated first lead fits) refl) s in
+      reads-byte_at may_read.within may_read.looked_at may_read.may_go_on
+      (takes_bytes-opened may_read.begun (λ e. omega (arith, e, lead)) (refl, first_truncated first lead fits) refl) s
+      in
       -- For a performer that keeps all events (`recorded-at`), the same says that the first byte reported nothing.
-      let silent = reads-byte_at {call = keeping call.limit call.bytes} r.within r.looked_at
+      let silent = reads-byte_at {call = keeping call.limit call.bytes} may_read.within may_read.looked_at
       (λ does. absurd (false≢true does))
-      (takes_bytes-opened {step = keep} r.begun (λ e. omega (arith, e, lead))
+      (takes_bytes-opened {step = keep} may_read.begun (λ e. omega (arith, e, lead))
       (refl, first_truncated first lead fits) refl)
       (recorded-at s) in
       -- So what the character reports is what `completes` adds.
@@ -185,8 +190,8 @@ advances-first {call} {i} {first} {parser} r lead fits completes = record {
         | inr whole ↦
             let cut : take (whole.n + 1) (drop i call.bytes) ≡ first ∷ take whole.n (drop (i + 1) call.bytes) =
             ap (λ n. take n (drop i call.bytes)) (let e : whole.n + 1 ≡ suc whole.n = omega arith in e)
-            ∙ ap (take (suc whole.n)) (drop_more call.bytes i 0 r.within)
-            ∙ ap (λ x. x ∷ take whole.n (drop (i + 1) call.bytes)) (sym r.looked_at) in
+            ∙ ap (take (suc whole.n)) (drop_more call.bytes i 0 may_read.within)
+            ∙ ap (λ x. x ∷ take whole.n (drop (i + 1) call.bytes)) (sym may_read.looked_at) in
             -- As no run begins here, a well-formed sequence that begins here spells a control.
             let control =
             rw cut at (given.1 (whole.n + 1) (omega (arith, whole.in_bytes)) (rw cut whole.well_formed)) in

@@ -19,10 +19,10 @@ use Rattle.std.proofs.lemmas.List.{drop-drop}
 -- The character goes on with it, is whole, or is broken before it (`carried-more`, `carried-whole`, `carried-broken`).
 -- The place is a text with these bytes open, so `places/PlaceLeads` and `Shapes` say what the byte reports.
 
-is_at-in_text : {B : Type 0} {limit : Option ℕ} {parser : Machine B} {v : Unfinished} {u : List ℕ}
-    → parser.state ≡ Text v → bytes_of v ≡ u
-    → may_continue u ≡ true → IsAtPlace limit parser (InText u)
-is_at-in_text e same more = is_at-by e (same, more)
+is_at-in_text : {B : Type 0} {limit : Option ℕ} {parser : Machine B} {longer : Unfinished} {opened : List ℕ}
+    → parser.state ≡ Text longer → bytes_of longer ≡ opened
+    → may_continue opened ≡ true → IsAtPlace limit parser (InText opened)
+is_at-in_text begun same more = is_at-by begun (same, more)
 
 -- The parser, inside a character of these bytes.
 abbrev pub in_text : {B : Type 0} → Machine B → Unfinished → Machine B
@@ -32,106 +32,113 @@ record AtText (u : Unfinished) (place : Place) : Type 0 where
   same : place ≡ InText (bytes_of u)
   begun : may_continue (bytes_of u) ≡ true
 
-text-by_place : {B : Type 0} (limit : Option ℕ) (parser : Machine B) {u : Unfinished} {place : Place}
-    → IsPlaceOfState limit (Text u) parser place → AtText u place
-text-by_place limit parser s = search (rules, arith)
+text-by_place : {B : Type 0} (limit : Option ℕ) (parser : Machine B) {unfinished : Unfinished} {place : Place}
+    → IsPlaceOfState limit (Text unfinished) parser place → AtText unfinished place
+text-by_place limit parser fields = search (rules, arith)
 
 -- An unfinished character isn't empty.
-pub unfinished-some : (x : ℕ) (u : List ℕ) → x ∷ u ≢ []
-unfinished-some x u none = cc
+pub unfinished-some : (x : ℕ) (rest : List ℕ) → x ∷ rest ≢ []
+unfinished-some x rest none = cc
 
-truncated-some : (u : List ℕ) → is_truncated u ≡ true → u ≢ []
+truncated-some : (opened : List ℕ) → is_truncated opened ≡ true → opened ≢ []
 unfolding is_truncated
 truncated-some [] more none = cc
-truncated-some (x ∷ u) more none = cc
+truncated-some (x ∷ opened) more none = cc
 
 module _ {V B : Type 0} {call : ChunkCall V} {old mid : V} {stream : List ℕ} where
-  inside-open : {i : ℕ} {u : Unfinished} {parser : Machine B} → parser.state ≡ Text u
-      → IsInsidePosition call old mid stream i parser → may_continue (bytes_of u) ≡ true
-  inside-open {u} {parser} e s = (text-by_place call.limit parser (is_at-in e s.is_at)).begun
+  inside-open : {i : ℕ} {unfinished : Unfinished} {parser : Machine B} → parser.state ≡ Text unfinished
+      → IsInsidePosition call old mid stream i parser → may_continue (bytes_of unfinished) ≡ true
+  inside-open {unfinished} {parser} begun inside = (text-by_place call.limit parser (is_at-in begun inside.is_at)).begun
 
   -- A byte that continues a character leads to the next position inside it.
-  carried-more : {i b : ℕ} {u v : Unfinished} {parser next : Machine B} → parser.state ≡ Text u
-      → is_truncated (bytes_of u) ≡ true → Carries (bytes_of u) b (StillUnfinished v) → next.state ≡ Text v
+  carried-more : {i b : ℕ} {unfinished longer : Unfinished} {parser next : Machine B} → parser.state ≡ Text unfinished
+      → is_truncated (bytes_of unfinished) ≡ true → Carries (bytes_of unfinished) b (StillUnfinished longer)
+      → next.state ≡ Text longer
       → IsInsidePosition call old mid stream i parser → i < length call.bytes → b ≡ slice_index call.bytes i
       → IsInsidePosition call old mid stream (i + 1) next
-  carried-more {i} {b} {u} {v} {parser} {next} e opened carries state s within is =
-      let t = text-by_place call.limit parser (is_at-in e s.is_at) in
-      let more : is_truncated (bytes_of u ++ b ∷ []) ≡ true = subst (λ x. is_truncated x ≡ true) carries.0 carries.1 in
+  carried-more {i} {b} {unfinished} {longer} {parser} {next} begun opened carries state inside within is =
+      let at_text = text-by_place call.limit parser (is_at-in begun inside.is_at) in
+      let more : is_truncated (bytes_of unfinished ++ b ∷ []) ≡ true = subst
+      (λ x. is_truncated x ≡ true) carries.0 carries.1 in
       record {
-        place = InText (bytes_of u ++ b ∷ []);
+        place = InText (bytes_of unfinished ++ b ∷ []);
         is_at =
             is_at-in_text state carries.0
-            (may_continue-truncated (bytes_of u ++ b ∷ []) more);
+            (may_continue-truncated (bytes_of unfinished ++ b ∷ []) more);
         progress =
-            progress-carried {these = []} t.begun within is (truncated-some (bytes_of u) opened)
-            (breaks-unfinished (bytes_of u) b more)
+            progress-carried {these = []} at_text.begun within is (truncated-some (bytes_of unfinished) opened)
+            (breaks-unfinished (bytes_of unfinished) b more)
             (bytes_lead-byte
-            (carried_is_no_escape (bytes_of u) b opened (inr more))
-            text-unfinished) refl (may_continue-truncated (bytes_of u ++ b ∷ []) more)
-            (subst (ProgressInside call old mid stream i) t.same s.progress);
+            (carried_is_no_escape (bytes_of unfinished) b opened (inr more))
+            text-unfinished) refl (may_continue-truncated (bytes_of unfinished ++ b ∷ []) more)
+            (subst (ProgressInside call old mid stream i) at_text.same inside.progress);
       }
 
   -- A byte that ends a character leads to the position after it.
-  carried-whole : {new : V} {i j b c : ℕ} {u : Unfinished} {parser next : Machine B} → parser.state ≡ Text u
-      → is_truncated (bytes_of u) ≡ true → Carries (bytes_of u) b (Whole c) → next.state ≡ Text Nothing
-      → new ≡ call.step mid (character_event c) → IsInsidePosition call old mid stream i parser → i < length call.bytes
+  carried-whole : {new : V} {i j b scalar : ℕ} {unfinished : Unfinished} {parser next : Machine B}
+      → parser.state ≡ Text unfinished
+      → is_truncated (bytes_of unfinished) ≡ true → Carries (bytes_of unfinished) b (Whole scalar)
+      → next.state ≡ Text Nothing
+      → new ≡ call.step mid (character_event scalar) → IsInsidePosition call old mid stream i parser
+      → i < length call.bytes
       → b ≡ slice_index call.bytes i → j ≡ i + 1 → IsAtPosition call old new stream j next
-  carried-whole {new} {i} {b} {u} {parser}
-      {next} e opened carries state performed s within is later =
-      let t = text-by_place call.limit parser (is_at-in e s.is_at) in
-      let c =
+  carried-whole {new} {i} {b} {unfinished} {parser}
+      {next} begun opened carries state performed inside within is later =
+      let at_text = text-by_place call.limit parser (is_at-in begun inside.is_at) in
+      let come =
       progress-carried {new = new} {next = InText []}
-      {these = character_event (scalar_of (bytes_of u ++ b ∷ [])) ∷ []} t.begun within is
-      (truncated-some (bytes_of u) opened)
-      (breaks-whole (bytes_of u) b carries.0)
+      {these = character_event (scalar_of (bytes_of unfinished ++ b ∷ [])) ∷ []} at_text.begun within is
+      (truncated-some (bytes_of unfinished) opened)
+      (breaks-whole (bytes_of unfinished) b carries.0)
       (bytes_lead-byte
-      (carried_is_no_escape (bytes_of u) b opened (inl carries.0)) (text-whole carries.0))
+      (carried_is_no_escape (bytes_of unfinished) b opened (inl carries.0)) (text-whole carries.0))
       (performed ∙ ap (λ n. call.step mid (character_event n)) carries.1) refl
-      (subst (ProgressInside call old mid stream i) t.same s.progress) in
+      (subst (ProgressInside call old mid stream i) at_text.same inside.progress) in
       subst (λ n. IsAtPosition call old new stream n next) (sym later)
       (record {
         place = InText [];
         is_at = is_at-in_text state refl refl;
         settled = λ _. refl;
-        progress = progress-settled refl refl c;
+        progress = progress-settled refl refl come;
       })
 
   -- A byte that breaks a character is still to be read.
-  carried-broken : {new : V} {i b : ℕ} {u : Unfinished} {parser next : Machine B} → parser.state ≡ Text u
-      → is_truncated (bytes_of u) ≡ true → Carries (bytes_of u) b Broken → next.state ≡ Text Nothing
+  carried-broken : {new : V} {i b : ℕ} {unfinished : Unfinished} {parser next : Machine B}
+      → parser.state ≡ Text unfinished
+      → is_truncated (bytes_of unfinished) ≡ true → Carries (bytes_of unfinished) b Broken → next.state ≡ Text Nothing
       → new ≡ call.step mid (Print replacement) → IsInsidePosition call old mid stream i parser → i < length call.bytes
       → b ≡ slice_index call.bytes i → IsAtPosition call old new stream i next
-  carried-broken {i} {b} {u} {parser} {next} e opened carries state performed s within is =
-      let t = text-by_place call.limit parser (is_at-in e s.is_at) in
+  carried-broken {i} {b} {unfinished} {parser} {next} begun opened carries state performed inside within is =
+      let at_text = text-by_place call.limit parser (is_at-in begun inside.is_at) in
       record {
         place = InText [];
         is_at = is_at-in_text state refl refl;
         settled = λ _. refl;
-        progress = progress-broken t.begun within is (breaks-broken (bytes_of u) b opened carries.0 carries.1) performed
-            (subst (ProgressInside call old mid stream i) t.same s.progress);
+        progress = progress-broken at_text.begun within is (breaks-broken
+        (bytes_of unfinished) b opened carries.0 carries.1) performed
+            (subst (ProgressInside call old mid stream i) at_text.same inside.progress);
       }
 
 -- In a text with an unfinished character, the stream leaves it open.
-pub opens-text : {B : Type 0} {limit : Option ℕ} {stream : List ℕ} {u : Unfinished} (parser : Machine B)
-    → parser.state ≡ Text u → bytes_of u ≢ [] → HasReadWithLimit limit parser stream
+pub opens-text : {B : Type 0} {limit : Option ℕ} {stream : List ℕ} {unfinished : Unfinished} (parser : Machine B)
+    → parser.state ≡ Text unfinished → bytes_of unfinished ≢ [] → HasReadWithLimit limit parser stream
     → open_character stream ≡ [] → ⊥
-opens-text {limit} {stream} {u} parser e some h none =
+opens-text {limit} {stream} {unfinished} parser begun some has_read none =
     search (rules, arith, text-by_place, is_at-in, after-open_character, is_at-place)
 
 -- ---- any number of bytes
 
 -- The next m bytes extend the bytes of a character.
-character-bytes : (bytes : List ℕ) (i j n m : ℕ) (begun : List ℕ) {u : List ℕ} → j ≡ i + n
-    → u ≡ begun ++ take n (drop i bytes)
-    → u ++ take m (drop j bytes) ≡ begun ++ take (n + m) (drop i bytes)
+character-bytes : (bytes : List ℕ) (i j n m : ℕ) (begun : List ℕ) {opened : List ℕ} → j ≡ i + n
+    → opened ≡ begun ++ take n (drop i bytes)
+    → opened ++ take m (drop j bytes) ≡ begun ++ take (n + m) (drop i bytes)
 character-bytes bytes i j n m begun far are = search (rules, arith, append_assoc, drop-drop, take-add)
 
-character-byte : (bytes : List ℕ) (i n : ℕ) (begun : List ℕ) {j b : ℕ} {u : List ℕ} → j < length bytes → j ≡ i + n
-    → b ≡ slice_index bytes j → u ≡ begun ++ take n (drop i bytes)
-    → u ++ b ∷ [] ≡ begun ++ take (n + 1) (drop i bytes)
-character-byte bytes i n begun {j} {u} within far is are =
-    ap (λ (x : List ℕ). u ++ x) (ap (λ (x : ℕ). x ∷ []) is ∙ sym (ap (take 1) (drop_more bytes j 0 within)))
+character-byte : (bytes : List ℕ) (i n : ℕ) (begun : List ℕ) {j b : ℕ} {opened : List ℕ} → j < length bytes → j ≡ i + n
+    → b ≡ slice_index bytes j → opened ≡ begun ++ take n (drop i bytes)
+    → opened ++ b ∷ [] ≡ begun ++ take (n + 1) (drop i bytes)
+character-byte bytes i n begun {j} {opened} within far is are =
+    ap (λ (x : List ℕ). opened ++ x) (ap (λ (x : ℕ). x ∷ []) is ∙ sym (ap (take 1) (drop_more bytes j 0 within)))
     ∙ character-bytes bytes i j n 1 begun far are
 
 -- From position i, inside a character of the bytes `begun`, a call has come to position j, inside a character of the
@@ -155,14 +162,16 @@ module _ {V B : Type 0} {call : ChunkCall V} {value : V} {i : ℕ} {begun : Unfi
   pub goes-nowhere : (next : Machine B) → bytes_of begun ≢ [] → GoesOn call value i i begun begun next
   goes-nowhere next some = search (rules, arith)
 
-  pub goes-more : {j b : ℕ} {u v : Unfinished} {parser next : Machine B} → GoesOn call value i j begun u parser
-      → (is_truncated (bytes_of u) ≡ true → Carries (bytes_of u) b (StillUnfinished v)) → j < length call.bytes
-      → b ≡ slice_index call.bytes j → GoesOn call value i (j + 1) begun v next
+  pub goes-more : {j b : ℕ} {unfinished longer : Unfinished} {parser next : Machine B}
+      → GoesOn call value i j begun unfinished parser
+      → (is_truncated (bytes_of unfinished) ≡ true → Carries (bytes_of unfinished) b (StillUnfinished longer))
+      → j < length call.bytes
+      → b ≡ slice_index call.bytes j → GoesOn call value i (j + 1) begun longer next
   goes-more goes carries within is = record {
-    inside = λ old stream parser e s. let more = goes.more (inside-open e s) in
-        carried-more refl more (carries more) refl (goes.inside old stream parser e s) within is;
-    kept = λ stream parser e s. let more = goes.more (inside-open e s) in
-        carried-more refl more (carries more) refl (goes.kept stream parser e s) within is;
+    inside = λ old stream parser begun inside. let more = goes.more (inside-open begun inside) in
+        carried-more refl more (carries more) refl (goes.inside old stream parser begun inside) within is;
+    kept = λ stream parser begun inside. let more = goes.more (inside-open begun inside) in
+        carried-more refl more (carries more) refl (goes.kept stream parser begun inside) within is;
     more = λ opened. (carries (goes.more opened)).1;
     n = goes.n + 1;
     far = omega (arith, goes.far);
@@ -172,91 +181,99 @@ module _ {V B : Type 0} {call : ChunkCall V} {value : V} {i : ℕ} {begun : Unfi
   }
 
   -- If all bytes are read, the character stays open.
-  pub completes-all : {j k : ℕ} {u : Unfinished} {next : Machine B} → GoesOn call value i j begun u next → j ≡ k
-      → length call.bytes ≤ k → Completes call value value i k begun (in_text next u)
+  pub completes-all : {j k : ℕ} {unfinished : Unfinished} {next : Machine B}
+      → GoesOn call value i j begun unfinished next → j ≡ k
+      → length call.bytes ≤ k → Completes call value value i k begun (in_text next unfinished)
   completes-all goes end all = record {
-    is_at_position = λ old stream parser e s. inside-all (inside-moved end (goes.inside old stream parser e s)) all;
+    is_at_position = λ old stream parser begun inside. inside-all
+    (inside-moved end (goes.inside old stream parser begun inside)) all;
     text = λ within. absurd (omega arith);
-    adds = λ old stream parser e s. record {
+    adds = λ old stream parser begun inside. record {
       events = [];
       parts =
-          sym (reported-at (inside-all (inside-moved end (goes.kept stream parser e (recorded-inside s))) all))
+          sym (reported-at (inside-all (inside-moved end (goes.kept stream parser begun (recorded-inside inside))) all))
           ∙ sym (append-nil (added call.limit stream (take i call.bytes)));
       events_are = inl (All-nil IsOutsideRuns);
     };
   }
 
   -- A byte that ends the character completes it.
-  pub completes-whole : {new : V} {j k b c : ℕ} {u : Unfinished} {parser next : Machine B}
-      → GoesOn call value i j begun u parser → (is_truncated (bytes_of u) ≡ true → Carries (bytes_of u) b (Whole c))
-      → next.state ≡ Text Nothing → new ≡ call.step value (character_event c) → j < length call.bytes
+  pub completes-whole : {new : V} {j k b scalar : ℕ} {unfinished : Unfinished} {parser next : Machine B}
+      → GoesOn call value i j begun unfinished parser
+      → (is_truncated (bytes_of unfinished) ≡ true → Carries (bytes_of unfinished) b (Whole scalar))
+      → next.state ≡ Text Nothing → new ≡ call.step value (character_event scalar) → j < length call.bytes
       → b ≡ slice_index call.bytes j → k ≡ j + 1 → Completes call value new i k begun next
-  completes-whole {c} {u} {next} goes carries state performed within is later = record {
-    is_at_position = λ old stream parser e s. let more = goes.more (inside-open e s) in
-        carried-whole refl more (carries more) state performed (goes.inside old stream parser e s) within is later;
+  completes-whole {scalar} {unfinished} {next} goes carries state performed within is later = record {
+    is_at_position = λ old stream parser begun inside. let more = goes.more (inside-open begun inside) in
+        carried-whole refl more (carries more) state performed
+        (goes.inside old stream parser begun inside) within is later;
     text = λ _. state;
-    adds = λ old stream parser e s.
-        let opened = inside-open e s in
+    adds = λ old stream parser is_text inside.
+        let opened = inside-open is_text inside in
         let more = goes.more opened in
         let whole = carries more in
         let same = character-byte call.bytes i goes.n (bytes_of begun) within goes.far is (goes.bytes_are opened) in
         record {
-          events = character_event c ∷ [];
+          events = character_event scalar ∷ [];
           parts =
               sym (reported-at
               (carried-whole {next = next} refl more whole state refl
-              (goes.kept stream parser e (recorded-inside s)) within is later));
+              (goes.kept stream parser is_text (recorded-inside inside)) within is later));
           events_are = inr (record {
             n = goes.n + 1;
             in_bytes = omega (arith, goes.far, within);
             well_formed = subst (λ (x : List ℕ). is_well_formed x ≡ true) same whole.0;
             several_bytes =
-                subst (λ (x : List ℕ). 1 < length x) same (length-longer _ _ (truncated-some (bytes_of u) more));
+                subst (λ (x : List ℕ). 1 < length x) same (length-longer _ _
+                (truncated-some (bytes_of unfinished) more));
             event_is = ap (λ n. character_event n ∷ []) (whole.1 ∙ ap scalar_of same);
           });
         };
   }
 
   -- A byte that breaks the character completes it too, and is still to be read.
-  pub completes-broken : {new : V} {j b : ℕ} {u : Unfinished} {parser next : Machine B}
-      → GoesOn call value i j begun u parser → (is_truncated (bytes_of u) ≡ true → Carries (bytes_of u) b Broken)
+  pub completes-broken : {new : V} {j b : ℕ} {unfinished : Unfinished} {parser next : Machine B}
+      → GoesOn call value i j begun unfinished parser
+      → (is_truncated (bytes_of unfinished) ≡ true → Carries (bytes_of unfinished) b Broken)
       → next.state ≡ Text Nothing → new ≡ call.step value (Print replacement) → j < length call.bytes
       → b ≡ slice_index call.bytes j → Completes call value new i j begun next
   completes-broken {next} goes carries state performed within is = record {
-    is_at_position = λ old stream parser e s. let more = goes.more (inside-open e s) in
-        carried-broken refl more (carries more) state performed (goes.inside old stream parser e s) within is;
+    is_at_position = λ old stream parser begun inside. let more = goes.more (inside-open begun inside) in
+        carried-broken refl more (carries more) state performed (goes.inside old stream parser begun inside) within is;
     text = λ _. state;
-    adds = λ old stream parser e s.
-        let more = goes.more (inside-open e s) in
+    adds = λ old stream parser begun inside.
+        let more = goes.more (inside-open begun inside) in
         record {
           events = Print replacement ∷ [];
           parts =
               sym (reported-at
               (carried-broken {next = next} refl more (carries more) state refl
-              (goes.kept stream parser e (recorded-inside s)) within is));
+              (goes.kept stream parser begun (recorded-inside inside)) within is));
           events_are = inl (All-cons IsOutsideRuns (Print replacement) [] refl (All-nil IsOutsideRuns));
         };
   }
 
   -- Another function can complete the character that this one goes on with.
-  pub completes-then : {new : V} {j k : ℕ} {u : Unfinished} {parser next : Machine B}
-      → GoesOn call value i j begun u parser → Completes call value new j k u next
+  pub completes-then : {new : V} {j k : ℕ} {unfinished : Unfinished} {parser next : Machine B}
+      → GoesOn call value i j begun unfinished parser → Completes call value new j k unfinished next
       → Completes call value new i k begun next
-  completes-then {j} {u} {parser} goes c = record {
+  completes-then {j} {unfinished} {parser} goes completes = record {
     is_at_position =
-        λ old stream begun e s. c.is_at_position old stream (in_text parser u) refl (goes.inside old stream begun e s);
-    text = c.text;
-    adds = λ old stream begun_parser e s.
-        let opened = inside-open e s in
-        let reported = c.adds old stream (in_text parser u) refl (goes.inside old stream begun_parser e s) in
-        let silent = added-inside (goes.kept stream begun_parser e (recorded-inside s)) in
+        λ old stream begun is_text inside. completes.is_at_position old stream (in_text parser unfinished) refl
+        (goes.inside old stream begun is_text inside);
+    text = completes.text;
+    adds = λ old stream begun_parser is_text inside.
+        let opened = inside-open is_text inside in
+        let reported = completes.adds old stream (in_text parser unfinished) refl
+        (goes.inside old stream begun_parser is_text inside) in
+        let silent = added-inside (goes.kept stream begun_parser is_text (recorded-inside inside)) in
         record {
           events = reported.events;
-          parts = reported.parts ∙ ap (λ (es : List Event). es ++ reported.events) (sym silent);
+          parts = reported.parts ∙ ap (λ (events : List Event). events ++ reported.events) (sym silent);
           events_are = elim reported.events_are [
             | inl others ↦ inl others
             | inr whole ↦
-                let same : bytes_of u ++ take whole.n (drop j call.bytes)
+                let same : bytes_of unfinished ++ take whole.n (drop j call.bytes)
                 ≡ bytes_of begun ++ take (goes.n + whole.n) (drop i call.bytes) =
                 character-bytes call.bytes i j goes.n whole.n (bytes_of begun) goes.far (goes.bytes_are opened) in
                 inr (record {
@@ -286,8 +303,9 @@ module _ {V B : Type 0} {call : ChunkCall V} {value : V} {i x y : ℕ} where
       goes-more {next = next} (goes-second next (omega arith) second (omega arith) is)
       (λ more. third-open x y z more third low) (omega arith) is_third in
       record {
-        inside = λ old stream parser e s. inside-moved (omega arith) (goes.inside old stream parser e s);
-        kept = λ stream parser e s. inside-moved (omega arith) (goes.kept stream parser e s);
+        inside = λ old stream parser begun inside. inside-moved (omega arith)
+        (goes.inside old stream parser begun inside);
+        kept = λ stream parser begun inside. inside-moved (omega arith) (goes.kept stream parser begun inside);
         more = goes.more;
         n = goes.n;
         far = omega (arith, goes.far);

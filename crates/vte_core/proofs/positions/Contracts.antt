@@ -32,8 +32,8 @@ module _ {V B : Type 0} {call : ChunkCall V} {old new : V} {before parser : Mach
       → Costs 5 call.bytes (Ok read) read before parser start end
       → ReadsBytes call.step old new call.bytes (reading call.limit before start) (reading call.limit parser end)
   reads-bytes all reads costs = record {
-    performs = λ stream h. call_ends-performs all (reads.is_at_position stream h);
-    reads = λ stream h. call_ends-reads_all all (reads.is_at_position stream h);
+    performs = λ stream has_read. call_ends-performs all (reads.is_at_position stream has_read);
+    reads = λ stream has_read. call_ends-reads_all all (reads.is_at_position stream has_read);
     count = costs.count;
     at_least = omega (arith, all, costs.at_least);
   }
@@ -44,8 +44,8 @@ module _ {V B : Type 0} {call : ChunkCall V} {old new : V} {before parser : Mach
       (reading call.limit parser end)
   reads-until does reads costs = record {
     within = reads.within;
-    stops = λ stream h. call_ends-stops does reads.within reads.stops (reads.is_at_position stream h);
-    reads = λ stream h. call_ends-reads (reads.is_at_position stream h);
+    stops = λ stream has_read. call_ends-stops does reads.within reads.stops (reads.is_at_position stream has_read);
+    reads = λ stream has_read. call_ends-reads (reads.is_at_position stream has_read);
     count = costs.count_if_ok;
     at_least = costs.at_least;
   }
@@ -63,15 +63,15 @@ module _ {A V : Type 0} {step : V → Event → V} {old new : V} {bytes : List �
   is_refused is_terminated refuses costs earlier not_stopped = record {
     within = refuses.within;
     passes =
-        λ stream h. record {
-          performed = (refuses-inside refuses stream h).progress.performed;
-          earlier = earlier stream h;
+        λ stream has_read. record {
+          performed = (refuses-inside refuses stream has_read).progress.performed;
+          earlier = earlier stream has_read;
         };
     not_stopped = not_stopped;
-    reads = λ stream h. inside-reads (refuses-inside refuses stream h);
-    meets = λ stream h. meets_data refuses.refused h;
+    reads = λ stream has_read. inside-reads (refuses-inside refuses stream has_read);
+    meets = λ stream has_read. meets_data refuses.refused has_read;
     lacks = refuses.refused.lacks;
-    lacks_all = λ stream h. lacks_all refuses stream h costs.memory;
+    lacks_all = λ stream has_read. lacks_all refuses stream has_read costs.memory;
     count = costs.count;
     at_least = costs.at_least;
   }
@@ -84,7 +84,8 @@ module _ {A V : Type 0} {step : V → Event → V} {is_terminated : V → Bool} 
       → Costs rate bytes result n parser.machine next.machine (counted parser.looks) (counted next.looks)
       → IsRefusedMemory rate step is_terminated old new bytes parser next n
   is_refused-asked refuses costs =
-      is_refused is_terminated refuses costs (λ stream h. (refuses-inside refuses stream h).progress.earlier refl)
+      is_refused is_terminated refuses costs (λ stream has_read.
+      (refuses-inside refuses stream has_read).progress.earlier refl)
       (refuses.may_go_on refl)
 
   -- The next lemmas are for `advance`.
@@ -157,7 +158,7 @@ module _ {A V : Type 0} {step : V → Event → V} {is_terminated : V → Bool} 
     reads = record {
       returns = returns-run run comes starts ends taken refl;
       reads = reads-run run comes starts ends taken;
-      outside_runs = λ stream h. rw starts (others stream h);
+      outside_runs = λ stream has_read. rw starts (others stream has_read);
       count = rw ends costs.count_if_ok;
       at_least = rw ends costs.at_least;
     };

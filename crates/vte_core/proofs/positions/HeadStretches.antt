@@ -32,15 +32,15 @@ reads_head-nothing {bytes} {i} {progress} {held} within = search (rules, arith)
 pub reads_head-then : {bytes : List ℕ} {i j k : ℕ} {reached progress next : HeadProgress} {old mid new : Collected}
     → ReadsHead bytes i j reached progress old mid → ReadsHead bytes j k progress next mid new
     → ReadsHead bytes i k reached next old new
-reads_head-then {bytes} {i} {j} {k} a b =
-    let whole = slice-then bytes i j k a.low b.low in
+reads_head-then {bytes} {i} {j} {k} reads rest =
+    let whole = slice-then bytes i j k reads.low rest.low in
     record {
-      low = omega (arith, a.low, b.low);
-      high = b.high;
-      head_bytes = rw whole (AreInClass-append is_head_byte _ _ a.head_bytes b.head_bytes);
+      low = omega (arith, reads.low, rest.low);
+      high = rest.high;
+      head_bytes = rw whole (AreInClass-append is_head_byte _ _ reads.head_bytes rest.head_bytes);
       leads =
-          λ head s. rw (whole, ← append_assoc head (take (j - i) (drop i bytes)) (take (k - j) (drop j bytes)))
-          (b.leads _ (a.leads head s));
+          λ head has_read. rw (whole, ← append_assoc head (take (j - i) (drop i bytes)) (take (k - j) (drop j bytes)))
+          (rest.leads _ (reads.leads head has_read));
     }
 
 pub reads_head-byte : {bytes : List ℕ} {i b : ℕ} {progress next : HeadProgress} {old new : Collected} → i < length bytes
@@ -52,8 +52,8 @@ reads_head-byte {bytes} {i} {b} within at is leads = search (rules, arith, one_b
 -- If no byte follows, the case for `None` holds.
 pub match-none : {A : Type 0} (B : ℕ → Type 0) (next : Option ℕ) → ((b : ℕ) → next ≡ Some b → ⊥) → MatchOption next A B
     → A
-match-none B None n all = all
-match-none B (Some b) n all = absurd (n b refl)
+match-none B None none all = all
+match-none B (Some b) none all = absurd (none b refl)
 
 -- ---- a parameter byte, and the part of the head that it leads to
 
@@ -78,8 +78,8 @@ pub reads_head-parameter : {bytes : List ℕ} {from i b : ℕ} {reached : HeadPr
 reads_head-parameter {from} {i} {b} {reached} {old} {new} may within at is keeps counts before =
     rw (progress_after-more reached from (i + 1) (omega (arith, before.low)))
     (reads_head-then before (reads_head-byte within at (parameter_is_head (class_of b) is)
-    (λ head s.
-    holds-parameter head b (progress_after-may reached from i may) s is keeps counts)))
+    (λ head has_read.
+    holds-parameter head b (progress_after-may reached from i may) has_read is keeps counts)))
 
 -- ---- the shapes that have a head
 
@@ -107,13 +107,13 @@ head-place : {B : Type 0} (shape : Shape) (limit : Option ℕ) (progress : HeadP
     (place : Place)
     → IsPlaceOfState limit (state_of shape progress) parser place
     → InHeadAt shape parser.collected progress place
-head-place shape limit progress parser place s = search (rules, arith)
+head-place shape limit progress parser place fields = search (rules, arith)
 
 head-is_at : {B : Type 0} (shape : Shape) {limit : Option ℕ} (progress : HeadProgress) {parser : Machine B}
     (head : List ℕ)
     → parser.state ≡ state_of shape progress
     → HasReadHead parser.collected progress head → IsAtPlace limit parser (in_head shape head)
-head-is_at shape progress head e s = search (rules, arith)
+head-is_at shape progress head begun has_read = search (rules, arith)
 
 head-leads : (shape : Shape) {limit : Option ℕ} (head : List ℕ) {b : ℕ} → is_head_byte (class_of b) ≡ true
     → Leads limit (in_head shape head) b [] (in_head shape (head ++ b ∷ []))
@@ -142,9 +142,9 @@ module _ {V : Type 0} {call : ChunkCall V} where
       → i + n ≤ length call.bytes → AreInClass is_head_byte (take n (drop i call.bytes)) → MayGoOn call value
       → ProgressAt call old value stream i (in_head shape head)
       → ProgressAt call old value stream (i + n) (in_head shape (head ++ take n (drop i call.bytes)))
-  progress-head {i} shape zero head within more may_go_on c =
-      let same : i + 0 ≡ i = omega arith in rw (append-nil head, same) c
-  progress-head {i} shape (suc n) head within more may_go_on c =
+  progress-head {i} shape zero head within more may_go_on progress =
+      let same : i + 0 ≡ i = omega arith in rw (append-nil head, same) progress
+  progress-head {i} shape (suc n) head within more may_go_on progress =
       let here : i < length call.bytes = omega (arith, within) in
       let b : ℕ = slice_index call.bytes i in
       let cut : drop i call.bytes ≡ b ∷ drop (i + 1) call.bytes = drop_more call.bytes i 0 here in
@@ -155,7 +155,7 @@ module _ {V : Type 0} {call : ChunkCall V} where
       (no_escape b (head_ends_nothing (class_of b) both.0)) (head-leads shape head both.0) in
       let one =
       progress-settled place (head-settled_place shape (head ++ b ∷ []))
-      (progress-byte here refl may_go_on reads refl place c) in
+      (progress-byte here refl may_go_on reads refl place progress) in
       let rest = progress-head {i = i + 1} shape n (head ++ b ∷ []) (omega (arith, within)) both.1 may_go_on one in
       let far : i + suc n ≡ i + 1 + n = omega arith in
       rw (far, cut) (rw (append_assoc head (b ∷ []) (take n (drop (i + 1) call.bytes))) at rest)
@@ -167,18 +167,18 @@ module _ {V : Type 0} {call : ChunkCall V} where
       → next.state ≡ state_of shape progress → IsAtPosition call old value stream i parser
       → IsAtPosition call old value stream j next
   is_at-head {old} {value} {stream} {i} {j} {reached} {progress}
-      {parser} {next} shape begun reads may_go_on state s =
-      let k = head-place shape call.limit reached parser s.place (is_at-in begun s.is_at) in
-      let here : ProgressAt call old value stream i (in_head shape k.head) =
-      subst (ProgressAt call old value stream i) k.same s.progress in
+      {parser} {next} shape begun reads may_go_on state position =
+      let at_head = head-place shape call.limit reached parser position.place (is_at-in begun position.is_at) in
+      let here : ProgressAt call old value stream i (in_head shape at_head.head) =
+      subst (ProgressAt call old value stream i) at_head.same position.progress in
       let end : i + (j - i) ≡ j = omega (arith, reads.low) in
       let run : List ℕ = take (j - i) (drop i call.bytes) in
       record {
-        place = in_head shape (k.head ++ run);
-        is_at = head-is_at shape progress (k.head ++ run) state (reads.leads k.head k.is_at);
-        settled = λ _. head-settled_place shape (k.head ++ run);
+        place = in_head shape (at_head.head ++ run);
+        is_at = head-is_at shape progress (at_head.head ++ run) state (reads.leads at_head.head at_head.is_at);
+        settled = λ _. head-settled_place shape (at_head.head ++ run);
         progress = rw end at
-            (progress-head shape (j - i) k.head (omega (arith, reads.high, end)) reads.head_bytes may_go_on here);
+            (progress-head shape (j - i) at_head.head (omega (arith, reads.high, end)) reads.head_bytes may_go_on here);
       }
 
 module _ {V : Type 0} {call : ChunkCall V} where
@@ -188,7 +188,7 @@ module _ {V : Type 0} {call : ChunkCall V} where
       → ReadsHead call.bytes i j reached progress parser.collected next.collected → MayGoOn call value
       → next.state ≡ state_of shape progress → Advances outside call value value i j parser next
   advances-head {progress} {next} shape begun reads may_go_on state = record {
-    goes_on = λ old stream s. is_at-head shape begun reads may_go_on state s;
+    goes_on = λ old stream position. is_at-head shape begun reads may_go_on state position;
     settled = λ _. settled-same_state state (head-settled shape progress);
     outside_runs = λ _ old stream s.
         adds-same (reported-at
@@ -220,9 +220,9 @@ pub takes_bytes-head : {V B : Type 0} {step : V → Event → V} {old new : V} {
     → (place : Place) → IsAtPlace limit parser place → IsSettledPlace place
     → TakesBytes step old new limit place (b ∷ []) next
 takes_bytes-head {step} {old} {new} {limit} {b} {parser}
-    {next} shape progress e ordinary takes = takes_bytes-in e ordinary (λ place s.
-    let k = head-place shape limit progress parser place s in
-    subst (λ p. TakesByte step old new limit p b next) (sym k.same) (takes k.head k.is_at))
+    {next} shape progress begun ordinary takes = takes_bytes-in begun ordinary (λ place is_at.
+    let at_head = head-place shape limit progress parser place is_at in
+    subst (λ p. TakesByte step old new limit p b next) (sym at_head.same) (takes at_head.head at_head.is_at))
 
 -- A call reads the rest of a head and the final byte of a control sequence.
 pub advances-control_sequence : {V B outside : Type 0} {call : ChunkCall V} {old new : V} {i j k b : ℕ}

@@ -33,31 +33,32 @@ pub reported_as_characters : (limit : Option ℕ) (text : List ℕ) → IsUtf8 t
 reported_as_characters limit text is none =
     reported_by_stream refl (bytes_lead-characters is none)
 
-plain-event : (layout : Bool) (c : ℕ) → StaysInRun layout c → character_event c ≡ run_event layout c
+plain-event : (layout : Bool) (scalar : ℕ) → StaysInRun layout scalar → character_event scalar ≡ run_event layout scalar
 unfolding character_event
-plain-event layout c plain = grind (arith, nat_tests, layout-is_control_character c)
+plain-event layout scalar plain = grind (arith, nat_tests, layout-is_control_character scalar)
 
-plain-events : (layout : Bool) (cs : List ℕ) → All (StaysInRun layout) cs
-    → map character_event cs ≡ map (run_event layout) cs
+plain-events : (layout : Bool) (characters : List ℕ) → All (StaysInRun layout) characters
+    → map character_event characters ≡ map (run_event layout) characters
 plain-events layout [] plain = refl
-plain-events layout (c ∷ cs) plain =
-    let first = plain-event layout c (All-head (StaysInRun layout) c cs plain) in
-    let rest = plain-events layout cs (All-tail (StaysInRun layout) c cs plain) in
+plain-events layout (c ∷ characters) plain =
+    let first = plain-event layout c (All-head (StaysInRun layout) c characters plain) in
+    let rest = plain-events layout characters (All-tail (StaysInRun layout) c characters plain) in
     cc
 
 replacement-event : (layout : Bool) → run_event layout replacement ≡ Print replacement
 replacement-event layout = grind arith
 
-no_escape-encode : (layout : Bool) (c : ℕ) → StaysInRun layout c → All (λ b. b ≢ escape) (encode c)
+no_escape-encode : (layout : Bool) (scalar : ℕ) → StaysInRun layout scalar → All (λ b. b ≢ escape) (encode scalar)
 unfolding encode
-no_escape-encode layout c plain = search (rules, arith)
+no_escape-encode layout scalar plain = search (rules, arith)
 
-no_escape-encodes : (layout : Bool) (cs : List ℕ) → All (StaysInRun layout) cs → All (λ b. b ≢ escape) (encodes cs)
+no_escape-encodes : (layout : Bool) (characters : List ℕ) → All (StaysInRun layout) characters
+    → All (λ b. b ≢ escape) (encodes characters)
 no_escape-encodes layout [] plain = All-nil (λ b. b ≢ escape)
-no_escape-encodes layout (c ∷ cs) plain =
-    All-append (λ b. b ≢ escape) (encode c) (encodes cs)
-    (no_escape-encode layout c (All-head (StaysInRun layout) c cs plain))
-    (no_escape-encodes layout cs (All-tail (StaysInRun layout) c cs plain))
+no_escape-encodes layout (c ∷ characters) plain =
+    All-append (λ b. b ≢ escape) (encode c) (encodes characters)
+    (no_escape-encode layout c (All-head (StaysInRun layout) c characters plain))
+    (no_escape-encodes layout characters (All-tail (StaysInRun layout) c characters plain))
 
 no_escape-run : (layout : Bool) (run : List ℕ) → IsUtf8Run layout run → All (λ b. b ≢ escape) run
 no_escape-run layout run are =
@@ -66,19 +67,19 @@ no_escape-run layout run are =
 pub bytes_lead-text : {limit : Option ℕ} {layout : Bool} {run : List ℕ} → IsUtf8Run layout run
     → BytesLead limit (InText []) run (map (run_event layout) (chars run)) (InText [])
 bytes_lead-text {limit} {layout} {run} are =
-    subst (λ es. BytesLead limit (InText []) run es (InText [])) (plain-events layout (chars run) are.plain)
+    subst (λ events. BytesLead limit (InText []) run events (InText [])) (plain-events layout (chars run) are.plain)
     (bytes_lead-characters are.utf8 (no_escape-run layout run are))
 
 -- ---- a run of one byte of ASCII
 
-pub prints-one : {V : Type 0} {layout : Bool} {step : V → Event → V} {old new : V} {bytes : List ℕ} {from b c : ℕ}
-    → from < length bytes → b ≡ slice_index bytes from → IsPrintedAscii b → c ≡ b
-    → new ≡ step old (Print c) → PrintsRun layout step old new bytes from (from + 1)
+pub prints-one : {V : Type 0} {layout : Bool} {step : V → Event → V} {old new : V} {bytes : List ℕ} {from b scalar : ℕ}
+    → from < length bytes → b ≡ slice_index bytes from → IsPrintedAscii b → scalar ≡ b
+    → new ≡ step old (Print scalar) → PrintsRun layout step old new bytes from (from + 1)
 prints-one {layout} {step} {old} {bytes} {from}
-    {b} within is printed same e = record {
+    {b} within is printed same performed = record {
       run = run-ascii layout bytes from (from + 1)
           (each-one IsPrintedAscii bytes from (subst IsPrintedAscii is printed));
-      printed = e ∙ ap (λ x. step old (Print x)) same
+      printed = performed ∙ ap (λ x. step old (Print x)) same
           ∙ ap (λ event. step old event) (sym (run_event-printed layout b printed))
           ∙ ap (λ cs. after step old (map (run_event layout) cs)) (sym (chars-one bytes from b within is printed));
     }
@@ -89,14 +90,15 @@ prints-one {layout} {step} {old} {bytes} {from}
 
 module _ {V : Type 0} (layout : Bool) (call : ChunkCall V)
     (never : NoCharacterStops layout call.step call.is_terminated) where
-  not_stopped : (value : V) (given rest : List Event) (cs : List ℕ) → given ++ rest ≡ map (run_event layout) cs
+  not_stopped : (value : V) (given rest : List Event) (characters : List ℕ)
+      → given ++ rest ≡ map (run_event layout) characters
       → call.is_terminated value ≡ false → call.is_terminated (after call.step value given) ≡ false
-  not_stopped value [] rest cs e goes = goes
-  not_stopped value (x ∷ given) rest [] e goes = cc
-  not_stopped value (x ∷ given) rest (c ∷ cs) e goes =
+  not_stopped value [] rest characters e goes = goes
+  not_stopped value (event ∷ given) rest [] e goes = cc
+  not_stopped value (x ∷ given) rest (c ∷ characters) e goes =
       let first : x ≡ run_event layout c = cc in
-      let others : given ++ rest ≡ map (run_event layout) cs = cc in
-      not_stopped (call.step value x) given rest cs others
+      let others : given ++ rest ≡ map (run_event layout) characters = cc in
+      not_stopped (call.step value x) given rest characters others
       (ap (λ event. call.is_terminated (call.step value event)) first ∙ never value c goes)
 
   -- The U+FFFD of a broken character doesn't stop the performer either.
@@ -140,9 +142,9 @@ pub advances-text : {V B : Type 0} {call : ChunkCall V} {layout : Bool} {old new
     → parser.state ≡ Text Nothing → i < j → j ≤ length call.bytes
     → PrintsRun layout call.step old new call.bytes i j → Advances ⊥ call old new i j parser parser
 advances-text {V} {call} {layout} {old} {new} {i} {j} {parser}
-    never may_go_on e in_order high prints = record {
-      goes_on = λ value stream s. settles (settled-same_state e tt) (inside-next value stream s);
-      settled = λ _. settled-same_state e tt;
+    never may_go_on begun in_order high prints = record {
+      goes_on = λ value stream position. settles (settled-same_state begun tt) (inside-next value stream position);
+      settled = λ _. settled-same_state begun tt;
       outside_runs = λ no. absurd no;
     }
   where
@@ -153,7 +155,7 @@ advances-text {V} {call} {layout} {old} {new} {i} {j} {parser}
     inside : (value : V) (stream : List ℕ) → ProgressAt call value old stream i (InText []) → call.may_stop ≡ true
         → (k : ℕ) → i < k → k < j
         → call.is_terminated (after call.step value (reported_before call.limit stream call.bytes k)) ≡ false
-    inside value stream c does k past below =
+    inside value stream progress does k past below =
         let from : List ℕ = resumed_stream stream call.bytes i in
         let prefix : List ℕ = take (k - i) (drop i call.bytes) in
         let rest : List ℕ = drop (k - i) run in
@@ -163,27 +165,28 @@ advances-text {V} {call} {layout} {old} {new} {i} {j} {parser}
         let all : added call.limit from prefix ++ added call.limit (from ++ prefix) rest
         ≡ map (run_event layout) (chars run) =
         sym (added-append call.limit from prefix rest) ∙ ap (added call.limit from) (sym parts)
-        ∙ added-reads c.is_after
+        ∙ added-reads progress.is_after
         (bytes_lead-text prints.run) refl in
         not_stopped-reported layout call (never does) value stream k
-        (ap (λ es. call.is_terminated (after call.step value es)) (stretch-added call.limit stream call.bytes i k past)
+        (ap (λ events. call.is_terminated (after call.step value events))
+        (stretch-added call.limit stream call.bytes i k past)
         ∙ ap call.is_terminated
         (after_events-append call.step value (reported_before call.limit stream call.bytes i)
         (added call.limit from prefix)
-        ∙ ap (λ v. after call.step v (added call.limit from prefix)) (sym c.performed))
+        ∙ ap (λ v. after call.step v (added call.limit from prefix)) (sym progress.performed))
         ∙ not_stopped layout call (never does) old (added call.limit from prefix)
         (added call.limit (from ++ prefix) rest) (chars run) all (may_go_on does))
 
     inside-next : (value : V) (stream : List ℕ) → IsAtPosition call value old stream i parser
         → IsInsidePosition call value new stream j parser
     inside-next value stream s =
-        let here : s.place ≡ InText [] = place-settled_text e s.is_at in
-        let c : ProgressAt call value old stream i (InText []) =
+        let here : s.place ≡ InText [] = place-settled_text begun s.is_at in
+        let progress : ProgressAt call value old stream i (InText []) =
         subst (ProgressAt call value old stream i) here s.progress in
         record {
           place = InText [];
           is_at = subst (IsAtPlace call.limit parser) here s.is_at;
           progress =
-              progress-further in_order high (λ does _. may_go_on does) (inside value stream c)
-              (bytes_lead-text prints.run) prints.printed refl c;
+              progress-further in_order high (λ does _. may_go_on does) (inside value stream progress)
+              (bytes_lead-text prints.run) prints.printed refl progress;
         }

@@ -35,7 +35,7 @@ outside-text_and_data state no_text no_data = search (rules, arith)
 
 pub settled-text : {state : State} {unfinished : Unfinished} → state ≡ Text unfinished → IsSettled state
     → state ≡ Text Nothing
-settled-text {unfinished} e settled = search (rules, arith)
+settled-text {unfinished} is_text settled = search (rules, arith)
 
 -- A run has bytes that lead from the parser's place to the same place.
 has-run : {B : Type 0} {limit : Option ℕ} {bytes : List ℕ} {range : RunRange} {parser : Machine B} {here : Place}
@@ -53,7 +53,7 @@ pub has-text : {B : Type 0} {limit : Option ℕ} {bytes : List ℕ} {from end : 
     → IsRun false bytes from end → HasNoRunAt false bytes end
     → HasRun limit bytes (record { start = from; end = end; kind = TextKind }) parser
 has-text {limit} {bytes} {from} {end} {parser} between low high are ended =
-    has-run refl (λ place s. place-settled_text between s)
+    has-run refl (λ place is_at. place-settled_text between is_at)
     (bytes_lead-text are)
     (record { in_order = omega (arith, low); within = high }) are (low, ended)
 
@@ -62,8 +62,8 @@ has-text {limit} {bytes} {from} {end} {parser} between low high are ended =
 data-by_place : {B : Type 0} (limit : Option ℕ) (parser : Machine B) (place : Place)
     → IsPlaceOfState limit DeviceData parser place
     → place ≡ InDeviceData
-data-by_place limit parser InDeviceData s = refl
-data-by_place limit parser _ s = absurd s
+data-by_place limit parser InDeviceData fields = refl
+data-by_place limit parser _ fields = absurd fields
 
 bytes_lead-data : {limit : Option ℕ} (bytes : List ℕ) (n i : ℕ) → i + n ≤ length bytes → ArePut bytes i (i + n)
     → BytesLead limit InDeviceData (take n (drop i bytes)) (map Put (take n (drop i bytes))) InDeviceData
@@ -85,7 +85,7 @@ pub has-data : {B : Type 0} {limit : Option ℕ} {bytes : List ℕ} {from end : 
     → ArePut bytes from end → (end < length bytes → IsDeviceData (slice_index bytes end) → ⊥)
     → HasRun limit bytes (record { start = from; end = end; kind = DataKind }) parser
 has-data {limit} {bytes} {from} {end} {parser} begun low high are ended =
-    has-run tt (λ place s. data-by_place limit parser place (is_at-in begun s))
+    has-run tt (λ place is_at. data-by_place limit parser place (is_at-in begun is_at))
     (bytes_lead-data bytes (end - from) from (omega (arith, low, high))
     (λ k above below. are k above (omega (arith, low, below))))
     (record { in_order = omega (arith, low); within = high }) tt (low, ended)
@@ -95,7 +95,7 @@ has-data {limit} {bytes} {from} {end} {parser} begun low high are ended =
 -- Between characters, a parser goes on as a new one does.
 pub reads-anew : {B : Type 0} {limit : Option ℕ} {stream : List ℕ} (parser : Machine B) → parser.state ≡ Text Nothing
     → HasReadWithLimit limit parser stream → HasReadWithLimit limit parser []
-reads-anew {limit} parser begun h = search (rules, arith, place-settled_text, after-nothing)
+reads-anew {limit} parser begun has_read = search (rules, arith, place-settled_text, after-nothing)
 
 -- ---- a call comes to a run, or ends without one
 
@@ -116,8 +116,8 @@ module _ {V B : Type 0} {call : ChunkCall V} {old new : V} {range : RunRange} {b
   comes-nowhere within starts ends kind is_at stops = record {
     has = has-nowhere within starts ends kind;
     is_at_position =
-        λ stream h. subst (λ n. IsAtPosition call old new stream n parser) (sym starts)
-        (is_at stream h);
+        λ stream has_read. subst (λ n. IsAtPosition call old new stream n parser) (sym starts)
+        (is_at stream has_read);
     may_go_on = λ some. absurd (omega (arith, some, starts, ends));
     stops = λ _ left. stops (omega (arith, starts, left));
   }
@@ -144,13 +144,13 @@ run-size bytes range is_range = search (rules, arith, length-take, length-drop)
 takes-run : {B : Type 0} {limit : Option ℕ} {bytes : List ℕ} {range : RunRange} {parser : Machine B} (taken : Taken)
     → HasRun limit bytes range parser
     → IsTaken range.kind (bytes_at bytes range) taken → TakesRun bytes range.end (bytes_at bytes range) range.kind taken
-takes-run {bytes} {range} taken h is =
-    takes-by_kind bytes range range.kind taken is h.kind (run-size bytes range h.is_range) h.whole
+takes-run {bytes} {range} taken has is =
+    takes-by_kind bytes range range.kind taken is has.kind (run-size bytes range has.is_range) has.whole
 
 is_run-in : {B : Type 0} {limit : Option ℕ} {bytes : List ℕ} {run : Run} {range : RunRange} {parser : Machine B}
     → HasRun limit bytes range parser → run.start ≡ range.start
     → run.end ≡ range.end → IsTaken range.kind (bytes_at bytes range) run.taken → IsRunIn bytes run
-is_run-in {bytes} {run} {range} h starts ends taken = search (rules, arith, takes-run, run-size)
+is_run-in {bytes} {run} {range} has starts ends taken = search (rules, arith, takes-run, run-size)
 
 -- What the callers of a call that comes to a run see of it.
 module _ {V B : Type 0} {call : ChunkCall V} {old new : V} (run : Run) {range : RunRange} {before parser : Machine B}
@@ -163,18 +163,19 @@ module _ {V B : Type 0} {call : ChunkCall V} {old new : V} (run : Run) {range : 
       record {
         is_run = is_run-in c.has starts ends taken;
         comes =
-            λ stream h.
+            λ stream has_read.
             rw starts
             (call_ends-comes does (omega (arith, c.has.is_range.in_order, c.has.is_range.within))
-            (c.is_at_position stream h));
+            (c.is_at_position stream has_read));
         adds =
-            λ stream h.
-            rw (starts, these.are, these.events) (c.has.adds _ (call_ends-reads (c.is_at_position stream h)));
+            λ stream has_read.
+            rw (starts, these.are, these.events) (c.has.adds _ (call_ends-reads (c.is_at_position stream has_read)));
         may_go_on = λ some. c.may_go_on (omega (arith, some, starts, ends));
         stops = λ none left. c.stops (omega (arith, none, starts, ends)) (omega (arith, left, starts));
       }
 
   pub reads-run : (stream : List ℕ) → HasReadWithLimit call.limit before stream
       → HasReadWithLimit call.limit parser (resumed_stream stream call.bytes run.start ++ run_bytes run)
-  reads-run stream h =
-      rw (starts, (takes-run run.taken c.has taken).are) (c.has.reads _ (call_ends-reads (c.is_at_position stream h)))
+  reads-run stream has_read =
+      rw (starts, (takes-run run.taken c.has taken).are) (c.has.reads _
+      (call_ends-reads (c.is_at_position stream has_read)))

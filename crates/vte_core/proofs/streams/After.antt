@@ -14,58 +14,58 @@ use Rattle.vte_core.specs.Open.{kind_to_close, open_at_end}
 
 -- `TakesByte` of a byte is `TakesBytes` of one.
 
-pub after_events-append : {V : Type 0} (step : V → Event → V) (value : V) (xs ys : List Event)
-    → after step value (xs ++ ys) ≡ after step (after step value xs) ys
-after_events-append step value [] ys = refl
-after_events-append step value (x ∷ xs) ys = after_events-append step (step value x) xs ys
+pub after_events-append : {V : Type 0} (step : V → Event → V) (value : V) (events others : List Event)
+    → after step value (events ++ others) ≡ after step (after step value events) others
+after_events-append step value [] others = refl
+after_events-append step value (event ∷ events) others = after_events-append step (step value event) events others
 
 -- A single byte other than ESC is taken as `TakesByte` says.
 pub takes_bytes-one : {V B : Type 0} {step : V → Event → V} {old new : V} {limit : Option ℕ} {place : Place} {byte : ℕ}
     {parser : Machine B} → eqb byte escape ≡ false
     → TakesByte step old new limit place byte parser → TakesBytes step old new limit place (byte ∷ []) parser
-takes_bytes-one e t = record {
-  reported = t.reported;
-  next = t.next;
-  performed = t.performed;
-  is_at = t.is_at;
-  reads = bytes_lead-byte e t.leads;
+takes_bytes-one is_no_escape takes = record {
+  reported = takes.reported;
+  next = takes.next;
+  performed = takes.performed;
+  is_at = takes.is_at;
+  reads = bytes_lead-byte is_no_escape takes.leads;
 }
 
 -- ---- a byte that is offered to an open character
 
 -- A byte that belongs to an open character is no ESC.
-pub carried_is_no_escape : (u : List ℕ) (b : ℕ) → is_truncated u ≡ true
-    → (is_well_formed (u ++ b ∷ []) ≡ true) ⊎ (is_truncated (u ++ b ∷ []) ≡ true) → eqb b escape ≡ false
-carried_is_no_escape u b more carried = elim (cases_Bool (eqb b escape)) [
+pub carried_is_no_escape : (opened : List ℕ) (b : ℕ) → is_truncated opened ≡ true
+    → (is_well_formed (opened ++ b ∷ []) ≡ true) ⊎ (is_truncated (opened ++ b ∷ []) ≡ true) → eqb b escape ≡ false
+carried_is_no_escape opened b more carried = elim (cases_Bool (eqb b escape)) [
   | inl is ↦
       let e : b ≡ escape = eqb-true b escape is in
-      let tests : Tests (u ++ b ∷ []) false false = ascii-breaks u b more (omega arith) in
+      let tests : Tests (opened ++ b ∷ []) false false = ascii-breaks opened b more (omega arith) in
       elim carried [ inl h ↦ cc (h, tests.is_whole) | inr h ↦ cc (h, tests.is_open) ]
   | inr other ↦ other
 ]
 
-closing-unfinished : (limit : Option ℕ) (u : List ℕ) → is_truncated u ≡ true
-    → closing_events_at limit (InText u) ≡ Print replacement ∷ []
+closing-unfinished : (limit : Option ℕ) (opened : List ℕ) → is_truncated opened ≡ true
+    → closing_events_at limit (InText opened) ≡ Print replacement ∷ []
 unfolding is_truncated
 closing-unfinished limit [] more = cc
-closing-unfinished limit (a ∷ u) more = refl
+closing-unfinished limit (a ∷ opened) more = refl
 
 -- A byte that breaks a character is still to be read, even ESC.
-pub waits-broken : (limit : Option ℕ) (u : List ℕ) (b : ℕ) (more : List ℕ) → is_truncated u ≡ true
-    → is_well_formed (u ++ b ∷ []) ≡ false → is_truncated (u ++ b ∷ []) ≡ false
-    → outcome_from limit (InText u) (b ∷ more)
+pub waits-broken : (limit : Option ℕ) (opened : List ℕ) (b : ℕ) (more : List ℕ) → is_truncated opened ≡ true
+    → is_well_formed (opened ++ b ∷ []) ≡ false → is_truncated (opened ++ b ∷ []) ≡ false
+    → outcome_from limit (InText opened) (b ∷ more)
     ≡ report (Print replacement ∷ []) (outcome_from limit (InText []) (b ∷ more))
-waits-broken limit u b more begun whole next = elim (cases_Bool (eqb b escape)) [
+waits-broken limit opened b more begun whole next = elim (cases_Bool (eqb b escape)) [
   | inr other ↦
-      waits-byte limit (InText u) (InText []) b (Print replacement ∷ []) more other
-      (text_outcome-broken u b begun whole next)
+      waits-byte limit (InText opened) (InText []) b (Print replacement ∷ []) more other
+      (text_outcome-broken opened b begun whole next)
   | inl e ↦
       let is : b ≡ escape = eqb-true b escape e in
       let there : outcome_from limit (InText []) (escape ∷ more) ≡ outcome_from limit AtEscape more =
       outcome_from-escape limit (InText []) more refl in
       rw is (
-      outcome_from-escape limit (InText u) more (may_continue-truncated u begun)
-      ∙ ap (λ es. report es (outcome_from limit AtEscape more)) (closing-unfinished limit u begun)
+      outcome_from-escape limit (InText opened) more (may_continue-truncated opened begun)
+      ∙ ap (λ events. report events (outcome_from limit AtEscape more)) (closing-unfinished limit opened begun)
       ∙ ap (report (Print replacement ∷ [])) (sym there)
       )
 ]
@@ -81,10 +81,10 @@ events-empty limit = events-after_nothing limit [] ∙ events_from-nothing limit
 module _ {A : Type 0} (view : ToClose → A)
     (same : (pieces others : List (List ℕ)) (lost other : Bool)
     → view (CommandToClose pieces lost) ≡ view (CommandToClose others other)) where
-  view-shape : (limit : Option ℕ) (k : SequenceKind) (key : ℕ) (bytes : List ℕ)
-      → view (sequence_outcome limit k key bytes).left ≡ view (sequence_outcome None k key bytes).left
+  view-shape : (limit : Option ℕ) (kind : SequenceKind) (key : ℕ) (bytes : List ℕ)
+      → view (sequence_outcome limit kind key bytes).left ≡ view (sequence_outcome None kind key bytes).left
   unfolding system_command_outcome
-  view-shape limit k key bytes = search (rules, arith)
+  view-shape limit kind key bytes = search (rules, arith)
 
   view-rest : (limit : Option ℕ) (rest : List ℕ)
       → view (body_rest limit rest).left ≡ view (body_rest None rest).left
@@ -103,8 +103,8 @@ module _ {A : Type 0} (view : ToClose → A)
   view-bodies : (limit : Option ℕ) (part other : Outcome) (bodies : List (List ℕ))
       → view part.left ≡ view other.left
       → view (with_bodies limit part bodies).left ≡ view (with_bodies None other bodies).left
-  view-bodies limit part other [] e = e
-  view-bodies limit part other (body ∷ bodies) e =
+  view-bodies limit part other [] same = same
+  view-bodies limit part other (body ∷ bodies) same =
       view-bodies limit (body_outcome limit body) (body_outcome None body) bodies (view-body limit body)
 
   view-any : (limit : Option ℕ) (stream : List ℕ)
@@ -140,27 +140,27 @@ after-nothing {limit} = search (rules, arith)
 pub after-events : {limit : Option ℕ} {stream : List ℕ} (more : List ℕ) {place : Place} → IsAfter limit stream place
     → events limit (stream ++ more) ≡ events limit stream ++ events_from limit place more
 unfolding events
-after-events {limit} {stream} more a = search (rules, arith)
+after-events {limit} {stream} more is_after = search (rules, arith)
 
 -- What the stream leaves open is open at the place.
 pub after-left : {limit : Option ℕ} {stream : List ℕ} {place : Place} → IsAfter limit stream place → IsPlace place
     → (outcome limit stream).left ≡ left_at limit place
-after-left {limit} {stream} {place} a is =
-    ap (λ s. (outcome limit s).left) (sym (append-nil stream)) ∙ ap (λ o. o.left) (a.goes_on [])
+after-left {limit} {stream} {place} is_after is =
+    ap (λ s. (outcome limit s).left) (sym (append-nil stream)) ∙ ap (λ o. o.left) (is_after.goes_on [])
     ∙ ap (λ o. o.left) (outcome_from-nothing limit place is)
 
 pub after-open_character : {limit : Option ℕ} {stream : List ℕ} {place : Place} → IsAfter limit stream place
     → IsPlace place
     → open_character stream ≡ open_at place
-after-open_character {limit} {stream} {place} a is =
-    sym (open_bytes-any limit stream) ∙ ap open_bytes (after-left a is) ∙ open_bytes-at limit place
+after-open_character {limit} {stream} {place} is_after is =
+    sym (open_bytes-any limit stream) ∙ ap open_bytes (after-left is_after is) ∙ open_bytes-at limit place
 
 -- If the bytes after a stream lead from its place to a next one, the longer stream leads to that place.
 pub after-reads : {limit : Option ℕ} {stream bytes : List ℕ} {place next : Place} {these : List Event}
     → IsAfter limit stream place → BytesLead limit place bytes these next → IsPlace next
     → IsAfter limit (stream ++ bytes) next
-after-reads {limit} {stream} {bytes} {next} {these} a r is = record {
-  goes_on = λ more. go more ∙ ap (λ es. report es (outcome_from limit next more)) (sym all);
+after-reads {limit} {stream} {bytes} {next} {these} is_after reads is = record {
+  goes_on = λ more. go more ∙ ap (λ events. report events (outcome_from limit next more)) (sym all);
 }
   where
     go : (more : List ℕ)
@@ -168,8 +168,8 @@ after-reads {limit} {stream} {bytes} {next} {these} a r is = record {
         ≡ report (events limit stream ++ these) (outcome_from limit next more)
     go more =
         ap (outcome limit) (append_assoc stream bytes more)
-        ∙ a.goes_on (bytes ++ more)
-        ∙ ap (report (events limit stream)) (r.reads more)
+        ∙ is_after.goes_on (bytes ++ more)
+        ∙ ap (report (events limit stream)) (reads.reads more)
         ∙ sym (report-append (events limit stream) these (outcome_from limit next more))
 
     all : events limit (stream ++ bytes) ≡ events limit stream ++ these
@@ -183,18 +183,18 @@ after-reads {limit} {stream} {bytes} {next} {these} a r is = record {
 -- What is added to a stream is what follows its place.
 pub added-after : {limit : Option ℕ} {stream : List ℕ} (bytes : List ℕ) {place : Place} → IsAfter limit stream place
     → added limit stream bytes ≡ events_from limit place bytes
-added-after {limit} {stream} bytes {place} a = search (rules, arith, after-events, drop-append_seam)
+added-after {limit} {stream} bytes {place} is_after = search (rules, arith, after-events, drop-append_seam)
 
 -- What bytes that lead to a place add is what they report.
 pub added-reads : {limit : Option ℕ} {stream bytes : List ℕ} {place next : Place} {these : List Event}
     → IsAfter limit stream place → BytesLead limit place bytes these next → IsPlace next
     → added limit stream bytes ≡ these
-added-reads {limit} {bytes} {place} {next} {these} a r is =
-    added-after bytes a
-    ∙ ap (events_from limit place) (sym (append-nil bytes)) ∙ ap (λ o. o.reported) (r.reads [])
-    ∙ ap (λ es. these ++ es) (events_from-nothing limit next is) ∙ append-nil these
+added-reads {limit} {bytes} {place} {next} {these} is_after reads is =
+    added-after bytes is_after
+    ∙ ap (events_from limit place) (sym (append-nil bytes)) ∙ ap (λ o. o.reported) (reads.reads [])
+    ∙ ap (λ events. these ++ events) (events_from-nothing limit next is) ∙ append-nil these
 
 -- A parser between characters of a text has read what gives no events.
 pub has_read-nothing : {B : Type 0} {limit : Option ℕ} {parser : Machine B} → IsAtPlace limit parser (InText [])
     → HasReadWithLimit limit parser []
-has_read-nothing s = record { place = InText []; is_at = s; is_after = after-nothing }
+has_read-nothing is_at = record { place = InText []; is_at = is_at; is_after = after-nothing }

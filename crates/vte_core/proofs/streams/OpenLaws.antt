@@ -23,22 +23,22 @@ record Ends (whole last : List ℕ) : Type 0 where
   pub prefix : List ℕ
   pub joins : prefix ++ last ≡ whole
 
-ends-all : (u : List ℕ) → Ends u u
-ends-all u = record { prefix = []; joins = refl }
+ends-all : (text : List ℕ) → Ends text text
+ends-all text = record { prefix = []; joins = refl }
 
-ends-nothing : (u : List ℕ) → Ends u []
-ends-nothing u = record { prefix = u; joins = append-nil u }
+ends-nothing : (text : List ℕ) → Ends text []
+ends-nothing text = record { prefix = text; joins = append-nil text }
 
 ends-after : (before : List ℕ) {whole last : List ℕ} → Ends whole last → Ends (before ++ whole) last
-ends-after before {last} e = record {
-  prefix = before ++ e.prefix;
-  joins = append_assoc before e.prefix last ∙ ap (λ u. before ++ u) e.joins;
+ends-after before {last} ends = record {
+  prefix = before ++ ends.prefix;
+  joins = append_assoc before ends.prefix last ∙ ap (λ u. before ++ u) ends.joins;
 }
 
 ends-then : {whole middle last : List ℕ} → Ends whole middle → Ends middle last → Ends whole last
-ends-then {last} e f = record {
-  prefix = e.prefix ++ f.prefix;
-  joins = append_assoc e.prefix f.prefix last ∙ ap (λ u. e.prefix ++ u) f.joins ∙ e.joins;
+ends-then {last} ends ends_on = record {
+  prefix = ends.prefix ++ ends_on.prefix;
+  joins = append_assoc ends.prefix ends_on.prefix last ∙ ap (λ u. ends.prefix ++ u) ends_on.joins ∙ ends.joins;
 }
 
 ends-from_first : (passes : ℕ → Bool) (bytes : List ℕ) → Ends bytes (from_first passes bytes)
@@ -117,8 +117,8 @@ ends-command limit bytes = ends-then (ends-from_first ends_command bytes) (rest 
     rest pieces lost [] = ends-nothing []
     rest pieces lost (end ∷ text) = ends-after (end ∷ []) (ends-text text)
 
-ends-sequence : (limit : Option ℕ) (k : SequenceKind) (key : ℕ) (bytes : List ℕ)
-    → EndsOpen (key ∷ bytes) (sequence_outcome limit k key bytes)
+ends-sequence : (limit : Option ℕ) (kind : SequenceKind) (key : ℕ) (bytes : List ℕ)
+    → EndsOpen (key ∷ bytes) (sequence_outcome limit kind key bytes)
 ends-sequence limit ControlSequence key bytes = ends-after (key ∷ []) (ends-control bytes)
 ends-sequence limit DeviceControl key bytes = ends-after (key ∷ []) (ends-device bytes)
 ends-sequence limit SystemCommand key bytes = ends-after (key ∷ []) (ends-command limit bytes)
@@ -150,8 +150,8 @@ cut-joined (b ∷ stream) = search (rules, arith, (cut-joined stream), eqb-true)
 
 ends-bodies : (limit : Option ℕ) (text : List ℕ) (part : Outcome) (bodies : List (List ℕ)) → EndsOpen text part
     → EndsOpen (text ++ joined bodies) (with_bodies limit part bodies)
-ends-bodies limit text part [] e = rw (append-nil text) e
-ends-bodies limit text part (body ∷ bodies) e =
+ends-bodies limit text part [] ends_open = rw (append-nil text) ends_open
+ends-bodies limit text part (body ∷ bodies) ends_open =
     ends-after text (ends-after (escape ∷ [])
     (ends-bodies limit body (body_outcome limit body) bodies (ends-body limit body)))
 

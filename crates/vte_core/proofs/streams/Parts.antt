@@ -93,7 +93,7 @@ drop-less n b stream some = search (rules, arith)
 first_part : (size : ℕ) (stream : List ℕ) → 0 < size → 0 < length stream
     → parts_after size 0 stream
     ≡ take (next_escape size stream + 1) stream ∷ parts_after size 0 (drop (next_escape size stream) stream)
-first_part size stream j more = search (rules, arith, parts_after-drop, drop-less, escape_after)
+first_part size stream some more = search (rules, arith, parts_after-drop, drop-less, escape_after)
 
 take-at_least : (n : ℕ) (stream : List ℕ) → take (min (length stream) n) stream ≡ take n stream
 take-at_least n stream = search (rules, arith, take_all)
@@ -131,12 +131,12 @@ parts_of_events limit size stream = parts_after-events limit _ 0 stream (omega a
 
 pub ends_with_escape : (limit : Option ℕ) (part : List ℕ) → EndsWithEscape limit part
 ends_with_escape limit part =
-    let a : LeadsTo limit part = leads_to in
+    let leads : LeadsTo limit part = leads_to in
     events_grow limit part (escape ∷ [])
     ∙ ap (λ es. events limit part ++ es)
-    (added-reads a.is_after (bytes_lead-escape a.is_place) tt
-    ∙ ap closing_events (sym (after-left a.is_after a.is_place)))
-    ∙ ap (λ es. es ++ closing_events (outcome limit part).left) (events-reported limit part)
+    (added-reads leads.is_after (bytes_lead-escape leads.is_place) tt
+    ∙ ap closing_events (sym (after-left leads.is_after leads.is_place)))
+    ∙ ap (λ events. events ++ closing_events (outcome limit part).left) (events-reported limit part)
 
 -- ---- a stream goes on after a broken character as one that begins with the byte that broke it
 
@@ -179,14 +179,14 @@ pub resumes-after : (limit : Option ℕ) (stream unread : List ℕ) (place : Pla
     → breaks (open_character stream) unread ≡ true
     → IsAfter limit unread place
     → IsAfter limit (stream ++ unread) place
-resumes-after limit stream unread place broken a = record {
+resumes-after limit stream unread place broken is_after = record {
   goes_on = λ more.
       let reported = events limit stream ++ Print replacement ∷ [] in
       let all : events limit (stream ++ unread) ≡ reported ++ events limit unread =
       rw append-nil at (events-broken limit stream unread [] broken) in
       ap (outcome limit) (append_assoc stream unread more)
       ∙ outcome-broken limit stream unread more broken
-      ∙ ap (report reported) (a.goes_on more)
+      ∙ ap (report reported) (is_after.goes_on more)
       ∙ sym (report-append reported (events limit unread) (outcome_from limit place more))
-      ∙ ap (λ es. report es (outcome_from limit place more)) (sym all);
+      ∙ ap (λ events. report events (outcome_from limit place more)) (sym all);
 }

@@ -66,9 +66,9 @@ arrives limit size place (b ∷ bytes) is fits =
 
 pub reported_by_stream : {limit : Option ℕ} {next : Place} {stream : List ℕ} {reported : List Event} → IsPlace next
     → BytesLead limit (InText []) stream reported next → events limit stream ≡ reported
-reported_by_stream {limit} {stream} is r =
+reported_by_stream {limit} {stream} is reads =
     ap (λ es. drop (length es) (events limit stream)) (sym (events-empty limit))
-    ∙ added-reads after-nothing r is
+    ∙ added-reads after-nothing reads is
 
 -- The stream leads to a place, with events of bounded size.
 pub record LeadsTo (limit : Option ℕ) (stream : List ℕ) : Type 0 where
@@ -97,19 +97,19 @@ events_grow limit stream more =
     ∙ ap (λ es. events limit stream ++ es) (sym (added-after more a.is_after))
 
 grows_after : {limit : Option ℕ} (stream : List ℕ) {bytes : List ℕ} (more : List ℕ)
-    (a : LeadsTo limit stream) {next : Place}
+    (leads : LeadsTo limit stream) {next : Place}
     {reported : List Event} → IsPlace next
-    → BytesLead limit a.place bytes reported next
+    → BytesLead limit leads.place bytes reported next
     → events limit (stream ++ (bytes ++ more)) ≡ events limit (stream ++ bytes) ++ events_from limit next more
-grows_after {limit} stream {bytes} more a is reads = search (rules, arith, append_assoc, after-events, after-reads)
+grows_after {limit} stream {bytes} more leads is reads = search (rules, arith, append_assoc, after-events, after-reads)
 
 -- After CAN or SUB, what follows is read as a new stream.
 resyncs_after : (limit : Option ℕ) (end : ℕ) → class_of end ≡ Cancel → ResyncsAfter limit end
-resyncs_after limit end e stream more =
+resyncs_after limit end is_class stream more =
     let a = leads_to in
     let last =
-    bytes_lead-byte (cancel_is_no_escape end e)
-    (byte-cancels a.is_place e) in
+    bytes_lead-byte (cancel_is_no_escape end is_class)
+    (byte-cancels a.is_place is_class) in
     grows_after stream more a refl last
     ∙ ap (λ es. events limit (stream ++ end ∷ []) ++ es) (sym (events-after_nothing limit more))
 
@@ -192,25 +192,26 @@ counts_data stream bytes =
 -- No run reports a control, nor a longer character whose event is no printed one. Such a character is never ASCII.
 
 -- A sequence of two bytes or more is no character of ASCII.
-pub prints_no_ascii : (p : List ℕ) → is_well_formed p ≡ true → 1 < length p → 0x80 ≤ scalar_of p
-prints_no_ascii p well long = elim (cases_lt (scalar_of p) 0x80) [
+pub prints_no_ascii : (bytes : List ℕ) → is_well_formed bytes ≡ true → 1 < length bytes → 0x80 ≤ scalar_of bytes
+prints_no_ascii bytes well long = elim (cases_lt (scalar_of bytes) 0x80) [
   | inl low ↦
-      let size = sym (length-encode (scalar_of p)) ∙ ap length (well_formed_is_encoded p well) in
+      let size = sym (length-encode (scalar_of bytes)) ∙ ap length (well_formed_is_encoded bytes well) in
       absurd (grind (arith, nat_tests))
   | inr high ↦ omega (arith, high)
 ]
 
-pub length-longer : (u : List ℕ) (b : ℕ) → u ≢ [] → 1 < length (u ++ b ∷ [])
+pub length-longer : (bytes : List ℕ) (b : ℕ) → bytes ≢ [] → 1 < length (bytes ++ b ∷ [])
 length-longer [] b some = absurd (some refl)
-length-longer (a ∷ u) b some = omega (arith, length-append u (b ∷ []))
+length-longer (a ∷ bytes) b some = omega (arith, length-append bytes (b ∷ []))
 
-pub prints_no_ascii-character : (c : ℕ) → 0x80 ≤ c → All PrintsNoAscii (character_event c ∷ [])
+pub prints_no_ascii-character : (scalar : ℕ) → 0x80 ≤ scalar → All PrintsNoAscii (character_event scalar ∷ [])
 unfolding character_event
-prints_no_ascii-character c high = search (rules, arith)
+prints_no_ascii-character scalar high = search (rules, arith)
 
-pub outside_runs-control : (c : ℕ) → is_control_character c ≡ true → All IsOutsideRuns (character_event c ∷ [])
+pub outside_runs-control : (scalar : ℕ) → is_control_character scalar ≡ true
+    → All IsOutsideRuns (character_event scalar ∷ [])
 unfolding character_event
-outside_runs-control c is = search (rules, arith)
+outside_runs-control scalar is = search (rules, arith)
 
 pub prints_no_ascii-all : (events : List Event) → All IsOutsideRuns events → All PrintsNoAscii events
 prints_no_ascii-all events are = search (rules, arith)

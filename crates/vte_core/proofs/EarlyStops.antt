@@ -108,9 +108,9 @@ record Added (limit : Option ℕ) (stream bytes : List ℕ) (i : ℕ) : Type 0 w
   one_short : (open_character (stream ++ take i bytes) ≡ [] → ⊥) → IsAtMostOneShort unit
   begun : (before ≡ []) ⊎ AreReportedAtStart limit stream bytes i before
 
-one_short-opens : (limit : Option ℕ) (s : List ℕ) (b : ℕ) → (open_character (s ++ b ∷ []) ≡ [] → ⊥)
-    → IsAtMostOneShort (added limit s (b ∷ []))
-one_short-opens limit s b some = search (rules, arith, opens_silently, one_short-replacement)
+one_short-opens : (limit : Option ℕ) (stream : List ℕ) (b : ℕ) → (open_character (stream ++ b ∷ []) ≡ [] → ⊥)
+    → IsAtMostOneShort (added limit stream (b ∷ []))
+one_short-opens limit stream b some = search (rules, arith, opens_silently, one_short-replacement)
 
 none_or_some : (xs : List ℕ) → (xs ≡ []) ⊎ (xs ≡ [] → ⊥)
 none_or_some [] = inl refl

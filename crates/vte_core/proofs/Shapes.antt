@@ -58,8 +58,8 @@ pub begins-intermediates : (has : Class → Bool) → has Intermediate ≡ false
     → AreInClass is_intermediate intermediates
     → (intermediates ≡ [] → BeginsWithout has more) → BeginsWithout has (intermediates ++ more)
 begins-intermediates has no_intermediates [] more are none = none refl
-begins-intermediates has no_intermediates (b ∷ bytes) more are none = rw
-    (class-intermediate (class_of b) are.0) no_intermediates
+begins-intermediates has no_intermediates (b ∷ bytes) more are none =
+    rw (class-intermediate (class_of b) are.0) no_intermediates
 
 list_all-AreInClass : (bytes : List ℕ) → AreInClass is_intermediate bytes
     → list_all (λ b. is_intermediate (class_of b)) bytes ≡ true
@@ -109,8 +109,8 @@ truncated_not_well_formed (a ∷ opened) more =
 pub trailing_count-whole : (a : ℕ) (rest following : List ℕ) → is_well_formed (a ∷ rest) ≡ true
     → trailing_count a (rest ++ following) ≡ length rest
 unfolding is_well_formed trailing_count
-trailing_count-whole a rest following whole = allowed_length-whole (rows_after_byte a utf8_rows) rest following
-    (AtMostOne-first a) whole
+trailing_count-whole a rest following whole =
+    allowed_length-whole (rows_after_byte a utf8_rows) rest following (AtMostOne-first a) whole
 
 trailing_count-broken : (a : ℕ) (rest : List ℕ) (b : ℕ) (following : List ℕ) → is_truncated (a ∷ rest) ≡ true
     → is_well_formed (a ∷ rest ++ b ∷ []) ≡ false → is_truncated (a ∷ rest ++ b ∷ []) ≡ false
@@ -138,8 +138,8 @@ segments_after-length (a ∷ bytes) following = segments_after-length bytes foll
 
 pub segments-first : (a : ℕ) (rest following : List ℕ) → trailing_count a (rest ++ following) ≡ length rest
     → segments (a ∷ rest ++ following) ≡ (a ∷ rest) ∷ segments following
-segments-first a rest following far = rw (far, take-append_seam rest following, segments_after-length rest following)
-    refl
+segments-first a rest following far =
+    rw (far, take-append_seam rest following, segments_after-length rest following) refl
 
 -- ---- its event
 
@@ -168,8 +168,8 @@ text_outcome-first : (a : ℕ) (rest following : List ℕ) → trailing_count a 
     → text_outcome (a ∷ rest ++ following) ≡ report (segment_event (a ∷ rest) ∷ []) (text_outcome following)
 unfolding text_outcome
 text_outcome-first a rest following far whole =
-    ap segments_outcome (segments-first a rest following far) ∙ segments_outcome-first (a ∷ rest)
-    (segments following) whole
+    ap segments_outcome (segments-first a rest following far)
+    ∙ segments_outcome-first (a ∷ rest) (segments following) whole
 
 pub not_well_formed-nothing : is_well_formed [] ≡ false
 unfolding is_well_formed utf8_rows
@@ -194,8 +194,8 @@ text_outcome-broken opened b more whole more_after following =
 pub text_outcome-lone : (following : List ℕ) (b : ℕ) → is_well_formed (b ∷ []) ≡ false → is_truncated (b ∷ []) ≡ false
     → text_outcome (b ∷ following) ≡ report (malformed_event (b ∷ []) ∷ []) (text_outcome following)
 unfolding segment_event
-text_outcome-lone following b whole more = text_outcome-first b [] following
-    (trailing_count-lone b following whole more) more ∙ rw whole refl
+text_outcome-lone following b whole more =
+    text_outcome-first b [] following (trailing_count-lone b following whole more) more ∙ rw whole refl
 
 -- The bytes of an unfinished character alone report nothing, and leave it open.
 pub text_outcome-end : (opened : List ℕ) → is_truncated opened ≡ true

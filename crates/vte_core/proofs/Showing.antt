@@ -49,7 +49,7 @@ pub group_written : (numbers : List ℕ) (i : ℕ) → 1 ≤ length numbers
     → length (take (length numbers - 1) (drop 1 numbers)) ≤ i
     → decimal (get_or numbers 0 0) ++ flat_map after_colon (take i (take (length numbers - 1) (drop 1 numbers)))
     ≡ group_text numbers
-group_written numbers i j end = search (rules, arith, take_all, group_text_from_front)
+group_written numbers i some end = search (rules, arith, take_all, group_text_from_front)
 
 -- After its last group, the loop over the groups after the first has written the text of all groups.
 pub groups_written : (groups : List (List ℕ)) (first : List ℕ) (rest passed left : List (List ℕ))

@@ -54,8 +54,8 @@ is_dropped_in_head class = is_dropped class
 pub other_key : (b : ℕ) → (b ≡ 0x5b → ⊥) → (b ≡ 0x50 → ⊥) → (b ≡ 0x5d → ⊥)
     → sequence_kind b ≡ (if begins_ignored_string b then IgnoredString else EscapeSequence)
 unfolding sequence_kind
-other_key b no_bracket no_device_control no_command = simp (ne_eqb b 0x5b no_bracket, ne_eqb b 0x50 no_device_control,
-    ne_eqb b 0x5d no_command)
+other_key b no_bracket no_device_control no_command =
+    simp (ne_eqb b 0x5b no_bracket, ne_eqb b 0x50 no_device_control, ne_eqb b 0x5d no_command)
 
 pub below_finals : (b : ℕ) → b < 0x40 → sequence_kind b ≡ EscapeSequence
 unfolding sequence_kind

@@ -48,7 +48,7 @@ prefix-block bytes block from n within first = search (rules, arith, length-take
 -- Byte k of a block is the byte k places after the block's start.
 pub block-byte : (bytes block : List ℕ) (from n k : ℕ) → block ≡ take n (drop from bytes) → k < n
     → get_or block k 0 ≡ get_or bytes (from + k) 0
-block-byte bytes block from n k is l = ap (λ x. get_or x k 0) is ∙ get_or-chunk from n bytes k 0 l
+block-byte bytes block from n k is below = ap (λ x. get_or x k 0) is ∙ get_or-chunk from n bytes k 0 below
 
 -- What holds of the first bytes of a block holds of the same bytes of the input.
 pub each-block : (holds : ℕ → Type 0) (bytes block : List ℕ) (from n m : ℕ) → block ≡ take n (drop from bytes) → m ≤ n
@@ -116,19 +116,19 @@ utf8_run-nil layout =
 
 pub utf8_run-append : {layout : Bool} {xs ys : List ℕ} → IsUtf8Run layout xs → IsUtf8Run layout ys
     → IsUtf8Run layout (xs ++ ys)
-utf8_run-append {layout} {xs} {ys} are b = record {
-  utf8 = IsUtf8-append xs ys are.utf8 b.utf8;
+utf8_run-append {layout} {xs} {ys} are are_more = record {
+  utf8 = IsUtf8-append xs ys are.utf8 are_more.utf8;
   plain =
       subst (All (StaysInRun layout)) (sym (chars-append xs ys are.utf8))
-      (All-append (StaysInRun layout) (chars xs) (chars ys) are.plain b.plain);
+      (All-append (StaysInRun layout) (chars xs) (chars ys) are.plain are_more.plain);
 }
 
 -- ---- one character: its bytes decode to it alone, and a run of it is its event
 
 pub chars-encode : (scalar : ℕ) → IsScalar scalar → chars (encode scalar) ≡ scalar ∷ []
 chars-encode scalar is =
-    chars_past_char (encode scalar) [] scalar (IsUtf8-encode scalar is) (sym (append-nil (encode scalar))) ∙ ap
-    (λ cs. scalar ∷ cs) chars-nil
+    chars_past_char (encode scalar) [] scalar (IsUtf8-encode scalar is) (sym (append-nil (encode scalar)))
+    ∙ ap (λ cs. scalar ∷ cs) chars-nil
 
 pub run_one : (layout : Bool) (scalar : ℕ) → IsScalar scalar → StaysInRun layout scalar
     → All (StaysInRun layout) (chars (encode scalar))
@@ -137,8 +137,8 @@ run_one layout scalar is stays = subst (All (StaysInRun layout)) (sym (chars-enc
 
 pub after-character : {V : Type 0} (layout : Bool) (step : V → Event → V) (old : V) (scalar : ℕ) → IsScalar scalar
     → after step old (map (run_event layout) (chars (encode scalar))) ≡ step old (run_event layout scalar)
-after-character layout step old scalar is = ap (λ cs. after step old (map (run_event layout) cs))
-    (chars-encode scalar is)
+after-character layout step old scalar is =
+    ap (λ cs. after step old (map (run_event layout) cs)) (chars-encode scalar is)
 
 pub run_event-no_control : (layout : Bool) {scalar : ℕ} → is_control_character scalar ≡ false
     → run_event layout scalar ≡ Print scalar

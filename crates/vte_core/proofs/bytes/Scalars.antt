@@ -59,35 +59,42 @@ pub data Sequence (p : List ℕ) : Type 0 where
   whole_four : (a b c d : ℕ) → p ≡ a ∷ b ∷ c ∷ d ∷ [] → 0xf0 ≤ a → a < 0xf5 → SecondByte a b → IsContinuation c
       → IsContinuation d → Sequence p
 
-fit-two : (a : ℕ) (rest : List ℕ) → 0xc2 ≤ a → a < 0xe0 → fits (second_range a ∷ []) rest ≡ true → Sequence (a ∷ rest)
-fit-two a (b ∷ []) low high fit = whole_two a b refl low high (second_byte (and_parts _ _ fit).0)
-fit-two a rest low high fit = search (rules, arith, fits-length)
+fit-two : (first : ℕ) (rest : List ℕ) → 0xc2 ≤ first → first < 0xe0 → fits (second_range first ∷ []) rest ≡ true
+    → Sequence (first ∷ rest)
+fit-two first (b ∷ []) low high fit = whole_two first b refl low high (second_byte (and_parts _ _ fit).0)
+fit-two first rest low high fit = search (rules, arith, fits-length)
 
-fit-three : (a : ℕ) (rest : List ℕ) → 0xe0 ≤ a → a < 0xf0 → fits (second_range a ∷ continuation ∷ []) rest ≡ true
-    → Sequence (a ∷ rest)
-fit-three a (b ∷ c ∷ []) low high fit =
-    let parts : (is_in (second_range a) b ≡ true) × ((is_in continuation c && true) ≡ true) = and_parts _ _ fit in
-    whole_three a b c refl low high (second_byte parts.0) (continuation-bounds c (and_parts _ _ parts.1).0)
-fit-three a rest low high fit = search (rules, arith, fits-length, continuation)
+fit-three : (first : ℕ) (rest : List ℕ) → 0xe0 ≤ first → first < 0xf0
+    → fits (second_range first ∷ continuation ∷ []) rest ≡ true
+    → Sequence (first ∷ rest)
+fit-three first (b ∷ c ∷ []) low high fit =
+    let parts : (is_in (second_range first) b ≡ true) × ((is_in continuation c && true) ≡ true) = and_parts _ _ fit in
+    whole_three first b c refl low high (second_byte parts.0) (continuation-bounds c (and_parts _ _ parts.1).0)
+fit-three first rest low high fit = search (rules, arith, fits-length, continuation)
 
-fit-four : (a : ℕ) (following : List ℕ) → 0xf0 ≤ a → a < 0xf5
-    → fits (second_range a ∷ continuation ∷ continuation ∷ []) following ≡ true → Sequence (a ∷ following)
-fit-four a (b ∷ c ∷ d ∷ []) low high fit =
-    let parts : (is_in (second_range a) b ≡ true) × ((is_in continuation c && (is_in continuation d && true)) ≡ true) =
+fit-four : (first : ℕ) (following : List ℕ) → 0xf0 ≤ first → first < 0xf5
+    → fits (second_range first ∷ continuation ∷ continuation ∷ []) following ≡ true → Sequence (first ∷ following)
+fit-four first (b ∷ c ∷ d ∷ []) low high fit =
+    let parts : (is_in (second_range first) b ≡ true) ×
+    ((is_in continuation c && (is_in continuation d && true)) ≡ true) =
     and_parts _ _ fit in
     let rest : (is_in continuation c ≡ true) × ((is_in continuation d && true) ≡ true) = and_parts _ _ parts.1 in
-    whole_four a b c d refl low high (second_byte parts.0) (continuation-bounds c rest.0)
+    whole_four first b c d refl low high (second_byte parts.0) (continuation-bounds c rest.0)
     (continuation-bounds d (and_parts _ _ rest.1).0)
-fit-four a following low high fit = search (rules, arith, fits-length, continuation)
+fit-four first following low high fit = search (rules, arith, fits-length, continuation)
 
-by_first : (a : ℕ) (rest : List ℕ) → FirstByte a → is_well_formed (a ∷ rest) ≡ true → Sequence (a ∷ rest)
-by_first a [] (ascii high) whole = whole_one a refl high
-by_first a (b ∷ rest) (ascii high) whole = absurd (false≢true (sym (tests-ascii a high (b ∷ rest)).is_whole ∙ whole))
-by_first a rest (lone none) whole = absurd (false≢true (sym (tests-none a none rest).is_whole ∙ whole))
-by_first a rest (of_two low high) whole = fit-two a rest low high (sym (tests-two a low high rest).is_whole ∙ whole)
-by_first a rest (of_three low high) whole = fit-three a rest low high
-    (sym (tests-three a low high rest).is_whole ∙ whole)
-by_first a rest (of_four low high) whole = fit-four a rest low high (sym (tests-four a low high rest).is_whole ∙ whole)
+by_first : (first : ℕ) (rest : List ℕ) → FirstByte first → is_well_formed (first ∷ rest) ≡ true
+    → Sequence (first ∷ rest)
+by_first first [] (ascii high) whole = whole_one first refl high
+by_first first (b ∷ rest) (ascii high) whole =
+    absurd (false≢true (sym (tests-ascii first high (b ∷ rest)).is_whole ∙ whole))
+by_first first rest (lone none) whole = absurd (false≢true (sym (tests-none first none rest).is_whole ∙ whole))
+by_first first rest (of_two low high) whole =
+    fit-two first rest low high (sym (tests-two first low high rest).is_whole ∙ whole)
+by_first first rest (of_three low high) whole =
+    fit-three first rest low high (sym (tests-three first low high rest).is_whole ∙ whole)
+by_first first rest (of_four low high) whole =
+    fit-four first rest low high (sym (tests-four first low high rest).is_whole ∙ whole)
 
 pub sequence : (bytes : List ℕ) → is_well_formed bytes ≡ true → Sequence bytes
 unfolding is_well_formed utf8_rows
@@ -98,7 +105,7 @@ scalar_of-in_range : (bytes : List ℕ) → is_well_formed bytes ≡ true → In
 scalar_of-in_range bytes whole = search (rules, arith, sequence, in_range-two, in_range-three, in_range-four)
 
 is_scalar : (c : ℕ) → InScalarRange c → IsScalar c
-is_scalar c i = search (rules, arith)
+is_scalar c in_range = search (rules, arith)
 
 pub well_formed_is_scalar : (bytes : List ℕ) → is_well_formed bytes ≡ true → IsScalar (scalar_of bytes)
 well_formed_is_scalar bytes well = is_scalar (scalar_of bytes) (scalar_of-in_range bytes well)

@@ -67,10 +67,10 @@ pub rows_after_bytes-none : (bytes : List ℕ) → rows_after_bytes bytes [] ≡
 rows_after_bytes-none [] = refl
 rows_after_bytes-none (b ∷ bytes) = rows_after_bytes-none bytes
 
-pub rows_after_bytes-append : (bytes v : List ℕ) (rows : List (List Range))
-    → rows_after_bytes (bytes ++ v) rows ≡ rows_after_bytes v (rows_after_bytes bytes rows)
-rows_after_bytes-append [] v rows = refl
-rows_after_bytes-append (b ∷ bytes) v rows = rows_after_bytes-append bytes v (rows_after_byte b rows)
+pub rows_after_bytes-append : (bytes more : List ℕ) (rows : List (List Range))
+    → rows_after_bytes (bytes ++ more) rows ≡ rows_after_bytes more (rows_after_bytes bytes rows)
+rows_after_bytes-append [] more rows = refl
+rows_after_bytes-append (b ∷ bytes) more rows = rows_after_bytes-append bytes more (rows_after_byte b rows)
 
 -- ---- the two tests of what is left
 
@@ -120,26 +120,26 @@ allowed_length-more : (rows : List (List Range)) (b : ℕ) (bytes : List ℕ) �
 allowed_length-more rows b bytes some = search (rules, arith)
 
 -- A sequence is allowed whole, and nothing after it.
-pub allowed_length-whole : (rows : List (List Range)) (bytes x : List ℕ) → AtMostOne rows
+pub allowed_length-whole : (rows : List (List Range)) (bytes following : List ℕ) → AtMostOne rows
     → some_whole (rows_after_bytes bytes rows) ≡ true
-    → allowed_length rows (bytes ++ x) ≡ length bytes
+    → allowed_length rows (bytes ++ following) ≡ length bytes
 allowed_length-whole rows [] [] one whole = refl
-allowed_length-whole [] [] (c ∷ x) one whole = refl
-allowed_length-whole ([] ∷ []) [] (c ∷ x) one whole = refl
-allowed_length-whole ((range ∷ ranges) ∷ []) [] (c ∷ x) one whole = cc
-allowed_length-whole (row ∷ next ∷ rows) [] (c ∷ x) one whole = absurd one
-allowed_length-whole rows (b ∷ bytes) x one whole =
-    allowed_length-more rows b (bytes ++ x) (some_left some_whole refl bytes _ whole)
-    ∙ ap suc (allowed_length-whole (rows_after_byte b rows) bytes x (AtMostOne-next b rows one) whole)
+allowed_length-whole [] [] (c ∷ following) one whole = refl
+allowed_length-whole ([] ∷ []) [] (c ∷ following) one whole = refl
+allowed_length-whole ((range ∷ ranges) ∷ []) [] (c ∷ following) one whole = cc
+allowed_length-whole (row ∷ next ∷ rows) [] (c ∷ following) one whole = absurd one
+allowed_length-whole rows (b ∷ bytes) following one whole =
+    allowed_length-more rows b (bytes ++ following) (some_left some_whole refl bytes _ whole)
+    ∙ ap suc (allowed_length-whole (rows_after_byte b rows) bytes following (AtMostOne-next b rows one) whole)
 
 -- A truncated sequence is allowed whole, and nothing after it that no row wants there.
-pub allowed_length-broken : (rows : List (List Range)) (bytes : List ℕ) (b : ℕ) (x : List ℕ)
+pub allowed_length-broken : (rows : List (List Range)) (bytes : List ℕ) (b : ℕ) (following : List ℕ)
     → some_open (rows_after_bytes bytes rows) ≡ true
-    → rows_after_byte b (rows_after_bytes bytes rows) ≡ [] → allowed_length rows (bytes ++ b ∷ x) ≡ length bytes
-allowed_length-broken rows [] b x more none = rw (none, allowed_length)
-allowed_length-broken rows (c ∷ bytes) b x more none =
-    allowed_length-more rows c (bytes ++ b ∷ x) (some_left some_open refl bytes _ more)
-    ∙ ap suc (allowed_length-broken (rows_after_byte c rows) bytes b x more none)
+    → rows_after_byte b (rows_after_bytes bytes rows) ≡ [] → allowed_length rows (bytes ++ b ∷ following) ≡ length bytes
+allowed_length-broken rows [] b following more none = rw (none, allowed_length)
+allowed_length-broken rows (c ∷ bytes) b following more none =
+    allowed_length-more rows c (bytes ++ b ∷ following) (some_left some_open refl bytes _ more)
+    ∙ ap suc (allowed_length-broken (rows_after_byte c rows) bytes b following more none)
 
 -- A truncated sequence at the end is allowed whole.
 pub allowed_length-end : (rows : List (List Range)) (bytes : List ℕ) → some_open (rows_after_bytes bytes rows) ≡ true
@@ -151,21 +151,22 @@ allowed_length-end rows (c ∷ bytes) more =
 
 -- ---- the range of a second byte, and the first bytes after which no row is left, by the nine rows
 
-pub second_plain : (a : ℕ) → a ≢ 0xe0 → a ≢ 0xed → a ≢ 0xf0 → a ≢ 0xf4 → second_range a ≡ from_to 0x80 0xbf
+pub second_plain : (first : ℕ) → first ≢ 0xe0 → first ≢ 0xed → first ≢ 0xf0 → first ≢ 0xf4
+    → second_range first ≡ from_to 0x80 0xbf
 unfolding second_range
-second_plain a e0 ed f0 f4 = grind (arith, nat_tests)
+second_plain first e0 ed f0 f4 = grind (arith, nat_tests)
 
 -- The range of a byte after the second.
 abbrev pub continuation : Range
 continuation = from_to 0x80 0xbf
 
-pub rows-lone : (a : ℕ) → 0x80 ≤ a → a < 0xc2 → rows_after_byte a utf8_rows ≡ []
+pub rows-lone : (first : ℕ) → 0x80 ≤ first → first < 0xc2 → rows_after_byte first utf8_rows ≡ []
 unfolding utf8_rows
-rows-lone a low high = grind (arith, nat_tests)
+rows-lone first low high = grind (arith, nat_tests)
 
-pub rows-none : (a : ℕ) → 0xf5 ≤ a → rows_after_byte a utf8_rows ≡ []
+pub rows-none : (first : ℕ) → 0xf5 ≤ first → rows_after_byte first utf8_rows ≡ []
 unfolding utf8_rows
-rows-none a low = grind (arith, nat_tests)
+rows-none first low = grind (arith, nat_tests)
 
 -- ---- the kinds of first bytes
 
@@ -176,19 +177,19 @@ pub data FirstByte (a : ℕ) : Type 0 where
   of_three : 0xe0 ≤ a → a < 0xf0 → FirstByte a
   of_four : 0xf0 ≤ a → a < 0xf5 → FirstByte a
 
-pub first_byte : (a : ℕ) → FirstByte a
-first_byte a =
-    elim (cases_lt a 0x80) [
+pub first_byte : (first : ℕ) → FirstByte first
+first_byte first =
+    elim (cases_lt first 0x80) [
       | inl below ↦ ascii below
-      | inr from_80 ↦ elim (cases_lt a 0xc2) [
-        | inl below ↦ lone (rows-lone a from_80 below)
-        | inr from_c2 ↦ elim (cases_lt a 0xe0) [
+      | inr from_80 ↦ elim (cases_lt first 0xc2) [
+        | inl below ↦ lone (rows-lone first from_80 below)
+        | inr from_c2 ↦ elim (cases_lt first 0xe0) [
           | inl below ↦ of_two from_c2 below
-          | inr from_e0 ↦ elim (cases_lt a 0xf0) [
+          | inr from_e0 ↦ elim (cases_lt first 0xf0) [
             | inl below ↦ of_three from_e0 below
-            | inr from_f0 ↦ elim (cases_lt a 0xf5) [
+            | inr from_f0 ↦ elim (cases_lt first 0xf5) [
               | inl below ↦ of_four from_f0 below
-              | inr from_f5 ↦ lone (rows-none a from_f5)
+              | inr from_f5 ↦ lone (rows-none first from_f5)
             ]
           ]
         ]
@@ -215,8 +216,8 @@ some_whole-row : (ranges : List Range) (bytes : List ℕ)
 some_whole-row [] [] = refl
 some_whole-row [] (b ∷ bytes) = ap some_whole (rows_after_bytes-none bytes)
 some_whole-row (range ∷ ranges) [] = refl
-some_whole-row (range ∷ ranges) (b ∷ bytes) = search (rules, arith,
-    (some_whole-row ranges bytes), rows_after_bytes-none)
+some_whole-row (range ∷ ranges) (b ∷ bytes) =
+    search (rules, arith, (some_whole-row ranges bytes), rows_after_bytes-none)
 
 some_open-row : (ranges : List Range) (bytes : List ℕ)
     → some_open (rows_after_bytes bytes (ranges ∷ [])) ≡ fits_prefix ranges bytes
@@ -230,43 +231,44 @@ pub record Tests (bytes : List ℕ) (whole more : Bool) : Type 0 where
   pub is_whole : is_well_formed bytes ≡ whole
   pub is_open : is_truncated bytes ≡ more
 
-pub tests-row : (a : ℕ) (ranges : List Range) → rows_after_byte a utf8_rows ≡ ranges ∷ [] → (rest : List ℕ)
-    → Tests (a ∷ rest) (fits ranges rest) (fits_prefix ranges rest)
+pub tests-row : (first : ℕ) (ranges : List Range) → rows_after_byte first utf8_rows ≡ ranges ∷ [] → (rest : List ℕ)
+    → Tests (first ∷ rest) (fits ranges rest) (fits_prefix ranges rest)
 unfolding is_well_formed is_truncated
-tests-row a ranges same rest = search (rules, arith, some_whole-row, some_open-row)
+tests-row first ranges same rest = search (rules, arith, some_whole-row, some_open-row)
 
-pub tests-none : (a : ℕ) → rows_after_byte a utf8_rows ≡ [] → (rest : List ℕ) → Tests (a ∷ rest) false false
+pub tests-none : (first : ℕ) → rows_after_byte first utf8_rows ≡ [] → (rest : List ℕ) → Tests (first ∷ rest) false false
 unfolding is_well_formed is_truncated
-tests-none a none rest = search (rules, arith, rows_after_bytes-none)
+tests-none first none rest = search (rules, arith, rows_after_bytes-none)
 
-pub tests-ascii : (a : ℕ) → a < 0x80 → (rest : List ℕ) → Tests (a ∷ rest) (fits [] rest) false
+pub tests-ascii : (first : ℕ) → first < 0x80 → (rest : List ℕ) → Tests (first ∷ rest) (fits [] rest) false
 unfolding utf8_rows
-tests-ascii a high rest = tests-row a [] (grind (arith, nat_tests)) rest
+tests-ascii first high rest = tests-row first [] (grind (arith, nat_tests)) rest
 
-pub tests-two : (a : ℕ) → 0xc2 ≤ a → a < 0xe0 → (rest : List ℕ)
-    → Tests (a ∷ rest) (fits (second_range a ∷ []) rest) (fits_prefix (second_range a ∷ []) rest)
+pub tests-two : (first : ℕ) → 0xc2 ≤ first → first < 0xe0 → (rest : List ℕ)
+    → Tests (first ∷ rest) (fits (second_range first ∷ []) rest) (fits_prefix (second_range first ∷ []) rest)
 unfolding utf8_rows second_range
-tests-two a low high rest = tests-row a (second_range a ∷ []) (grind (arith, nat_tests)) rest
+tests-two first low high rest = tests-row first (second_range first ∷ []) (grind (arith, nat_tests)) rest
 
-pub tests-three : (a : ℕ) → 0xe0 ≤ a → a < 0xf0 → (rest : List ℕ)
-    → Tests (a ∷ rest) (fits (second_range a ∷ continuation ∷ []) rest)
-    (fits_prefix (second_range a ∷ continuation ∷ []) rest)
+pub tests-three : (first : ℕ) → 0xe0 ≤ first → first < 0xf0 → (rest : List ℕ)
+    → Tests (first ∷ rest) (fits (second_range first ∷ continuation ∷ []) rest)
+    (fits_prefix (second_range first ∷ continuation ∷ []) rest)
 unfolding utf8_rows second_range
-tests-three a low high rest = tests-row a (second_range a ∷ continuation ∷ []) (grind (arith, nat_tests)) rest
+tests-three first low high rest =
+    tests-row first (second_range first ∷ continuation ∷ []) (grind (arith, nat_tests)) rest
 
-pub tests-four : (a : ℕ) → 0xf0 ≤ a → a < 0xf5 → (rest : List ℕ)
-    → Tests (a ∷ rest) (fits (second_range a ∷ continuation ∷ continuation ∷ []) rest)
-    (fits_prefix (second_range a ∷ continuation ∷ continuation ∷ []) rest)
+pub tests-four : (first : ℕ) → 0xf0 ≤ first → first < 0xf5 → (rest : List ℕ)
+    → Tests (first ∷ rest) (fits (second_range first ∷ continuation ∷ continuation ∷ []) rest)
+    (fits_prefix (second_range first ∷ continuation ∷ continuation ∷ []) rest)
 unfolding utf8_rows second_range
-tests-four a low high rest = tests-row a (second_range a ∷ continuation ∷ continuation ∷ [])
-    (grind (arith, nat_tests)) rest
+tests-four first low high rest =
+    tests-row first (second_range first ∷ continuation ∷ continuation ∷ []) (grind (arith, nat_tests)) rest
 
 -- ---- the bytes of a truncated sequence, up to three
 
-pub truncated-first : (a : ℕ) (rest : List ℕ) → is_truncated (a ∷ rest) ≡ true → (0xc2 ≤ a) × (a < 0xf5)
-truncated-first a rest more = elim (first_byte a) [
-  | ascii high ↦ absurd (false≢true (sym (tests-ascii a high rest).is_open ∙ more))
-  | lone none ↦ absurd (false≢true (sym (tests-none a none rest).is_open ∙ more))
+pub truncated-first : (first : ℕ) (rest : List ℕ) → is_truncated (first ∷ rest) ≡ true → (0xc2 ≤ first) × (first < 0xf5)
+truncated-first first rest more = elim (first_byte first) [
+  | ascii high ↦ absurd (false≢true (sym (tests-ascii first high rest).is_open ∙ more))
+  | lone none ↦ absurd (false≢true (sym (tests-none first none rest).is_open ∙ more))
   | of_two low high ↦ (low, omega arith)
   | of_three low high ↦ (omega arith, omega arith)
   | of_four low high ↦ (omega arith, high)
@@ -311,18 +313,18 @@ fits_prefix-long (range ∷ ranges) [] long = absurd (omega (arith, long))
 fits_prefix-long (range ∷ ranges) (b ∷ bytes) long = and_right _ _ (fits_prefix-long ranges bytes (omega (arith, long)))
 
 -- No sequence of four bytes or more is truncated.
-pub truncated-long : (a : ℕ) (rest : List ℕ) → 3 ≤ length rest → is_truncated (a ∷ rest) ≡ false
-truncated-long a rest long = elim (first_byte a) [
-  | ascii high ↦ (tests-ascii a high rest).is_open
-  | lone none ↦ (tests-none a none rest).is_open
-  | of_two low high ↦ (tests-two a low high rest).is_open ∙ fits_prefix-long (second_range a ∷ []) rest
-  (omega (arith, long))
+pub truncated-long : (first : ℕ) (rest : List ℕ) → 3 ≤ length rest → is_truncated (first ∷ rest) ≡ false
+truncated-long first rest long = elim (first_byte first) [
+  | ascii high ↦ (tests-ascii first high rest).is_open
+  | lone none ↦ (tests-none first none rest).is_open
+  | of_two low high ↦
+      (tests-two first low high rest).is_open ∙ fits_prefix-long (second_range first ∷ []) rest (omega (arith, long))
   | of_three low high ↦
-      (tests-three a low high rest).is_open ∙ fits_prefix-long (second_range a ∷ continuation ∷ []) rest
-      (omega (arith, long))
+      (tests-three first low high rest).is_open
+      ∙ fits_prefix-long (second_range first ∷ continuation ∷ []) rest (omega (arith, long))
   | of_four low high ↦
-      (tests-four a low high rest).is_open ∙ fits_prefix-long
-      (second_range a ∷ continuation ∷ continuation ∷ []) rest long
+      (tests-four first low high rest).is_open
+      ∙ fits_prefix-long (second_range first ∷ continuation ∷ continuation ∷ []) rest long
 ]
 
 ascii_after-one : (a b : ℕ) → b < 0x80 → Tests (a ∷ b ∷ []) false false

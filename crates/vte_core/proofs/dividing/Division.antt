@@ -111,8 +111,8 @@ segments_after-drop (suc skip) (b ∷ bytes) = segments_after-drop skip bytes
 -- A prefix of the bytes is what `take` gives for its length.
 prefix_of : (prefix rest bytes : List ℕ) → prefix ++ rest ≡ bytes
     → (prefix ≡ take (length prefix) bytes) × (length prefix ≤ length bytes)
-prefix_of prefix rest bytes same = rw (← same) (sym (take-append_seam prefix rest), omega
-    (arith, length-append prefix rest))
+prefix_of prefix rest bytes same =
+    rw (← same) (sym (take-append_seam prefix rest), omega (arith, length-append prefix rest))
 
 whole_is_segment : (b : ℕ) (bytes : List ℕ) → IsDividedRight b bytes → (prefix rest : List ℕ)
     → prefix ++ rest ≡ b ∷ bytes → is_well_formed prefix ≡ true → prefix ≡ b ∷ take (trailing_count b bytes) bytes

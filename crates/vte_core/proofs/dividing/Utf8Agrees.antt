@@ -60,8 +60,8 @@ scalar_of-encoded c is = search (rules, arith)
 segments-well_formed : (bytes following : List ℕ) → is_well_formed bytes ≡ true
     → segments (bytes ++ following) ≡ bytes ∷ segments following
 segments-well_formed [] following well = absurd (false≢true (sym not_well_formed-nothing ∙ well))
-segments-well_formed (a ∷ bytes) following well = segments-first a bytes following
-    (trailing_count-whole a bytes following well)
+segments-well_formed (a ∷ bytes) following well =
+    segments-first a bytes following (trailing_count-whole a bytes following well)
 
 segments-encodes : (characters : List ℕ) → scalars characters ≡ true
     → segments (encodes characters) ≡ map encode characters
@@ -179,8 +179,8 @@ run-of : {layout : Bool} (bytes : List ℕ) (from b : ℕ) (rest : List ℕ) →
 run-of {layout} bytes from b rest within is at low plain whole =
     let same : take (suc (length rest)) (drop from bytes) ≡ b ∷ rest =
     ap (take (suc (length rest))) (drop_more bytes from 0 within)
-    ∙ ap (λ c. c ∷ take (length rest) (drop (from + 1) bytes)) (sym is) ∙ ap (λ x. b ∷ x)
-    (stand-take bytes from 1 rest at) in
+    ∙ ap (λ c. c ∷ take (length rest) (drop (from + 1) bytes)) (sym is)
+    ∙ ap (λ x. b ∷ x) (stand-take bytes from 1 rest at) in
     subst (λ n. IsUtf8Run layout (take n (drop from bytes)))
     (let e : suc (length rest) ≡ from + suc (length rest) - from = omega arith in e)
     (subst (IsUtf8Run layout) (sym same) (utf8_run-character low plain whole))

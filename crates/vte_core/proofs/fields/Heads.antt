@@ -22,8 +22,8 @@ counts-numbers collected text counts =
 counts-held : (collected : Collected) (text : List ℕ) (counts : CountsNumbers collected text)
     → count_of collected.params ≡ min 32 (length counts.prefix)
 counts-held collected text counts =
-    ap count_of counts.params ∙ count_of-grouped (take max_numbers counts.prefix) ∙ length-take max_numbers
-    counts.prefix
+    ap count_of counts.params ∙ count_of-grouped (take max_numbers counts.prefix)
+    ∙ length-take max_numbers counts.prefix
 
 -- If there is no room for the last number, the text has too many numbers.
 pub settles-full : {collected : Collected} {text : List ℕ} → CountsNumbers collected text
@@ -50,8 +50,8 @@ settles-push {old} {text} counts room pushed =
     let c = counts-held old text counts in
     let last = numbered old.joined old.number in
     let n : length (counts.prefix ++ last ∷ []) ≡ length counts.prefix + 1 = length-append counts.prefix (last ∷ []) in
-    let before : old.params ≡ grouped counts.prefix = counts.params ∙ ap grouped
-    (take_all max_numbers counts.prefix (omega arith)) in
+    let before : old.params ≡ grouped counts.prefix =
+    counts.params ∙ ap grouped (take_all max_numbers counts.prefix (omega arith)) in
     let all : take max_numbers (numbers text) ≡ counts.prefix ++ last ∷ [] =
     rw (counts-numbers old text counts) (take_all max_numbers (counts.prefix ++ last ∷ []) (omega arith)) in
     record {
@@ -120,8 +120,8 @@ holds-intermediate b holds is_class same_numbers more = record {
   shape = rw holds.shape (simp append_assoc);
   is_marker = holds.is_marker;
   are_parameters = holds.are_parameters;
-  are_intermediates = AreInClass-append is_intermediate holds.intermediates (b ∷ []) holds.are_intermediates
-  (rw is_class refl, tt);
+  are_intermediates =
+      AreInClass-append is_intermediate holds.intermediates (b ∷ []) holds.are_intermediates (rw is_class refl, tt);
   reaches = omega (arith, length-append {A = ℕ});
   holds = rw append_assoc at (more (holds.marker ++ holds.intermediates) holds.holds);
   counts = CountsNumbers-kept same_numbers holds.counts;
@@ -176,10 +176,12 @@ pub holds-parameter : {old new : Collected} {progress : HeadProgress} (head : Li
     → is_parameter_text (class_of b) ≡ true → SameIntermediates old new
     → ((text : List ℕ) → CountsNumbers old text → CountsNumbers new (text ++ b ∷ []))
     → HoldsHead new Parameters (head ++ b ∷ [])
-holds-parameter {old} head b (inl e) has_read is same_intermediates more = search (rules, arith, after_no_intermediate)
-holds-parameter {old} head b (inr e) has_read is same_intermediates more =
+holds-parameter {old} head b (inl at_entry) has_read is same_intermediates more =
+    search (rules, arith, after_no_intermediate)
+holds-parameter {old} head b (inr at_parameters) has_read is same_intermediates more =
     let holds : HoldsHead old Parameters head =
-    rw e at has_read in after_no_intermediate Parameters head b holds holds.reaches.1 is same_intermediates more
+    rw at_parameters at has_read in after_no_intermediate Parameters head b holds holds.reaches.1 is same_intermediates
+    more
 
 -- A marker after a marker or a parameter makes the head ill-shaped for good.
 ill_shaped-marker : (old : Collected) (head : List ℕ) (b : ℕ) → HoldsHead old Parameters head → class_of b ≡ Marker
@@ -233,7 +235,7 @@ pub ill_shaped-late : (old : Collected) (progress : HeadProgress) (head : List �
     → is_intermediate (class_of b) ≡ false
     → ((progress ≡ Entry) ⊎ (progress ≡ Parameters) → is_parameter_text (class_of b) ≡ false)
     → (progress ≡ Entry → ⊥) → StaysIllShaped (head ++ b ∷ [])
-ill_shaped-late old progress head b has_read is_head no_intermediate p no_entry =
+ill_shaped-late old progress head b has_read is_head no_intermediate no_parameter no_entry =
     grind (arith, nat_tests, ill_shaped-marker, left_is_marker, ill_shaped-after_intermediate, ill_shaped-more)
 
 -- At the end of a head, the call has the event of the sequence.

@@ -274,8 +274,8 @@ count_of-with_number groups number = count_of-with_numbered groups number.joined
 count_of-fold : (groups : List (List ℕ)) (numbers : List Number)
     → count_of (fold with_number groups numbers) ≡ count_of groups + length numbers
 count_of-fold groups [] = omega arith
-count_of-fold groups (number ∷ numbers) = omega (arith, count_of-fold
-    (with_number groups number) numbers, count_of-with_number groups number)
+count_of-fold groups (number ∷ numbers) =
+    omega (arith, count_of-fold (with_number groups number) numbers, count_of-with_number groups number)
 
 pub count_of-grouped : (numbers : List Number) → count_of (grouped numbers) ≡ length numbers
 count_of-grouped numbers = omega (arith, count_of-fold [] numbers)
@@ -288,22 +288,23 @@ record Keeps (Q : List ℕ → Type 0) (R : ℕ → Type 0) : Type 0 where
 All-with_numbered : {Q : List ℕ → Type 0} {R : ℕ → Type 0} (keeps : Keeps Q R) (groups : List (List ℕ))
     (joined : Bool) (value : ℕ)
     → R value → All Q groups → All Q (with_number groups (numbered joined value))
-All-with_numbered {Q} keeps [] joined value r all = All-cons Q (value ∷ []) [] (keeps.begins value r) (All-nil Q)
-All-with_numbered {Q} keeps (group ∷ []) true value r all =
-    All-cons Q (group ++ value ∷ []) [] (keeps.joins group value r (All-head Q group [] all)) (All-nil Q)
-All-with_numbered {Q} keeps (group ∷ []) false value r all =
-    All-push Q (group ∷ []) (value ∷ []) all (keeps.begins value r)
-All-with_numbered {Q} keeps (group ∷ next ∷ groups) joined value r all =
+All-with_numbered {Q} keeps [] joined value holds all =
+    All-cons Q (value ∷ []) [] (keeps.begins value holds) (All-nil Q)
+All-with_numbered {Q} keeps (group ∷ []) true value holds all =
+    All-cons Q (group ++ value ∷ []) [] (keeps.joins group value holds (All-head Q group [] all)) (All-nil Q)
+All-with_numbered {Q} keeps (group ∷ []) false value holds all =
+    All-push Q (group ∷ []) (value ∷ []) all (keeps.begins value holds)
+All-with_numbered {Q} keeps (group ∷ next ∷ groups) joined value holds all =
     All-cons Q group (with_number (next ∷ groups) (numbered joined value)) (All-head Q group (next ∷ groups) all)
-    (All-with_numbered keeps (next ∷ groups) joined value r (All-tail Q group (next ∷ groups) all))
+    (All-with_numbered keeps (next ∷ groups) joined value holds (All-tail Q group (next ∷ groups) all))
 
 All-fold : {Q : List ℕ → Type 0} {R : ℕ → Type 0} (keeps : Keeps Q R) (groups : List (List ℕ)) (numbers : List Number)
     → All (λ n. R n.value) numbers → All Q groups → All Q (fold with_number groups numbers)
-All-fold keeps groups [] rs all = all
-All-fold {Q} {R} keeps groups (number ∷ numbers) rs all =
-    All-fold keeps (with_number groups number) numbers (All-tail (λ (m : Number). R m.value) number numbers rs)
+All-fold keeps groups [] have all = all
+All-fold {Q} {R} keeps groups (number ∷ numbers) have all =
+    All-fold keeps (with_number groups number) numbers (All-tail (λ (m : Number). R m.value) number numbers have)
     (All-with_numbered keeps groups number.joined number.value
-    (All-head (λ (m : Number). R m.value) number numbers rs) all)
+    (All-head (λ (m : Number). R m.value) number numbers have) all)
 
 any_group : (groups : List (List ℕ)) → 0 < count_of groups → 0 < length groups
 any_group [] some = some

@@ -101,15 +101,15 @@ onto_first_size : (n b : ℕ) (pieces : List (List ℕ))
     → first_pieces_size (suc n) (onto_first b pieces) ≡ first_pieces_size (suc n) pieces + 1
 onto_first_size n b pieces = search (rules, arith)
 
-split_push : (n : ℕ) (p : ℕ → Bool) (items : List ℕ) (item : ℕ)
-    → first_pieces_size n (slice_split p (items ++ item ∷ [])) ≤ first_pieces_size n (slice_split p items) + 1
-split_push zero p items item = omega arith
-split_push (suc n) p [] item = elim (cases_Bool (p item)) [
+split_push : (n : ℕ) (splits : ℕ → Bool) (items : List ℕ) (item : ℕ)
+    → first_pieces_size n (slice_split splits (items ++ item ∷ [])) ≤ first_pieces_size n (slice_split splits items) + 1
+split_push zero splits items item = omega arith
+split_push (suc n) splits [] item = elim (cases_Bool (splits item)) [
   | inl cuts ↦ rw cuts (grind (arith, common_steps))
   | inr joins ↦ rw joins (grind (arith, common_steps))
 ]
-split_push (suc n) p (b ∷ items) item =
-    search (rules, arith, (split_push (suc n) p items item), (split_push n p items item), onto_first_size)
+split_push (suc n) splits (b ∷ items) item =
+    search (rules, arith, (split_push (suc n) splits items item), (split_push n splits items item), onto_first_size)
 
 kept-all : (items : List ℕ) (count : ℕ) → kept_after None count items ≡ items
 kept-all [] count = refl

@@ -121,8 +121,8 @@ place_of_state-same limit (ControlSequence progress) old new (InControlSequence 
 place_of_state-same limit (DeviceControl progress) old new (InDeviceControl read) ints head items fields =
     subst (λ collected. HasReadHead collected progress read) (head tt tt) fields
 place_of_state-same limit DeviceData old new InDeviceData ints head items fields = tt
-place_of_state-same limit SystemCommand old new (InSystemCommand command) ints head items fields = keeps-same
-    (items refl) fields
+place_of_state-same limit SystemCommand old new (InSystemCommand command) ints head items fields =
+    keeps-same (items refl) fields
 place_of_state-same limit IgnoredString old new InIgnoredString ints head items fields = tt
 place_of_state-same limit _ old new _ ints head items fields = absurd fields
 

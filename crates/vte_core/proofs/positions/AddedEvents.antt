@@ -31,8 +31,11 @@ progress-recorded : {V : Type 0} {call : ChunkCall V} {old value : V} {stream : 
     {read : List ℕ} {place : Place} → HasProgress call old value stream i given read place
     → HasProgress (keeping call.limit call.bytes) [] given stream i given read place
 progress-recorded {given} progress =
-    record { performed = sym (after-keep [] given); is_after = progress.is_after; earlier = λ does. absurd
-    (false≢true does) }
+    record {
+      performed = sym (after-keep [] given);
+      is_after = progress.is_after;
+      earlier = λ does. absurd (false≢true does);
+    }
 
 recorded-is : {limit : Option ℕ} {stream bytes : List ℕ} {i : ℕ} {value given : List Event} {read : List ℕ}
     {place : Place} → HasProgress (keeping limit bytes) [] value stream i given read place → value ≡ given
@@ -42,14 +45,21 @@ module _ {V B : Type 0} {call : ChunkCall V} {old value : V} {stream : List ℕ}
   pub recorded-at : IsAtPosition call old value stream i parser
       → IsAtPosition (keeping call.limit call.bytes) [] (reported_before call.limit stream call.bytes i) stream i parser
   recorded-at position =
-      record { place = position.place; is_at = position.is_at; settled = position.settled; progress = progress-recorded
-      position.progress }
+      record {
+        place = position.place;
+        is_at = position.is_at;
+        settled = position.settled;
+        progress = progress-recorded position.progress;
+      }
 
   pub recorded-inside : IsInsidePosition call old value stream i parser
       → IsInsidePosition (keeping call.limit call.bytes) []
       (added call.limit stream (take i call.bytes)) stream i parser
-  recorded-inside inside = record { place = inside.place; is_at = inside.is_at; progress = progress-recorded
-      inside.progress }
+  recorded-inside inside = record {
+    place = inside.place;
+    is_at = inside.is_at;
+    progress = progress-recorded inside.progress;
+  }
 
 pub reported-at : {B : Type 0} {value : List Event} {limit : Option ℕ} {stream bytes : List ℕ} {i : ℕ}
     {parser : Machine B} → IsAtPosition (keeping limit bytes) [] value stream i parser

@@ -67,8 +67,8 @@ module _ {V B : Type 0} {step : V → Event → V} {old new : V} {limit : Option
   takes_bytes-single begun is_no_escape no_lead control malformed = elim (cases_lt b 0x80) [
     | inl low ↦ takes_bytes-whole begun is_no_escape (ascii-alone b low).is_whole (control low)
     | inr high ↦
-        let lone = begins_none b high no_lead in takes_bytes-lone begun is_no_escape lone.is_whole lone.is_open
-        (malformed high)
+        let lone =
+        begins_none b high no_lead in takes_bytes-lone begun is_no_escape lone.is_whole lone.is_open (malformed high)
   ]
 
 -- A byte that begins a longer character reports nothing, and opens it.
@@ -165,23 +165,23 @@ advances-first {call} {i} {first} {parser} may_read lead fits completes = record
   goes_on = λ value stream position.
       completes.is_at_position value stream (in_text parser (One first)) refl
       (reads-byte_at may_read.within may_read.looked_at may_read.may_go_on
-      (takes_bytes-opened may_read.begun (λ e. omega (arith, e, lead)) (refl, first_truncated first lead fits) refl)
-      position);
+      (takes_bytes-opened may_read.begun (λ is_escape. omega (arith, is_escape, lead))
+      (refl, first_truncated first lead fits) refl) position);
   -- If bytes are left, the parser is between characters again.
   settled = λ within. settled-same_state (completes.text within) tt;
   -- It remains to show that what the whole character reports is outside runs.
-  outside_runs = λ given value stream s.
+  outside_runs = λ given value stream position.
       -- After the first byte, the call is inside the character.
       let inside =
       reads-byte_at may_read.within may_read.looked_at may_read.may_go_on
-      (takes_bytes-opened may_read.begun (λ e. omega (arith, e, lead)) (refl, first_truncated first lead fits) refl) s
-      in
+      (takes_bytes-opened may_read.begun (λ is_escape. omega (arith, is_escape, lead))
+      (refl, first_truncated first lead fits) refl) position in
       -- For a performer that keeps all events (`recorded-at`), the same says that the first byte reported nothing.
       let silent = reads-byte_at {call = keeping call.limit call.bytes} may_read.within may_read.looked_at
       (λ does. absurd (false≢true does))
-      (takes_bytes-opened {step = keep} may_read.begun (λ e. omega (arith, e, lead))
+      (takes_bytes-opened {step = keep} may_read.begun (λ is_escape. omega (arith, is_escape, lead))
       (refl, first_truncated first lead fits) refl)
-      (recorded-at s) in
+      (recorded-at position) in
       -- So what the character reports is what `completes` adds.
       let reported = completes.adds value stream (in_text parser (One first)) refl inside in
       -- Either this is outside runs by itself, or it is a whole character.

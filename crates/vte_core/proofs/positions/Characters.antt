@@ -28,9 +28,9 @@ is_at-in_text begun same more = is_at-by begun (same, more)
 abbrev pub in_text : {B : Type 0} → Machine B → Unfinished → Machine B
 in_text parser unfinished = record { state = Text unfinished; collected = parser.collected; command = parser.command }
 
-record AtText (u : Unfinished) (place : Place) : Type 0 where
-  same : place ≡ InText (bytes_of u)
-  begun : may_continue (bytes_of u) ≡ true
+record AtText (unfinished : Unfinished) (place : Place) : Type 0 where
+  same : place ≡ InText (bytes_of unfinished)
+  begun : may_continue (bytes_of unfinished) ≡ true
 
 text-by_place : {B : Type 0} (limit : Option ℕ) (parser : Machine B) {unfinished : Unfinished} {place : Place}
     → IsPlaceOfState limit (Text unfinished) parser place → AtText unfinished place
@@ -58,8 +58,8 @@ module _ {V B : Type 0} {call : ChunkCall V} {old mid : V} {stream : List ℕ} w
       → IsInsidePosition call old mid stream (i + 1) next
   carried-more {i} {b} {unfinished} {longer} {parser} {next} begun opened carries state inside within is =
       let at_text = text-by_place call.limit parser (is_at-in begun inside.is_at) in
-      let more : is_truncated (bytes_of unfinished ++ b ∷ []) ≡ true = subst
-      (λ x. is_truncated x ≡ true) carries.0 carries.1 in
+      let more : is_truncated (bytes_of unfinished ++ b ∷ []) ≡ true =
+      subst (λ x. is_truncated x ≡ true) carries.0 carries.1 in
       record {
         place = InText (bytes_of unfinished ++ b ∷ []);
         is_at =
@@ -114,8 +114,9 @@ module _ {V B : Type 0} {call : ChunkCall V} {old mid : V} {stream : List ℕ} w
         place = InText [];
         is_at = is_at-in_text state refl refl;
         settled = λ _. refl;
-        progress = progress-broken at_text.begun within is (breaks-broken
-        (bytes_of unfinished) b opened carries.0 carries.1) performed
+        progress =
+            progress-broken at_text.begun within is
+            (breaks-broken (bytes_of unfinished) b opened carries.0 carries.1) performed
             (subst (ProgressInside call old mid stream i) at_text.same inside.progress);
       }
 
@@ -142,21 +143,23 @@ character-byte bytes i n begun {j} {opened} within far is are =
     ∙ character-bytes bytes i j n 1 begun far are
 
 -- From position i, inside a character of the bytes `begun`, a call has come to position j, inside a character of the
--- bytes `u`, and reported nothing.
-pub record GoesOn {V B : Type 0} (call : ChunkCall V) (value : V) (i j : ℕ) (begun u : Unfinished)
+-- bytes `unfinished`, and reported nothing.
+pub record GoesOn {V B : Type 0} (call : ChunkCall V) (value : V) (i j : ℕ) (begun unfinished : Unfinished)
     (next : Machine B) : Type 0 where
   pub inside : (old : V) (stream : List ℕ) (parser : Machine B) → parser.state ≡ Text begun
-      → IsInsidePosition call old value stream i parser → IsInsidePosition call old value stream j (in_text next u)
+      → IsInsidePosition call old value stream i parser
+      → IsInsidePosition call old value stream j (in_text next unfinished)
   -- The same holds for a performer that keeps all events.
   pub kept : (stream : List ℕ) (parser : Machine B) → parser.state ≡ Text begun
       → IsInsidePosition (keeping call.limit call.bytes) []
       (added call.limit stream (take i call.bytes)) stream i parser
       → IsInsidePosition (keeping call.limit call.bytes) [] (added call.limit stream (take i call.bytes)) stream j
-      (in_text next u)
-  pub more : may_continue (bytes_of begun) ≡ true → is_truncated (bytes_of u) ≡ true
+      (in_text next unfinished)
+  pub more : may_continue (bytes_of begun) ≡ true → is_truncated (bytes_of unfinished) ≡ true
   pub n : ℕ
   pub far : j ≡ i + n
-  pub bytes_are : may_continue (bytes_of begun) ≡ true → bytes_of u ≡ bytes_of begun ++ take n (drop i call.bytes)
+  pub bytes_are : may_continue (bytes_of begun) ≡ true
+      → bytes_of unfinished ≡ bytes_of begun ++ take n (drop i call.bytes)
 
 module _ {V B : Type 0} {call : ChunkCall V} {value : V} {i : ℕ} {begun : Unfinished} where
   pub goes-nowhere : (next : Machine B) → bytes_of begun ≢ [] → GoesOn call value i i begun begun next
@@ -168,10 +171,10 @@ module _ {V B : Type 0} {call : ChunkCall V} {value : V} {i : ℕ} {begun : Unfi
       → j < length call.bytes
       → b ≡ slice_index call.bytes j → GoesOn call value i (j + 1) begun longer next
   goes-more goes carries within is = record {
-    inside = λ old stream parser begun inside. let more = goes.more (inside-open begun inside) in
-        carried-more refl more (carries more) refl (goes.inside old stream parser begun inside) within is;
-    kept = λ stream parser begun inside. let more = goes.more (inside-open begun inside) in
-        carried-more refl more (carries more) refl (goes.kept stream parser begun inside) within is;
+    inside = λ old stream parser is_text inside. let more = goes.more (inside-open is_text inside) in
+        carried-more refl more (carries more) refl (goes.inside old stream parser is_text inside) within is;
+    kept = λ stream parser is_text inside. let more = goes.more (inside-open is_text inside) in
+        carried-more refl more (carries more) refl (goes.kept stream parser is_text inside) within is;
     more = λ opened. (carries (goes.more opened)).1;
     n = goes.n + 1;
     far = omega (arith, goes.far);
@@ -185,13 +188,15 @@ module _ {V B : Type 0} {call : ChunkCall V} {value : V} {i : ℕ} {begun : Unfi
       → GoesOn call value i j begun unfinished next → j ≡ k
       → length call.bytes ≤ k → Completes call value value i k begun (in_text next unfinished)
   completes-all goes end all = record {
-    is_at_position = λ old stream parser begun inside. inside-all
-    (inside-moved end (goes.inside old stream parser begun inside)) all;
+    is_at_position =
+        λ old stream parser is_text inside. inside-all
+        (inside-moved end (goes.inside old stream parser is_text inside)) all;
     text = λ within. absurd (omega arith);
-    adds = λ old stream parser begun inside. record {
+    adds = λ old stream parser is_text inside. record {
       events = [];
       parts =
-          sym (reported-at (inside-all (inside-moved end (goes.kept stream parser begun (recorded-inside inside))) all))
+          sym (reported-at
+          (inside-all (inside-moved end (goes.kept stream parser is_text (recorded-inside inside))) all))
           ∙ sym (append-nil (added call.limit stream (take i call.bytes)));
       events_are = inl (All-nil IsOutsideRuns);
     };
@@ -204,9 +209,9 @@ module _ {V B : Type 0} {call : ChunkCall V} {value : V} {i : ℕ} {begun : Unfi
       → next.state ≡ Text Nothing → new ≡ call.step value (character_event scalar) → j < length call.bytes
       → b ≡ slice_index call.bytes j → k ≡ j + 1 → Completes call value new i k begun next
   completes-whole {scalar} {unfinished} {next} goes carries state performed within is later = record {
-    is_at_position = λ old stream parser begun inside. let more = goes.more (inside-open begun inside) in
+    is_at_position = λ old stream parser is_text inside. let more = goes.more (inside-open is_text inside) in
         carried-whole refl more (carries more) state performed
-        (goes.inside old stream parser begun inside) within is later;
+        (goes.inside old stream parser is_text inside) within is later;
     text = λ _. state;
     adds = λ old stream parser is_text inside.
         let opened = inside-open is_text inside in
@@ -224,8 +229,8 @@ module _ {V B : Type 0} {call : ChunkCall V} {value : V} {i : ℕ} {begun : Unfi
             in_bytes = omega (arith, goes.far, within);
             well_formed = subst (λ (x : List ℕ). is_well_formed x ≡ true) same whole.0;
             several_bytes =
-                subst (λ (x : List ℕ). 1 < length x) same (length-longer _ _
-                (truncated-some (bytes_of unfinished) more));
+                subst (λ (x : List ℕ). 1 < length x) same
+                (length-longer _ _ (truncated-some (bytes_of unfinished) more));
             event_is = ap (λ n. character_event n ∷ []) (whole.1 ∙ ap scalar_of same);
           });
         };
@@ -238,17 +243,18 @@ module _ {V B : Type 0} {call : ChunkCall V} {value : V} {i : ℕ} {begun : Unfi
       → next.state ≡ Text Nothing → new ≡ call.step value (Print replacement) → j < length call.bytes
       → b ≡ slice_index call.bytes j → Completes call value new i j begun next
   completes-broken {next} goes carries state performed within is = record {
-    is_at_position = λ old stream parser begun inside. let more = goes.more (inside-open begun inside) in
-        carried-broken refl more (carries more) state performed (goes.inside old stream parser begun inside) within is;
+    is_at_position = λ old stream parser is_text inside. let more = goes.more (inside-open is_text inside) in
+        carried-broken refl more (carries more) state performed
+        (goes.inside old stream parser is_text inside) within is;
     text = λ _. state;
-    adds = λ old stream parser begun inside.
-        let more = goes.more (inside-open begun inside) in
+    adds = λ old stream parser is_text inside.
+        let more = goes.more (inside-open is_text inside) in
         record {
           events = Print replacement ∷ [];
           parts =
               sym (reported-at
               (carried-broken {next = next} refl more (carries more) state refl
-              (goes.kept stream parser begun (recorded-inside inside)) within is));
+              (goes.kept stream parser is_text (recorded-inside inside)) within is));
           events_are = inl (All-cons IsOutsideRuns (Print replacement) [] refl (All-nil IsOutsideRuns));
         };
   }
@@ -264,7 +270,8 @@ module _ {V B : Type 0} {call : ChunkCall V} {value : V} {i : ℕ} {begun : Unfi
     text = completes.text;
     adds = λ old stream begun_parser is_text inside.
         let opened = inside-open is_text inside in
-        let reported = completes.adds old stream (in_text parser unfinished) refl
+        let reported =
+        completes.adds old stream (in_text parser unfinished) refl
         (goes.inside old stream begun_parser is_text inside) in
         let silent = added-inside (goes.kept stream begun_parser is_text (recorded-inside inside)) in
         record {
@@ -303,9 +310,10 @@ module _ {V B : Type 0} {call : ChunkCall V} {value : V} {i x y : ℕ} where
       goes-more {next = next} (goes-second next (omega arith) second (omega arith) is)
       (λ more. third-open x y z more third low) (omega arith) is_third in
       record {
-        inside = λ old stream parser begun inside. inside-moved (omega arith)
-        (goes.inside old stream parser begun inside);
-        kept = λ stream parser begun inside. inside-moved (omega arith) (goes.kept stream parser begun inside);
+        inside =
+            λ old stream parser is_text inside. inside-moved (omega arith)
+            (goes.inside old stream parser is_text inside);
+        kept = λ stream parser is_text inside. inside-moved (omega arith) (goes.kept stream parser is_text inside);
         more = goes.more;
         n = goes.n;
         far = omega (arith, goes.far);

@@ -84,8 +84,8 @@ module _ {A V : Type 0} {step : V → Event → V} {is_terminated : V → Bool} 
       → Costs rate bytes result n parser.machine next.machine (counted parser.looks) (counted next.looks)
       → IsRefusedMemory rate step is_terminated old new bytes parser next n
   is_refused-asked refuses costs =
-      is_refused is_terminated refuses costs (λ stream has_read.
-      (refuses-inside refuses stream has_read).progress.earlier refl)
+      is_refused is_terminated refuses costs
+      (λ stream has_read. (refuses-inside refuses stream has_read).progress.earlier refl)
       (refuses.may_go_on refl)
 
   -- The next lemmas are for `advance`.

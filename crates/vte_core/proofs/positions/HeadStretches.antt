@@ -190,9 +190,9 @@ module _ {V : Type 0} {call : ChunkCall V} where
   advances-head {progress} {next} shape begun reads may_go_on state = record {
     goes_on = λ old stream position. is_at-head shape begun reads may_go_on state position;
     settled = λ _. settled-same_state state (head-settled shape progress);
-    outside_runs = λ _ old stream s.
+    outside_runs = λ _ old stream position.
         adds-same (reported-at
-        (is_at-head {next = next} shape begun reads (λ does. absurd (false≢true does)) state (recorded-at s)));
+        (is_at-head {next = next} shape begun reads (λ does. absurd (false≢true does)) state (recorded-at position)));
   }
 
   -- A call reads a part of a head and the byte after it, if the caller says what that byte does.

@@ -49,8 +49,8 @@ probe-in_character {limit} {opened} {b} probe is is_after =
     let tests = ascii-breaks opened b is probe.high in
     let broken = text_outcome-broken opened b is tests.is_whole tests.is_open in
     added-after (b ∷ []) is_after
-    ∙ ap (λ o. o.reported) (waits-byte limit (InText opened) (InText []) b
-    (Print replacement ∷ []) [] probe.other broken)
+    ∙ ap (λ o. o.reported)
+    (waits-byte limit (InText opened) (InText []) b (Print replacement ∷ []) [] probe.other broken)
 
 -- A digit is printed alone only between characters.
 probe-not_alone : {limit : Option ℕ} {stream : List ℕ} {place : Place} {b : ℕ}
@@ -213,7 +213,7 @@ none_is_open parser stream other has_read =
     omega (
       arith,
       open_data-by_left (outcome None stream).left 0
-          (λ pieces lost e. absurd (other (state-in_command parser stream has_read pieces lost e))),
+          (λ pieces lost is_open. absurd (other (state-in_command parser stream has_read pieces lost is_open))),
     )
 
 -- If memory is refused, there wasn't enough for all bytes of the call.

@@ -295,8 +295,8 @@ module _ {V : Type 0} {call : ChunkCall V} {old : V} {stream : List ℕ} where
         earlier = progress.earlier does;
         starts = starts;
         goes_on =
-            ap (λ v. after call.step v (added call.limit (resumed_stream stream call.bytes n) unread))
-            progress.performed
+            ap (λ v. after call.step v
+            (added call.limit (resumed_stream stream call.bytes n) unread)) progress.performed
             ∙ sym (after_events-append call.step old (reported_before call.limit stream call.bytes n)
             (added call.limit (resumed_stream stream call.bytes n) unread))
             ∙ ap (after call.step old)
@@ -309,8 +309,8 @@ module _ {V : Type 0} {call : ChunkCall V} {old : V} {stream : List ℕ} where
   -- A call that has read all bytes has performed all their events.
   progress-all_read : {value : V} {n : ℕ} {place : Place} → n ≡ length call.bytes
       → ProgressAt call old value stream n place → value ≡ after call.step old (added call.limit stream call.bytes)
-  progress-all_read {n} all progress = progress.performed ∙ ap (after call.step old)
-      (reported-all call.limit stream call.bytes n all)
+  progress-all_read {n} all progress =
+      progress.performed ∙ ap (after call.step old) (reported-all call.limit stream call.bytes n all)
 
 -- ---- the same of a parser that is there
 
@@ -349,8 +349,11 @@ module _ {V B : Type 0} {call : ChunkCall V} where
 
   pub starts-inside : {old : V} {stream : List ℕ} {parser : Machine B} → HasReadWithLimit call.limit parser stream
       → IsInsidePosition call old old stream 0 parser
-  starts-inside has_read = record { place = has_read.place; is_at = has_read.is_at; progress = progress-nothing
-      has_read.is_after }
+  starts-inside has_read = record {
+    place = has_read.place;
+    is_at = has_read.is_at;
+    progress = progress-nothing has_read.is_after;
+  }
 
   pub starts-at : {old : V} {stream : List ℕ} {parser : Machine B} → IsSettled parser.state
       → HasReadWithLimit call.limit parser stream → IsAtPosition call old old stream 0 parser
@@ -361,22 +364,28 @@ module _ {V B : Type 0} {call : ChunkCall V} where
       → ComesTo call.step call.is_terminated old call.limit stream call.bytes value n
   call_ends-comes {parser} does within position =
       progress-comes does within
-      (λ left. progress-starts (is_at-place position.is_at) (position.settled left) left position.progress)
-      position.progress
+      (λ left. progress-starts (is_at-place position.is_at)
+      (position.settled left) left position.progress) position.progress
 
   pub call_ends-stops : {old value : V} {stream : List ℕ} {n : ℕ} {parser : Machine B} → call.may_stop ≡ true
       → n ≤ length call.bytes → (n < length call.bytes → call.is_terminated value ≡ true)
       → IsAtPosition call old value stream n parser
       → StopsExactly call.step call.is_terminated old call.limit stream call.bytes value n
   call_ends-stops does within stops position =
-      record { comes = call_ends-comes does within position; stops = stops; all =
-      λ all. progress-all_read all position.progress }
+      record {
+        comes = call_ends-comes does within position;
+        stops = stops;
+        all = λ all. progress-all_read all position.progress;
+      }
 
   pub call_ends-reads : {old value : V} {stream : List ℕ} {n : ℕ} {parser : Machine B}
       → IsAtPosition call old value stream n parser
       → HasReadWithLimit call.limit parser (resumed_stream stream call.bytes n)
-  call_ends-reads position = record { place = position.place; is_at = position.is_at; is_after =
-      position.progress.is_after }
+  call_ends-reads position = record {
+    place = position.place;
+    is_at = position.is_at;
+    is_after = position.progress.is_after;
+  }
 
   -- A call at the position after all bytes has performed all their events.
   pub call_ends-performs : {old value : V} {stream : List ℕ} {n : ℕ} {parser : Machine B} → n ≡ length call.bytes

@@ -93,9 +93,9 @@ module _ {V : Type 0} (layout : Bool) (call : ChunkCall V)
   not_stopped : (value : V) (given rest : List Event) (characters : List ℕ)
       → given ++ rest ≡ map (run_event layout) characters
       → call.is_terminated value ≡ false → call.is_terminated (after call.step value given) ≡ false
-  not_stopped value [] rest characters e goes = goes
-  not_stopped value (event ∷ given) rest [] e goes = cc
-  not_stopped value (x ∷ given) rest (c ∷ characters) e goes =
+  not_stopped value [] rest characters same goes = goes
+  not_stopped value (event ∷ given) rest [] same goes = cc
+  not_stopped value (x ∷ given) rest (c ∷ characters) same goes =
       let first : x ≡ run_event layout c = cc in
       let others : given ++ rest ≡ map (run_event layout) characters = cc in
       not_stopped (call.step value x) given rest characters others

@@ -154,28 +154,29 @@ is_run-in {bytes} {run} {range} has starts ends taken = search (rules, arith, ta
 
 -- What the callers of a call that comes to a run see of it.
 module _ {V B : Type 0} {call : ChunkCall V} {old new : V} (run : Run) {range : RunRange} {before parser : Machine B}
-    (c : ComesToRun call old new range before parser) (starts : run.start ≡ range.start) (ends : run.end ≡ range.end)
+    (come : ComesToRun call old new range before parser) (starts : run.start ≡ range.start) (ends : run.end ≡ range.end)
     (taken : IsTaken range.kind (bytes_at call.bytes range) run.taken) where
   pub returns-run : call.may_stop ≡ true
       → ReturnsRun call.step call.is_terminated old new call.limit (HasReadWithLimit call.limit before) call.bytes run
   returns-run does =
-      let these = takes-run run.taken c.has taken in
+      let these = takes-run run.taken come.has taken in
       record {
-        is_run = is_run-in c.has starts ends taken;
+        is_run = is_run-in come.has starts ends taken;
         comes =
             λ stream has_read.
             rw starts
-            (call_ends-comes does (omega (arith, c.has.is_range.in_order, c.has.is_range.within))
-            (c.is_at_position stream has_read));
+            (call_ends-comes does (omega (arith, come.has.is_range.in_order, come.has.is_range.within))
+            (come.is_at_position stream has_read));
         adds =
             λ stream has_read.
-            rw (starts, these.are, these.events) (c.has.adds _ (call_ends-reads (c.is_at_position stream has_read)));
-        may_go_on = λ some. c.may_go_on (omega (arith, some, starts, ends));
-        stops = λ none left. c.stops (omega (arith, none, starts, ends)) (omega (arith, left, starts));
+            rw (starts, these.are, these.events)
+            (come.has.adds _ (call_ends-reads (come.is_at_position stream has_read)));
+        may_go_on = λ some. come.may_go_on (omega (arith, some, starts, ends));
+        stops = λ none left. come.stops (omega (arith, none, starts, ends)) (omega (arith, left, starts));
       }
 
   pub reads-run : (stream : List ℕ) → HasReadWithLimit call.limit before stream
       → HasReadWithLimit call.limit parser (resumed_stream stream call.bytes run.start ++ run_bytes run)
   reads-run stream has_read =
-      rw (starts, (takes-run run.taken c.has taken).are) (c.has.reads _
-      (call_ends-reads (c.is_at_position stream has_read)))
+      rw (starts, (takes-run run.taken come.has taken).are)
+      (come.has.reads _ (call_ends-reads (come.is_at_position stream has_read)))

@@ -22,13 +22,13 @@ module _ {A : Type 0} (number : A → ℕ) where
   pub after_green : (left : List A) (red : ℕ) → Some red ≡ first_component (map number left)
       → None ≡ first_component (map number (drop 1 left))
       → drop 1 (drop 1 left) ≡ drop (kind_reading 2 (map number left)).used left
-  after_green left red r part = grind (arith, nat_tests)
+  after_green left red has_red part = grind (arith, nat_tests)
 
   pub after_blue : (left : List A) (red green : ℕ) → Some red ≡ first_component (map number left)
       → Some green ≡ first_component (map number (drop 1 left))
       → None ≡ first_component (map number (drop 1 (drop 1 left)))
       → drop 1 (drop 1 (drop 1 left)) ≡ drop (kind_reading 2 (map number left)).used left
-  after_blue left red green r g part = grind (arith, nat_tests)
+  after_blue left red green has_red has_green part = grind (arith, nat_tests)
 
 pub themselves : (numbers : List ℕ) → map (λ number. number) numbers ≡ numbers
 themselves numbers = map-id numbers
@@ -37,15 +37,15 @@ themselves numbers = map-id numbers
 
 -- Four parts and more are none, and three hex digits give a small number.
 
-further_part : (r g b : List ℕ) (parts : List (List ℕ)) (n : ℕ) → length parts ≡ n + 1
-    → color_of_parts (r ∷ g ∷ b ∷ parts) ≡ None
-further_part r g b [] n e = absurd (omega (arith, e))
-further_part r g b (part ∷ parts) n e = refl
+further_part : (red green blue : List ℕ) (parts : List (List ℕ)) (n : ℕ) → length parts ≡ n + 1
+    → color_of_parts (red ∷ green ∷ blue ∷ parts) ≡ None
+further_part red green blue [] n size = absurd (omega (arith, size))
+further_part red green blue (part ∷ parts) n size = refl
 
 -- Four parts or more are no colour.
-pub fourth_part : (r g b rest : List ℕ) → color_of_parts (r ∷ g ∷ b ∷ split_by 0x2f rest) ≡ None
-fourth_part r g b rest =
-    further_part r g b (split_by 0x2f rest) _ (length-slice_split (λ (byte : ℕ). byte == 0x2f) rest)
+pub fourth_part : (red green blue rest : List ℕ) → color_of_parts (red ∷ green ∷ blue ∷ split_by 0x2f rest) ≡ None
+fourth_part red green blue rest =
+    further_part red green blue (split_by 0x2f rest) _ (length-slice_split (λ (byte : ℕ). byte == 0x2f) rest)
 
 -- Three hex digits or fewer write a number below 4096.
 pub few_hex_digits : (i number : ℕ) → i ≤ 3 → number < 16 ^ i → number < 4096

@@ -9,17 +9,19 @@ one_less n i inside = omega arith
 
 module _ {V : Type 0} (step : V → Call → V) (old new all : V) where
   -- The calls of one entry of a palette come before those of the pieces after its two.
-  pub entry_made : (terminator : List ℕ) (left : List (Bor (List ℕ))) (d e : Bor (List ℕ)) → 2 ≤ length left
+  pub entry_made : (terminator : List ℕ) (left : List (Bor (List ℕ))) (no_index no_color : Bor (List ℕ))
+      → 2 ≤ length left
       → new
       ≡ after step old
-      (palette_entry_calls terminator (decimal_number (slice_index_or left 0 d).now) (slice_index_or left 1 e).now)
+      (palette_entry_calls terminator (decimal_number (slice_index_or left 0 no_index).now)
+      (slice_index_or left 1 no_color).now)
       → after step old (palette_entries_calls terminator (map (λ piece. piece.now) left)) ≡ all
       → after step new
       (palette_entries_calls terminator (map (λ piece. piece.now) (take (length left - 2) (drop 2 left))))
       ≡ all
-  entry_made terminator [] d e some made before = absurd (omega arith)
-  entry_made terminator (index ∷ []) d e some made before = absurd (omega arith)
-  entry_made terminator (index ∷ color ∷ rest) d e some made before =
+  entry_made terminator [] no_index no_color some made before = absurd (omega arith)
+  entry_made terminator (index ∷ []) no_index no_color some made before = absurd (omega arith)
+  entry_made terminator (index ∷ color ∷ rest) no_index no_color some made before =
       let left : take (length (index ∷ color ∷ rest) - 2) rest ≡ rest = take_all _ rest (omega arith) in
       rw (left, made) (rw after_calls-append at before)
 

@@ -17,13 +17,13 @@ use Rattle.vte.proofs.turns.RefusedTurns.{progresses-until_refused}
 abbrev limited : {B T W : Type 0} → (T → W) → EngineView (Parser 1024) B T W
 limited timeout_of = engine_view usual_limit limited_parser_view (λ text. TEXT_SIZE) timeout_of
 
-module _ {T A V W : Type 0} {timeout_of : T → W} {processor : Processor T A} {value : V} (s : State V W) where
-  is_at-engine : IsAt (HasParsedAndHolds timeout_of processor) value s
-      → IsAt (EngineHasParsedAndHolds (limited timeout_of) processor.engine) value s
+module _ {T A V W : Type 0} {timeout_of : T → W} {processor : Processor T A} {value : V} (state : State V W) where
+  is_at-engine : IsAt (HasParsedAndHolds timeout_of processor) value state
+      → IsAt (EngineHasParsedAndHolds (limited timeout_of) processor.engine) value state
   is_at-engine at = search (rules, arith)
 
-  is_at-processor : IsAt (EngineHasParsedAndHolds (limited timeout_of) processor.engine) value s
-      → IsAt (HasParsedAndHolds timeout_of processor) value s
+  is_at-processor : IsAt (EngineHasParsedAndHolds (limited timeout_of) processor.engine) value state
+      → IsAt (HasParsedAndHolds timeout_of processor) value state
   is_at-processor at = record {
     agrees = search rules;
     handler_is = at.handler_is;
@@ -32,10 +32,10 @@ module _ {T A V W : Type 0} {timeout_of : T → W} {processor : Processor T A} {
 -- What a call of any processor ensures if it has read all its bytes.
 module _ {V W : Type 0} {m : Meaning V W} {Before After : ProcessorPredicate W} {old new : V}
     (bytes : Bor (List ℕ)) {read : ℕ}
-    (takes : (s : State V W) → IsAt Before old s → HasTaken m s bytes.now read (IsAt After new))
+    (takes : (state : State V W) → IsAt Before old state → HasTaken m state bytes.now read (IsAt After new))
     (all : read ≡ length bytes.now) where
-  reads-advances : (s : State V W) → IsAt Before old s → HasAdvanced m s bytes.now (IsAt After new)
-  reads-advances s at = has_advanced m s bytes.now (takes s at) (omega (arith, all))
+  reads-advances : (state : State V W) → IsAt Before old state → HasAdvanced m state bytes.now (IsAt After new)
+  reads-advances state at = has_advanced m state bytes.now (takes state at) (omega (arith, all))
 
   reads_in_turns : ReadsInTurns m Before After old new bytes.now
   reads_in_turns = record { advances = reads-advances; plain = plain_call m bytes reads-advances }
@@ -44,53 +44,55 @@ pub refused-never : {T A V W : Type 0} {timeout_of : T → W} {m : Meaning V W} 
     {old new : V} (bytes : Bor (List ℕ)) (result : Result (Unit {0}) Refused)
     → EngineReads (limited timeout_of) m processor.engine next.engine old new bytes.now result
     → ReadsInTurns m (HasParsedAndHolds timeout_of processor) (HasParsedAndHolds timeout_of next) old new bytes.now
-refused-never bytes (Ok all) r =
-    reads_in_turns bytes (λ s at. taken-to is_at-processor (r.takes s (is_at-engine s at))) refl
-refused-never bytes (Err refused) r =
-    reads_in_turns bytes {read = length bytes.now} (λ s at. absurd (
-    let t = r.takes s (is_at-engine s at) in
-    r.lacks.lacks t.next.parsed t.is_at.agrees.has_read (omega arith))) refl
+refused-never bytes (Ok all) reads =
+    reads_in_turns bytes (λ state at. taken-to is_at-processor (reads.takes state (is_at-engine state at))) refl
+refused-never bytes (Err refused) reads =
+    reads_in_turns bytes {read = length bytes.now} (λ state at. absurd (
+    let t = reads.takes state (is_at-engine state at) in
+    reads.lacks.lacks t.next.parsed t.is_at.agrees.has_read (omega arith))) refl
 
 -- ---- with a limit of its own
 
 -- The engine keeps the memory for texts that it has, so no memory is refused.
 
 module _ {T A V W : Type 0} {N : ℕ} {timeout_of : T → W} {processor : BoundedProcessor T A N} {value : V}
-    (s : State V W) where
-  is_at-bounded_engine : IsAt (HasParsedAndHoldsBounded timeout_of processor) value s
-      → IsAt (EngineHasParsedAndHolds (bounded_engine_view timeout_of) processor.engine) value s
+    (state : State V W) where
+  is_at-bounded_engine : IsAt (HasParsedAndHoldsBounded timeout_of processor) value state
+      → IsAt (EngineHasParsedAndHolds (bounded_engine_view timeout_of) processor.engine) value state
   is_at-bounded_engine at = record { agrees = at.agrees.agrees; handler_is = at.handler_is }
 
   is_at-bounded : HasTextMemory N processor.engine.state.text.size
-      → IsAt (EngineHasParsedAndHolds (bounded_engine_view timeout_of) processor.engine) value s
-      → IsAt (HasParsedAndHoldsBounded timeout_of processor) value s
+      → IsAt (EngineHasParsedAndHolds (bounded_engine_view timeout_of) processor.engine) value state
+      → IsAt (HasParsedAndHoldsBounded timeout_of processor) value state
   is_at-bounded memory at = search (rules, arith)
 
 module _ {T A V W : Type 0} {N : ℕ} {timeout_of : T → W} {m : Meaning V W} {old new : BoundedProcessor T A N}
     {before value : V} where
   pub stops_within : EngineStops (bounded_engine_view timeout_of) m old.engine new.engine before value
       → StopsSync m (HasParsedAndHoldsBounded timeout_of old) (HasParsedAndHoldsBounded timeout_of new) before value
-  stops_within r = record {
-    stops = λ s at.
-        is_at-bounded (stop m s) (r.keeps_memory s (is_at-bounded_engine s at) [] 0 at.agrees.has_memory)
-        (r.stops.stops s (is_at-bounded_engine s at));
-    each_once = r.stops.each_once;
-    holds_well = r.stops.holds_well;
+  stops_within stops = record {
+    stops = λ state at.
+        is_at-bounded (stop m state)
+        (stops.keeps_memory state (is_at-bounded_engine state at) [] 0 at.agrees.has_memory)
+        (stops.stops.stops state (is_at-bounded_engine state at));
+    each_once = stops.stops.each_once;
+    holds_well = stops.stops.holds_well;
   }
 
   pub refused-never-within : (bytes : Bor (List ℕ)) (result : Result (Unit {0}) Refused)
       → EngineReads (bounded_engine_view timeout_of) m old.engine new.engine before value bytes.now result
       → ReadsInTurns m (HasParsedAndHoldsBounded timeout_of old) (HasParsedAndHoldsBounded timeout_of new) before value
       bytes.now
-  refused-never-within bytes (Ok all) r =
-      reads_in_turns bytes (λ s at.
-      taken-to (λ t. is_at-bounded t (r.keeps_memory s (is_at-bounded_engine s at) [] 0 at.agrees.has_memory))
-      (r.takes s (is_at-bounded_engine s at))) refl
-  refused-never-within bytes (Err refused) r =
-      reads_in_turns bytes {read = length bytes.now} (λ s at. absurd (
-      let t = r.takes s (is_at-bounded_engine s at) in
-      r.lacks.lacks t.next.parsed t.is_at.agrees.has_read
-      (r.keeps_memory s (is_at-bounded_engine s at) [] 0 at.agrees.has_memory))) refl
+  refused-never-within bytes (Ok all) reads =
+      reads_in_turns bytes (λ state at.
+      taken-to (λ t. is_at-bounded t
+      (reads.keeps_memory state (is_at-bounded_engine state at) [] 0 at.agrees.has_memory))
+      (reads.takes state (is_at-bounded_engine state at))) refl
+  refused-never-within bytes (Err refused) reads =
+      reads_in_turns bytes {read = length bytes.now} (λ state at. absurd (
+      let t = reads.takes state (is_at-bounded_engine state at) in
+      reads.lacks.lacks t.next.parsed t.is_at.agrees.has_read
+      (reads.keeps_memory state (is_at-bounded_engine state at) [] 0 at.agrees.has_memory))) refl
 
 -- ---- without a limit
 
@@ -98,22 +100,22 @@ module _ {T A V W : Type 0} {N : ℕ} {timeout_of : T → W} {m : Meaning V W} {
 -- leaves enough for what is left, turn by turn.
 
 module _ {T A V W : Type 0} {timeout_of : T → W} {m : Meaning V W} {new : LongProcessor T A} {value : V}
-    {s : State V W} {bytes : List ℕ} where
+    {state : State V W} {bytes : List ℕ} where
   had_memory : (read : ℕ) → read < length bytes
-      → HasTaken m s bytes read (IsAt (HasParsedAndHoldsLong timeout_of new) value)
+      → HasTaken m state bytes read (IsAt (HasParsedAndHoldsLong timeout_of new) value)
       → LacksMemoryLong timeout_of new (length bytes - read)
-      → HasMemory new s.parsed (length s.held + length bytes) → ⊥
+      → HasMemory new state.parsed (length state.held + length bytes) → ⊥
   had_memory read less taken lacks had =
       let t = taken.next in
       let g = progresses-until_refused m taken.takes in
-      let counts = counts_data s.parsed g.more in
+      let counts = counts_data state.parsed g.more in
       let left = rw (← g.parsed_is) at counts.left in
-      let sum : length g.more + length t.held ≡ length s.held + read =
+      let sum : length g.more + length t.held ≡ length state.held + read =
       omega (
         arith,
         less,
         ap length g.each_once,
-        length-append s.held bytes,
+        length-append state.held bytes,
         length-append g.more
             (t.held ++ drop read bytes),
         length-append t.held (drop read bytes),
@@ -130,14 +132,14 @@ pub advances_long : {T A V W : Type 0} {timeout_of : T → W} {m : Meaning V W} 
     {before value : V} (bytes : Bor (List ℕ)) (result : Result (Unit {0}) Refused)
     → EngineReads (long_engine_view timeout_of) m old.engine new.engine before value bytes.now result
     → AdvancesLong timeout_of m old new before value bytes.now result
-advances_long bytes (Ok all) r = record {
-  reads = r;
-  all = reads_in_turns bytes r.takes refl;
+advances_long bytes (Ok all) reads = record {
+  reads = reads;
+  all = reads_in_turns bytes reads.takes refl;
   enough = λ s at had. refl;
 }
-advances_long bytes (Err refused) r = record {
-  reads = r;
+advances_long bytes (Err refused) reads = record {
+  reads = reads;
   all = tt;
   enough = λ s at had.
-      absurd (had_memory refused.read r.within (r.takes s at) r.lacks (r.keeps_memory s at _ _ had));
+      absurd (had_memory refused.read reads.within (reads.takes s at) reads.lacks (reads.keeps_memory s at _ _ had));
 }

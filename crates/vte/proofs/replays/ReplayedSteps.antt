@@ -9,36 +9,38 @@ use Rattle.vte.proofs.turns.RefusedTurns.{progresses-until_refused}
 use Rattle.vte.proofs.replays.ReceivedCalls.{HasStillToDeliver, delivers-refused, delivers-replay}
 
 -- The refused step is the first of those that are left.
-pub first_lacks : {i : ℕ} {bytes : Bor (List ℕ)} (lacks : ℕ → Type 0) (steps : List Step) (d : Step) (read : ℕ)
-    → i < length steps → get_or steps i d ≡ Advance bytes
+pub first_lacks : {i : ℕ} {bytes : Bor (List ℕ)} (lacks : ℕ → Type 0) (steps : List Step) (missing : Step) (read : ℕ)
+    → i < length steps → get_or steps i missing ≡ Advance bytes
     → lacks (length bytes.now - read) → lacks (length (given_bytes (take 1 (drop i steps))) - read)
-first_lacks {i} {bytes} lacks steps d read inside is lacking =
-    rw (drop_more steps i d inside, is, append-nil bytes.now) lacking
+first_lacks {i} {bytes} lacks steps missing read inside is lacking =
+    rw (drop_more steps i missing inside, is, append-nil bytes.now) lacking
 
 -- ---- for a timeout that is steady, a list of calls leads to one state
 
 module _ {V W : Type 0} (m : Meaning V W) (steady : IsSteady m.timeout) where
-  answers-only_one : (state : State V W) (a b : Bool) → HoldsWellAt m state → m.timeout.allows state.timeout a
-      → m.timeout.allows state.timeout b → a ≡ b
-  answers-only_one state a b h first second = search (rules, arith)
+  answers-only_one : (state : State V W) (answer other : Bool) → HoldsWellAt m state
+      → m.timeout.allows state.timeout answer
+      → m.timeout.allows state.timeout other → answer ≡ other
+  answers-only_one state answer other well first second = search (rules, arith)
 
   advances-only_one : (state end other : State V W) (bytes : List ℕ) → HoldsWellAt m state
       → TakesAllTurns m state bytes end
       → TakesAllTurns m state bytes other → other ≡ end
-  advances-only_one state end other [] h done done = refl
-  advances-only_one state end other (b ∷ bytes) h (turns pending allowed more) (turns also allowed_too further) =
-      advances-only_one _ end other _ (turn_well m pending state (b ∷ bytes) allowed h) more
-      (rw (answers-only_one state also pending h allowed_too allowed) at further)
+  advances-only_one state end other [] well done done = refl
+  advances-only_one state end other (b ∷ bytes) well (turns pending allowed more) (turns also allowed_too further) =
+      advances-only_one _ end other _ (turn_well m pending state (b ∷ bytes) allowed well) more
+      (rw (answers-only_one state also pending well allowed_too allowed) at further)
 
   pub replay_only_one : (state end other : State V W) (steps : List Step) → HoldsWellAt m state
       → TakesSteps m state steps end
       → TakesSteps m state steps other → other ≡ end
-  replay_only_one state end other [] h first beside = sym beside ∙ first
-  replay_only_one state end other (Advance bytes ∷ steps) h (reached, (a, r)) (beside, (b, q)) =
-      replay_only_one reached end other steps (taken_well m a h) r
-      (rw (advances-only_one state reached beside bytes.now h a b) at q)
-  replay_only_one state end other (StopSync ∷ steps) h r q =
-      replay_only_one (stop m state) end other steps (stop_well m state) r q
+  replay_only_one state end other [] well first beside = sym beside ∙ first
+  replay_only_one state end other (Advance bytes ∷ steps) well (reached, (advances, takes))
+      (beside, (others, takes_more)) =
+      replay_only_one reached end other steps (taken_well m advances well) takes
+      (rw (advances-only_one state reached beside bytes.now well advances others) at takes_more)
+  replay_only_one state end other (StopSync ∷ steps) well takes takes_more =
+      replay_only_one (stop m state) end other steps (stop_well m state) takes takes_more
 
 -- ---- calls one by one
 
@@ -47,33 +49,33 @@ module _ {V W : Type 0} (m : Meaning V W) (steady : IsSteady m.timeout) where
 module _ {V W : Type 0} (m : Meaning V W) where
   pub replay_well : (state next : State V W) (steps : List Step) → TakesSteps m state steps next → HoldsWellAt m state
       → HoldsWellAt m next
-  replay_well state next [] same h = rw (← same) h
-  replay_well state next (Advance bytes ∷ steps) (reached, (a, r)) h =
-      replay_well reached next steps r (taken_well m a h)
-  replay_well state next (StopSync ∷ steps) r h = replay_well (stop m state) next steps r (stop_well m state)
+  replay_well state next [] same well = rw (← same) well
+  replay_well state next (Advance bytes ∷ steps) (reached, (advances, takes)) well =
+      replay_well reached next steps takes (taken_well m advances well)
+  replay_well state next (StopSync ∷ steps) takes well = replay_well (stop m state) next steps takes (stop_well m state)
 
   -- Steps that lead to a state and further steps from there are one list of steps.
   pub replay_append : (state reached next : State V W) (steps more : List Step) → TakesSteps m state steps reached
       → TakesSteps m reached more next
       → TakesSteps m state (steps ++ more) next
-  replay_append state reached next [] more same r = rw same r
-  replay_append state reached next (Advance bytes ∷ steps) more (mid, (a, q)) r =
-      (mid, (a, replay_append mid reached next steps more q r))
-  replay_append state reached next (StopSync ∷ steps) more q r =
-      replay_append (stop m state) reached next steps more q r
+  replay_append state reached next [] more same takes = rw same takes
+  replay_append state reached next (Advance bytes ∷ steps) more (mid, (advances, takes_first)) takes =
+      (mid, (advances, replay_append mid reached next steps more takes_first takes))
+  replay_append state reached next (StopSync ∷ steps) more takes takes_more =
+      replay_append (stop m state) reached next steps more takes takes_more
 
   -- `HasDelivered` says what the handler has received, and what became of the bytes.
   delivers : {state next : State V W} {bytes : List ℕ} (more : List ℕ) → next.parsed ≡ state.parsed ++ more
       → state.held ++ bytes ≡ more ++ next.held → HasStillToDeliver m next state.parsed state.stops state.handler
       → HasDelivered m state bytes next
-  delivers more parsed_is each_once e = record {
+  delivers more parsed_is each_once still = record {
     more = more;
-    positions = e.positions;
+    positions = still.positions;
     parsed_is = parsed_is;
-    stops_are = e.stops_are;
-    in_order = e.in_order;
+    stops_are = still.stops_are;
+    in_order = still.in_order;
     each_once = each_once;
-    handler_is = e.handler_is;
+    handler_is = still.handler_is;
   }
 
   pub steps_delivered : (state next : State V W) (steps : List Step) → TakesSteps m state steps next
@@ -116,26 +118,31 @@ module _ {V W : Type 0} (m : Meaning V W) where
   -- A call of `advance` is a list of one step.
   pub advance_runs : {state : State V W} {bytes : Bor (List ℕ)} {IsNowAt : State V W → Type 0}
       → HasAdvanced m state bytes.now IsNowAt → HasReplayed m state (Advance bytes ∷ []) IsNowAt
-  advance_runs a = replayed a.next (a.next, (a.advances, refl)) a.is_at
+  advance_runs advanced = replayed advanced.next (advanced.next, (advanced.advances, refl)) advanced.is_at
 
-  module _ (state : State V W) (steps : List Step) {i : ℕ} (d : Step) {old : State V W → Type 0}
-      (new : State V W → Type 0) (inside : i < length steps) (r : HasReplayed m state (take i steps) old) where
-    step_taken : HasReplayed m r.next (get_or steps i d ∷ []) new → HasReplayed m state (take (i + 1) steps) new
-    step_taken q =
-        replayed q.next
-        (rw (take_more steps i d inside)
-        (replay_append state r.next q.next (take i steps) (get_or steps i d ∷ []) r.takes q.takes)) q.is_at
+  module _ (state : State V W) (steps : List Step) {i : ℕ} (missing : Step) {old : State V W → Type 0}
+      (new : State V W → Type 0) (inside : i < length steps) (before : HasReplayed m state (take i steps) old) where
+    step_taken : HasReplayed m before.next (get_or steps i missing ∷ []) new
+        → HasReplayed m state (take (i + 1) steps) new
+    step_taken more =
+        replayed more.next
+        (rw (take_more steps i missing inside)
+        (replay_append state before.next more.next (take i steps)
+        (get_or steps i missing ∷ []) before.takes more.takes)) more.is_at
 
     -- The next step is taken, or refused.
-    pub advance_taken : {bytes : Bor (List ℕ)} → get_or steps i d ≡ Advance bytes → HasAdvanced m r.next bytes.now new
+    pub advance_taken : {bytes : Bor (List ℕ)} → get_or steps i missing ≡ Advance bytes
+        → HasAdvanced m before.next bytes.now new
         → HasReplayed m state (take (i + 1) steps) new
-    advance_taken {bytes} is a = step_taken (rw is (advance_runs a))
+    advance_taken {bytes} is advanced = step_taken (rw is (advance_runs advanced))
 
-    pub stop_taken : get_or steps i d ≡ StopSync → new (stop m r.next) → HasReplayed m state (take (i + 1) steps) new
-    stop_taken is at = step_taken (rw is (replayed (stop m r.next) refl at))
+    pub stop_taken : get_or steps i missing ≡ StopSync → new (stop m before.next)
+        → HasReplayed m state (take (i + 1) steps) new
+    stop_taken is at = step_taken (rw is (replayed (stop m before.next) refl at))
 
-    pub advance_refused : {bytes : Bor (List ℕ)} {read : ℕ} → get_or steps i d ≡ Advance bytes → read < length bytes.now
-        → HasTaken m r.next bytes.now read new
+    pub advance_refused : {bytes : Bor (List ℕ)} {read : ℕ} → get_or steps i missing ≡ Advance bytes
+        → read < length bytes.now
+        → HasTaken m before.next bytes.now read new
         → HasReplayed m state (take i steps) (λ reached. IsFirstRefused m reached (drop i steps) read new)
     advance_refused is less taken =
-        replayed r.next r.takes (rw (drop_more steps i d inside, is) (less, taken))
+        replayed before.next before.takes (rw (drop_more steps i missing inside, is) (less, taken))

@@ -13,25 +13,27 @@ record IsPlain {V W : Type 0} (s t : State V W) : Type 0 where
   pub no_stop : t.stops ≡ s.stops
 
 module _ {V W : Type 0} (m : Meaning V W) (never : IsNeverPending m.timeout.allows) where
-  plain_advances : (s t : State V W) (r : List ℕ) → TakesAllTurns m s r t → s.held ≡ [] → IsPlain s t
-  plain_advances s t [] done none = record { none_held = none; no_stop = refl }
-  plain_advances s t (b ∷ r) (turns true allowed more) none =
-      absurd (let e : true ≡ false = never s.timeout true allowed in cc)
-  plain_advances s t (b ∷ r) (turns false allowed more) none =
-      let first = (turn m false s (b ∷ r)).state in
+  plain_advances : (state next : State V W) (bytes : List ℕ) → TakesAllTurns m state bytes next → state.held ≡ []
+      → IsPlain state next
+  plain_advances state next [] done none = record { none_held = none; no_stop = refl }
+  plain_advances state next (b ∷ bytes) (turns true allowed more) none =
+      absurd (let e : true ≡ false = never state.timeout true allowed in cc)
+  plain_advances state next (b ∷ bytes) (turns false allowed more) none =
+      let first = (turn m false state (b ∷ bytes)).state in
       let held : first.held ≡ [] = rw none refl in
-      let no_stop : first.stops ≡ s.stops = rw none refl in
-      let rest = plain_advances _ t _ more held in
+      let no_stop : first.stops ≡ state.stops = rw none refl in
+      let rest = plain_advances _ next _ more held in
       record { none_held = rest.none_held; no_stop = rest.no_stop ∙ no_stop }
 
-  plain_run : (s t : State V W) (steps : List Step) → TakesSteps m s steps t → AreAdvances steps → s.held ≡ []
-      → IsPlain s t
-  plain_run s t [] same only none = rw (← same) (record { none_held = none; no_stop = refl })
-  plain_run s t (Advance bytes ∷ steps) (next, (a, r)) only none =
-      let first = plain_advances s next bytes.now a none in
-      let rest = plain_run next t steps r only first.none_held in
+  plain_run : (state end : State V W) (steps : List Step) → TakesSteps m state steps end → AreAdvances steps
+      → state.held ≡ []
+      → IsPlain state end
+  plain_run state end [] same only none = rw (← same) (record { none_held = none; no_stop = refl })
+  plain_run state end (Advance bytes ∷ steps) (next, (advances, takes)) only none =
+      let first = plain_advances state next bytes.now advances none in
+      let rest = plain_run next end steps takes only first.none_held in
       record { none_held = rest.none_held; no_stop = rest.no_stop ∙ first.no_stop }
-  plain_run s t (StopSync ∷ steps) r only none = absurd only
+  plain_run state end (StopSync ∷ steps) takes only none = absurd only
 
 -- ---- from a processor that holds nothing, calls parse all bytes
 
@@ -84,7 +86,7 @@ module _ {V W : Type 0} {Before : ProcessorPredicate W} (old : V) {stream : List
 
 module _ {V W : Type 0} (m : Meaning V W) {Before After : ProcessorPredicate W} {old new : V} where
   plain_calls : (steps : List Step)
-      → ((s : State V W) → IsAt Before old s → HasReplayed m s steps (IsAt After new))
+      → ((state : State V W) → IsAt Before old state → HasReplayed m state steps (IsAt After new))
       → IsNeverPending m.timeout.allows → AreAdvances steps → ParsesAll m Before After old new (given_bytes steps)
   plain_calls steps replayed never only = record {
     follows = λ start stream all. plain_follows old all m never steps only (replayed _ (is_here old all)) start;
@@ -92,14 +94,14 @@ module _ {V W : Type 0} (m : Meaning V W) {Before After : ProcessorPredicate W} 
   }
 
   pub replays_all : {steps : List Step}
-      → ((s : State V W) → IsAt Before old s → HasReplayed m s steps (IsAt After new))
+      → ((state : State V W) → IsAt Before old state → HasReplayed m state steps (IsAt After new))
       → Replays m Before After old new steps
   replays_all {steps} replayed = record { replays = replayed; plain = plain_calls steps replayed }
 
   -- A single call is a list of one step.
   pub plain_call : (bytes : Bor (List ℕ))
-      → ((s : State V W) → IsAt Before old s → HasAdvanced m s bytes.now (IsAt After new))
+      → ((state : State V W) → IsAt Before old state → HasAdvanced m state bytes.now (IsAt After new))
       → IsNeverPending m.timeout.allows → ParsesAll m Before After old new bytes.now
   plain_call bytes advances never =
-      let r = replays_all {steps = Advance bytes ∷ []} (λ s at. advance_runs m (advances s at)) in
+      let r = replays_all {steps = Advance bytes ∷ []} (λ state at. advance_runs m (advances state at)) in
       rw append-nil at (r.plain never tt)

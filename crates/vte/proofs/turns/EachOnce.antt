@@ -21,18 +21,18 @@ pub record Progresses {V W : Type 0} (state next : State V W) (bytes left : List
 
 pub grown_bytes : {V W : Type 0} {state next : State V W} {bytes left : List ℕ} → Progresses state next bytes left
     → all_bytes next ++ left ≡ all_bytes state ++ bytes
-grown_bytes {state} {next} {bytes} {left} g = search (rules, arith, append_assoc)
+grown_bytes {state} {next} {bytes} {left} progress = search (rules, arith, append_assoc)
 
 pub progresses-then : {V W : Type 0} {state reached next : State V W} {bytes rest left : List ℕ}
     → Progresses state reached bytes rest
     → Progresses reached next rest left → Progresses state next bytes left
-progresses-then {state} {next} {left} a b = search (rules, arith, append_assoc)
+progresses-then {state} {next} {left} progress further = search (rules, arith, append_assoc)
 
 -- Bytes that follow those that were read are left.
 pub progresses-before : {V W : Type 0} {state next : State V W} {bytes : List ℕ} → Progresses state next bytes []
     → (left : List ℕ)
     → Progresses state next (bytes ++ left) left
-progresses-before {state} {next} {bytes} g left = search (rules, arith, append-nil, append_assoc)
+progresses-before {state} {next} {bytes} progress left = search (rules, arith, append-nil, append_assoc)
 
 module _ {V W : Type 0} (m : Meaning V W) where
   progresses-nothing : {state : State V W} {bytes : List ℕ} → Progresses state state bytes bytes
@@ -93,7 +93,7 @@ module _ {V W : Type 0} (m : Meaning V W) where
 
   pub progresses-replay : (state next : State V W) (steps : List Step) → TakesSteps m state steps next
       → Progresses state next (given_bytes steps) []
-  progresses-replay state next [] e = rw e progresses-nothing
+  progresses-replay state next [] takes = rw takes progresses-nothing
   progresses-replay state next (Advance bytes ∷ steps) (reached, (a, more)) =
       progresses-then (progresses-before (progresses-turns a) (given_bytes steps))
       (progresses-replay reached next steps more)

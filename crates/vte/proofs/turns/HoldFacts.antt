@@ -8,20 +8,21 @@ use Rattle.vte.proofs.turns.EachOnce.{stop_if_due_none}
 
 -- ---- a steady timeout is pending once it is set, and stays so when it is set again
 
-module _ {W : Type 0} (m : TimeoutMeaning W) (k : IsSteady m) where
+module _ {W : Type 0} (m : TimeoutMeaning W) (steady : IsSteady m) where
   allows-still_pending : (n : ℕ) (value : W) → AllowsOnly m value true → AllowsOnly m (set_times m n value) true
-  allows-still_pending zero value a = a
-  allows-still_pending (suc n) value a = allows-still_pending n (m.set value update_nanos) (k.set value update_nanos)
+  allows-still_pending zero value allows = allows
+  allows-still_pending (suc n) value allows =
+      allows-still_pending n (m.set value update_nanos) (steady.set value update_nanos)
 
   allows-pending : (n : ℕ) (value : W) → 0 < n → AllowsOnly m (set_times m n value) true
   allows-pending zero value some = absurd (omega arith)
-  allows-pending (suc n) value some = allows-still_pending n (m.set value update_nanos) (k.set value update_nanos)
+  allows-pending (suc n) value some = allows-still_pending n (m.set value update_nanos) (steady.set value update_nanos)
 
 -- ---- a stop
 
 module _ {V W : Type 0} (m : Meaning V W) where
   stop_outside : (state : State V W) → IsSteady m.timeout → IsOutsideUpdate m.timeout [] (stop m state).timeout
-  stop_outside state k = record { not_pending = k.clear _; none_held = refl }
+  stop_outside state steady = record { not_pending = steady.clear _; none_held = refl }
 
   pub stop_well : (state : State V W) → HoldsWellAt m (stop m state)
   stop_well state = record { no_end = refl; fits = omega arith; steady = λ k. inl (stop_outside state k) }
@@ -74,27 +75,32 @@ module _ {V W : Type 0} (m : Meaning V W) where
 
   inside-pending : (state : State V W) → HoldsWellAt m state → m.timeout.allows state.timeout true → IsSteady m.timeout
       → IsInsideUpdate m.limit m.timeout state.parsed state.held state.timeout
-  inside-pending state h allowed k = search (rules, arith)
+  inside-pending state well allowed steady = search (rules, arith)
 
   pub stop_if_due_outside : (pending : Bool) (state : State V W) → m.timeout.allows state.timeout pending
       → HoldsWellAt m state
       → IsSteady m.timeout
       → IsOutsideUpdate m.timeout (stop_if_due m pending state).held (stop_if_due m pending state).timeout
-  stop_if_due_outside pending state allowed h k = search (rules, arith)
+  stop_if_due_outside pending state allowed well steady = search (rules, arith)
 
   hold_well : (state : State V W) (bytes : List ℕ) → HoldsWellAt m state → m.timeout.allows state.timeout true
       → length (state.held ++ bytes) ≤ max_held → HoldsWellAt m (hold_turn m state bytes)
-  hold_well state bytes h allowed fits =
+  hold_well state bytes well allowed fits =
       let inside : IsSteady m.timeout
       → IsInsideUpdate m.limit m.timeout state.parsed (state.held ++ bytes) (extend m state bytes).timeout =
-      λ k. (let i = inside-pending state h allowed k in record {
-        pending = allows-still_pending m.timeout k
-            (begins_ending_in_last (length bytes) (part_after_last_end (state.held ++ bytes))) state.timeout i.pending;
-        begun = elim i.begun [ inl p ↦ inl p | inr b ↦ inr (begins_with-append begin_update state.held bytes b) ];
+      λ steady. (let is_inside = inside-pending state well allowed steady in record {
+        pending = allows-still_pending m.timeout steady
+            (begins_ending_in_last (length bytes)
+            (part_after_last_end (state.held ++ bytes))) state.timeout is_inside.pending;
+        begun = elim is_inside.begun [
+          | inl nothing ↦ inl nothing
+          | inr begins ↦ inr (begins_with-append begin_update state.held bytes begins)
+        ];
       }) in
       elim (cases_Option (after_last_end (state.held ++ bytes))) [
         | inl none ↦
-            rw (hold_turn-all m state bytes none) (record { no_end = none; fits = fits; steady = λ k. inr (inside k) })
+            rw (hold_turn-all m state bytes none)
+            (record { no_end = none; fits = fits; steady = λ steady. inr (inside steady) })
         | inr some ↦
             rw (hold_turn-rest m state bytes some.1)
             (keep_well (extend m state bytes) (from_begin_update some.0)
@@ -106,20 +112,20 @@ module _ {V W : Type 0} (m : Meaning V W) where
   pub turn_well : (pending : Bool) (state : State V W) (bytes : List ℕ) → m.timeout.allows state.timeout pending
       → HoldsWellAt m state
       → HoldsWellAt m (turn m pending state bytes).state
-  turn_well pending state bytes allowed h = elim (cases_Bool (is_held pending state bytes)) [
+  turn_well pending state bytes allowed well = elim (cases_Bool (is_held pending state bytes)) [
     | inl held ↦ let yes : pending ≡ true =
         grind (arith, nat_tests) in
         rw (turn-holds m pending state bytes held)
-        (hold_well state bytes h (rw yes at allowed) (grind (arith, nat_tests, length-append state.held bytes)))
+        (hold_well state bytes well (rw yes at allowed) (grind (arith, nat_tests, length-append state.held bytes)))
     | inr parses ↦
         rw (turn-parses m pending state bytes parses)
         (parsing_well (stop_if_due m pending state) bytes (stop_if_due_none m pending state)
-        (stop_if_due_outside pending state allowed h))
+        (stop_if_due_outside pending state allowed well))
   ]
 
   pub taken_well : {state next : State V W} {bytes left : List ℕ} → TakesTurns m state bytes next left
       → HoldsWellAt m state
       → HoldsWellAt m next
-  taken_well done h = h
-  taken_well {state} {next} {bytes = b ∷ bytes} {left} (turns pending allowed more) h =
-      taken_well more (turn_well pending state (b ∷ bytes) allowed h)
+  taken_well done well = well
+  taken_well {state} {next} {bytes = b ∷ bytes} {left} (turns pending allowed more) well =
+      taken_well more (turn_well pending state (b ∷ bytes) allowed well)

@@ -9,39 +9,40 @@ use Rattle.vte.proofs.turns.Slices.{parse-nothing}
 
 module _ {V W : Type 0} (m : Meaning V W) where
   abbrev cut : State V W → List ℕ → State V W
-  cut t kept = with_held (parse m t (take (length t.held - length kept) t.held)) kept
+  cut state kept = with_held (parse m state (take (length state.held - length kept) state.held)) kept
 
-  release-some : (t : State V W) (kept : List ℕ) → 0 < length kept → release m t kept ≡ cut t kept
-  release-some t [] some = absurd (omega arith)
-  release-some t (b ∷ kept) some = refl
+  release-some : (state : State V W) (kept : List ℕ) → 0 < length kept → release m state kept ≡ cut state kept
+  release-some state [] some = absurd (omega arith)
+  release-some state (b ∷ kept) some = refl
 
   -- If some bytes stay held, a turn cuts off those before them; if none do, it stops the update.
-  holds-some : (s : State V W) (r : List ℕ) → 0 < length (still_held (s.held ++ r))
-      → hold_turn m s r ≡ cut (extend m s r) (still_held (s.held ++ r))
-  holds-some s r some = elim (cases_Option (after_last_end (s.held ++ r))) [
+  holds-some : (state : State V W) (bytes : List ℕ) → 0 < length (still_held (state.held ++ bytes))
+      → hold_turn m state bytes ≡ cut (extend m state bytes) (still_held (state.held ++ bytes))
+  holds-some state bytes some = elim (cases_Option (after_last_end (state.held ++ bytes))) [
     | inl none ↦
-        let all = s.held ++ r in
+        let all = state.held ++ bytes in
         let is : still_held all ≡ all = rw none refl in
         let no_prefix : length all - length all ≡ 0 = omega arith in
-        hold_turn-all m s r none
-        ∙ rw (is, no_prefix) (sym (ap (λ t. with_held t all) (parse-nothing m (extend m s r))))
+        hold_turn-all m state bytes none
+        ∙ rw (is, no_prefix) (sym (ap (λ t. with_held t all) (parse-nothing m (extend m state bytes))))
     | inr last ↦
-        let is : still_held (s.held ++ r) ≡ from_begin_update last.0 = rw last.1 refl in
-        hold_turn-rest m s r last.1
-        ∙ rw is (release-some (extend m s r) (from_begin_update last.0) (rw is at some))
+        let is : still_held (state.held ++ bytes) ≡ from_begin_update last.0 = rw last.1 refl in
+        hold_turn-rest m state bytes last.1
+        ∙ rw is (release-some (extend m state bytes) (from_begin_update last.0) (rw is at some))
   ]
 
-  holds-none : (s : State V W) (r : List ℕ) → 0 < length (s.held ++ r) → still_held (s.held ++ r) ≡ []
-      → hold_turn m s r ≡ stop m (extend m s r)
-  holds-none s r some none = search (rules, arith)
+  holds-none : (state : State V W) (bytes : List ℕ) → 0 < length (state.held ++ bytes)
+      → still_held (state.held ++ bytes) ≡ []
+      → hold_turn m state bytes ≡ stop m (extend m state bytes)
+  holds-none state bytes some none = search (rules, arith)
 
 -- The hold has the new bytes, and the timeout was set as often as they begin updates.
-module _ {P B T A V W : Type 0} {view : EngineView P B T W} (m : Meaning V W) {s : State V W} {more : List ℕ}
+module _ {P B T A V W : Type 0} {view : EngineView P B T W} (m : Meaning V W) {state : State V W} {more : List ℕ}
     {old : Engine P B T A} {hold : SyncState A} {timeout : T} {begins : ℕ} {value : V}
-    (at : EngineIsAt view old value s) (added : IsAdded s.held more hold begins)
+    (at : EngineIsAt view old value state) (added : IsAdded state.held more hold begins)
     (is_set : view.timeout_of timeout ≡ set_times m.timeout begins (view.timeout_of old.state.timeout))
-    (memory : view.parser.has_memory old.parser (view.text_size_of old.state.text) s.parsed
-    (length s.held + length more)) where
+    (memory : view.parser.has_memory old.parser (view.text_size_of old.state.text) state.parsed
+    (length state.held + length more)) where
   abbrev set : Engine P B T A
   set = record old { hold = hold; state = record old.state { timeout = timeout } }
 
@@ -49,7 +50,7 @@ module _ {P B T A V W : Type 0} {view : EngineView P B T W} (m : Meaning V W) {s
   abbrev HasMemoryFor : List ℕ → ℕ → Type 0
   HasMemoryFor = view.parser.has_memory old.parser (view.text_size_of old.state.text)
 
-  extended : ArePartsAt view set.parser set.state value (extend m s more)
+  extended : ArePartsAt view set.parser set.state value (extend m state more)
   extended = record {
     has_read = at.agrees.has_read;
     last = at.agrees.last;
@@ -59,39 +60,41 @@ module _ {P B T A V W : Type 0} {view : EngineView P B T W} (m : Meaning V W) {s
 
   -- If some bytes stay held, the released ones are parsed, with memory to parse the others later.
   pub turned_cut : {last : Engine P B T A} {next : V} → 0 < length (held_of hold)
-      → ((t : State V W) (n : ℕ) → ArePartsAt view set.parser set.state value t
+      → ((state : State V W) (n : ℕ) → ArePartsAt view set.parser set.state value state
       → (0 < length (released_of hold)
-      → HasMemoryFor t.parsed (length (released_of hold) + n))
-      → ArePartsAtKeepingMemory view set.parser set.state last.parser last.state next (parse m t (released_of hold)))
-      → ((t : State V W) (n : ℕ) → ArePartsAtWithMemory view set.parser set.state value t
+      → HasMemoryFor state.parsed (length (released_of hold) + n))
+      → ArePartsAtKeepingMemory view set.parser set.state last.parser last.state next
+      (parse m state (released_of hold)))
+      → ((state : State V W) (n : ℕ) → ArePartsAtWithMemory view set.parser set.state value state
       (length (released_of hold) + n)
-      → view.parser.has_memory last.parser (view.text_size_of last.state.text) (t.parsed ++ released_of hold) n)
-      → last.hold ≡ hold → EngineIsAtKeepingMemory view old last next (hold_turn m s more)
+      → view.parser.has_memory last.parser (view.text_size_of last.state.text) (state.parsed ++ released_of hold) n)
+      → last.hold ≡ hold → EngineIsAtKeepingMemory view old last next (hold_turn m state more)
   turned_cut {last} {next} some parses leaves kept =
-      let t = extend m s more in
-      let all = s.held ++ more in
+      let extended_state = extend m state more in
+      let all = state.held ++ more in
       let rest = length (held_of hold) in
       -- The released and the held bytes together are as many as the old and the new ones.
-      let sum : length (released_of hold) + rest ≡ length s.held + length more = rw (added.released_is, added.held_is) (
+      let sum : length (released_of hold) + rest ≡ length state.held + length more =
+      rw (added.released_is, added.held_is) (
       omega (
         arith,
         length-take (length all - length (still_held all)) all,
         suffix-length
             (stays_held all).suffix,
-        length-append s.held more,
+        length-append state.held more,
       )) in
       -- So there is memory to parse the released bytes, and the held ones later.
-      let ready : HasMemoryFor s.parsed
+      let ready : HasMemoryFor state.parsed
       (length (released_of hold) + rest)
       =
       rw sum memory in
       -- The released bytes are parsed, which leads to the state after the bytes before `still_held`.
-      let there = parses t rest extended (λ some. ready) in
+      let there = parses extended_state rest extended (λ some. ready) in
       let parsed : ArePartsAt view last.parser last.state next
-      (parse m t (take (length all - length (still_held all)) all)) =
+      (parse m extended_state (take (length all - length (still_held all)) all)) =
       rw added.released_is at there.parts_at in
       -- As some bytes stay held, the turn is this cut.
-      rw (holds-some m s more (rw added.held_is at some)) (record {
+      rw (holds-some m state more (rw added.held_is at some)) (record {
         engine_at = record {
           agrees = record {
             has_read = parsed.has_read;
@@ -100,7 +103,7 @@ module _ {P B T A V W : Type 0} {view : EngineView P B T W} (m : Meaning V W) {s
             holds = rw kept added.held_is;
             has_memory =
                 λ some.
-                rw (added.released_is, added.held_is) at (leaves t rest
+                rw (added.released_is, added.held_is) at (leaves extended_state rest
                 (record { parts_at = extended; memory = ready }));
           };
           handler_is = parsed.handler_is;
@@ -110,23 +113,23 @@ module _ {P B T A V W : Type 0} {view : EngineView P B T W} (m : Meaning V W) {s
 
   -- If no bytes stay held, the update is stopped.
   pub turned_stop : {last : Engine P B T A} {next : V} → 0 < length more → length (held_of hold) ≡ 0
-      → ((t : State V W) (n : ℕ) → ArePartsAt view set.parser set.state value t → released_of hold ≡ t.held
+      → ((state : State V W) (n : ℕ) → ArePartsAt view set.parser set.state value state → released_of hold ≡ state.held
       → held_of hold ≡ []
-      → (0 < length t.held → HasMemoryFor t.parsed
-      (length t.held + n))
-      → EngineIsAtKeepingMemory view set last next (stop m t))
-      → EngineIsAtKeepingMemory view old last next (hold_turn m s more)
+      → (0 < length state.held → HasMemoryFor state.parsed
+      (length state.held + n))
+      → EngineIsAtKeepingMemory view set last next (stop m state))
+      → EngineIsAtKeepingMemory view old last next (hold_turn m state more)
   turned_stop {last} {next} some is stops =
-      let all = s.held ++ more in
+      let all = state.held ++ more in
       -- No byte stays held, so all of them are released.
       let none : held_of hold ≡ [] = nil_from_length (held_of hold) is in
       let nothing : still_held all ≡ [] = sym added.held_is ∙ none in
       let whole : released_of hold ≡ all =
       added.released_is ∙ rw nothing (take_all (length all - 0) all (omega arith)) in
-      let sum : length all + 0 ≡ length s.held + length more = omega (arith, length-append s.held more) in
+      let sum : length all + 0 ≡ length state.held + length more = omega (arith, length-append state.held more) in
       -- The stop parses all of them, for which there is memory.
-      let there : EngineIsAtKeepingMemory view set last next (stop m (extend m s more)) =
-      stops (extend m s more) 0 extended whole none (λ some. rw sum memory) in
+      let there : EngineIsAtKeepingMemory view set last next (stop m (extend m state more)) =
+      stops (extend m state more) 0 extended whole none (λ some. rw sum memory) in
       -- As no byte stays held, the turn is this stop.
-      rw (holds-none m s more (omega (arith, some, length-append s.held more)) nothing)
+      rw (holds-none m state more (omega (arith, some, length-append state.held more)) nothing)
       (record { engine_at = there.engine_at; keeps_memory = there.keeps_memory })

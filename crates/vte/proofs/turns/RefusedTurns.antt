@@ -40,17 +40,17 @@ module _ {V W : Type 0} (m : Meaning V W) where
   -- If no bytes are left, no turn was refused memory.
   pub until_refused-all : {state next : State V W} {bytes : List ℕ} → TakesTurnsUntilRefused m state bytes next []
       → TakesTurns m state bytes next []
-  until_refused-all h = search (rules, arith)
+  until_refused-all takes = search (rules, arith)
 
   -- ---- what is parsed and held then
 
   progresses-refused : (pending : Bool) {state next : State V W} {bytes left : List ℕ}
       → ParsesUntilRefused m pending state bytes next left
       → Progresses state next bytes left
-  progresses-refused pending {state} (parses, h) =
-      rw h.state_is
+  progresses-refused pending {state} (parses, refused) =
+      rw refused.state_is
       (progresses-then (progresses-stop_if_due m pending)
-      (progresses-parse m h.prefix (stop_if_due_none m pending state) h.bytes_are))
+      (progresses-parse m refused.prefix (stop_if_due_none m pending state) refused.bytes_are))
 
   pub progresses-until_refused : {state next : State V W} {bytes left : List ℕ}
       → TakesTurnsUntilRefused m state bytes next left
@@ -65,12 +65,12 @@ module _ {V W : Type 0} (m : Meaning V W) where
       → HoldsWellAt m state
       → m.timeout.allows state.timeout pending
       → ParsesUntilRefused m pending state bytes next left → IsOutsideUpdate m.timeout next.held next.timeout
-  refused-outside pending state next bytes left steady well allowed (parses, h) = search (rules, arith)
+  refused-outside pending state next bytes left steady well allowed (parses, refused) = search (rules, arith)
 
   refused-held : (pending : Bool) (state next : State V W) (bytes left : List ℕ)
       → ParsesUntilRefused m pending state bytes next left → next.held ≡ []
-  refused-held pending state next bytes left (parses, h) =
-      ap (λ next. next.held) h.state_is ∙ stop_if_due_none m pending state
+  refused-held pending state next bytes left (parses, refused) =
+      ap (λ next. next.held) refused.state_is ∙ stop_if_due_none m pending state
 
   pub until_refused-well : {state next : State V W} {bytes left : List ℕ}
       → TakesTurnsUntilRefused m state bytes next left
@@ -93,37 +93,39 @@ module _ {V W : Type 0} (m : Meaning V W) where
 
   parsing_turn-goes_on : (state next : State V W) (bytes left : List ℕ) → ParsingTurnIsRefused m state bytes next left
       → parsing_turn m next left ≡ parsing_turn m state bytes
-  parsing_turn-goes_on state next bytes left h =
-      let prefix = prefix_to_begin m.limit (state.parsed ++ h.prefix) left in
+  parsing_turn-goes_on state next bytes left refused =
+      let prefix = prefix_to_begin m.limit (state.parsed ++ refused.prefix) left in
       rw (
-        h.state_is,
-        ← h.bytes_are,
-        prefix-after m.limit state.parsed h.prefix left h.none_begin,
+        refused.state_is,
+        ← refused.bytes_are,
+        prefix-after m.limit state.parsed refused.prefix left refused.none_begin,
         length-append,
-        drop-append-add h.prefix left (length prefix),
+        drop-append-add refused.prefix left (length prefix),
       )
-      (ap (λ next. record { state = next; rest = drop (length prefix) left }) (parse-append m state h.prefix prefix))
+      (ap (λ next. record { state = next; rest = drop (length prefix) left })
+      (parse-append m state refused.prefix prefix))
 
   refused-goes_on : (pending : Bool) (state next : State V W) (bytes left : List ℕ)
       → ParsesUntilRefused m pending state bytes next left
       → turn m false next left ≡ turn m pending state bytes
-  refused-goes_on pending state next bytes left (parses, h) =
+  refused-goes_on pending state next bytes left (parses, refused) =
       let none : turn_kind_of false (length next.held) (length left) ≡ ParsingTurn =
-      rw (refused-held pending state next bytes left (parses, h)) refl in
+      rw (refused-held pending state next bytes left (parses, refused)) refl in
       rw (none, turn-parses m pending state bytes parses)
-      (parsing_turn-goes_on (stop_if_due m pending state) next bytes left h)
+      (parsing_turn-goes_on (stop_if_due m pending state) next bytes left refused)
 
   refused-turn_goes_on : (pending : Bool) {state next end : State V W} {bytes left : List ℕ}
       → m.timeout.allows state.timeout pending
       → ParsesUntilRefused m pending state bytes next left
       → IsOutsideUpdate m.timeout next.held next.timeout → TakesTurns m next left end []
       → TakesTurns m state bytes end []
-  refused-turn_goes_on pending allowed h out done = absurd (omega (arith, h.1.some_left))
-  refused-turn_goes_on pending {state} {next} {end} {bytes} {left = b ∷ left} allowed h out (turns other allows more) =
+  refused-turn_goes_on pending allowed refused out done = absurd (omega (arith, refused.1.some_left))
+  refused-turn_goes_on pending {state} {next} {end} {bytes} {left = b ∷ left} allowed refused out
+      (turns other allows more) =
       let same : turn m other next (b ∷ left) ≡ turn m pending state bytes =
-      rw (out.not_pending.1 other allows) (refused-goes_on pending state next bytes (b ∷ left) h) in
+      rw (out.not_pending.1 other allows) (refused-goes_on pending state next bytes (b ∷ left) refused) in
       let some : 0 < length bytes =
-      omega (arith, h.1.some_left, ap length h.1.bytes_are, length-append h.1.prefix (b ∷ left)) in
+      omega (arith, refused.1.some_left, ap length refused.1.bytes_are, length-append refused.1.prefix (b ∷ left)) in
       taken_on state _ end bytes _ [] (takes-one pending some allowed)
       (subst (λ x. TakesTurns m x.state x.rest end []) same more)
 

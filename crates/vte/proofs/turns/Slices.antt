@@ -11,53 +11,60 @@ slice_size bytes read {count} inside at_most =
     length-take-le (read + count - read) (drop read bytes) (rw length-drop (omega arith)) ∙ omega arith
 
 module _ {V W : Type 0} (m : Meaning V W) where
-  pub parse-nothing : (s : State V W) → parse m s [] ≡ s
-  parse-nothing s = rw (begin_count-nothing m.limit s.parsed, added_calls-nothing m.limit s.parsed, append-nil) refl
+  pub parse-nothing : (state : State V W) → parse m state [] ≡ state
+  parse-nothing state =
+      rw (begin_count-nothing m.limit state.parsed, added_calls-nothing m.limit state.parsed, append-nil) refl
 
-  pub parse-append : (s : State V W) (a b : List ℕ) → parse m (parse m s a) b ≡ parse m s (a ++ b)
-  parse-append s a b =
+  pub parse-append : (state : State V W) (front back : List ℕ)
+      → parse m (parse m state front) back ≡ parse m state (front ++ back)
+  parse-append state front back =
       search (rules, arith, begin_count-added, set_times-add, added_calls-append, after_calls-append, append_assoc)
 
 -- If no update begins in bytes, they are their own prefix.
-module _ {V W : Type 0} {m : Meaning V W} {s : State V W} {bytes : List ℕ} {n : ℕ} {b : Bool} {IsNowAt : State V W
-    → Type 0} (at : HasParsedPrefix m s bytes n b IsNowAt) (whole : b ≡ false) where
-  begins-none : begin_count (added m.limit s.parsed (prefix_to_begin m.limit s.parsed bytes)) ≡ 0
+module _ {V W : Type 0} {m : Meaning V W} {state : State V W} {bytes : List ℕ} {n : ℕ} {begins : Bool}
+    {IsNowAt : State V W → Type 0}
+    (at : HasParsedPrefix m state bytes n begins IsNowAt) (whole : begins ≡ false) where
+  begins-none : begin_count (added m.limit state.parsed (prefix_to_begin m.limit state.parsed bytes)) ≡ 0
   begins-none = search (rules, arith)
 
-  prefix-whole : prefix_to_begin m.limit s.parsed bytes ≡ bytes
-  prefix-whole = prefix-all m.limit s.parsed bytes begins-none
+  prefix-whole : prefix_to_begin m.limit state.parsed bytes ≡ bytes
+  prefix-whole = prefix-all m.limit state.parsed bytes begins-none
 
   pub begin-whole : n ≡ length bytes
   begin-whole = at.count ∙ ap length prefix-whole
 
-module _ {V W : Type 0} (m : Meaning V W) (s : State V W) (bytes : List ℕ) where
-  pub parsing-nothing : {IsNowAt : State V W → Type 0} → IsNowAt s → HasParsedWithoutBegin m s bytes 0 IsNowAt
-  parsing-nothing at = record { none_begin = begin_count-nothing m.limit s.parsed; is_at = rw (parse-nothing m s) at }
+module _ {V W : Type 0} (m : Meaning V W) (state : State V W) (bytes : List ℕ) where
+  pub parsing-nothing : {IsNowAt : State V W → Type 0} → IsNowAt state → HasParsedWithoutBegin m state bytes 0 IsNowAt
+  parsing-nothing at = record {
+    none_begin = begin_count-nothing m.limit state.parsed;
+    is_at = rw (parse-nothing m state) at;
+  }
 
-  pub parsing-all : {read : ℕ} {IsNowAt : State V W → Type 0} → HasParsedWithoutBegin m s bytes read IsNowAt
+  pub parsing-all : {read : ℕ} {IsNowAt : State V W → Type 0} → HasParsedWithoutBegin m state bytes read IsNowAt
       → length bytes ≤ read
-      → HasTakenParsingTurn m s bytes read IsNowAt
-  parsing-all {read} o all =
+      → HasTakenParsingTurn m state bytes read IsNowAt
+  parsing-all {read} parsed all =
       let whole = take_all read bytes all in
-      let none : begin_count (added m.limit s.parsed bytes) ≡ 0 = rw whole at o.none_begin in
-      let is : prefix_to_begin m.limit s.parsed bytes ≡ bytes =
-      ap (prefix_to_begin m.limit s.parsed) (sym (append-nil bytes)) ∙ prefix-after m.limit s.parsed bytes [] none
+      let none : begin_count (added m.limit state.parsed bytes) ≡ 0 = rw whole at parsed.none_begin in
+      let is : prefix_to_begin m.limit state.parsed bytes ≡ bytes =
+      ap (prefix_to_begin m.limit state.parsed) (sym (append-nil bytes))
+      ∙ prefix-after m.limit state.parsed bytes [] none
       ∙ append-nil bytes in
       record {
         progress = λ some. omega (arith, all);
         rest = rw is (drop_all (length bytes) bytes (omega arith) ∙ sym (drop_all read bytes all));
-        is_at = rw is (rw whole at o.is_at);
+        is_at = rw is (rw whole at parsed.is_at);
       }
 
   -- A slice in which no update begins is parsed whole.
-  pub parsing-more : {slice : List ℕ} {read n : ℕ} {b : Bool} {old new : State V W → Type 0} (k : ℕ)
-      → HasParsedWithoutBegin m s bytes read old → slice ≡ take k (drop read bytes)
-      → HasParsedPrefix m (parse m s (take read bytes)) slice n b new → b ≡ false
-      → HasParsedWithoutBegin m s bytes (read + n) new
-  parsing-more {slice} {read} {n} k o is at uncut =
+  pub parsing-more : {slice : List ℕ} {read n : ℕ} {begins : Bool} {old new : State V W → Type 0} (k : ℕ)
+      → HasParsedWithoutBegin m state bytes read old → slice ≡ take k (drop read bytes)
+      → HasParsedPrefix m (parse m state (take read bytes)) slice n begins new → begins ≡ false
+      → HasParsedWithoutBegin m state bytes (read + n) new
+  parsing-more {slice} {read} {n} k parsed is at uncut =
       -- The slice is its own prefix, so it begins no update.
       let all = prefix-whole at uncut in
-      let zero : begin_count (added m.limit (s.parsed ++ take read bytes) slice) ≡ 0 =
+      let zero : begin_count (added m.limit (state.parsed ++ take read bytes) slice) ≡ 0 =
       rw all at (begins-none at uncut) in
       -- The slice follows the bytes that were read, so together they are the first `read + n` bytes.
       let view : drop read bytes ≡ slice ++ drop k (drop read bytes) =
@@ -68,41 +75,43 @@ module _ {V W : Type 0} (m : Meaning V W) (s : State V W) (bytes : List ℕ) whe
       (ap (take n) view ∙ take_at slice (drop k (drop read bytes)) n (sym (begin-whole at uncut))) in
       -- No update begins in either, so none begins in both.
       record {
-        none_begin = rw more (begin_count-none m.limit s.parsed (take read bytes) slice o.none_begin zero);
-        is_at = rw (more, ← parse-append m s (take read bytes) slice) (rw all at at.is_at);
+        none_begin = rw more (begin_count-none m.limit state.parsed (take read bytes) slice parsed.none_begin zero);
+        is_at = rw (more, ← parse-append m state (take read bytes) slice) (rw all at at.is_at);
       }
 
   -- If an update begins in the slice, the parsing turn ends with the prefix.
-  pub parsing-ends : {slice : List ℕ} {read n : ℕ} {b : Bool} {old new : State V W → Type 0} (k : ℕ)
-      → HasParsedWithoutBegin m s bytes read old → read ≤ length bytes
-      → slice ≡ take k (drop read bytes) → HasParsedPrefix m (parse m s (take read bytes)) slice n b new → b ≡ true
-      → HasTakenParsingTurn m s bytes (read + n) new
-  parsing-ends {slice} {read} {n} k o inside is at begun =
-      let prefix = prefix_to_begin m.limit (s.parsed ++ take read bytes) slice in
+  pub parsing-ends : {slice : List ℕ} {read n : ℕ} {begins : Bool} {old new : State V W → Type 0} (k : ℕ)
+      → HasParsedWithoutBegin m state bytes read old → read ≤ length bytes
+      → slice ≡ take k (drop read bytes) → HasParsedPrefix m (parse m state (take read bytes)) slice n begins new
+      → begins ≡ true
+      → HasTakenParsingTurn m state bytes (read + n) new
+  parsing-ends {slice} {read} {n} k parsed inside is at begun =
+      let prefix = prefix_to_begin m.limit (state.parsed ++ take read bytes) slice in
       -- An update begins in the prefix of the slice.
-      let test : nat_lt 0 (begin_count (added m.limit (s.parsed ++ take read bytes) prefix)) ≡ true =
+      let test : nat_lt 0 (begin_count (added m.limit (state.parsed ++ take read bytes) prefix)) ≡ true =
       sym at.begins_is ∙ begun in
-      let some : 0 < begin_count (added m.limit (s.parsed ++ take read bytes) prefix) = grind (arith, nat_tests) in
+      let some : 0 < begin_count (added m.limit (state.parsed ++ take read bytes) prefix) = grind (arith, nat_tests) in
       -- The slice follows the bytes that were read.
       let view : drop read bytes ≡ slice ++ drop k (drop read bytes) =
       rw is (sym (take-append-drop k (drop read bytes))) in
       let whole : bytes ≡ take read bytes ++ (slice ++ drop k (drop read bytes)) =
       sym (take-append-drop read bytes) ∙ ap (λ rest. take read bytes ++ rest) view in
       -- So the prefix of all bytes is what was read and the prefix of the slice, whatever follows.
-      let all : prefix_to_begin m.limit s.parsed bytes ≡ take read bytes ++ prefix =
-      ap (prefix_to_begin m.limit s.parsed) whole ∙ prefix-after m.limit s.parsed (take read bytes) _ o.none_begin
+      let all : prefix_to_begin m.limit state.parsed bytes ≡ take read bytes ++ prefix =
+      ap (prefix_to_begin m.limit state.parsed) whole
+      ∙ prefix-after m.limit state.parsed (take read bytes) _ parsed.none_begin
       ∙ ap (λ x. take read bytes ++ x)
-      (prefix-more m.limit (s.parsed ++ take read bytes) slice (drop k (drop read bytes)) some) in
-      let size : length (prefix_to_begin m.limit s.parsed bytes) ≡ read + n =
+      (prefix-more m.limit (state.parsed ++ take read bytes) slice (drop k (drop read bytes)) some) in
+      let size : length (prefix_to_begin m.limit state.parsed bytes) ≡ read + n =
       ap length all ∙ length-append (take read bytes) prefix
       ∙ omega (arith, length-take-le read bytes inside, at.count) in
       record {
-        progress = λ some. omega (arith, prefix-some m.limit s.parsed bytes some, size);
+        progress = λ some. omega (arith, prefix-some m.limit state.parsed bytes some, size);
         rest = rw size;
-        is_at = rw (all, ← parse-append m s (take read bytes) prefix) at.is_at;
+        is_at = rw (all, ← parse-append m state (take read bytes) prefix) at.is_at;
       }
 
-  pub parsing-refused : {read : ℕ} {IsNowAt : State V W → Type 0} → HasParsedWithoutBegin m s bytes read IsNowAt
+  pub parsing-refused : {read : ℕ} {IsNowAt : State V W → Type 0} → HasParsedWithoutBegin m state bytes read IsNowAt
       → read < length bytes
-      → ParsingTurnIsRefused m s bytes (parse m s (take read bytes)) (drop read bytes)
-  parsing-refused {read} o less = search (rules, arith, take-append-drop, length-drop)
+      → ParsingTurnIsRefused m state bytes (parse m state (take read bytes)) (drop read bytes)
+  parsing-refused {read} parsed less = search (rules, arith, take-append-drop, length-drop)

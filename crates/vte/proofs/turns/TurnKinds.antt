@@ -41,9 +41,9 @@ module _ {V W : Type 0} (m : Meaning V W) where
   pub refused-parses : (pending : Bool) (state next : State V W) (bytes left : List ℕ)
       → TurnIsRefused m pending state bytes next left
       → ParsesUntilRefused m pending state bytes next left
-  refused-parses pending state next bytes left o = search (rules, arith)
+  refused-parses pending state next bytes left refused = search (rules, arith)
 
   pub refused-by_parsing : (pending : Bool) (state next : State V W) (bytes left : List ℕ)
       → ParsesUntilRefused m pending state bytes next left
       → TurnIsRefused m pending state bytes next left
-  refused-by_parsing pending state next bytes left o = search (rules, arith)
+  refused-by_parsing pending state next bytes left refused = search (rules, arith)

@@ -11,7 +11,7 @@ use Rattle.std.proofs.lemmas.List.{take_rest}
 -- Neither sequence begins at a byte other than ESC, or if fewer than eight bytes are left.
 neither-plain : (text : List ℕ) (position : ℕ) → position < length text → eqb (get_or text position 0) 0x1b ≡ false
     → IsNeither text position
-neither-plain text position l e = grind (arith, nat_tests, drop_more)
+neither-plain text position within no_escape = grind (arith, nat_tests, drop_more)
 
 begins_with-short : (sequence text : List ℕ) → length text < length sequence → begins_with sequence text ≡ false
 begins_with-short sequence text short = search (rules, arith, begins_with-length)
@@ -25,11 +25,11 @@ neither-short text position short =
     }
 
 -- Neither sequence begins without ESC, or without `?` as the third byte.
-neither-pair : (a : ℕ) (rest text : List ℕ) (position : ℕ)
+neither-pair : (byte : ℕ) (rest text : List ℕ) (position : ℕ)
     → (eqb (get_or text position 0) 0x1b && eqb (get_or text (position + 2) 0) 0x3f) ≡ false
-    → begins_with (0x1b ∷ a ∷ 0x3f ∷ rest) (drop position text) ≡ false
-neither-pair a rest text position none =
-    let sequence = 0x1b ∷ a ∷ 0x3f ∷ rest in elim (cases_Bool (begins_with sequence (drop position text))) [
+    → begins_with (0x1b ∷ byte ∷ 0x3f ∷ rest) (drop position text) ≡ false
+neither-pair byte rest text position none =
+    let sequence = 0x1b ∷ byte ∷ 0x3f ∷ rest in elim (cases_Bool (begins_with sequence (drop position text))) [
       | inl is ↦
           let whole = begins_with-is sequence (drop position text) is in
           let first : get_or (drop position text) 0 0 ≡ 0x1b = ap {B = ℕ} (λ bytes. get_or bytes 0 0) whole in
@@ -95,7 +95,7 @@ neither-before text position escape before near inside here =
     }
 
 begins-one : (text : List ℕ) → begins_with begin_update text ≡ true → after_word end_update text ≡ None
-begins-one text e = rw (begins_with-is begin_update text e) refl
+begins-one text begins = rw (begins_with-is begin_update text begins) refl
 
 -- What was seen after the position `unread` of a text, of which the last `new` bytes are new.
 pub record HasSeen (text : List ℕ) (new unread begin begins : ℕ) : Type 0 where
@@ -107,26 +107,26 @@ pub record HasSeen (text : List ℕ) (new unread begin begins : ℕ) : Type 0 wh
 
 -- At the position, neither sequence begins, or a begin-update does, or an end-update, which ends the search.
 
-module _ {text : List ℕ} {new position begin begins : ℕ} (l : position < length text)
+module _ {text : List ℕ} {new position begin begins : ℕ} (within : position < length text)
     (seen : HasSeen text new (position + 1) begin begins) where
   seen-other : IsNeither text position → HasSeen text new position begin begins
-  seen-other n = let d = drop_more text position 0 l in
-      let no_begin = not_some _ (rw d at n.no_begin) in
-      let no_end = not_some _ (rw d at n.no_end) in
+  seen-other neither = let d = drop_more text position 0 within in
+      let no_begin = not_some _ (rw d at neither.no_begin) in
+      let no_end = not_some _ (rw d at neither.no_end) in
       grind (arith, d)
 
   -- A begin-update with at most seven older bytes from its start on ends among the new ones, so it is counted.
   seen-begin : length text ≤ position + 7 + new → begins_with begin_update (drop position text) ≡ true
       → HasSeen text new position position (begins + 1)
-  seen-begin at_most e =
-      let d = drop_more text position 0 l in
-      let long = begins_with-length begin_update (drop position text) e in
+  seen-begin at_most is_begin =
+      let d = drop_more text position 0 within in
+      let long = begins_with-length begin_update (drop position text) is_begin in
       -- Fewer than `new` bytes follow the sequence, so it ends among the new bytes.
       let near : nat_lt (length (drop 7 (drop (position + 1) text))) new ≡ true =
       (let h = rw length-drop at long in rw (length-drop, length-drop) (grind (arith, nat_tests))) in
-      let here = rw d at e in
+      let here = rw d at is_begin in
       -- A begin-update is no end-update, so there is still none of those.
-      let other = rw d at (begins-one (drop position text) e) in
+      let other = rw d at (begins-one (drop position text) is_begin) in
       -- So the earliest begin-update is here, and one more ends among the new bytes.
       record {
         no_end = rw (d, seen.no_end, other) refl;
@@ -136,9 +136,9 @@ module _ {text : List ℕ} {new position begin begins : ℕ} (l : position < len
 
   pub seen-end : begins_with end_update (drop position text) ≡ true
       → Adds text new (record { begins = begins; released = begin })
-  seen-end e =
-      let d = drop_more text position 0 l in
-      let here = rw d at e in
+  seen-end is_end =
+      let d = drop_more text position 0 within in
+      let here = rw d at is_end in
       -- No update begins inside the end-update, so what was seen is what follows it.
       let skipped = from_begin-end_skipped new (get_or text position 0) (drop (position + 1) text) here in
       -- It is the last end-update of the text, as none was seen after it.
@@ -169,7 +169,7 @@ seen-further {text} {new} (suc n) {position} {begin} {begins} within neither see
 seen-down : {text : List ℕ} {new position unread begin begins : ℕ} → position ≤ unread → unread ≤ length text
     → ((k : ℕ) → position ≤ k → k < unread → IsNeither text k)
     → HasSeen text new unread begin begins → HasSeen text new position begin begins
-seen-down {position} {unread} l within neither seen =
+seen-down {position} {unread} below within neither seen =
     let e : unread ≡ position + (unread - position) = omega arith in
     seen-further (unread - position) (omega arith) (λ k low high. neither k low (omega arith)) (rw e at seen)
 
@@ -182,38 +182,40 @@ pub record IsLastEscape (all : List ℕ) (new position unread begin begins : ℕ
   pub here : eqb (get_or all position 0) 0x1b ≡ true
   pub seen : HasSeen all new (position + 1) begin begins
 
-module _ {all : List ℕ} {new position unread begin begins : ℕ} (e : IsLastEscape all new position unread begin begins)
+module _ {all : List ℕ} {new position unread begin begins : ℕ}
+    (last : IsLastEscape all new position unread begin begins)
     (at : ℕ) (low : at ≤ position) (near : position ≤ at + 7) where
   further : {first count : ℕ} → HasSeen all new position first count → HasSeen all new at first count
   further {first} {count} seen =
-      let inside = e.inside in
+      let inside = last.inside in
       seen-down low (omega arith)
-      (λ k low high. neither-before all k position high (omega arith) inside e.here) seen
+      (λ k low high. neither-before all k position high (omega arith) inside last.here) seen
 
   pub seen-begin_before : length all ≤ position + 7 + new → begins_with begin_update (drop position all) ≡ true
       → HasSeen all new at position (begins + 1)
-  seen-begin_before at_most b = further (seen-begin e.inside e.seen at_most b)
+  seen-begin_before at_most is_begin = further (seen-begin last.inside last.seen at_most is_begin)
 
   pub seen-other_before : begins_with begin_update (drop position all) ≡ false
       → begins_with end_update (drop position all) ≡ false → HasSeen all new at begin begins
-  seen-other_before b other = further (seen-other e.inside e.seen (record { no_begin = b; no_end = other }))
+  seen-other_before no_begin no_end =
+      further (seen-other last.inside last.seen (record { no_begin = no_begin; no_end = no_end }))
 
-module _ {held more text : List ℕ} {start : ℕ} (e : IsHeldTail held more text start) where
+module _ {held more text : List ℕ} {start : ℕ} (held_tail : IsHeldTail held more text start) where
   abbrev all : List ℕ
   all = held ++ more
 
   whole_size : start + length text ≡ length all
   whole_size =
-      let from = e.start_is in
-      omega (arith, ap length e.text_is, length-drop start all, length-append held more)
+      let from = held_tail.start_is in
+      omega (arith, ap length held_tail.text_is, length-drop start all, length-append held more)
 
   pub sequence_at : (position : ℕ) → take (length text - position) (drop position text) ≡ drop (start + position) all
   sequence_at position =
-      take_rest text position ∙ ap (drop position) e.text_is ∙ drop-drop position start all
+      take_rest text position ∙ ap (drop position) held_tail.text_is ∙ drop-drop position start all
 
   byte_at : (unread k : ℕ) → k < unread → get_or (take unread text) k 0 ≡ get_or all (start + k) 0
   byte_at unread k inside =
-      get_or-take unread text k 0 inside ∙ ap (λ bytes. get_or bytes k 0) e.text_is ∙ rw get_or-drop
+      get_or-take unread text k 0 inside ∙ ap (λ bytes. get_or bytes k 0) held_tail.text_is ∙ rw get_or-drop
 
   neither_between : (from low unread : ℕ) → start + from ≡ low → unread ≤ length text
       → Nowhere (Passes (is_byte 0x1b) (take unread text)) from (length (take unread text))
@@ -229,13 +231,14 @@ module _ {held more text : List ℕ} {start : ℕ} (e : IsHeldTail held more tex
   pub seen-skipped : (unread before : ℕ) {begin begins : ℕ} → unread ≤ before → before ≤ length text
       → NoneBetween text unread before → HasSeen all (length more) (start + before) begin begins
       → HasSeen all (length more) (start + unread) begin begins
-  seen-skipped unread before l within none seen =
+  seen-skipped unread before at_most within none seen =
       seen-down (omega arith) (omega (arith, whole_size))
       (λ k low high.
       let position : k - start + start ≡ k = omega arith in
       let neither = none (k - start) (omega arith) (omega arith) in
       let tail : drop (k - start) text ≡ drop k all =
-      ap (drop (k - start)) e.text_is ∙ drop-drop (k - start) start all ∙ ap (λ at. drop at all) (omega arith) in
+      ap (drop (k - start)) held_tail.text_is ∙ drop-drop (k - start) start all
+      ∙ ap (λ at. drop at all) (omega arith) in
       record { no_begin = rw tail at neither.no_begin; no_end = rw tail at neither.no_end })
       seen
 
@@ -276,7 +279,7 @@ module _ {held more text : List ℕ} {start : ℕ} (e : IsHeldTail held more tex
       let rest =
       seen-down (omega arith) (omega (arith, whole_size))
       (neither_between 0 start unread (omega arith) within nowhere) seen in
-      let tail : drop start all ≡ drop (length held - 7) all = rw e.start_is in
+      let tail : drop start all ≡ drop (length held - 7) all = rw held_tail.start_is in
       -- The tail has no end-update. With none in the older bytes, there is none at all.
       let no_end : after_last_end all ≡ None = cc (tail, after_last_end-tail held more none, rest.no_end) in
       -- So no bytes are released, and the updates that begin are those of the tail.

@@ -4,55 +4,55 @@ use Rattle.vte.proofs.Common.{◌≡◌, ℕ, zero, suc, ◌+◌, ◌-◌, ◌�
 use Rattle.std.specs.Prelude.{is_some, nat_lt}
 
 -- An `Option` by cases, for `elim`.
-pub cases_Option : {A : Type 0} (o : Option A) → (o ≡ None) ⊎ ((x : A) × (o ≡ Some x))
+pub cases_Option : {A : Type 0} (option : Option A) → (option ≡ None) ⊎ ((x : A) × (option ≡ Some x))
 cases_Option None = inl refl
 cases_Option (Some x) = inr (x, refl)
 
-pub not_some : {A : Type 0} (o : Option A) → is_some o ≡ false → o ≡ None
-not_some None e = refl
-not_some (Some x) e = cc
+pub not_some : {A : Type 0} (option : Option A) → is_some option ≡ false → option ≡ None
+not_some None none = refl
+not_some (Some x) none = cc
 
 -- ---- a sequence at the front
 
 pub after_word-whole : (sequence text : List ℕ) → begins_with sequence text ≡ true
     → after_word sequence text ≡ Some (drop (length sequence) text)
-after_word-whole [] text e = refl
-after_word-whole (a ∷ sequence) [] e = cc
-after_word-whole (a ∷ sequence) (b ∷ text) e = grind (arith, after_word-whole sequence text)
+after_word-whole [] text begins = refl
+after_word-whole (a ∷ sequence) [] begins = cc
+after_word-whole (a ∷ sequence) (b ∷ text) begins = grind (arith, after_word-whole sequence text)
 
-pub begins_with-further : (a b : ℕ) (sequence text : List ℕ) → begins_with sequence text ≡ false
-    → begins_with (a ∷ sequence) (b ∷ text) ≡ false
-begins_with-further a b sequence text e = grind (arith, e)
+pub begins_with-further : (first b : ℕ) (sequence text : List ℕ) → begins_with sequence text ≡ false
+    → begins_with (first ∷ sequence) (b ∷ text) ≡ false
+begins_with-further first b sequence text other = grind (arith, other)
 
 -- A text that begins with a sequence is the sequence and what follows it.
 pub begins_with-is : (sequence text : List ℕ) → begins_with sequence text ≡ true
     → text ≡ sequence ++ drop (length sequence) text
-begins_with-is [] text e = refl
-begins_with-is (a ∷ sequence) [] e = cc
-begins_with-is (a ∷ sequence) (b ∷ text) e = grind (arith, nat_tests, begins_with-is sequence text)
+begins_with-is [] text begins = refl
+begins_with-is (a ∷ sequence) [] begins = cc
+begins_with-is (a ∷ sequence) (b ∷ text) begins = grind (arith, nat_tests, begins_with-is sequence text)
 
 pub begins_with-length : (sequence text : List ℕ) → begins_with sequence text ≡ true → length sequence ≤ length text
-begins_with-length [] text e = omega arith
-begins_with-length (a ∷ sequence) [] e = cc
-begins_with-length (a ∷ sequence) (b ∷ text) e = grind (arith, nat_tests, begins_with-length sequence text)
+begins_with-length [] text begins = omega arith
+begins_with-length (a ∷ sequence) [] begins = cc
+begins_with-length (a ∷ sequence) (b ∷ text) begins = grind (arith, nat_tests, begins_with-length sequence text)
 
 -- More bytes don't matter if there are enough.
 begins_with-more : (sequence text more : List ℕ) → length sequence ≤ length text
     → begins_with sequence (text ++ more) ≡ begins_with sequence text
-begins_with-more [] text more l = refl
-begins_with-more (a ∷ sequence) [] more l = absurd (omega arith)
-begins_with-more (a ∷ sequence) (b ∷ text) more l = grind (arith, begins_with-more sequence text more)
+begins_with-more [] text more long = refl
+begins_with-more (a ∷ sequence) [] more long = absurd (omega arith)
+begins_with-more (a ∷ sequence) (b ∷ text) more long = grind (arith, begins_with-more sequence text more)
 
 pub begins_with-append : (sequence text more : List ℕ) → begins_with sequence text ≡ true
     → begins_with sequence (text ++ more) ≡ true
-begins_with-append sequence text more e =
+begins_with-append sequence text more begins =
     grind (arith, begins_with-length sequence text, begins_with-more sequence text more)
 
 -- No update begins inside an end-update.
 pub from_begin-end_skipped : (n b : ℕ) (text : List ℕ) → begins_with end_update (b ∷ text) ≡ true
     → (from_begin_update text ≡ from_begin_update (drop 7 text))
     × (begins_ending_in_last n text ≡ begins_ending_in_last n (drop 7 text))
-from_begin-end_skipped n b text e = search (rules, arith)
+from_begin-end_skipped n b text begins = search (rules, arith)
 
 -- ---- what follows the last end-update, and what stays held, is the end of the text
 
@@ -61,24 +61,24 @@ pub record IsSuffix (part text : List ℕ) : Type 0 where
   pub within : prefix ≤ length text
   pub is : part ≡ drop prefix text
 
-pub suffix-length : {part text : List ℕ} → (s : IsSuffix part text) → s.prefix + length part ≡ length text
-suffix-length {part} {text} s = omega (arith, s.within, ap length s.is, length-drop s.prefix text)
+pub suffix-length : {part text : List ℕ} → (suffix : IsSuffix part text) → suffix.prefix + length part ≡ length text
+suffix-length {part} {text} suffix = omega (arith, suffix.within, ap length suffix.is, length-drop suffix.prefix text)
 
 suffix-trans : {part middle text : List ℕ} → IsSuffix part middle → IsSuffix middle text → IsSuffix part text
-suffix-trans {text} s t = record {
-  prefix = t.prefix + s.prefix;
-  within = omega (arith, s.within, suffix-length t);
-  is = cc (s.is, t.is, drop-drop s.prefix t.prefix text);
+suffix-trans {text} suffix further = record {
+  prefix = further.prefix + suffix.prefix;
+  within = omega (arith, suffix.within, suffix-length further);
+  is = cc (suffix.is, further.is, drop-drop suffix.prefix further.prefix text);
 }
 
 suffix-more : {part text : List ℕ} (b : ℕ) → IsSuffix part text → IsSuffix part (b ∷ text)
-suffix-more b s = record { prefix = suc s.prefix; within = omega (arith, s.within); is = s.is }
+suffix-more b suffix = record { prefix = suc suffix.prefix; within = omega (arith, suffix.within); is = suffix.is }
 
 -- Without an end-update in a text there is none in its parts.
 after_last_end-drop : (n : ℕ) (text : List ℕ) → after_last_end text ≡ None → after_last_end (drop n text) ≡ None
-after_last_end-drop zero text e = e
-after_last_end-drop (suc n) [] e = e
-after_last_end-drop (suc n) (b ∷ text) e = grind (arith, after_last_end-drop n text)
+after_last_end-drop zero text none = none
+after_last_end-drop (suc n) [] none = none
+after_last_end-drop (suc n) (b ∷ text) none = grind (arith, after_last_end-drop n text)
 
 -- What is after the last end-update has none.
 pub record FollowsLastEnd (rest text : List ℕ) : Type 0 where
@@ -86,10 +86,10 @@ pub record FollowsLastEnd (rest text : List ℕ) : Type 0 where
   pub no_end : after_last_end rest ≡ None
 
 follows_last_end : (text rest : List ℕ) → after_last_end text ≡ Some rest → FollowsLastEnd rest text
-follows_last_end [] rest e = cc
-follows_last_end (b ∷ text) rest e = elim (cases_Option (after_last_end text)) [
+follows_last_end [] rest is = cc
+follows_last_end (b ∷ text) rest is_last = elim (cases_Option (after_last_end text)) [
   | inl none ↦
-      let here : after_word end_update (b ∷ text) ≡ Some rest = rw none at e in
+      let here : after_word end_update (b ∷ text) ≡ Some rest = rw none at is_last in
       let first : begins_with end_update (b ∷ text) ≡ true = rw here refl in
       let is : rest ≡ drop 7 text = cc (here, after_word-whole end_update (b ∷ text) first) in
       record {

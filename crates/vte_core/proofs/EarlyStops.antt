@@ -26,14 +26,16 @@ module _ {limit : Option ℕ} (P Q : List Event → Type 0) (stream bytes : List
       → P (reported_before limit stream bytes i)
   passed-below zero i below within asked = absurd (omega arith)
   passed-below (suc m) i below within asked =
-      let u : ReportsUnit limit stream bytes i = units stream bytes i within in
-      subst P (sym u.parts) (elim u.begun [
-        | inl none ↦ kept u.before u.unit (subst P (sym none) at_first) (subst Q (sym none) asked_first) u.brief
+      let reports : ReportsUnit limit stream bytes i = units stream bytes i within in
+      subst P (sym reports.parts) (elim reports.begun [
+        | inl none ↦
+            kept reports.before reports.unit (subst P (sym none) at_first)
+            (subst Q (sym none) asked_first) reports.brief
         | inr t ↦
             let earlier : t.start < i = t.earlier in
             let before = passed-below m t.start (omega arith) (omega arith) (λ j first. asked j (omega arith)) in
-            kept u.before u.unit (subst P (sym t.events_are) before)
-            (subst Q (sym t.events_are) (asked t.start earlier t.starts)) u.brief
+            kept reports.before reports.unit (subst P (sym t.events_are) before)
+            (subst Q (sym t.events_are) (asked t.start earlier t.starts)) reports.brief
       ])
 
   pub passed-at : (i : ℕ) → i ≤ length bytes → ((j : ℕ) → j < i → IsStart stream bytes j
@@ -52,12 +54,12 @@ ReportsAtMostOneShort limit stream b =
 reports_little : (limit : Option ℕ) (stream : List ℕ) (b : ℕ) → (open_character stream ≡ [] → ⊥)
     → breaks (open_character stream) (b ∷ []) ≡ false → ReportsAtMostOneShort limit stream b
 reports_little limit stream b some unbroken =
-    let a = added-byte limit stream b in
-    let breaks_none : breaks (open_at a.place) (b ∷ []) ≡ false =
-    ap (λ u. breaks u (b ∷ [])) (sym a.begun) ∙ unbroken in
-    elim (a.step.little (text_at a.place (λ none. some (a.begun ∙ none))) breaks_none) [
-      | inl nothing ↦ (rw (a.reported ∙ nothing) tt, inr (a.reported ∙ nothing))
-      | inr last ↦ (rw a.reported last.1, inl (a.ends ∙ last.0))
+    let adds = added-byte limit stream b in
+    let breaks_none : breaks (open_at adds.place) (b ∷ []) ≡ false =
+    ap (λ u. breaks u (b ∷ [])) (sym adds.begun) ∙ unbroken in
+    elim (adds.step.little (text_at adds.place (λ none. some (adds.begun ∙ none))) breaks_none) [
+      | inl nothing ↦ (rw (adds.reported ∙ nothing) tt, inr (adds.reported ∙ nothing))
+      | inr last ↦ (rw adds.reported last.1, inl (adds.ends ∙ last.0))
     ]
 
 -- ---- what is reported from one position to the next
@@ -114,7 +116,7 @@ one_short-opens limit stream b some = search (rules, arith, opens_silently, one_
 
 none_or_some : (xs : List ℕ) → (xs ≡ []) ⊎ (xs ≡ [] → ⊥)
 none_or_some [] = inl refl
-none_or_some (x ∷ xs) = inr (λ e. cc)
+none_or_some (x ∷ xs) = inr (λ same. cc)
 
 -- From position i, one byte leads to the next position.
 module _ (limit : Option ℕ) (stream bytes : List ℕ) (i : ℕ) (within : i < length bytes) where
@@ -141,7 +143,7 @@ module _ (limit : Option ℕ) (stream bytes : List ℕ) (i : ℕ) (within : i < 
   from_start starts =
       let from : List ℕ = resumed_stream stream bytes i in
       let is : breaks_at stream bytes i ≡ true
-      → breaks (open_character here) (b ∷ []) ≡ true = λ e. sym breaks_here ∙ e in
+      → breaks (open_character here) (b ∷ []) ≡ true = λ same. sym breaks_here ∙ same in
       record {
         before = reported_before limit stream bytes i;
         unit = added limit from (b ∷ []);
@@ -151,7 +153,7 @@ module _ (limit : Option ℕ) (stream bytes : List ℕ) (i : ℕ) (within : i < 
         one_short =
             λ some.
             one_short-opens limit from b
-            (λ e. some (joined ∙ ends_from here (b ∷ []) (breaks_at stream bytes i) is ∙ e));
+            (λ same. some (joined ∙ ends_from here (b ∷ []) (breaks_at stream bytes i) is ∙ same));
         begun = inr (record { start = i; earlier = omega arith; starts = starts; events_are = refl });
       }
 
@@ -248,4 +250,4 @@ goes_on_from limit stream bytes more n =
     ap (λ (v : List ℕ). added limit stream (v ++ more)) (sym (take-append-drop n bytes))
     ∙ ap (added limit stream) (append_assoc (take n bytes) (drop n bytes) more)
     ∙ added_from limit stream (take n bytes) (drop n bytes ++ more) (breaks_at stream bytes n)
-    (λ e. breaks-more _ (drop n bytes) more (breaks_there stream bytes n e))
+    (λ same. breaks-more _ (drop n bytes) more (breaks_there stream bytes n same))

@@ -24,7 +24,7 @@ use Rattle.vte_core.proofs.bytes.Utf8.{rows-lone, rows-none, continuation, fits,
 pub one_byte : (bytes : List ℕ) (from b : ℕ) → from < length bytes → b ≡ slice_index bytes from
     → take (from + 1 - from) (drop from bytes) ≡ b ∷ []
 one_byte bytes from b within is =
-    let e : from + 1 - from ≡ 1 = omega arith in rw (e, drop_more bytes from 0 within, is) refl
+    let same : from + 1 - from ≡ 1 = omega arith in rw (same, drop_more bytes from 0 within, is) refl
 
 pub each-one : (holds : ℕ → Type 0) (bytes : List ℕ) (from : ℕ) → holds (slice_index bytes from)
     → Each holds bytes from (from + 1)
@@ -55,10 +55,10 @@ pub each-block : (holds : ℕ → Type 0) (bytes block : List ℕ) (from n m : �
     → Each holds block 0 m
     → Each holds bytes from (from + m)
 each-block holds bytes block from n m is at_most all k low high =
-    let e : get_or block (k - from) 0 ≡ get_or bytes k 0 =
+    let same : get_or block (k - from) 0 ≡ get_or bytes k 0 =
     block-byte bytes block from n (k - from) is (omega (arith, low, high, at_most)) ∙ ap (λ i. get_or bytes i 0)
     (let p : from + (k - from) ≡ k = omega (arith, low) in p) in
-    subst holds e (all (k - from) (omega arith) (omega (arith, low, high)))
+    subst holds same (all (k - from) (omega arith) (omega (arith, low, high)))
 
 -- ---- which characters stay in a run
 
@@ -165,7 +165,7 @@ run-layout bytes from b within is layout =
 
 pub run-none : (layout : Bool) (bytes : List ℕ) (from : ℕ) → IsRun layout bytes from from
 run-none layout bytes from =
-    subst (λ n. IsUtf8Run layout (take n (drop from bytes))) (let e : 0 ≡ from - from = omega arith in e)
+    subst (λ n. IsUtf8Run layout (take n (drop from bytes))) (let same : 0 ≡ from - from = omega arith in same)
     (utf8_run-nil layout)
 
 pub run-ascii : (layout : Bool) (bytes : List ℕ) (from to : ℕ) → ArePrintedAscii bytes from to
@@ -177,9 +177,9 @@ pub run-append : (layout : Bool) (bytes : List ℕ) (i j k : ℕ) → i ≤ j �
     → IsRun layout bytes j k → IsRun layout bytes i k
 run-append layout bytes i j k first second are more =
     let same : drop (j - i) (drop i bytes) ≡ drop j bytes =
-    drop-drop (j - i) i bytes ∙ ap (λ n. drop n bytes) (let e : i + (j - i) ≡ j = omega (arith, first) in e) in
+    drop-drop (j - i) i bytes ∙ ap (λ n. drop n bytes) (let equal : i + (j - i) ≡ j = omega (arith, first) in equal) in
     let whole : take (k - i) (drop i bytes) ≡ take (j - i) (drop i bytes) ++ take (k - j) (drop j bytes) =
-    ap (λ n. take n (drop i bytes)) (let e : k - i ≡ j - i + (k - j) = omega (arith, first, second) in e)
+    ap (λ n. take n (drop i bytes)) (let equal : k - i ≡ j - i + (k - j) = omega (arith, first, second) in equal)
     ∙ take-add (j - i) (k - j) (drop i bytes) ∙ ap (λ x. take (j - i) (drop i bytes) ++ take (k - j) x) same in
     subst (IsUtf8Run layout) (sym whole)
     (utf8_run-append are more)
@@ -293,20 +293,24 @@ module _ (layout : Bool) (bytes : List ℕ) (from a : ℕ) (within : from < leng
   pub no_run-single : is_in (from_to 0x20 0x7f) a ≡ false → is_in (from_to 0xc2 0xf4) a ≡ false
       → (layout ≡ true → is_layout a ≡ false) → HasNoRunAt layout bytes from
   no_run-single other lone plain n far whole =
-      let p = begins n whole in
+      let none_begins = begins n whole in
       elim (cases_lt a 0x80) [
         | inl low ↦
-            let none = fits-none (later p.m) (sym (tests-ascii a low (later p.m)).is_whole ∙ p.well) in
+            let none =
+            fits-none (later none_begins.m)
+            (sym (tests-ascii a low (later none_begins.m)).is_whole ∙ none_begins.well) in
             let control : is_control_character a ≡ true = grind (arith, nat_tests) in
-            rw (p.parts, none) (control-ends a control plain)
+            rw (none_begins.parts, none) (control-ends a control plain)
         | inr high ↦ elim (cases_lt a 0xc2) [
           | inl below ↦
               absurd
               (false≢true
-              (sym (tests-none a (rows-lone a (omega (arith, high)) below) (later p.m)).is_whole ∙ p.well))
+              (sym (tests-none a (rows-lone a (omega (arith, high)) below)
+              (later none_begins.m)).is_whole ∙ none_begins.well))
           | inr above ↦
               let past : 0xf5 ≤ a = grind (arith, nat_tests) in
-              absurd (false≢true (sym (tests-none a (rows-none a past) (later p.m)).is_whole ∙ p.well))
+              absurd (false≢true
+              (sym (tests-none a (rows-none a past) (later none_begins.m)).is_whole ∙ none_begins.well))
         ]
       ]
 
@@ -315,10 +319,11 @@ module _ (layout : Bool) (bytes : List ℕ) (from a : ℕ) (within : from < leng
       → (from + 1 < length bytes → is_in continuation (slice_index bytes (from + 1)) ≡ true
       → (a ≡ 0xc2 → 0xa0 ≤ slice_index bytes (from + 1)) → ⊥) → HasNoRunAt layout bytes from
   no_run-two low high none n far whole =
-      let p = begins n whole in
+      let none_begins = begins n whole in
       -- A sequence that began here would have two bytes, of which the second is a continuation.
       let one =
-      fits-one (second_range a) bytes (from + 1) p.m (sym (tests-two a low high (later p.m)).is_whole ∙ p.well) in
+      fits-one (second_range a) bytes (from + 1) none_begins.m
+      (sym (tests-two a low high (later none_begins.m)).is_whole ∙ none_begins.well) in
       let b : ℕ = slice_index bytes (from + 1) in
       let second : is_in continuation b ≡ true =
       subst (λ range. is_in range b ≡ true)
@@ -327,14 +332,14 @@ module _ (layout : Bool) (bytes : List ℕ) (from a : ℕ) (within : from < leng
       let control : (a ≡ 0xc2) × (b < 0xa0) = elim (cases_lt b 0xa0) [
         | inr up ↦ absurd (none one.within second (λ _. omega (arith, up)))
         | inl down ↦ elim (cases_lt 0xc2 a) [
-          | inl past ↦ absurd (none one.within second (λ e. absurd (omega (arith, e, past))))
+          | inl past ↦ absurd (none one.within second (λ same. absurd (omega (arith, same, past))))
           | inr first ↦ (omega (arith, first, low), down)
         ]
       ] in
       -- The number of such a sequence is that of its second byte, a control.
       let bounds = continuation-bounds b second in
       let number : scalar_of (a ∷ b ∷ []) ≡ b = omega (arith, control.0, bounds.0) in
-      rw (p.parts, one.same, number)
+      rw (none_begins.parts, one.same, number)
       (control-ends b (grind (arith, nat_tests, control.1, bounds.0)) (λ _. grind (arith, nat_tests, bounds.0)))
 
   -- A run ends at a byte E0..EF without a sequence of three.
@@ -342,12 +347,12 @@ module _ (layout : Bool) (bytes : List ℕ) (from a : ℕ) (within : from < leng
       → (from + 2 < length bytes → is_in (second_range a) (slice_index bytes (from + 1)) ≡ true
       → is_in continuation (slice_index bytes (from + 2)) ≡ true → ⊥) → HasNoRunAt layout bytes from
   no_run-three low high none n far whole =
-      let p = begins n whole in
+      let none_begins = begins n whole in
       let those =
-      fits-in (second_range a ∷ continuation ∷ []) bytes (from + 1) p.m
-      (sym (tests-three a low high (later p.m)).is_whole ∙ p.well) in
-      let e : from + 1 + 1 ≡ from + 2 = omega arith in
-      absurd (none (rw e at those.2.0) those.1 (rw e at those.2.1))
+      fits-in (second_range a ∷ continuation ∷ []) bytes (from + 1) none_begins.m
+      (sym (tests-three a low high (later none_begins.m)).is_whole ∙ none_begins.well) in
+      let same : from + 1 + 1 ≡ from + 2 = omega arith in
+      absurd (none (rw same at those.2.0) those.1 (rw same at those.2.1))
 
   -- A run ends at a byte F0..F4 without a sequence of four.
   pub no_run-four : 0xf0 ≤ a → is_in (from_to 0xc2 0xf4) a ≡ true
@@ -355,14 +360,14 @@ module _ (layout : Bool) (bytes : List ℕ) (from a : ℕ) (within : from < leng
       → is_in continuation (slice_index bytes (from + 2)) ≡ true
       → is_in continuation (slice_index bytes (from + 3)) ≡ true → ⊥) → HasNoRunAt layout bytes from
   no_run-four low lead none n far whole =
-      let p = begins n whole in
+      let none_begins = begins n whole in
       let high : a < 0xf5 = omega (arith, (in_range-bounds (from_to 0xc2 0xf4) a lead).1) in
       let those =
-      fits-in (second_range a ∷ continuation ∷ continuation ∷ []) bytes (from + 1) p.m
-      (sym (tests-four a low high (later p.m)).is_whole ∙ p.well) in
-      let e : from + 1 + 1 ≡ from + 2 = omega arith in
+      fits-in (second_range a ∷ continuation ∷ continuation ∷ []) bytes (from + 1) none_begins.m
+      (sym (tests-four a low high (later none_begins.m)).is_whole ∙ none_begins.well) in
+      let same : from + 1 + 1 ≡ from + 2 = omega arith in
       let f : from + 2 + 1 ≡ from + 3 = omega arith in
-      absurd (none (rw (e, f) at those.2.2.0) those.1 (rw e at those.2.1) (rw (e, f) at those.2.2.1))
+      absurd (none (rw (same, f) at those.2.2.0) those.1 (rw same at those.2.1) (rw (same, f) at those.2.2.1))
 
   -- A run ends at a first byte that no byte follows.
   pub no_run-long : is_in (from_to 0xc2 0xf4) a ≡ true → (from + 1 < length bytes → ⊥) → HasNoRunAt layout bytes from

@@ -43,8 +43,8 @@ AtMostOne-after_rows n b ([] ∷ rows) up = cc
 AtMostOne-after_rows n b ((range ∷ ranges) ∷ rows) up =
     let rest = (ascends_parts n range ranges rows up).2 in
     elim (cases_Bool (is_in range b)) [
-      | inl e ↦ rw e (later (leb-true _ _ (and_parts _ _ e).1) rest)
-      | inr e ↦ rw e (AtMostOne-after_rows (range.last + 1) b rows rest)
+      | inl same ↦ rw same (later (leb-true _ _ (and_parts _ _ same).1) rest)
+      | inr same ↦ rw same (AtMostOne-after_rows (range.last + 1) b rows rest)
     ]
   where
     later : b ≤ range.last → ascends (range.last + 1) rows ≡ true → AtMostOne (ranges ∷ rows_after_byte b rows)

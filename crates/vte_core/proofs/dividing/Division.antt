@@ -70,7 +70,7 @@ is_segment b bytes = by_rows (rows_after_byte b utf8_rows) refl
         ap (λ (rows : List (List Range)). length (b ∷ segment rows)) same
         ∙ ap (λ (n : ℕ). length (b ∷ take n bytes)) (allowed_length-none bytes)))
     by_rows (row ∷ more) same =
-        by_tests same _ _ refl refl (allowed_length-is_kept (row ∷ more) bytes (λ e. cc))
+        by_tests same _ _ refl refl (allowed_length-is_kept (row ∷ more) bytes (λ same. cc))
 
 divided_right : (b : ℕ) (bytes : List ℕ) → IsDividedRight b bytes
 unfolding is_truncated trailing_count

@@ -182,7 +182,7 @@ run-of {layout} bytes from b rest within is at low plain whole =
     ∙ ap (λ c. c ∷ take (length rest) (drop (from + 1) bytes)) (sym is)
     ∙ ap (λ x. b ∷ x) (stand-take bytes from 1 rest at) in
     subst (λ n. IsUtf8Run layout (take n (drop from bytes)))
-    (let e : suc (length rest) ≡ from + suc (length rest) - from = omega arith in e)
+    (let equal : suc (length rest) ≡ from + suc (length rest) - from = omega arith in equal)
     (subst (IsUtf8Run layout) (sym same) (utf8_run-character low plain whole))
 
 pub run-two : {layout : Bool} (bytes : List ℕ) (from : ℕ) {first second : ℕ} → from + 2 ≤ length bytes
@@ -191,8 +191,9 @@ pub run-two : {layout : Bool} (bytes : List ℕ) (from : ℕ) {first second : �
     → IsRun layout bytes from (from + 2)
 run-two bytes from {first} {second} long is_first is_second low high continues plain =
     let e : second_range first ≡ from_to 0x80 0xbf =
-    second_plain first (λ e. omega (arith, e, high)) (λ e. omega (arith, e, high)) (λ e. omega (arith, e, high))
-    (λ e. omega (arith, e, high)) in
+    second_plain first (λ same. omega (arith, same, high)) (λ same. omega (arith, same, high))
+    (λ same. omega (arith, same, high))
+    (λ same. omega (arith, same, high)) in
     run-of bytes from first (second ∷ []) (omega (arith, long)) is_first (omega (arith, long), is_second, tt) low plain
     ((tests-two first low high (second ∷ [])).is_whole ∙ and_from _ _ (ap (λ r. is_in r second) e ∙ continues) refl)
 
@@ -203,7 +204,7 @@ pub run-three : {layout : Bool} (bytes : List ℕ) (from : ℕ) {first second th
 run-three bytes from {first} {second} {third} long is_first is_second is_third low high begins continues =
     run-of bytes from first (second ∷ third ∷ []) (omega (arith, long)) is_first
     (omega (arith, long), is_second, (omega (arith, long), is_third, tt))
-    (omega (arith, low)) (λ e. absurd (omega (arith, e, low)))
+    (omega (arith, low)) (λ same. absurd (omega (arith, same, low)))
     ((tests-three first low high (second ∷ third ∷ [])).is_whole ∙ and_from _ _ begins (and_from _ _ continues refl))
 
 pub run-four : {layout : Bool} (bytes : List ℕ) (from : ℕ) {first second third fourth : ℕ} → from + 4 ≤ length bytes
@@ -217,5 +218,5 @@ run-four bytes from {first} {second} {third} {fourth} long is_first is_second is
     continues ends =
     run-of bytes from first (second ∷ third ∷ fourth ∷ []) (omega (arith, long)) is_first
     (omega (arith, long), is_second, (omega (arith, long), is_third, (omega (arith, long), is_fourth, tt)))
-    (omega (arith, low)) (λ e. absurd (omega (arith, e, low)))
+    (omega (arith, low)) (λ same. absurd (omega (arith, same, low)))
     ((tests-four first low high _).is_whole ∙ and_from _ _ begins (and_from _ _ continues (and_from _ _ ends refl)))

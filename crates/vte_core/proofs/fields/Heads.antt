@@ -31,7 +31,7 @@ pub settles-full : {collected : Collected} {text : List ℕ} → CountsNumbers c
     → HoldsNumbers collected true text
 unfolding groups_of has_too_many_numbers
 settles-full {collected} {text} counts full =
-    let c = counts-held collected text counts in
+    let held_count = counts-held collected text counts in
     let last = numbered collected.joined collected.number in
     let n : length (counts.prefix ++ last ∷ []) ≡ length counts.prefix + 1 = length-append counts.prefix (last ∷ []) in
     record {
@@ -47,7 +47,7 @@ pub settles-push : {old new : Collected} {text : List ℕ} → CountsNumbers old
     → new.params ≡ with_number old.params (numbered old.joined old.number) → HoldsNumbers new false text
 unfolding groups_of has_too_many_numbers
 settles-push {old} {text} counts room pushed =
-    let c = counts-held old text counts in
+    let held_count = counts-held old text counts in
     let last = numbered old.joined old.number in
     let n : length (counts.prefix ++ last ∷ []) ≡ length counts.prefix + 1 = length-append counts.prefix (last ∷ []) in
     let before : old.params ≡ grouped counts.prefix =
@@ -195,7 +195,7 @@ ill_shaped-after_intermediate : (old : Collected) (head : List ℕ) (b : ℕ) �
 unfolding is_well_shaped
 ill_shaped-after_intermediate old head b holds is = record {
   stays = λ more.
-      let e : (head ++ b ∷ []) ++ more ≡ holds.marker ++ (holds.parameters ++ (holds.intermediates ++ (b ∷ more))) =
+      let same : (head ++ b ∷ []) ++ more ≡ holds.marker ++ (holds.parameters ++ (holds.intermediates ++ (b ∷ more))) =
       rw holds.shape (simp append_assoc) in
       let begins = λ (has : Class → Bool) (h1 : has Intermediate ≡ false).
       begins-intermediates has h1 holds.intermediates (b ∷ more) holds.are_intermediates
@@ -203,7 +203,7 @@ ill_shaped-after_intermediate old head b holds is = record {
       let p =
       head_of-parts holds.marker holds.parameters (holds.intermediates ++ b ∷ more) holds.is_marker holds.are_parameters
       (begins is_parameter_text refl) (λ _. begins is_marker refl) in
-      rw (e, p) (list_all-not holds.intermediates b more is);
+      rw (same, p) (list_all-not holds.intermediates b more is);
 }
 
 ill_shaped-more : (head : List ℕ) (b : ℕ) → StaysIllShaped head → StaysIllShaped (head ++ b ∷ [])

@@ -137,8 +137,9 @@ module _ {limit : Option ℕ} {stream bytes : List ℕ} {i : ℕ} where
       → b ≡ slice_index bytes i → IsAfter limit (resumed_stream stream bytes i) place
       → IsPlace place → IsOutsideRunsAtPlace place b → AddsOutsideRuns limit stream bytes i (i + 1)
   adds-outside_runs {b} {place} within is is_after is_place outside =
-      let s = steps is_place in
-      adds-reads within is is_after s.reads s.is_place (outside_runs-all s.reported (s.outside_runs outside))
+      let step = steps is_place in
+      adds-reads within is is_after step.reads step.is_place
+      (outside_runs-all step.reported (step.outside_runs outside))
 
   -- If the first byte of a character reported nothing, what is added from it on are the events of the character.
   pub adds-character : {begun : List ℕ} {j : ℕ} (adds : AddsCharacter limit stream begun bytes (i + 1) j)

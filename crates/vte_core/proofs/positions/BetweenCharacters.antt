@@ -189,7 +189,7 @@ advances-first {call} {i} {first} {parser} may_read lead fits completes = record
         | inl others ↦ others
         | inr whole ↦
             let cut : take (whole.n + 1) (drop i call.bytes) ≡ first ∷ take whole.n (drop (i + 1) call.bytes) =
-            ap (λ n. take n (drop i call.bytes)) (let e : whole.n + 1 ≡ suc whole.n = omega arith in e)
+            ap (λ n. take n (drop i call.bytes)) (let same : whole.n + 1 ≡ suc whole.n = omega arith in same)
             ∙ ap (take (suc whole.n)) (drop_more call.bytes i 0 may_read.within)
             ∙ ap (λ x. x ∷ take whole.n (drop (i + 1) call.bytes)) (sym may_read.looked_at) in
             -- As no run begins here, a well-formed sequence that begins here spells a control.

@@ -59,19 +59,19 @@ probe-not_alone : {limit : Option ℕ} {stream : List ℕ} {place : Place} {b : 
 probe-not_alone {place = InText []} probe is is_after other = absurd (other refl)
 probe-not_alone {place = InText (c ∷ u)} {b} probe is is_after other = search (rules, arith, probe-in_character)
 probe-not_alone {place = AtEscape} probe is is_after other = λ alone.
-    let e = sym alone ∙ probe-gives probe is_after (escape-end probe.class refl probe.key) refl in cc
+    let same = sym alone ∙ probe-gives probe is_after (escape-end probe.class refl probe.key) refl in cc
 probe-not_alone {place = InEscape ints} probe is is_after other = λ alone.
-    let e = sym alone ∙ probe-gives probe is_after (intermediate-end probe.class refl) refl in cc
+    let same = sym alone ∙ probe-gives probe is_after (intermediate-end probe.class refl) refl in cc
 probe-not_alone {place = InControlSequence head} probe is is_after other = λ alone.
-    let e = sym alone ∙ probe-gives probe is_after (control-head (rw probe.class refl)) tt in cc
+    let same = sym alone ∙ probe-gives probe is_after (control-head (rw probe.class refl)) tt in cc
 probe-not_alone {place = InDeviceControl head} probe is is_after other = λ alone.
-    let e = sym alone ∙ probe-gives probe is_after (device-head (rw probe.class refl)) tt in cc
+    let same = sym alone ∙ probe-gives probe is_after (device-head (rw probe.class refl)) tt in cc
 probe-not_alone {place = InDeviceData} probe is is_after other = λ alone.
-    let e = sym alone ∙ probe-gives probe is_after (data-put (rw probe.class refl)) tt in cc
+    let same = sym alone ∙ probe-gives probe is_after (data-put (rw probe.class refl)) tt in cc
 probe-not_alone {place = InSystemCommand items} probe is is_after other = λ alone.
-    let e = sym alone ∙ probe-gives probe is_after (command-item probe.low) tt in cc
+    let same = sym alone ∙ probe-gives probe is_after (command-item probe.low) tt in cc
 probe-not_alone {place = InIgnoredString} probe is is_after other = λ alone.
-    let e = sym alone ∙ probe-gives probe is_after (ignored-more (rw probe.class refl)) tt in cc
+    let same = sym alone ∙ probe-gives probe is_after (ignored-more (rw probe.class refl)) tt in cc
 
 -- ---- what is open in the state is open at the place, and at the end of the stream
 

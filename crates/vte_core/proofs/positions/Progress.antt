@@ -56,7 +56,7 @@ pub may_stop-some : (n : ℕ) → (n ≡ 0 → ⊥) → not (eqb n 0) ≡ true
 may_stop-some n some = grind (arith, nat_tests)
 
 pub may_stop-none : {n : ℕ} → n ≡ 0 → not (eqb n 0) ≡ true → ⊥
-may_stop-none none is = let e : not (eqb 0 0) ≡ true = rw none at is in cc
+may_stop-none none is = let same : not (eqb 0 0) ≡ true = rw none at is in cc
 
 -- A call that may not stop reads all bytes.
 pub all_read-unless_asked : (n size : ℕ) → n ≤ size → (n < size → false ≡ true) → n ≡ size
@@ -262,7 +262,7 @@ module _ {V : Type 0} {call : ChunkCall V} {old : V} {stream : List ℕ} where
         let none =
         sym (after-left after-nothing refl)
         ∙ after-left is_after tt in
-        let f : ⊥ = cc in absurd f
+        let never : ⊥ = cc in absurd never
     | inr whole ↦ progress-back whole progress
   ]
 

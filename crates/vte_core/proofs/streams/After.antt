@@ -38,7 +38,7 @@ pub carried_is_no_escape : (opened : List ℕ) (b : ℕ) → is_truncated opened
     → (is_well_formed (opened ++ b ∷ []) ≡ true) ⊎ (is_truncated (opened ++ b ∷ []) ≡ true) → eqb b escape ≡ false
 carried_is_no_escape opened b more carried = elim (cases_Bool (eqb b escape)) [
   | inl is ↦
-      let e : b ≡ escape = eqb-true b escape is in
+      let same : b ≡ escape = eqb-true b escape is in
       let tests : Tests (opened ++ b ∷ []) false false = ascii-breaks opened b more (omega arith) in
       elim carried [ inl h ↦ cc (h, tests.is_whole) | inr h ↦ cc (h, tests.is_open) ]
   | inr other ↦ other
@@ -59,8 +59,8 @@ waits-broken limit opened b more begun whole next = elim (cases_Bool (eqb b esca
   | inr other ↦
       waits-byte limit (InText opened) (InText []) b (Print replacement ∷ []) more other
       (text_outcome-broken opened b begun whole next)
-  | inl e ↦
-      let is : b ≡ escape = eqb-true b escape e in
+  | inl same ↦
+      let is : b ≡ escape = eqb-true b escape same in
       let there : outcome_from limit (InText []) (escape ∷ more) ≡ outcome_from limit AtEscape more =
       outcome_from-escape limit (InText []) more refl in
       rw is (

@@ -208,8 +208,8 @@ at_most-at place is = search (rules, arith, truncated-long)
 
 open-at_most : (stream : List ℕ) → length (open_character stream) ≤ 3
 open-at_most stream =
-    let a = leads_to {limit = None} {stream = stream} in
-    rw (after-open_character a.is_after a.is_place) (at_most-at a.place a.is_place)
+    let leads = leads_to {limit = None} {stream = stream} in
+    rw (after-open_character leads.is_after leads.is_place) (at_most-at leads.place leads.is_place)
 
 pub opens_late : OpensLate
 unfolding open_character
@@ -217,6 +217,6 @@ opens_late = record {
   after_escape = opens-escape;
   without_escape = opens-text;
   character = λ stream.
-      let e = ends-stream None stream in
-      record { prefix = e.prefix; joins = e.joins; at_most = open-at_most stream };
+      let ends = ends-stream None stream in
+      record { prefix = ends.prefix; joins = ends.joins; at_most = open-at_most stream };
 }

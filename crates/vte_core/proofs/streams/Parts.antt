@@ -153,12 +153,13 @@ outcome-broken : (limit : Option ℕ) (stream unread more : List ℕ) → breaks
     ≡ report (events limit stream ++ Print replacement ∷ []) (outcome limit (unread ++ more))
 outcome-broken limit stream [] more broken = absurd (false≢true (sym (breaks-no_byte (open_character stream)) ∙ broken))
 outcome-broken limit stream (b ∷ unread) more broken =
-    let a = leads_to in
-    let here : breaks (open_at a.place) (b ∷ unread) ≡ true =
+    let leads = leads_to in
+    let here : breaks (open_at leads.place) (b ∷ unread) ≡ true =
     ap (λ (u : List ℕ). breaks u (b ∷ unread))
-    (sym (after-open_character a.is_after a.is_place)) ∙ broken in
-    a.is_after.goes_on (b ∷ (unread ++ more))
-    ∙ ap (report (events limit stream)) (outcome_from-broken limit a.place b unread (unread ++ more) a.is_place here)
+    (sym (after-open_character leads.is_after leads.is_place)) ∙ broken in
+    leads.is_after.goes_on (b ∷ (unread ++ more))
+    ∙ ap (report (events limit stream))
+    (outcome_from-broken limit leads.place b unread (unread ++ more) leads.is_place here)
     ∙ sym
     (report-append (events limit stream) (Print replacement ∷ [])
     (outcome_from limit (InText []) (b ∷ (unread ++ more))))

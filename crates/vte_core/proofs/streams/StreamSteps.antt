@@ -79,22 +79,22 @@ pub record LeadsTo (limit : Option ℕ) (stream : List ℕ) : Type 0 where
 
 pub leads_to : {limit : Option ℕ} {stream : List ℕ} → LeadsTo limit stream
 leads_to {limit} {stream} =
-    let a : Arrives limit limit (InText []) stream =
+    let arrives_there : Arrives limit limit (InText []) stream =
     arrives limit limit (InText []) stream refl (λ place _. left-fits limit place) in
     record {
-      place = a.next;
-      is_place = a.is_place;
-      is_after = after-reads after-nothing a.reads a.is_place;
-      bounded = rw (reported_by_stream a.is_place a.reads) a.bounded;
+      place = arrives_there.next;
+      is_place = arrives_there.is_place;
+      is_after = after-reads after-nothing arrives_there.reads arrives_there.is_place;
+      bounded = rw (reported_by_stream arrives_there.is_place arrives_there.reads) arrives_there.bounded;
     }
 
 -- ---- the laws: events only grow, and a stream begins again at ESC and after CAN and SUB
 
 pub events_grow : (limit : Option ℕ) → Grows limit
 events_grow limit stream more =
-    let a = leads_to in
-    after-events more a.is_after
-    ∙ ap (λ es. events limit stream ++ es) (sym (added-after more a.is_after))
+    let leads = leads_to in
+    after-events more leads.is_after
+    ∙ ap (λ es. events limit stream ++ es) (sym (added-after more leads.is_after))
 
 grows_after : {limit : Option ℕ} (stream : List ℕ) {bytes : List ℕ} (more : List ℕ)
     (leads : LeadsTo limit stream) {next : Place}
@@ -106,11 +106,11 @@ grows_after {limit} stream {bytes} more leads is reads = search (rules, arith, a
 -- After CAN or SUB, what follows is read as a new stream.
 resyncs_after : (limit : Option ℕ) (end : ℕ) → class_of end ≡ Cancel → ResyncsAfter limit end
 resyncs_after limit end is_class stream more =
-    let a = leads_to in
+    let leads = leads_to in
     let last =
     bytes_lead-byte (cancel_is_no_escape end is_class)
-    (byte-cancels a.is_place is_class) in
-    grows_after stream more a refl last
+    (byte-cancels leads.is_place is_class) in
+    grows_after stream more leads refl last
     ∙ ap (λ es. events limit (stream ++ end ∷ []) ++ es) (sym (events-after_nothing limit more))
 
 escape_at_first : (limit : Option ℕ) (more : List ℕ) → events limit (escape ∷ more) ≡ events_from limit AtEscape more
@@ -124,8 +124,8 @@ resynchronises limit = record {
   cancel = resyncs_after limit 0x18 refl;
   substitute = resyncs_after limit 0x1a refl;
   escape = λ stream more.
-      let a = leads_to in
-      grows_after stream more a tt (bytes_lead-escape a.is_place)
+      let leads = leads_to in
+      grows_after stream more leads tt (bytes_lead-escape leads.is_place)
       ∙ ap (λ es. events limit (stream ++ escape ∷ []) ++ es) (sym (escape_at_first limit more));
 }
 
@@ -140,28 +140,28 @@ pub record AddedByByte (limit : Option ℕ) (stream : List ℕ) (b : ℕ) : Type
 
 pub added-byte : (limit : Option ℕ) (stream : List ℕ) (b : ℕ) → AddedByByte limit stream b
 added-byte limit stream b =
-    let a = leads_to in
-    let s = steps a.is_place in
-    let later = after-reads a.is_after s.reads s.is_place in
+    let leads = leads_to in
+    let step = steps leads.is_place in
+    let later = after-reads leads.is_after step.reads step.is_place in
     record {
-      place = a.place;
-      begun = after-open_character a.is_after a.is_place;
-      step = s;
-      ends = after-open_character later s.is_place;
-      reported = added-reads a.is_after s.reads s.is_place;
+      place = leads.place;
+      begun = after-open_character leads.is_after leads.is_place;
+      step = step;
+      ends = after-open_character later step.is_place;
+      reported = added-reads leads.is_after step.reads step.is_place;
     }
 
 pub bytes_are_brief : (limit : Option ℕ) (stream : List ℕ) (b : ℕ) → AreFromOneByte limit (added limit stream (b ∷ []))
 bytes_are_brief limit stream b =
-    let a = added-byte limit stream b in rw a.reported (a.step.brief limit (left-fits limit a.place))
+    let adds = added-byte limit stream b in rw adds.reported (adds.step.brief limit (left-fits limit adds.place))
 
 pub opens_silently : (limit : Option ℕ) → OpensSilently limit
 opens_silently limit stream b =
-    let a = added-byte limit stream b in
-    elim a.step.leaves [
-      | inl none ↦ inl (a.ends ∙ none)
+    let adds = added-byte limit stream b in
+    elim adds.step.leaves [
+      | inl none ↦ inl (adds.ends ∙ none)
       | inr little ↦
-          elim little [ inl nothing ↦ inr (inl (a.reported ∙ nothing)) | inr one ↦ inr (inr (a.reported ∙ one)) ]
+          elim little [ inl nothing ↦ inr (inl (adds.reported ∙ nothing)) | inr one ↦ inr (inr (adds.reported ∙ one)) ]
     ]
 
 -- ---- what all bytes report
@@ -177,13 +177,13 @@ fits_by n _ within = tt
 
 pub counts_data : (stream bytes : List ℕ) → CountsData stream bytes
 counts_data stream bytes =
-    let a = leads_to {limit = None} {stream = stream} in
-    let c = arrives None (Some (size_at None a.place + length bytes)) a.place bytes a.is_place
+    let leads = leads_to {limit = None} {stream = stream} in
+    let c = arrives None (Some (size_at None leads.place + length bytes)) leads.place bytes leads.is_place
     (λ place at_most. fits_by _ (left_at None place) (at_most refl)) in
-    let before = ap open_data_count (after-left a.is_after a.is_place) in
-    let later = ap open_data_count (after-left (after-reads a.is_after c.reads c.is_place) c.is_place) in
+    let before = ap open_data_count (after-left leads.is_after leads.is_place) in
+    let later = ap open_data_count (after-left (after-reads leads.is_after c.reads c.is_place) c.is_place) in
     record {
-      reported = rw (before, added-reads a.is_after c.reads c.is_place) c.bounded;
+      reported = rw (before, added-reads leads.is_after c.reads c.is_place) c.bounded;
       left = omega (arith, before, later, c.grows refl);
     }
 

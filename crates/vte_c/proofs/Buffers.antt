@@ -38,27 +38,28 @@ length-filled (group ∷ groups) filled =
     omega (arith, sum_by-cons length group groups, length-filled groups (All-tail IsFilled group groups filled))
 
 pub length-groups : (groups : List (List ℕ)) → AreGroups groups → length groups ≤ 32
-length-groups groups h = omega (arith, length-filled groups h.filled, h.at_most)
+length-groups groups groups_are = omega (arith, length-filled groups groups_are.filled, groups_are.at_most)
 
 group_bytes-at_most : (groups : List (List ℕ)) → AreGroups groups → length (flat_map group_bytes groups) ≤ 96
-group_bytes-at_most groups h = omega (arith, length-group_bytes groups, length-groups groups h, h.at_most)
+group_bytes-at_most groups groups_are =
+    omega (arith, length-group_bytes groups, length-groups groups groups_are, groups_are.at_most)
 
 -- No event has more data bytes.
 abbrev max_data : ℕ
 max_data = 1088
 
 data_of-at_most : (event : Event) → IsBounded usual_limit event → length (data_of event) ≤ max_data
-data_of-at_most (Print c) h = omega (arith, length-encode c, (len_utf8_bounds c).1)
-data_of-at_most (Hook groups ints ignore final) h = omega (arith, group_bytes-at_most groups h.0)
-data_of-at_most (OscDispatch pieces bell) h = omega (arith, length-piece_bytes pieces, h.0, h.1)
-data_of-at_most (CsiDispatch groups ints ignore final) h = omega (arith, group_bytes-at_most groups h.0)
-data_of-at_most _ h = omega arith
+data_of-at_most (Print c) bounded = omega (arith, length-encode c, (len_utf8_bounds c).1)
+data_of-at_most (Hook groups ints ignore final) bounded = omega (arith, group_bytes-at_most groups bounded.0)
+data_of-at_most (OscDispatch pieces bell) bounded = omega (arith, length-piece_bytes pieces, bounded.0, bounded.1)
+data_of-at_most (CsiDispatch groups ints ignore final) bounded = omega (arith, group_bytes-at_most groups bounded.0)
+data_of-at_most _ bounded = omega arith
 
 -- The second event that a byte adds is short.
 data_of-short : (event : Event) → IsShort event → length (data_of event) ≤ 4
-data_of-short (Print c) h = omega (arith, length-encode c, (len_utf8_bounds c).1)
-data_of-short (Execute byte) h = omega arith
-data_of-short _ h = absurd h
+data_of-short (Print c) short = omega (arith, length-encode c, (len_utf8_bounds c).1)
+data_of-short (Execute byte) short = omega arith
+data_of-short _ short = absurd short
 
 -- ---- entries one after the other, if the buffers aren't full in between
 
@@ -91,17 +92,19 @@ with_entries-append buffers front back =
 pub unmet : {old new : Buffers} {input : List ℕ} {entries : List Entry} → HasEntries old new input entries
     → is_full new ≡ false
     → NoRecordStops old.stops (records_from old.used entries)
-unmet {old} {new} {input} {entries} h free =
+unmet {old} {new} {input} {entries} has_entries free =
     let met : new.met ≡ false = grind (arith, nat_tests) in
     no_kind_stops-none old.stops (records_from old.used entries)
     (or_parts old.met (has_kind old.stops (records_from old.used entries))
-    (sym (ap (λ (r : Buffers). r.met) h.written) ∙ met)).1
+    (sym (ap (λ (r : Buffers). r.met) has_entries.written) ∙ met)).1
 
 readable-append : (input : List ℕ) (front back : List Entry) → AreReadable input front → AreReadable input back
     → AreReadable input (front ++ back)
-readable-append input [] back f b = b
-readable-append input (Single event ∷ front) back f b = (f.0, readable-append input front back f.1 b)
-readable-append input (InInput run start size ∷ front) back f b = (f.0, readable-append input front back f.1 b)
+readable-append input [] back front_are back_are = back_are
+readable-append input (Single event ∷ front) back front_are back_are =
+    (front_are.0, readable-append input front back front_are.1 back_are)
+readable-append input (InInput run start size ∷ front) back front_are back_are =
+    (front_are.0, readable-append input front back front_are.1 back_are)
 
 -- At most two records may all be the last ones: one that stops, and one after it.
 stops_soon : (stops offset : ℕ) (entries : List Entry) → length entries ≤ 2
@@ -127,18 +130,22 @@ entries-nothing buffers input =
 pub entries-then : {old mid new : Buffers} {input : List ℕ} {front back : List Entry} → HasEntries old mid input front
     → is_full mid ≡ false
     → HasEntries mid new input back → HasEntries old new input (front ++ back)
-entries-then {old} {mid} {new} {input} {front} {back} a free b =
+entries-then {old} {mid} {new} {input} {front} {back} has_front free has_back =
     let before = records_from old.used front in
-    let s = subst (λ (r : Buffers). StopsAtKind r.stops (kinds_of (records_from r.used back))) a.written b.first in
+    let soon =
+    subst (λ (r : Buffers). StopsAtKind r.stops (kinds_of (records_from r.used back))) has_front.written
+    has_back.first in
     record {
-      readable = readable-append input front back a.readable b.readable;
-      written = b.written ∙ ap (λ (r : Buffers). with_entries r back) a.written ∙ with_entries-append old front back;
+      readable = readable-append input front back has_front.readable has_back.readable;
+      written =
+          has_back.written ∙ ap (λ (r : Buffers). with_entries r back) has_front.written
+          ∙ with_entries-append old front back;
       first = record {
-        before = kinds_of before ++ s.before;
-        last = s.last;
-        parts = rw (records-append old.used front back, map-append, append_assoc (kinds_of before), ← s.parts) refl;
-        others = no_kind_stops-append old.stops (kinds_of before) s.before (unmet a free) s.others;
-        at_most = s.at_most;
+        before = kinds_of before ++ soon.before;
+        last = soon.last;
+        parts = rw (records-append old.used front back, map-append, append_assoc (kinds_of before), ← soon.parts) refl;
+        others = no_kind_stops-append old.stops (kinds_of before) soon.before (unmet has_front free) soon.others;
+        at_most = soon.at_most;
       };
     }
 
@@ -202,13 +209,13 @@ resumed_free buffers free = ap is_full (resumed_same buffers (unpaused buffers f
 
 either : (choice : Bool) (a b c d : Buffers) → resumed a ≡ resumed c → resumed b ≡ resumed d
     → resumed (if choice then a else b) ≡ resumed (if choice then c else d)
-either true a b c d f g = f
-either false a b c d f g = g
+either true a b c d first_same second_same = first_same
+either false a b c d first_same second_same = second_same
 
 either_paused : (choice paused : Bool) (a b : Buffers) → a.paused ≡ paused → b.paused ≡ paused
     → (if choice then a else b).paused ≡ paused
-either_paused true paused a b f g = f
-either_paused false paused a b f g = g
+either_paused true paused a b first_is second_is = first_is
+either_paused false paused a b first_is second_is = second_is
 
 -- An event is written in the same way after a pause.
 with_event_resumed : (buffers : Buffers) (event : Event)
@@ -352,11 +359,11 @@ pub entries-unit_more : {old : Buffers} (input : List ℕ) (buffers : Buffers) (
     → is_full (after buffers_with_event buffers before) ≡ false → AreFromOneByte usual_limit unit
     → HasEntries old (resumed (after buffers_with_event buffers (before ++ unit))) input
     (entries_of old (before ++ unit))
-entries-unit_more {old} input buffers before unit h free brief =
+entries-unit_more {old} input buffers before unit has_entries free brief =
     let mid : Buffers = after buffers_with_event buffers before in
     -- The buffers before the unit isn't full, so it isn't paused either.
     let same : resumed mid ≡ mid = resumed_same mid (unpaused mid free) in
-    let first : HasEntries old mid input (entries_of old before) = rw same at h in
+    let first : HasEntries old mid input (entries_of old before) = rw same at has_entries in
     let kinds : mid.kinds ≡ old.kinds = ap (λ (r : Buffers). r.kinds) first.written in
     -- The unit is written into that buffers, which reports the kinds of the old one.
     rw (after_events-append buffers_with_event buffers before unit, filter-append, map-append)

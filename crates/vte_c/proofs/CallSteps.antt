@@ -63,7 +63,7 @@ goes-run {old} {new} {since} {bytes} run {from} {size} free is is_run adds =
 
 events-singles : (input : List ℕ) (events : List Event) → flat_map (entry_events input) (map Single events) ≡ events
 events-singles input [] = refl
-events-singles input (event ∷ events) = ap (λ (es : List Event). event ∷ es) (events-singles input events)
+events-singles input (event ∷ events) = ap (λ (events : List Event). event ∷ events) (events-singles input events)
 
 -- Before the first byte at most U+FFFD is given, for a character that it breaks, and that doesn't fill the buffers.
 goes_on_at_first : (old : Buffers) (broken : Bool) → Starts old
@@ -146,37 +146,38 @@ goes-nothing {buffers} {since} {bytes} {from} = record {
 }
 
 goes-then : {old mid new : Buffers} {since next last bytes : List ℕ} {from n m : ℕ}
-    (a : ReadsOn old mid since next bytes from n)
+    (reads : ReadsOn old mid since next bytes from n)
     → is_full mid ≡ false → from + n + m ≤ length bytes → ReadsOn mid new next last bytes (from + n) m
     → ReadsOn old new since last bytes from (n + m)
-goes-then {old} {mid} {since} {bytes} {from} {n} {m} a free within b =
+goes-then {old} {mid} {since} {bytes} {from} {n} {m} reads free within reads_on =
     let unread : List ℕ = drop from bytes in
     let size = length-drop from bytes in
     -- The second step begins n bytes after the first, with the same kinds and stops.
     let rest : drop (from + n) bytes ≡ drop n unread = sym (drop-drop n from bytes) in
-    let kinds : mid.kinds ≡ old.kinds = ap (λ (r : Buffers). r.kinds) a.holds.written in
-    let stops : mid.stops ≡ old.stops = ap (λ (r : Buffers). r.stops) a.holds.written in
+    let kinds : mid.kinds ≡ old.kinds = ap (λ (r : Buffers). r.kinds) reads.holds.written in
+    let stops : mid.stops ≡ old.stops = ap (λ (r : Buffers). r.stops) reads.holds.written in
     record {
-      given = a.given ++ b.given;
-      entries = a.entries ++ b.entries;
-      continues = continues-then a.continues (rw rest at b.continues) (omega (arith, within));
+      given = reads.given ++ reads_on.given;
+      entries = reads.entries ++ reads_on.entries;
+      continues = continues-then reads.continues (rw rest at reads_on.continues) (omega (arith, within));
       shows =
-          rw (flat_map-append (entry_events bytes) a.entries b.entries, filter-append, a.shows)
-          (rw kinds at (ap (λ (es : List Event). reported old.kinds a.given ++ es) b.shows));
-      holds = entries-then a.holds free b.holds;
+          rw (flat_map-append (entry_events bytes) reads.entries reads_on.entries, filter-append, reads.shows)
+          (rw kinds at (ap (λ (events : List Event). reported old.kinds reads.given ++ events) reads_on.shows));
+      holds = entries-then reads.holds free reads_on.holds;
       before = λ none i earlier. elim (cases_lt i n) [
-        | inl front ↦ a.before none i front
+        | inl front ↦ reads.before none i front
         | inr after_it ↦
             let k : ℕ = i - n in
             let place : n + k ≡ i = omega arith in
-            let front = a.continues.prefixes k (omega (arith, within)) in
+            let front = reads.continues.prefixes k (omega (arith, within)) in
             let stop : ℕ → Bool = is_stop old.kinds old.stops in
             -- The buffers weren't full after the first step, so none of its events stops.
             let given_without_stop =
-            no_event_stops-reported old.kinds old.stops a.given
-            (rw a.shows at (no_event_stops-entries old.stops bytes old.used a.entries (unmet a.holds free))) in
+            no_event_stops-reported old.kinds old.stops reads.given
+            (rw reads.shows at
+            (no_event_stops-entries old.stops bytes old.used reads.entries (unmet reads.holds free))) in
             -- Before the end of the second step, none of its events stops either.
-            let more = rw (kinds, stops, rest) at (b.before (rw (kinds, stops) none) k (omega arith)) in
+            let more = rw (kinds, stops, rest) at (reads_on.before (rw (kinds, stops) none) k (omega arith)) in
             -- What the bytes up to place i add is the first part of these events.
             rw (← place)
             (no_event_stops-front stop (added usual_limit since (take (n + k) unread)) front.others
@@ -189,11 +190,15 @@ pub gone-nothing : {old : Buffers} {parser : Parser 1024} {since bytes : List �
 gone-nothing {since} reads = record { next = since; reads = reads; goes = goes-nothing }
 
 pub gone-then : {old mid new : Buffers} {parser last : Parser 1024} {since bytes : List ℕ} {n m : ℕ}
-    (a : HasReadOn old mid parser since bytes 0 n)
-    → is_full mid ≡ false → n + m ≤ length bytes → HasReadOn mid new last a.next bytes n m
+    (has_read : HasReadOn old mid parser since bytes 0 n)
+    → is_full mid ≡ false → n + m ≤ length bytes → HasReadOn mid new last has_read.next bytes n m
     → HasReadOn old new last since bytes 0 (n + m)
-gone-then a free within b =
-    record { next = b.next; reads = b.reads; goes = goes-then a.goes free (rw zero-add within) (rw zero-add b.goes) }
+gone-then has_read free within has_read_on =
+    record {
+      next = has_read_on.next;
+      reads = has_read_on.reads;
+      goes = goes-then has_read.goes free (rw zero-add within) (rw zero-add has_read_on.goes);
+    }
 
 -- ---- a call of the parser, and the run that it returned
 

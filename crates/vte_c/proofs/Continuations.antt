@@ -8,19 +8,21 @@ use Rattle.vte_core.proofs.Shapes.{breaks-next}
 -- ---- some events are the first of others (`AreFirst`)
 
 first_same : {events all : List Event} → all ≡ events → AreFirst events all
-first_same {events} e = record { others = []; parts = e ∙ sym (append-nil events) }
+first_same {events} same = record { others = []; parts = same ∙ sym (append-nil events) }
 
 first-then : {front events all : List Event} → AreFirst front events → AreFirst events all → AreFirst front all
-first-then {front} f g = record {
-  others = f.others ++ g.others;
-  parts = g.parts ∙ ap (λ (es : List Event). es ++ g.others) f.parts ∙ append_assoc front f.others g.others;
+first-then {front} first later = record {
+  others = first.others ++ later.others;
+  parts =
+      later.parts ∙ ap (λ (events : List Event). events ++ later.others) first.parts
+      ∙ append_assoc front first.others later.others;
 }
 
 first-after : {events all : List Event} (before : List Event) → AreFirst events all
     → AreFirst (before ++ events) (before ++ all)
-first-after {events} before f = record {
-  others = f.others;
-  parts = ap (λ (es : List Event). before ++ es) f.parts ∙ sym (append_assoc before events f.others);
+first-after {events} before first = record {
+  others = first.others;
+  parts = ap (λ (events : List Event). before ++ events) first.parts ∙ sym (append_assoc before events first.others);
 }
 
 -- ---- one part after another
@@ -31,12 +33,14 @@ continues-nothing since bytes = record { goes_on = λ more. refl; prefixes = λ 
 pub continues-then : {since next last bytes : List ℕ} {n m : ℕ} {given more : List Event}
     → Continues since next bytes n given → Continues next last (drop n bytes) m more
     → n ≤ length bytes → Continues since last bytes (n + m) (given ++ more)
-continues-then {bytes} {n} {m} {given} {more} a b within = record {
-  goes_on = λ unread. rw (append_assoc given, ← drop-drop m n bytes, a.goes_on unread, b.goes_on unread) refl;
+continues-then {bytes} {n} {m} {given} {more} continues continues_on within = record {
+  goes_on =
+      λ unread.
+      rw (append_assoc given, ← drop-drop m n bytes, continues.goes_on unread, continues_on.goes_on unread) refl;
   prefixes = λ k below.
       rw (append_assoc given, ← drop-drop m n bytes, add_assoc n m k)
-      (first-then (a.prefixes (m + k) (omega arith))
-      (first-after given (b.prefixes k (omega (arith, length-drop n bytes)))));
+      (first-then (continues.prefixes (m + k) (omega arith))
+      (first-after given (continues_on.prefixes k (omega (arith, length-drop n bytes)))));
 }
 
 -- ---- bytes that report what they add
@@ -100,20 +104,23 @@ no_kind_stops-none stops (event ∷ records) none =
 
 pub no_kind_stops-append : (stops : ℕ) (front back : List ℕ) → NoKindStops stops front → NoKindStops stops back
     → NoKindStops stops (front ++ back)
-no_kind_stops-append stops [] back f b = b
-no_kind_stops-append stops (kind ∷ front) back f b = (f.0, no_kind_stops-append stops front back f.1 b)
+no_kind_stops-append stops [] back none_stops none_after = none_after
+no_kind_stops-append stops (kind ∷ front) back none_stops none_after =
+    (none_stops.0, no_kind_stops-append stops front back none_stops.1 none_after)
 
 -- ---- events that do not stop (`NoEventStops`): of lists, runs and entries, and of fewer bytes
 
 pub no_event_stops-front : (stop : ℕ → Bool) (front back : List Event) → NoEventStops stop (front ++ back)
     → NoEventStops stop front
-no_event_stops-front stop [] back h = tt
-no_event_stops-front stop (event ∷ front) back h = (h.0, no_event_stops-front stop front back h.1)
+no_event_stops-front stop [] back none_stops = tt
+no_event_stops-front stop (event ∷ front) back none_stops =
+    (none_stops.0, no_event_stops-front stop front back none_stops.1)
 
 pub no_event_stops-append : (stop : ℕ → Bool) (front back : List Event) → NoEventStops stop front
     → NoEventStops stop back → NoEventStops stop (front ++ back)
-no_event_stops-append stop [] back f b = b
-no_event_stops-append stop (event ∷ front) back f b = (f.0, no_event_stops-append stop front back f.1 b)
+no_event_stops-append stop [] back none_stops none_after = none_after
+no_event_stops-append stop (event ∷ front) back none_stops none_after =
+    (none_stops.0, no_event_stops-append stop front back none_stops.1 none_after)
 
 no_event_stops-each : (stop : ℕ → Bool) (call : ℕ → Event) → ((n : ℕ) → stop (event_kind (call n)) ≡ false)
     → (ns : List ℕ) → NoEventStops stop (map call ns)
@@ -129,34 +136,35 @@ no_event_stops-run stop DataRun bytes other = no_event_stops-each stop Put (λ b
 pub no_event_stops-entries : (stops : ℕ) (input : List ℕ) (place : ℕ) (entries : List Entry)
     → NoRecordStops stops (records_from place entries)
     → NoEventStops (has stops) (flat_map (entry_events input) entries)
-no_event_stops-entries stops input place [] h = tt
-no_event_stops-entries stops input place (Single event ∷ entries) h =
-    (h.0, no_event_stops-entries stops input (place + length (entry_data (Single event))) entries h.1)
-no_event_stops-entries stops input place (InInput run start size ∷ entries) h =
+no_event_stops-entries stops input place [] none_stops = tt
+no_event_stops-entries stops input place (Single event ∷ entries) none_stops =
+    (none_stops.0, no_event_stops-entries stops input (place + length (entry_data (Single event))) entries none_stops.1)
+no_event_stops-entries stops input place (InInput run start size ∷ entries) none_stops =
     let bytes : List ℕ = take size (drop start input) in
     no_event_stops-append (has stops) (events_of_run run bytes) (flat_map (entry_events input) entries)
-    (no_event_stops-run (has stops) run bytes h.0) (no_event_stops-entries stops input (place + 0) entries h.1)
+    (no_event_stops-run (has stops) run bytes none_stops.0)
+    (no_event_stops-entries stops input (place + 0) entries none_stops.1)
 
 -- An event that isn't reported doesn't stop.
 pub no_event_stops-reported : (kinds stops : ℕ) (events : List Event) → NoEventStops (has stops) (reported kinds events)
     → NoEventStops (is_stop kinds stops) events
-no_event_stops-reported kinds stops [] h = tt
-no_event_stops-reported kinds stops (event ∷ events) h = elim (cases_Bool (has kinds (event_kind event))) [
+no_event_stops-reported kinds stops [] none_stops = tt
+no_event_stops-reported kinds stops (event ∷ events) none_stops = elim (cases_Bool (has kinds (event_kind event))) [
   | inl wanted ↦
-      let rest = rw wanted at h in
+      let rest = rw wanted at none_stops in
       (rw wanted rest.0, no_event_stops-reported kinds stops events rest.1)
-  | inr other ↦ (rw other refl, no_event_stops-reported kinds stops events (rw other at h))
+  | inr other ↦ (rw other refl, no_event_stops-reported kinds stops events (rw other at none_stops))
 ]
 
 -- If nothing that bytes add stops, nothing that fewer of them add does.
 pub no_event_stops-earlier : (stop : ℕ → Bool) (stream bytes : List ℕ) (i n : ℕ) → i ≤ n
     → NoEventStops stop (added usual_limit stream (take n bytes))
     → NoEventStops stop (added usual_limit stream (take i bytes))
-no_event_stops-earlier stop stream bytes i n earlier h =
+no_event_stops-earlier stop stream bytes i n earlier none_stops =
     let parts : i + (n - i) ≡ n = omega arith in
     no_event_stops-front stop (added usual_limit stream (take i bytes))
     (added usual_limit (stream ++ take i bytes) (take (n - i) (drop i bytes)))
-    (rw (← parts, take-add i (n - i) bytes, added-append) at h)
+    (rw (← parts, take-add i (n - i) bytes, added-append) at none_stops)
 
 -- ---- what the bytes before the last add
 

@@ -37,9 +37,9 @@ read_groups (group ∷ groups) back small =
 
 groups_read : (groups : List (List ℕ)) (back : List ℕ) → AreGroups groups
     → groups_in (count_byte (length groups)) (flat_map group_bytes groups ++ back) ≡ groups
-groups_read groups back h =
-    let at_most : count_byte (length groups) ≡ length groups = omega (arith, length-groups groups h) in
-    rw at_most (read_groups groups back (omega (arith, h.at_most)))
+groups_read groups back groups_are =
+    let at_most : count_byte (length groups) ≡ length groups = omega (arith, length-groups groups groups_are) in
+    rw at_most (read_groups groups back (omega (arith, groups_are.at_most)))
 
 read_pieces : (pieces : List (List ℕ)) (back : List ℕ) → length (concat pieces) ≤ 2 ^ 32 - 1
     → pieces_in (length pieces) (flat_map piece_bytes pieces ++ back) ≡ pieces
@@ -77,19 +77,19 @@ read_single : (input area back : List ℕ) (offset : ℕ) (event : Event) → Is
     → drop offset area ≡ data_of event ++ back
     → events_of input area (record_at offset (Single event)) ≡ event ∷ []
 unfolding events_of event_in
-read_single input area back offset (Print c) h e =
-    rw (e, take-append_seam (encode_utf8 c) back, chars-encode c h.0) refl
-read_single input area back offset (Hook groups ints ignore final) h e =
-    rw (e, groups_read groups back h.0, read_intermediates _ ints h.1, read_flag ignore) refl
-read_single input area back offset (Put byte) h e = rw e refl
-read_single input area back offset (OscDispatch pieces bell) h e =
-    let at_most : count_byte (length pieces) ≡ length pieces = omega (arith, h.0) in
-    rw (e, at_most, read_pieces pieces back (omega (arith, h.1)), read_bell bell) refl
-read_single input area back offset (CsiDispatch groups ints ignore final) h e =
-    rw (e, groups_read groups back h.0, read_intermediates _ ints h.1, read_flag ignore) refl
-read_single input area back offset (EscDispatch ints ignore byte) h e =
-    rw (read_intermediates _ ints h.0, read_flag ignore) refl
-read_single input area back offset _ h e = refl
+read_single input area back offset (Print c) bounded is_there =
+    rw (is_there, take-append_seam (encode_utf8 c) back, chars-encode c bounded.0) refl
+read_single input area back offset (Hook groups ints ignore final) bounded is_there =
+    rw (is_there, groups_read groups back bounded.0, read_intermediates _ ints bounded.1, read_flag ignore) refl
+read_single input area back offset (Put byte) bounded is_there = rw is_there refl
+read_single input area back offset (OscDispatch pieces bell) bounded is_there =
+    let at_most : count_byte (length pieces) ≡ length pieces = omega (arith, bounded.0) in
+    rw (is_there, at_most, read_pieces pieces back (omega (arith, bounded.1)), read_bell bell) refl
+read_single input area back offset (CsiDispatch groups ints ignore final) bounded is_there =
+    rw (is_there, groups_read groups back bounded.0, read_intermediates _ ints bounded.1, read_flag ignore) refl
+read_single input area back offset (EscDispatch ints ignore byte) bounded is_there =
+    rw (read_intermediates _ ints bounded.0, read_flag ignore) refl
+read_single input area back offset _ bounded is_there = refl
 
 -- ---- entries one after another
 
@@ -104,16 +104,17 @@ read_run input area DataRun start size = refl
 read_entries : (input area back : List ℕ) (offset : ℕ) (entries : List Entry) → AreReadable input entries
     → drop offset area ≡ flat_map entry_data entries ++ back
     → flat_map (events_of input area) (records_from offset entries) ≡ flat_map (entry_events input) entries
-read_entries input area back offset [] are e = refl
-read_entries input area back offset (InInput run start size ∷ entries) are e =
-    rw (add-zero offset, read_run input area run start size, read_entries input area back offset entries are.1 e) refl
-read_entries input area back offset (Single event ∷ entries) are e =
+read_entries input area back offset [] are is_there = refl
+read_entries input area back offset (InInput run start size ∷ entries) are is_there =
+    rw (add-zero offset, read_run input area run start size, read_entries input area back offset entries are.1 is_there)
+    refl
+read_entries input area back offset (Single event ∷ entries) are is_there =
     let parts = append_assoc (data_of event) (flat_map entry_data entries) back in
     let rest : List ℕ = flat_map entry_data entries ++ back in
     let left : drop (offset + length (data_of event)) area ≡ rest =
-    rw (← drop-drop (length (data_of event)) offset area, e, parts) (drop-append_seam (data_of event) rest) in
+    rw (← drop-drop (length (data_of event)) offset area, is_there, parts) (drop-append_seam (data_of event) rest) in
     let others = read_entries input area back (offset + length (data_of event)) entries are.1 left in
-    rw (read_single input area rest offset event are.0 (rw parts at e), others) refl
+    rw (read_single input area rest offset event are.0 (rw parts at is_there), others) refl
 
 -- Whether a command lost data isn't read.
 events_without_loss : (input area : List ℕ) (event : VteEvent)
@@ -165,8 +166,8 @@ kinds_without_loss (event ∷ records) = rw (kind_without_loss event, kinds_with
 entries_read : (input area : List ℕ) (used : ℕ) (entries : List Entry) → AreReadable input entries
     → take used area ≡ flat_map entry_data entries
     → flat_map (events_of input area) (records_from 0 entries) ≡ flat_map (entry_events input) entries
-entries_read input area used entries are e =
-    read_entries input area (drop used area) 0 entries are (rw (← e) (sym (take-append-drop used area)))
+entries_read input area used entries are is_there =
+    read_entries input area (drop used area) 0 entries are (rw (← is_there) (sym (take-append-drop used area)))
 
 -- ---- from calls to streams, for events and for text (`HasGiven`)
 
@@ -199,31 +200,33 @@ module _ {A : Type 0} {of : List Event → List A} where
   pub given_before : (parser : Saved) (given : List A) (stream unread bytes : List ℕ)
       → HasGiven of parser given stream unread
       → HasGiven of parser given (stream ++ bytes) (unread ++ bytes)
-  given_before parser given stream unread bytes h = record {
-    since = h.since;
-    reads = h.reads;
-    goes_on = λ more. rw (append_assoc unread, append_assoc stream) (h.goes_on (bytes ++ more));
+  given_before parser given stream unread bytes has_given = record {
+    since = has_given.since;
+    reads = has_given.reads;
+    goes_on = λ more. rw (append_assoc unread, append_assoc stream) (has_given.goes_on (bytes ++ more));
   }
 
   -- What a call gives comes next, and the parser goes on from where it stopped.
   pub given_more : {old new : Saved} {before : List A} {stream next : List ℕ} (now : List A) (bytes rest : List ℕ)
-      (n : ℕ) (h : HasGiven of old before stream (bytes ++ rest))
+      (n : ℕ) (has_given : HasGiven of old before stream (bytes ++ rest))
       → HasReadSaved new next
       → ((more : List ℕ)
-      → now ++ of (added usual_limit next (drop n bytes ++ more)) ≡ of (added usual_limit h.since (bytes ++ more)))
+      → now ++ of (added usual_limit next (drop n bytes ++ more))
+      ≡ of (added usual_limit has_given.since (bytes ++ more)))
       → HasGiven of new (before ++ now) stream (drop n bytes ++ rest)
-  given_more {before} {next} now bytes rest n h reads goes_on = record {
+  given_more {before} {next} now bytes rest n has_given reads goes_on = record {
     since = next;
     reads = reads;
     goes_on =
         λ more. rw (append_assoc before, append_assoc (drop n bytes), goes_on (rest ++ more), ← append_assoc bytes)
-        (h.goes_on more);
+        (has_given.goes_on more);
   }
 
   pub given_all : of [] ≡ [] → (parser : Saved) (given : List A) (stream : List ℕ) → HasGiven of parser given stream []
       → given ≡ of (events usual_limit stream)
-  given_all none parser given stream h =
-      rw (added-nothing usual_limit h.since, none, append-nil given, append-nil stream) at (h.goes_on [])
+  given_all none parser given stream has_given =
+      rw (added-nothing usual_limit has_given.since, none, append-nil given, append-nil stream) at
+      (has_given.goes_on [])
 
 -- ---- entries of an input, if more bytes follow it
 
@@ -289,12 +292,12 @@ module _ (old new : EventWriter) (input : List ℕ) (entries : List Entry) (star
 pub fed : {old new : EventWriter} {parser : Parser 1024} {saved : Saved} {given : List Event}
     {stream bytes rest : List ℕ}
     {n : ℕ} → Starts (buffers_of old)
-    → {before : Saved} (h : HasReported (buffers_of old).kinds before given stream (bytes ++ rest))
-    → HasReadOn (buffers_of old) (buffers_of new) parser h.since bytes 0 n
+    → {before : Saved} (has_reported : HasReported (buffers_of old).kinds before given stream (bytes ++ rest))
+    → HasReadOn (buffers_of old) (buffers_of new) parser has_reported.since bytes 0 n
     → ((since : List ℕ) → HasRead parser since → HasReadSaved saved since)
     → (NoRecordStops (buffers_of old).stops (buffers_of new).events → 0 < length bytes → 0 < n)
     → HasFed old new saved given stream bytes rest n
-fed {old} {new} {given} {stream} {bytes} {rest} {n} starts h gone saves further =
+fed {old} {new} {given} {stream} {bytes} {rest} {n} starts has_reported gone saves further =
     let there = encoded old new bytes gone.goes.entries starts gone.goes.holds in
     let finds = found old new bytes gone.goes.entries starts gone.goes.holds in
     record {
@@ -307,7 +310,8 @@ fed {old} {new} {given} {stream} {bytes} {rest} {n} starts h gone saves further 
       encodes = λ more. rw (finds more) (there more);
       reports = λ more.
           rw (finds more, entry_events_later bytes more gone.goes.entries gone.goes.holds.readable)
-          (given_more (flat_map (entry_events bytes) gone.goes.entries) bytes rest n h (saves gone.next gone.reads)
+          (given_more (flat_map (entry_events bytes) gone.goes.entries) bytes rest n has_reported
+          (saves gone.next gone.reads)
           (λ later. rw (gone.goes.continues.goes_on later, filter-append, gone.goes.shows) refl));
     }
 
@@ -325,14 +329,14 @@ pub counts_are : {events : List Event} {input area : List ℕ} {records : List V
     → area ≡ writer.area.now
     → count ≡ min writer.count (length records) → used ≡ min writer.used (length area)
     → AreOfBuffers writer count used records area
-counts_are writer count used e records area count_is used_is =
+counts_are writer count used encoded records area count_is used_is =
     let at_most = length-take writer.count writer.events.now in
     let small = length-take writer.used writer.area.now in
     let each = length-map (take writer.count writer.events.now) without_loss in
-    let all = length-records 0 e.entries in
+    let all = length-records 0 encoded.entries in
     record {
-      same_count = omega (arith, e.number, all, ap length e.recorded, each, ap length records);
-      same_used = omega (arith, e.size, ap length e.held, ap length area);
+      same_count = omega (arith, encoded.number, all, ap length encoded.recorded, each, ap length records);
+      same_used = omega (arith, encoded.size, ap length encoded.held, ap length area);
       same_records = records;
       same_area = area;
     }

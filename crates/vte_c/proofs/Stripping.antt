@@ -87,14 +87,15 @@ pub written_more : {old new later : TextBuffer} {stream bytes : List ℕ} {n : �
     → later ≡ after text_buffer_with_event new (added usual_limit (stream ++ take n bytes) chunk)
     → HasRead parser_later ((stream ++ take n bytes) ++ chunk)
     → HasTextOf old later stream bytes (n + length chunk) parser_later
-written_more {old} {new} {stream} {bytes} {n} chunk kept slow h parts fits performed parsed =
+written_more {old} {new} {stream} {bytes} {n} chunk kept slow has_text parts fits performed parsed =
     let before = added usual_limit stream (take n bytes) in
     let more = added usual_limit (stream ++ take n bytes) chunk in
     record {
       parsed = rw (parts, ← append_assoc) parsed;
       holds =
           rw (parts, added-append usual_limit stream (take n bytes) chunk, flat_map-append plain_text_of before more)
-          (performed ∙ all_written new more (ap (λ (r : TextBuffer). r.fits) h.holds ∙ kept) (omega (arith, fits, slow))
-          ∙ ap (λ (r : TextBuffer). with_all r (plain_text more)) h.holds
+          (performed ∙ all_written new more (ap (λ (r : TextBuffer). r.fits) has_text.holds ∙ kept)
+          (omega (arith, fits, slow))
+          ∙ ap (λ (r : TextBuffer). with_all r (plain_text more)) has_text.holds
           ∙ with_all-append old (plain_text before) (plain_text more));
     }

@@ -48,8 +48,8 @@ refused-never bytes (Ok all) reads =
     reads_in_turns bytes (λ state at. taken-to is_at-processor (reads.takes state (is_at-engine state at))) refl
 refused-never bytes (Err refused) reads =
     reads_in_turns bytes {read = length bytes.now} (λ state at. absurd (
-    let t = reads.takes state (is_at-engine state at) in
-    reads.lacks.lacks t.next.parsed t.is_at.agrees.has_read (omega arith))) refl
+    let taken = reads.takes state (is_at-engine state at) in
+    reads.lacks.lacks taken.next.parsed taken.is_at.agrees.has_read (omega arith))) refl
 
 -- ---- with a limit of its own
 
@@ -90,8 +90,8 @@ module _ {T A V W : Type 0} {N : ℕ} {timeout_of : T → W} {m : Meaning V W} {
       (reads.takes state (is_at-bounded_engine state at))) refl
   refused-never-within bytes (Err refused) reads =
       reads_in_turns bytes {read = length bytes.now} (λ state at. absurd (
-      let t = reads.takes state (is_at-bounded_engine state at) in
-      reads.lacks.lacks t.next.parsed t.is_at.agrees.has_read
+      let taken = reads.takes state (is_at-bounded_engine state at) in
+      reads.lacks.lacks taken.next.parsed taken.is_at.agrees.has_read
       (reads.keeps_memory state (is_at-bounded_engine state at) [] 0 at.agrees.has_memory))) refl
 
 -- ---- without a limit
@@ -106,23 +106,23 @@ module _ {T A V W : Type 0} {timeout_of : T → W} {m : Meaning V W} {new : Long
       → LacksMemoryLong timeout_of new (length bytes - read)
       → HasMemory new state.parsed (length state.held + length bytes) → ⊥
   had_memory read less taken lacks had =
-      let t = taken.next in
-      let g = progresses-until_refused m taken.takes in
-      let counts = counts_data state.parsed g.more in
-      let left = rw (← g.parsed_is) at counts.left in
-      let sum : length g.more + length t.held ≡ length state.held + read =
+      let next = taken.next in
+      let progress = progresses-until_refused m taken.takes in
+      let counts = counts_data state.parsed progress.more in
+      let left = rw (← progress.parsed_is) at counts.left in
+      let sum : length progress.more + length next.held ≡ length state.held + read =
       omega (
         arith,
         less,
-        ap length g.each_once,
+        ap length progress.each_once,
         length-append state.held bytes,
-        length-append g.more
-            (t.held ++ drop read bytes),
-        length-append t.held (drop read bytes),
+        length-append progress.more
+            (next.held ++ drop read bytes),
+        length-append next.held (drop read bytes),
         length-drop read bytes,
       ) in
       let held = ap length taken.is_at.agrees.holds in
-      lacks.lacks t.parsed taken.is_at.agrees.has_read (record {
+      lacks.lacks next.parsed taken.is_at.agrees.has_read (record {
         kept = omega (arith, left, had.kept, lacks.within, less, sum, held);
         joined = omega (arith, left, had.joined, lacks.within, less, sum, held);
         counted = omega (arith, left, had.counted, lacks.within, less, sum, held);

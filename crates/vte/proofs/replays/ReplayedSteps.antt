@@ -81,8 +81,9 @@ module _ {V W : Type 0} (m : Meaning V W) where
   pub steps_delivered : (state next : State V W) (steps : List Step) → TakesSteps m state steps next
       → HasDelivered m state (given_bytes steps) next
   steps_delivered state next steps run =
-      let g = progresses-replay m state next steps run in
-      delivers g.more g.parsed_is (g.each_once ∙ ap (λ held. g.more ++ held) (append-nil next.held))
+      let progress = progresses-replay m state next steps run in
+      delivers progress.more progress.parsed_is
+      (progress.each_once ∙ ap (λ held. progress.more ++ held) (append-nil next.held))
       (delivers-replay m next state steps run)
 
   -- If the last call was refused memory, the calls of the bytes read so far were delivered.
@@ -91,16 +92,16 @@ module _ {V W : Type 0} (m : Meaning V W) where
       → TakesTurnsUntilRefused m reached bytes next (drop read bytes)
       → HasDelivered m state (given_bytes steps ++ take read bytes) next
   refused_delivered state reached next steps bytes read run more =
-      let g =
+      let progress =
       progresses-then (progresses-before (progresses-replay m state reached steps run) bytes)
       (progresses-until_refused m more) in
-      delivers g.more g.parsed_is
+      delivers progress.more progress.parsed_is
       (append_cancel_right _ _ (drop read bytes)
       (append_assoc state.held (given_bytes steps ++ take read bytes) (drop read bytes)
       ∙ ap (λ all. state.held ++ all)
       (append_assoc (given_bytes steps) (take read bytes) (drop read bytes)
       ∙ ap (λ all. given_bytes steps ++ all) (take-append-drop read bytes))
-      ∙ g.each_once ∙ sym (append_assoc g.more next.held (drop read bytes))))
+      ∙ progress.each_once ∙ sym (append_assoc progress.more next.held (drop read bytes))))
       (delivers-refused m next state reached steps bytes (drop read bytes) run more)
 
   pub replayed : {state : State V W} (next : State V W) {steps : List Step} {IsNowAt : State V W → Type 0}

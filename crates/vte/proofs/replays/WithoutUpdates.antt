@@ -17,7 +17,7 @@ module _ {V W : Type 0} (m : Meaning V W) (never : IsNeverPending m.timeout.allo
       → IsPlain state next
   plain_advances state next [] done none = record { none_held = none; no_stop = refl }
   plain_advances state next (b ∷ bytes) (turns true allowed more) none =
-      absurd (let e : true ≡ false = never state.timeout true allowed in cc)
+      absurd (let same : true ≡ false = never state.timeout true allowed in cc)
   plain_advances state next (b ∷ bytes) (turns false allowed more) none =
       let first = (turn m false state (b ∷ bytes)).state in
       let held : first.held ≡ [] = rw none refl in
@@ -103,5 +103,5 @@ module _ {V W : Type 0} (m : Meaning V W) {Before After : ProcessorPredicate W} 
       → ((state : State V W) → IsAt Before old state → HasAdvanced m state bytes.now (IsAt After new))
       → IsNeverPending m.timeout.allows → ParsesAll m Before After old new bytes.now
   plain_call bytes advances never =
-      let r = replays_all {steps = Advance bytes ∷ []} (λ state at. advance_runs m (advances state at)) in
-      rw append-nil at (r.plain never tt)
+      let replays = replays_all {steps = Advance bytes ∷ []} (λ state at. advance_runs m (advances state at)) in
+      rw append-nil at (replays.plain never tt)

@@ -6,11 +6,11 @@ use Rattle.vte.proofs.updates.Prefixes.{prefix-is}
 use Rattle.vte.proofs.updates.Sequences.{cases_Option, stays-is}
 use Rattle.vte.proofs.turns.TurnKinds.{is_held, stop_if_due, hold_turn-all, hold_turn-rest, turn-holds, turn-parses}
 
-pub prefix-rest : (limit : Option ℕ) (p bytes : List ℕ)
-    → prefix_to_begin limit p bytes ++ drop (length (prefix_to_begin limit p bytes)) bytes ≡ bytes
-prefix-rest limit p bytes =
-    let k = length (prefix_to_begin limit p bytes) in
-    ap (λ x. x ++ drop k bytes) (prefix-is limit p bytes).is ∙ take-append-drop k bytes
+pub prefix-rest : (limit : Option ℕ) (stream bytes : List ℕ)
+    → prefix_to_begin limit stream bytes ++ drop (length (prefix_to_begin limit stream bytes)) bytes ≡ bytes
+prefix-rest limit stream bytes =
+    let k = length (prefix_to_begin limit stream bytes) in
+    ap (λ x. x ++ drop k bytes) (prefix-is limit stream bytes).is ∙ take-append-drop k bytes
 
 -- A state has parsed what another had, and more of the bytes that were held there or given since.
 -- The others are held, or left.

@@ -66,20 +66,20 @@ module _ {P B T A V W : Type 0} {view : EngineView P B T W} {m : Meaning V W} {s
       let here : EngineIsAtKeepingMemory view first taken before
       (parse m start (take read bytes)) = kept-next reserved parsed.is_at in
       let all : length slice + 0 ≡ length start.held + count = omega (arith, size, ap length none) in
-      let p =
+      let come =
       parses (parse m start (take read bytes)) 0
       (record {
         parts_at = parts-at here.engine_at;
         memory = rw all (reserved.memory refl _ _ _ here.engine_at.agrees);
       }) in
       record {
-        count = p.count;
-        begins_is = p.begins_is;
+        count = come.count;
+        begins_is = come.begins_is;
         is_at = record {
           engine_at = at-parts
-              {engine = record taken { parser = parser; state = state }} p.is_at.parts_at here.engine_at.agrees.holds
+              {engine = record taken { parser = parser; state = state }} come.is_at.parts_at here.engine_at.agrees.holds
               none;
-          keeps_memory = λ stream more had. p.is_at.keeps_memory stream more (here.keeps_memory stream more had);
+          keeps_memory = λ stream more had. come.is_at.keeps_memory stream more (here.keeps_memory stream more had);
         };
       }
 

@@ -34,19 +34,19 @@ module _ {V W : Type 0} (m : Meaning V W) where
       → HoldsWellAt m (parsing_turn m state bytes).state
   parsing_well state bytes nothing outside =
       let prefix = prefix_to_begin m.limit state.parsed bytes in
-      let f = prefix-is m.limit state.parsed bytes in
+      let found = prefix-is m.limit state.parsed bytes in
       record {
         no_end = rw nothing refl;
         fits = rw nothing (omega arith);
-        steady = λ k. elim (cases_lt 0 (begin_count (added m.limit state.parsed prefix))) [
+        steady = λ steady. elim (cases_lt 0 (begin_count (added m.limit state.parsed prefix))) [
           | inl some ↦
               inr (record {
-                pending = allows-pending m.timeout k _ state.timeout some;
-                begun = inl (rw f.is (f.ends (rw f.is at some)));
+                pending = allows-pending m.timeout steady _ state.timeout some;
+                begun = inl (rw found.is (found.ends (rw found.is at some)));
               })
           | inr none ↦
               let zero : begin_count (added m.limit state.parsed prefix) ≡ 0 = omega arith in
-              inl (record { not_pending = rw zero (outside k).not_pending; none_held = nothing })
+              inl (record { not_pending = rw zero (outside steady).not_pending; none_held = nothing })
         ];
       }
 

@@ -79,7 +79,7 @@ neither-before : (text : List ℕ) (position escape : ℕ) → position < escape
     → escape < length text
     → eqb (get_or text escape 0) 0x1b ≡ true → IsNeither text position
 neither-before text position escape before near inside here =
-    let d = drop_more text position 0 (omega arith) in
+    let cut = drop_more text position 0 (omega arith) in
     let i = escape - (position + 1) in
     let n : position + 1 + i ≡ escape = omega arith in
     -- The ESC is among the seven bytes after `position`.
@@ -88,7 +88,7 @@ neither-before text position escape before near inside here =
     let none : (sequence : List ℕ) → HasNoEscape sequence → 7 ≡ length sequence
     → begins_with (0x1b ∷ sequence) (drop position text) ≡ false
     = λ sequence plain long.
-    rw d (begins_with-further 0x1b _ sequence _ (no_escape-within sequence _ i plain (omega (arith, long)) there)) in
+    rw cut (begins_with-further 0x1b _ sequence _ (no_escape-within sequence _ i plain (omega (arith, long)) there)) in
     record {
       no_begin = none (drop 1 begin_update) (refl, (refl, (refl, (refl, (refl, (refl, (refl, tt))))))) refl;
       no_end = none (drop 1 end_update) (refl, (refl, (refl, (refl, (refl, (refl, (refl, tt))))))) refl;
@@ -110,40 +110,40 @@ pub record HasSeen (text : List ℕ) (new unread begin begins : ℕ) : Type 0 wh
 module _ {text : List ℕ} {new position begin begins : ℕ} (within : position < length text)
     (seen : HasSeen text new (position + 1) begin begins) where
   seen-other : IsNeither text position → HasSeen text new position begin begins
-  seen-other neither = let d = drop_more text position 0 within in
-      let no_begin = not_some _ (rw d at neither.no_begin) in
-      let no_end = not_some _ (rw d at neither.no_end) in
-      grind (arith, d)
+  seen-other neither = let cut = drop_more text position 0 within in
+      let no_begin = not_some _ (rw cut at neither.no_begin) in
+      let no_end = not_some _ (rw cut at neither.no_end) in
+      grind (arith, cut)
 
   -- A begin-update with at most seven older bytes from its start on ends among the new ones, so it is counted.
   seen-begin : length text ≤ position + 7 + new → begins_with begin_update (drop position text) ≡ true
       → HasSeen text new position position (begins + 1)
   seen-begin at_most is_begin =
-      let d = drop_more text position 0 within in
+      let cut = drop_more text position 0 within in
       let long = begins_with-length begin_update (drop position text) is_begin in
       -- Fewer than `new` bytes follow the sequence, so it ends among the new bytes.
       let near : nat_lt (length (drop 7 (drop (position + 1) text))) new ≡ true =
       (let h = rw length-drop at long in rw (length-drop, length-drop) (grind (arith, nat_tests))) in
-      let here = rw d at is_begin in
+      let here = rw cut at is_begin in
       -- A begin-update is no end-update, so there is still none of those.
-      let other = rw d at (begins-one (drop position text) is_begin) in
+      let other = rw cut at (begins-one (drop position text) is_begin) in
       -- So the earliest begin-update is here, and one more ends among the new bytes.
       record {
-        no_end = rw (d, seen.no_end, other) refl;
-        begin_is = rw (d, here) (rw length-drop (omega arith));
-        begins_are = rw (d, after_word-whole begin_update _ here, near) (omega (arith, seen.begins_are));
+        no_end = rw (cut, seen.no_end, other) refl;
+        begin_is = rw (cut, here) (rw length-drop (omega arith));
+        begins_are = rw (cut, after_word-whole begin_update _ here, near) (omega (arith, seen.begins_are));
       }
 
   pub seen-end : begins_with end_update (drop position text) ≡ true
       → Adds text new (record { begins = begins; released = begin })
   seen-end is_end =
-      let d = drop_more text position 0 within in
-      let here = rw d at is_end in
+      let cut = drop_more text position 0 within in
+      let here = rw cut at is_end in
       -- No update begins inside the end-update, so what was seen is what follows it.
       let skipped = from_begin-end_skipped new (get_or text position 0) (drop (position + 1) text) here in
       -- It is the last end-update of the text, as none was seen after it.
       let last : after_last_end text ≡ Some (drop 7 (drop (position + 1) text)) =
-      last_of position text _ (rw (d, seen.no_end, after_word-whole end_update _ here) refl) in
+      last_of position text _ (rw (cut, seen.no_end, after_word-whole end_update _ here) refl) in
       record {
         begins = rw last (seen.begins_are ∙ skipped.1);
         released = rw last (seen.begin_is ∙ ap (λ part. length text - length part) skipped.0);
@@ -161,17 +161,17 @@ seen-further : {text : List ℕ} {new : ℕ} (n : ℕ) {position begin begins : 
     → HasSeen text new (position + n) begin begins → HasSeen text new position begin begins
 seen-further zero within neither seen = rw add-zero at seen
 seen-further {text} {new} (suc n) {position} {begin} {begins} within neither seen =
-    let e : position + suc n ≡ position + n + 1 = omega arith in
+    let same : position + suc n ≡ position + n + 1 = omega arith in
     seen-further n (omega arith) (λ k low high. neither k low (omega arith))
-    (seen-other (omega arith) (rw e at seen) (neither (position + n) (omega arith) (omega arith)))
+    (seen-other (omega arith) (rw same at seen) (neither (position + n) (omega arith) (omega arith)))
 
 -- What was seen from `unread` on was also seen from an earlier position on, if no sequence begins in between.
 seen-down : {text : List ℕ} {new position unread begin begins : ℕ} → position ≤ unread → unread ≤ length text
     → ((k : ℕ) → position ≤ k → k < unread → IsNeither text k)
     → HasSeen text new unread begin begins → HasSeen text new position begin begins
 seen-down {position} {unread} below within neither seen =
-    let e : unread ≡ position + (unread - position) = omega arith in
-    seen-further (unread - position) (omega arith) (λ k low high. neither k low (omega arith)) (rw e at seen)
+    let same : unread ≡ position + (unread - position) = omega arith in
+    seen-further (unread - position) (omega arith) (λ k low high. neither k low (omega arith)) (rw same at seen)
 
 -- ---- the end of a hold
 

@@ -97,8 +97,8 @@ follows_last_end (b ∷ text) rest is_last = elim (cases_Option (after_last_end 
         no_end = rw is (after_last_end-drop 7 text none);
       }
   | inr later ↦
-      let l = follows_last_end text rest (grind arith) in
-      record { suffix = suffix-more b l.suffix; no_end = l.no_end }
+      let follows = follows_last_end text rest (grind arith) in
+      record { suffix = suffix-more b follows.suffix; no_end = follows.no_end }
 ]
 
 -- What is found from the earliest begin-update on starts with it.
@@ -112,7 +112,9 @@ starts_at_begin [] =
 starts_at_begin (b ∷ text) = elim (cases_Bool (begins_with begin_update (b ∷ text))) [
   | inl here ↦
       rw here (record { suffix = record { prefix = 0; within = omega arith; is = refl }; begins = λ some. here })
-  | inr later ↦ rw later (let l = starts_at_begin text in record { suffix = suffix-more b l.suffix; begins = l.begins })
+  | inr later ↦
+      let start = starts_at_begin text in
+      rw later (record { suffix = suffix-more b start.suffix; begins = start.begins })
 ]
 
 -- What stays held is all of it, or what starts with a begin-update.
@@ -153,11 +155,11 @@ pub after_last_end-tail : (old more : List ℕ) → after_last_end old ≡ None
     → after_last_end (old ++ more) ≡ after_last_end (drop (length old - 7) (old ++ more))
 after_last_end-tail [] more none = refl
 after_last_end-tail (b ∷ old) more none = elim (cases_lt (length old) 7) [
-  | inl at_most ↦ let e : suc (length old) - 7 ≡ 0 = omega arith in rw e
+  | inl at_most ↦ let same : suc (length old) - 7 ≡ 0 = omega arith in rw same
   | inr many ↦
-      let e : suc (length old) - 7 ≡ suc (length old - 7) = omega arith in
+      let same : suc (length old) - 7 ≡ suc (length old - 7) = omega arith in
       let no_end = not_some _ (begins_with-no_end b old more many none) in
-      rw e (grind (arith, no_end, after_last_end-tail old more))
+      rw same (grind (arith, no_end, after_last_end-tail old more))
 ]
 
 -- A begin-update ends among the last n bytes only if it begins among these and the seven before
@@ -166,13 +168,13 @@ pub begins_ending_in_last-tail : {n : ℕ} (old more : List ℕ) → length more
     → begins_ending_in_last n (old ++ more) ≡ begins_ending_in_last n (drop (length old - 7) (old ++ more))
 begins_ending_in_last-tail [] more is = refl
 begins_ending_in_last-tail {n} (b ∷ old) more is = elim (cases_lt (length old) 7) [
-  | inl at_most ↦ let e : suc (length old) - 7 ≡ 0 = omega arith in rw e
+  | inl at_most ↦ let same : suc (length old) - 7 ≡ 0 = omega arith in rw same
   | inr many ↦
-      let e : suc (length old) - 7 ≡ suc (length old - 7) = omega arith in
+      let same : suc (length old) - 7 ≡ suc (length old - 7) = omega arith in
       let far : nat_lt (length (drop 7 (old ++ more))) n ≡ false =
       rw (length-drop, length-append) (grind (arith, nat_tests)) in
       let tail = begins_ending_in_last-tail old more is in
-      rw e (elim (cases_Bool (begins_with begin_update (b ∷ (old ++ more)))) [
+      rw same (elim (cases_Bool (begins_with begin_update (b ∷ (old ++ more)))) [
         | inl here ↦ rw (after_word-whole begin_update (b ∷ (old ++ more)) here, far, zero-add) tail
         | inr other ↦ rw (not_some _ other, zero-add) tail
       ])

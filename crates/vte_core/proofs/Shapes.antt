@@ -106,22 +106,23 @@ truncated_not_well_formed (a ∷ opened) more =
 
 -- The rest of a segment is as long as the rows allow: up to the end of a sequence, or to what breaks a truncated one.
 
-pub trailing_count-whole : (a : ℕ) (rest following : List ℕ) → is_well_formed (a ∷ rest) ≡ true
-    → trailing_count a (rest ++ following) ≡ length rest
+pub trailing_count-whole : (first : ℕ) (rest following : List ℕ) → is_well_formed (first ∷ rest) ≡ true
+    → trailing_count first (rest ++ following) ≡ length rest
 unfolding is_well_formed trailing_count
-trailing_count-whole a rest following whole =
-    allowed_length-whole (rows_after_byte a utf8_rows) rest following (AtMostOne-first a) whole
+trailing_count-whole first rest following whole =
+    allowed_length-whole (rows_after_byte first utf8_rows) rest following (AtMostOne-first first) whole
 
-trailing_count-broken : (a : ℕ) (rest : List ℕ) (b : ℕ) (following : List ℕ) → is_truncated (a ∷ rest) ≡ true
-    → is_well_formed (a ∷ rest ++ b ∷ []) ≡ false → is_truncated (a ∷ rest ++ b ∷ []) ≡ false
-    → trailing_count a (rest ++ b ∷ following) ≡ length rest
+trailing_count-broken : (first : ℕ) (rest : List ℕ) (b : ℕ) (following : List ℕ) → is_truncated (first ∷ rest) ≡ true
+    → is_well_formed (first ∷ rest ++ b ∷ []) ≡ false → is_truncated (first ∷ rest ++ b ∷ []) ≡ false
+    → trailing_count first (rest ++ b ∷ following) ≡ length rest
 unfolding is_well_formed is_truncated trailing_count
-trailing_count-broken a rest b following more whole more_after =
+trailing_count-broken first rest b following more whole more_after =
     search (rules, arith, allowed_length-broken, rows_after_bytes-append, neither_whole_nor_open)
 
-trailing_count-end : (a : ℕ) (rest : List ℕ) → is_truncated (a ∷ rest) ≡ true → trailing_count a rest ≡ length rest
+trailing_count-end : (first : ℕ) (rest : List ℕ) → is_truncated (first ∷ rest) ≡ true
+    → trailing_count first rest ≡ length rest
 unfolding is_truncated trailing_count
-trailing_count-end a rest more = allowed_length-end (rows_after_byte a utf8_rows) rest more
+trailing_count-end first rest more = allowed_length-end (rows_after_byte first utf8_rows) rest more
 
 trailing_count-lone : (b : ℕ) (following : List ℕ) → is_well_formed (b ∷ []) ≡ false → is_truncated (b ∷ []) ≡ false
     → trailing_count b following ≡ 0
@@ -136,9 +137,9 @@ segments_after-length : (bytes following : List ℕ)
 segments_after-length [] following = refl
 segments_after-length (a ∷ bytes) following = segments_after-length bytes following
 
-pub segments-first : (a : ℕ) (rest following : List ℕ) → trailing_count a (rest ++ following) ≡ length rest
-    → segments (a ∷ rest ++ following) ≡ (a ∷ rest) ∷ segments following
-segments-first a rest following far =
+pub segments-first : (first : ℕ) (rest following : List ℕ) → trailing_count first (rest ++ following) ≡ length rest
+    → segments (first ∷ rest ++ following) ≡ (first ∷ rest) ∷ segments following
+segments-first first rest following far =
     rw (far, take-append_seam rest following, segments_after-length rest following) refl
 
 -- ---- its event
@@ -163,13 +164,13 @@ segment_event-truncated opened more = rw (truncated_not_well_formed opened more)
 
 -- The event of its first segment, and then what the rest gives as a text.
 
-text_outcome-first : (a : ℕ) (rest following : List ℕ) → trailing_count a (rest ++ following) ≡ length rest
-    → is_truncated (a ∷ rest) ≡ false
-    → text_outcome (a ∷ rest ++ following) ≡ report (segment_event (a ∷ rest) ∷ []) (text_outcome following)
+text_outcome-first : (first : ℕ) (rest following : List ℕ) → trailing_count first (rest ++ following) ≡ length rest
+    → is_truncated (first ∷ rest) ≡ false
+    → text_outcome (first ∷ rest ++ following) ≡ report (segment_event (first ∷ rest) ∷ []) (text_outcome following)
 unfolding text_outcome
-text_outcome-first a rest following far whole =
-    ap segments_outcome (segments-first a rest following far)
-    ∙ segments_outcome-first (a ∷ rest) (segments following) whole
+text_outcome-first first rest following far whole =
+    ap segments_outcome (segments-first first rest following far)
+    ∙ segments_outcome-first (first ∷ rest) (segments following) whole
 
 pub not_well_formed-nothing : is_well_formed [] ≡ false
 unfolding is_well_formed utf8_rows

@@ -15,45 +15,45 @@ encoded-two : (a b : ℕ) → 0xc2 ≤ a → a < 0xe0 → SecondByte a b → enc
 unfolding encode
 encoded-two a b low high second = search (rules, arith)
 
-three_from : (a b d : ℕ) → 0xe0 ≤ a → SecondByte a b → 0x800 ≤ scalar_of (a ∷ b ∷ d ∷ [])
-three_from a b d low second = grind (arith, second.not_overlong_three)
+three_from : (a b c : ℕ) → 0xe0 ≤ a → SecondByte a b → 0x800 ≤ scalar_of (a ∷ b ∷ c ∷ [])
+three_from a b c low second = grind (arith, second.not_overlong_three)
 
-encoded-three : (a b d : ℕ) → 0xe0 ≤ a → a < 0xf0 → SecondByte a b → IsContinuation d
-    → encode (scalar_of (a ∷ b ∷ d ∷ [])) ≡ a ∷ b ∷ d ∷ []
+encoded-three : (a b c : ℕ) → 0xe0 ≤ a → a < 0xf0 → SecondByte a b → IsContinuation c
+    → encode (scalar_of (a ∷ b ∷ c ∷ [])) ≡ a ∷ b ∷ c ∷ []
 unfolding encode
-encoded-three a b d low high second third = search (rules, arith)
+encoded-three a b c low high second third = search (rules, arith)
 
-four_from : (a b d e : ℕ) → 0xf0 ≤ a → SecondByte a b → 0x10000 ≤ scalar_of (a ∷ b ∷ d ∷ e ∷ [])
-four_from a b d e low second = grind (arith, second.not_overlong_four)
+four_from : (a b c d : ℕ) → 0xf0 ≤ a → SecondByte a b → 0x10000 ≤ scalar_of (a ∷ b ∷ c ∷ d ∷ [])
+four_from a b c d low second = grind (arith, second.not_overlong_four)
 
-encoded-four : (a b d e : ℕ) → 0xf0 ≤ a → a < 0xf5 → SecondByte a b → IsContinuation d → IsContinuation e
-    → encode (scalar_of (a ∷ b ∷ d ∷ e ∷ [])) ≡ a ∷ b ∷ d ∷ e ∷ []
+encoded-four : (a b c d : ℕ) → 0xf0 ≤ a → a < 0xf5 → SecondByte a b → IsContinuation c → IsContinuation d
+    → encode (scalar_of (a ∷ b ∷ c ∷ d ∷ [])) ≡ a ∷ b ∷ c ∷ d ∷ []
 unfolding encode
-encoded-four a b d e low high second third fourth = search (rules, arith)
+encoded-four a b c d low high second third fourth = search (rules, arith)
 
 pub well_formed_is_encoded : (bytes : List ℕ) → is_well_formed bytes ≡ true → encode (scalar_of bytes) ≡ bytes
 well_formed_is_encoded bytes well = elim (sequence bytes well) [
   | whole_one a is high ↦ rw is (encode_ascii a high)
   | whole_two a b is low high second ↦ rw is (encoded-two a b low high second)
-  | whole_three a b d is low high second third ↦ rw is (encoded-three a b d low high second third)
-  | whole_four a b d e is low high second third last ↦ rw is (encoded-four a b d e low high second third last)
+  | whole_three a b c is low high second third ↦ rw is (encoded-three a b c low high second third)
+  | whole_four a b c d is low high second third last ↦ rw is (encoded-four a b c d low high second third last)
 ]
 
 -- ---- the encoding of a character is well formed
 
-by_size : (c : ℕ) → InScalarRange c → c < 0x110000 → is_well_formed (encode c) ≡ true
+by_size : (scalar : ℕ) → InScalarRange scalar → scalar < 0x110000 → is_well_formed (encode scalar) ≡ true
 unfolding is_well_formed encode Rattle.vte_core.specs.Utf8.utf8_rows
-by_size c range below = search (rules, arith)
+by_size scalar range below = search (rules, arith)
 
-in_scalar_range : (c : ℕ) → IsScalar c → InScalarRange c × (c < 0x110000)
-in_scalar_range c is = search (rules, arith)
+in_scalar_range : (scalar : ℕ) → IsScalar scalar → InScalarRange scalar × (scalar < 0x110000)
+in_scalar_range scalar is = search (rules, arith)
 
-pub encoded_is_well_formed : (c : ℕ) → IsScalar c → is_well_formed (encode c) ≡ true
-encoded_is_well_formed c is = let range = in_scalar_range c is in by_size c range.0 range.1
+pub encoded_is_well_formed : (scalar : ℕ) → IsScalar scalar → is_well_formed (encode scalar) ≡ true
+encoded_is_well_formed scalar is = let range = in_scalar_range scalar is in by_size scalar range.0 range.1
 
-pub scalar_of-encoded : (c : ℕ) → IsScalar c → scalar_of (encode c) ≡ c
+pub scalar_of-encoded : (scalar : ℕ) → IsScalar scalar → scalar_of (encode scalar) ≡ scalar
 unfolding encode
-scalar_of-encoded c is = search (rules, arith)
+scalar_of-encoded scalar is = search (rules, arith)
 
 -- ---- the segments of a UTF-8 text are the encodings of its characters
 
@@ -150,8 +150,8 @@ past_controls b rest low plain whole = elim (sequence (b ∷ rest) whole) [
     wide : {p : List ℕ} → b ∷ rest ≡ p → 0xa0 ≤ scalar_of p → 0xa0 ≤ scalar_of (b ∷ rest)
     wide {p} is high = subst (λ p. 0xa0 ≤ scalar_of p) (sym is) high
 
-no_control : (c : ℕ) → 0xa0 ≤ c → is_control_character c ≡ false
-no_control c low = grind (arith, nat_tests)
+no_control : (scalar : ℕ) → 0xa0 ≤ scalar → is_control_character scalar ≡ false
+no_control scalar low = grind (arith, nat_tests)
 
 pub utf8_run-character : {layout : Bool} {b : ℕ} {rest : List ℕ} → 0xc2 ≤ b → (b ≡ 0xc2 → 0xa0 ≤ get_or rest 0 0)
     → is_well_formed (b ∷ rest) ≡ true → IsUtf8Run layout (b ∷ rest)

@@ -37,8 +37,8 @@ text-by_place : {B : Type 0} (limit : Option ℕ) (parser : Machine B) {unfinish
 text-by_place limit parser fields = search (rules, arith)
 
 -- An unfinished character isn't empty.
-pub unfinished-some : (x : ℕ) (rest : List ℕ) → x ∷ rest ≢ []
-unfinished-some x rest none = cc
+pub unfinished-some : (first : ℕ) (rest : List ℕ) → first ∷ rest ≢ []
+unfinished-some first rest none = cc
 
 truncated-some : (opened : List ℕ) → is_truncated opened ≡ true → opened ≢ []
 unfolding is_truncated

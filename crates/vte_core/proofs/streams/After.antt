@@ -103,8 +103,8 @@ module _ {A : Type 0} (view : ToClose → A)
   view-bodies : (limit : Option ℕ) (part other : Outcome) (bodies : List (List ℕ))
       → view part.left ≡ view other.left
       → view (with_bodies limit part bodies).left ≡ view (with_bodies None other bodies).left
-  view-bodies limit part other [] same = same
-  view-bodies limit part other (body ∷ bodies) same =
+  view-bodies limit part other [] agree = agree
+  view-bodies limit part other (body ∷ bodies) agree =
       view-bodies limit (body_outcome limit body) (body_outcome None body) bodies (view-body limit body)
 
   view-any : (limit : Option ℕ) (stream : List ℕ)

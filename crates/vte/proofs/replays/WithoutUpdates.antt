@@ -7,10 +7,10 @@ use Rattle.vte.specs.ProcessorCalls.{AreAdvances, IsNeverPending, ParsesAll}
 use Rattle.vte.proofs.replays.ReceivedCalls.{calls_between-whole}
 use Rattle.vte.proofs.replays.ReplayedSteps.{advance_runs}
 
--- `t` holds nothing, and has the stops of `s`.
-record IsPlain {V W : Type 0} (s t : State V W) : Type 0 where
-  pub none_held : t.held ≡ []
-  pub no_stop : t.stops ≡ s.stops
+-- `next` holds nothing, and has the stops of `state`.
+record IsPlain {V W : Type 0} (state next : State V W) : Type 0 where
+  pub none_held : next.held ≡ []
+  pub no_stop : next.stops ≡ state.stops
 
 module _ {V W : Type 0} (m : Meaning V W) (never : IsNeverPending m.timeout.allows) where
   plain_advances : (state next : State V W) (bytes : List ℕ) → TakesAllTurns m state bytes next → state.held ≡ []

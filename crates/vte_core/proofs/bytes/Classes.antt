@@ -26,7 +26,7 @@ class_of-spans : (b : ℕ) → Spans (class_of b) b
 unfolding class_of
 class_of-spans b = grind (arith, nat_tests)
 
--- A byte of class `k` is in the range of `k`.
+-- A byte is in the range of its class.
 pub spans : (b : ℕ) {class : Class} → class_of b ≡ class → Spans class b
 spans b is_class = rw is_class at (class_of-spans b)
 

@@ -4,13 +4,13 @@ from ctypes import (CFUNCTYPE, Structure, byref, c_size_t, c_uint8, c_uint16, c_
                     c_void_p, create_string_buffer, sizeof)
 from functools import partial
 
-from c_library.library import BESIDE
+from c_library.library import INCLUDE
 
 TEXT, EXECUTE, HOOK, DATA, UNHOOK, OSC, CSI, ESC = range(8)
 ALL_KINDS, NO_ROOM, ROOMS = 0xFF, 2 ** 64 - 1, (128, 2112)
 # the functions of a table, with their parameters after the first
 FUNCTIONS = re.findall(r"void \(\*(\w+)\)\(void \*user(?:, ([^)]*))?\);",
-                       (BESIDE / "include/vte_handler.h").read_text())
+                       (INCLUDE / "vte_handler.h").read_text())
 FUNCTION = CFUNCTYPE(None)
 SIZE_OF_TABLE = len(FUNCTIONS) * sizeof(FUNCTION)
 

@@ -39,5 +39,5 @@ def library(request, built):
 
 @pytest.fixture(scope="session")
 def cargo_build(built):
-    """The build that has what takes memory."""
+    """The build that has what allocates memory."""
     return built("cargo")

@@ -9,12 +9,9 @@ from pathlib import Path
 from tests.support import TOOLS
 
 HERE = TOOLS / "c_library"
-CRATE = TOOLS.parent / "crates/vte_c"
-# what cargo's build has besides the proved functions
-BESIDE = TOOLS.parent / "rust/vte_c"
-EXAMPLES = CRATE / "examples"
-INCLUDES = [f"-I{CRATE / 'include'}", f"-I{BESIDE / 'include'}"]
-WARNINGS = ["-O2", "-Wall", "-Wextra", "-Werror", *INCLUDES]
+EXAMPLES = TOOLS.parent / "c/examples"
+INCLUDE = TOOLS.parent / "c/include"
+WARNINGS = ["-O2", "-Wall", "-Wextra", "-Werror", f"-I{INCLUDE}"]
 SANITIZERS = ["-g", "-fsanitize=address,undefined", "-fno-sanitize-recover=all"]
 
 
@@ -48,7 +45,7 @@ class Library:
         is_built, output = compiles([TOOLS / "build_c_library", f"--{build}", folder])
         assert is_built, output
         self.archive, self.shared = folder / "libvte_c.a", folder / "libvte_c.so"
-        # whether it has what takes memory
+        # whether it has what allocates memory
         self.is_complete = build == "cargo"
         self.of_events = ["-DWITH_LONG"] if self.is_complete else []
 
@@ -71,13 +68,13 @@ class Library:
 
     @cached_property
     def events(self):
-        return self.program(EXAMPLES / "events.c", *self.of_events)
+        return self.program(HERE / "events.c", *self.of_events)
 
     @cached_property
     def sanitized(self):
         """The same program with sanitizers, or None if cc has none."""
         def linked(*words):
-            return self.program(EXAMPLES / "events.c", *self.of_events, *SANITIZERS, *words,
+            return self.program(HERE / "events.c", *self.of_events, *SANITIZERS, *words,
                                 name="events_sanitized", optional=True)
 
         # it begins sooner without shared libraries, which clang's never are

@@ -88,7 +88,7 @@ static int process(void) {
         .input = input, .set_title = title, .clipboard_store = store, .unset_private_mode = unset};
     vte_processor *processor = vte_processor_new(&calls, sizeof calls, NULL);
     if (processor == NULL) return 0;
-    /* a stop takes no memory, and makes a call */
+    /* a stop doesn't allocate, and makes a call */
     if (vte_processor_stop_sync(processor) != VTE_OK) abort();
     for (size_t at = 0; at < stream_length;) {
         size_t read, length = stream_length - at < most ? stream_length - at : most;

@@ -3,8 +3,7 @@ import re
 
 from tests.missing import miss, need
 
-from c_library.library import (
-    BESIDE, CRATE, EXAMPLES, HERE, INCLUDES, SANITIZERS, TOOLS, compiles, output_of)
+from c_library.library import HERE, INCLUDE, SANITIZERS, TOOLS, compiles, output_of
 
 # the only functions that the library of each build may need
 NEEDED = {"rt": {"memcpy", "memmove", "memset"},
@@ -19,8 +18,8 @@ OF_INDICES = re.compile(r"panicking\d+panic_(bounds_check|fmt|nounwind_fmt)|slic
 
 def declared(library):
     """The functions that the library's headers declare and don't define."""
-    others = sorted((BESIDE / "include").glob("*.h")) if library.is_complete else []
-    text = "".join(header.read_text() for header in [CRATE / "include/vte.h", *others])
+    headers = INCLUDE.glob("*.h" if library.is_complete else "vte.h")
+    text = "".join(header.read_text() for header in headers)
     function = r"^(?!static|typedef|#| \*)\w[\w ]*[ *](vte_\w+)\([^;{]*\);"
     return set(re.findall(function, text, re.M | re.S))
 
@@ -48,7 +47,7 @@ def test_symbols(library):
 def test_random_bytes_as_a_parser(library):
     if library.sanitized is None:
         miss("the address and undefined-behaviour sanitizers of cc")
-    assert output_of([library.program(EXAMPLES / "any_parser.c", *SANITIZERS)]) == b""
+    assert output_of([library.program(HERE / "any_parser.c", *SANITIZERS)]) == b""
 
 
 def test_refused_memory(cargo_build):
@@ -72,7 +71,7 @@ def test_threads(cargo_build):
                    "CARGO_TARGET_DIR": f"{TOOLS.parent}/rust/target/for_threads",
                    "RUSTFLAGS": "-Zsanitizer=thread -Cunsafe-allow-abi-mismatch=sanitizer"}
     build = [TOOLS / "build_c_library", "--cargo", folder]
-    words = ["cc", "-O1", "-g", "-fsanitize=thread", "-pthread", *INCLUDES, HERE / "threads.c",
+    words = ["cc", "-O1", "-g", "-fsanitize=thread", "-pthread", f"-I{INCLUDE}", HERE / "threads.c",
              folder / "libvte_c.a", "-o", folder / "threads"]
     if not compiles(build, **environment)[0] or not compiles(words)[0]:
         miss("the thread sanitizer of rustc and cc, so threads were tested without it")

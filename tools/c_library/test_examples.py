@@ -6,7 +6,7 @@ import subprocess
 import pytest
 from tests.missing import need
 
-from c_library.library import CRATE, EXAMPLES, output_of
+from c_library.library import EXAMPLES, INCLUDE, output_of
 
 # before glibc 2.34 pseudo-terminals were in a library of their own
 OF_PTY = "-lutil"
@@ -31,7 +31,7 @@ def program(library, place, *words):
     if compiler != "go":
         return library.program(source, OF_PTY, *words, compiler=compiler)
     made = library.folder / f"{source.parent.name}_go"
-    environment = {"CGO_ENABLED": "1", "CGO_CFLAGS": f"-I{CRATE / 'include'}",
+    environment = {"CGO_ENABLED": "1", "CGO_CFLAGS": f"-I{INCLUDE}",
                    "CGO_LDFLAGS": f"{library.archive} {OF_PTY}",
                    "GO111MODULE": "off", "GOFLAGS": "-mod=mod"}
     assert output_of(["go", "build", "-o", made, source], **environment) == b""

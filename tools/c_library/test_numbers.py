@@ -4,7 +4,7 @@ from functools import cache
 
 from tests.missing import need
 
-from c_library.library import BESIDE, CRATE, HERE, TOOLS, output_of
+from c_library.library import HERE, INCLUDE, TOOLS, output_of
 
 TYPES = TOOLS.parent / "rust/vte/src/proved/vte_types"
 # Rust's type, and how the names of C begin, or those that C has
@@ -54,7 +54,7 @@ def test_names():
         for one, number in of_rust()[kind].items():
             snake = re.sub("(?<!^)(?=[A-Z])", "_", one).upper()
             wanted[names + snake if isinstance(names, str) else names.get(one)] = number
-    headers = CRATE / "include/vte.h", BESIDE / "include/vte_handler.h"
+    headers = INCLUDE / "vte.h", INCLUDE / "vte_handler.h"
     text = re.sub(r"/\*.*?\*/", "", "".join(it.read_text() for it in headers), flags=re.S)
     found = [numbered(listed.replace(",", "\n")) for listed in re.findall(LIST.format(""), text)]
     assert {name: number for one in found for name, number in one.items()} == {

@@ -5,7 +5,7 @@ import pytest
 
 from tests.support import TOOLS, Tool, write
 
-HEADER = "rust/vte_c/include/vte_handler.h"
+HEADER = "c/include/vte_handler.h"
 # the ends of each file's lists with a method more, `ring_bells(&mut self, top: u16, text: &str)`
 ENDS = {
     "crates/vte_handler/src/by_call.rt": [
@@ -16,7 +16,7 @@ ENDS = {
     "rust/vte/examples/unknown.rs": ["ring_bells(u16, &str)\n}"], "rust/vte_c/src/processor.rs": [
         "(top: u16, text: &str) => u16 = top, *const u8 = text.as_ptr(), usize = text.len();\n}"],
     HEADER: ["ring_bells)(void *user, uint16_t top, const uint8_t *text, size_t text_length);\n}"],
-    "rust/vte_c/include/vte.hpp": [
+    "c/include/vte.hpp": [
         "virtual void ring_bells(uint16_t, std::string_view) {}\n}", "&Handler::ring_bells>,\n}"],
     "python/rust/calls.rs": ["RingBells(top, text)\n}"], "python/src/vte/calls.py": [
         'class RingBells(NamedTuple):\n    """Rings. Twice."""\n    top: int\n    text: str\n\n\n',

@@ -11,7 +11,7 @@ MANIFESTS = ("rust/vtlog/Cargo.toml", "rust/vte_c/Cargo.toml", "python/pyproject
 # what else of a release of version 1.2.3 names it, or the version of the C interface
 RELEASE = {
     "rust/vte/Cargo.toml": 'version = "0.15.0+naqshuve.1.2.3"',
-    "crates/vte_c/include/vte.h": "#define VTE_VERSION 7", "docs/C.md": "libvte_c = 7",
+    "c/include/vte.h": "#define VTE_VERSION 7", "docs/C.md": "libvte_c = 7",
     "crates/vtlog/src/main.rt": r'"vtlog 1.2.3\n"', "docs/vtlog.1": '"Naqshuve 1.2.3"',
     "vectors/events.json": "of Naqshuve 1.2.3 for", "vectors/calls.json": "of Naqshuve 1.2.3 for",
     **{place: 'version = "1.2.3"' for place in MANIFESTS},

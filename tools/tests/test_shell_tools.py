@@ -60,7 +60,7 @@ def test_words(folder, monkeypatch, tool, words, variables, status, output):
     had = [f"{begin}-{it}{end}" for begin, names, end in needed for it in names.split(",")]
     for place, text in {"tools/install_packages": "#!/bin/sh\n[ $1 = valgrind ]\n", "asked": "",
                         "folder/had": "\n".join(["a", *had]), "there/file": "",
-                        "rust/vte/Cargo.toml": "", "crates/vte_c/include/vte.h": ""}.items():
+                        "rust/vte/Cargo.toml": "", "c/include/vte.h": ""}.items():
         write(place, text, 0o755)
     none = dict.fromkeys(("NAQSHUVE_ALLOW_MISSING", "GATE", "THERE", "HAS_CRATES"), "")
     for name, value in {**none, "ASKED": f"{folder}/asked", **variables}.items():

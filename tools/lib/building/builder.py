@@ -94,9 +94,8 @@ def placed_peers(is_ours, folder, profile, count):
 def c_program(source, folder):
     """Builds a program in C with cargo's C library, and with libvterm if it is here."""
     run([TOOLS / "build_c_library", "--cargo", folder], "the C library")
-    includes = [f"-I{TOOLS.parent / place}" for place in ("crates/vte_c/include",
-                                                          "rust/vte_c/include")]
-    words = ["cc", "-O2", "-std=c99", "-pedantic-errors", *includes, source, folder / "libvte_c.a"]
+    words = ["cc", "-O2", "-std=c99", "-pedantic-errors", f"-I{TOOLS.parent / 'c/include'}", source,
+             folder / "libvte_c.a"]
     if has_libvterm():
         words += ["-DLIBVTERM", "-lvterm"]
     run([*words, "-o", folder / source.stem], source.name)

@@ -6,7 +6,7 @@
 PREFIX=$(realpath -ms -- "${PREFIX:-/usr/local}")
 LIBDIR=$(realpath -ms -- "${LIBDIR:-$PREFIX/lib}")
 DESTDIR=${DESTDIR:-}
-version=$(sed -n 's/^#define VTE_VERSION //p' "$top/crates/vte_c/include/vte.h")
+version=$(sed -n 's/^#define VTE_VERSION //p' "$top/c/include/vte.h")
 
 headers=(vte.h vte_long.h vte_handler.h vte.hpp)
 

@@ -26,7 +26,7 @@
  * So do those of vte_processor_free, which then frees nothing. Free a processor once, when no other
  * call can come.
  *
- * A processor takes its memory from malloc: 2 MiB for updates, and as much as the longest command
+ * A processor allocates by malloc: 2 MiB for updates, and as much as the longest command
  * has. It is in the library that cargo builds.
  */
 #ifndef VTE_HANDLER_H

@@ -2,7 +2,7 @@
 /* vte_long.h: a parser that keeps operating system commands of any length.
  *
  * It reports the events of vte.h in the same records, with VTE_TRUNCATED only if a command has data
- * after its 16th piece. It takes memory from malloc: for the longest command that it was fed, and
+ * after its 16th piece. It allocates by malloc: for the longest command that it was fed, and
  * for its own data area, which has room for that command, 2 KiB, and five bytes for each byte of
  * the longest call. It is in the library that cargo builds.
  *

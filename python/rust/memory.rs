@@ -1,4 +1,4 @@
-//! For tests: Rust takes its memory from Python, so that what refuses memory to Python refuses it
+//! For tests: Rust allocates by Python, so that what refuses memory to Python refuses it
 //! to Rust.
 
 use std::alloc::{GlobalAlloc, Layout};

@@ -43,7 +43,7 @@ fn for_c(text: &'static str) -> *const c_char {
     text.as_ptr().cast()
 }
 
-/// An error with a text that ends in NUL. PyO3's errors take memory in a way that can't fail.
+/// An error with a text that ends in NUL. PyO3's errors allocate in a way that can't fail.
 pub fn error<T: PyTypeInfo>(py: Python<'_>, text: &'static str) -> PyErr {
     // SAFETY: a class of exceptions, and a text that ends in NUL
     unsafe { ffi::PyErr_SetString(T::type_object_raw(py).cast(), for_c(text)) };

@@ -28,7 +28,7 @@ SHORT = PART + MOVES[:400] + b"x" * 4000 + PART
 LONG = MOVES + PART * 50 + b"\x1b]52;c;" + b"Q" * 200_000 + b"\x07" + b"text" * 25_000 + PART * 50
 NO_LIMIT = resource.RLIM_INFINITY, resource.RLIM_INFINITY
 ROOMS = [5 << shift for shift in range(13, 22)]
-# a tuple in an `except` would take memory
+# a tuple in an `except` would allocate
 ERRORS = MemoryError, SystemError
 
 

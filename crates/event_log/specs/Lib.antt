@@ -9,7 +9,7 @@ pub mod Record
 pub mod Device
 pub mod Run
 -- For the proof alone.
-pub mod machine
+pub mod private
 -- What the definitions above use from the library below.
 pub use Rattle.vte_core.specs.Event
 pub use Rattle.vte_core.specs.Stream

@@ -1,7 +1,7 @@
 //! Performers that collect text until it is written.
 ghost use Rattle.std.specs.Prelude.{◌≡◌, ◌<◌, ℕ, List, [], length};
 ghost use Rattle.vte_core.specs.Event.{Event};
-ghost use Rattle.event_log.specs.machine.Progress.{AddsUpTo, HasKept, HasReadSome};
+ghost use Rattle.event_log.specs.private.Progress.{AddsUpTo, HasKept, HasReadSome};
 ghost use Rattle.event_log.specs.Record.{Record, empty_record};
 
 use vte_core::Parser;

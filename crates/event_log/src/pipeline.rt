@@ -3,7 +3,7 @@ ghost use Rattle.std.specs.Prelude.{◌≡◌, ◌<◌, ℕ, List, [], ◌++◌,
 ghost use Rattle.std.specs.Io.KnownBytes.{Appends};
 ghost use Rattle.std.specs.List.{flat_map};
 ghost use Rattle.vte_core.specs.Stream.{events, usual_limit};
-ghost use Rattle.event_log.specs.machine.Progress.{HasReadSome, HasWritten};
+ghost use Rattle.event_log.specs.private.Progress.{HasReadSome, HasWritten};
 ghost use Rattle.event_log.specs.Record.{empty_record};
 ghost use Rattle.event_log.specs.Run.{LogsExactly, StripsExactly, WritesExactly};
 

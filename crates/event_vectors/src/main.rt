@@ -20,8 +20,6 @@ mod prepared_memory;
 #[cfg(test)]
 mod runs;
 #[cfg(test)]
-mod serialized_colors;
-#[cfg(test)]
 mod tests;
 mod timeouts;
 #[cfg(test)]

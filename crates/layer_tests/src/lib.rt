@@ -14,6 +14,8 @@ mod reader;
 #[cfg(test)]
 mod screens;
 #[cfg(test)]
+mod serialized_colors;
+#[cfg(test)]
 mod streams;
 #[cfg(test)]
 mod updates;

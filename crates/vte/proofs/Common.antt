@@ -37,16 +37,16 @@ pub use Rattle.vte.specs.ControlCalls.{change_calls}
 pub use Rattle.vte.specs.Colors.{kind_reading}
 pub use Rattle.vte.specs.CommandCalls.{dynamic_calls, id_of, link_to, palette_entry_calls, palette_entries_calls, joined_texts, text_in}
 unfoldable pub use Rattle.vte.specs.CommandCalls.{all_reset}
-pub use Rattle.vte.specs.machine.Performer.{first_component, FitsText, PerformerValue, performer_with_event, FitsTextSize, fits_text_size, joined_size, parts_left, text_to_join}
-pub use Rattle.vte.specs.machine.Hold.{Adds, IsAdded, IsHeldTail, released_of, still_held}
+pub use Rattle.vte.specs.private.Performer.{first_component, FitsText, PerformerValue, performer_with_event, FitsTextSize, fits_text_size, joined_size, parts_left, text_to_join}
+pub use Rattle.vte.specs.private.Hold.{Adds, IsAdded, IsHeldTail, released_of, still_held}
 pub use Rattle.vte.specs.ProcessorCalls.{StopsSync, HasAdvanced, HasParsedAll, HasParsedAndHolds, IsAt, ReadsInTurns, HasReplayed, HasDelivered, Replays, ProcessorPredicate, held_of}
-pub use Rattle.vte.specs.machine.Performing.{AdvancesAll, AdvancesUntilStop, performer_value, with_private_mode, with_private_modes}
+pub use Rattle.vte.specs.private.Performing.{AdvancesAll, AdvancesUntilStop, performer_value, with_private_mode, with_private_modes}
 pub use Rattle.vte.specs.BoundedProcessor.{HasParsedAndHoldsBounded}
 pub use Rattle.vte.specs.LongProcessor.{EngineReads, EngineStops, HasParsedAndHoldsLong, LacksMemoryForSome, LacksMemoryLong, AdvancesLong, Reserves}
 pub use Rattle.vte.specs.Memory.{HasMemory, HasTextMemory, ParserHasMemory, KeepsMemory}
 pub use Rattle.vte.specs.Numbers.{decimal_number, first_number, first_numbers}
 pub use Rattle.vte.specs.Split.{first_after, split_by}
-pub use Rattle.vte.specs.machine.Engine.{EngineIsAt, EngineIsAtKeepingMemory, EndsParsingTurn, EndsTurn, HasBeenRefused, HasParsedPrefix, HasParsedWithoutBegin, ArePartsAt, ArePartsAtKeepingMemory, ArePartsAtWithMemory, HasTakenParsingTurn, HasTurned}
+pub use Rattle.vte.specs.private.Engine.{EngineIsAt, EngineIsAtKeepingMemory, EndsParsingTurn, EndsTurn, HasBeenRefused, HasParsedPrefix, HasParsedWithoutBegin, ArePartsAt, ArePartsAtKeepingMemory, ArePartsAtWithMemory, HasTakenParsingTurn, HasTurned}
 pub use Rattle.vte.specs.Views.{EngineHasMemory, EngineHasParsedAndHolds, ParserView, EngineView, bounded_engine_view, long_parser_view, engine_view, limited_parser_view, long_engine_view}
 pub use Rattle.vte.specs.Rendition.{attribute_calls, attributes_from}
 pub use Rattle.vte_types.specs.Words.{after_word}

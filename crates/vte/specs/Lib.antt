@@ -31,7 +31,7 @@ pub mod LongProcessor
 pub mod CallExamples
 pub mod UpdateExamples
 -- For the proof alone.
-pub mod machine
+pub mod private
 -- Crates that depend on `vte` find here the definitions that its contracts use from the crates
 -- below.
 pub use Rattle.vte_core.specs.Advance

@@ -7,7 +7,7 @@ pub mod OpenCode
 pub mod Reported
 pub mod Calls
 -- For the proof alone.
-pub mod machine
+pub mod private
 -- Definitions of the libraries below that the contracts use.
 pub use Rattle.event_log.specs.Plain
 pub use Rattle.vte_core.specs.Event

@@ -69,7 +69,7 @@ pub(crate) struct EventWriter<'a> {
 }
 
 impl<'a> EventWriter<'a> {
-    ghost use Rattle.vte_c.specs.machine.Buffers.{AreCharacters, Holds, Buffers, Starts, is_full, buffers_of, buffers_with_event, with_one, with_record, with_reported, with_run};
+    ghost use Rattle.vte_c.specs.private.Buffers.{AreCharacters, Holds, Buffers, Starts, is_full, buffers_of, buffers_with_event, with_one, with_record, with_reported, with_run};
 
     /// Creates a performer that has written nothing, and writes into these buffers.
     pub(crate) fn new(
@@ -134,7 +134,7 @@ impl<'a> EventWriter<'a> {
 
     /// Writes a record, if there is room for it.
     #[inline(always)]
-    #[tactic(auto, unfolding(crate::specs::machine::Buffers::with_one))]
+    #[tactic(auto, unfolding(crate::specs::private::Buffers::with_one))]
     fn add_record(&mut self, event: VteEvent)
         ensures { buffers_of self.new ≡ with_one (buffers_of self.old) event }
     {
@@ -151,7 +151,7 @@ impl<'a> EventWriter<'a> {
 
     /// Writes an event without data.
     #[inline(always)]
-    #[tactic(auto, unfolding(crate::specs::machine::Buffers::with_one, crate::specs::machine::Buffers::with_record))]
+    #[tactic(auto, unfolding(crate::specs::private::Buffers::with_one, crate::specs::private::Buffers::with_record))]
     fn add_without_data(&mut self, event: VteEvent)
         ensures { buffers_of self.new ≡ with_reported (buffers_of self.old) event [] }
     {
@@ -291,7 +291,7 @@ impl<'a> EventWriter<'a> {
 
     /// Writes the record of an event whose data was written up to `end`, if that is in the area.
     #[inline(always)]
-    #[tactic(auto, unfolding(crate::specs::machine::Buffers::with_record))]
+    #[tactic(auto, unfolding(crate::specs::private::Buffers::with_record))]
     fn add_written(&mut self, event: VteEvent, end: usize)
         requires { self.old.used ≤ end }
         ensures { (buffers : Buffers) (text : List ℕ) → Holds buffers self.old end text →
@@ -309,7 +309,7 @@ impl<'a> EventWriter<'a> {
 }
 
 impl Perform for EventWriter<'_> {
-    ghost use Rattle.vte_c.specs.machine.Buffers.{Buffers, is_full, buffers_of, buffers_with_event};
+    ghost use Rattle.vte_c.specs.private.Buffers.{Buffers, is_full, buffers_of, buffers_with_event};
 
     ghost Value = { Buffers };
 

@@ -5,8 +5,8 @@ ghost use Rattle.vte_core.specs.Event.{Event};
 ghost use Rattle.vte_core.specs.Saved.{HasReadSaved};
 ghost use Rattle.vte_core.specs.Stream.{added, usual_limit};
 ghost use Rattle.vte_c.specs.Calls.{Feeds};
-ghost use Rattle.vte_c.specs.machine.Buffers.{Starts, is_full, buffers_of};
-ghost use Rattle.vte_c.specs.machine.Feeding.{NoEventStopsIn, HasFed, HasReadOn, NoRecordStops, StopsAtNone};
+ghost use Rattle.vte_c.specs.private.Buffers.{Starts, is_full, buffers_of};
+ghost use Rattle.vte_c.specs.private.Feeding.{NoEventStopsIn, HasFed, HasReadOn, NoRecordStops, StopsAtNone};
 ghost use Rattle.vte_c.specs.Reported.{HasReported};
 
 use crate::event::VteEvent;

@@ -2,7 +2,7 @@
 ghost use Rattle.std.specs.Prelude.{◌≡◌, ◌<◌, ◌≤◌, ◌+◌, ◌-◌, ◌++◌, ℕ, List, true, false, length};
 ghost use Rattle.vte_c.specs.Calls.{Strips};
 ghost use Rattle.vte_c.specs.Reported.{HasStripped};
-ghost use Rattle.vte_c.specs.machine.TextBuffer.{StartsText, StripsMore, TextBuffer, text_buffer_of, text_buffer_with, text_buffer_with_event};
+ghost use Rattle.vte_c.specs.private.TextBuffer.{StartsText, StripsMore, TextBuffer, text_buffer_of, text_buffer_with, text_buffer_with_event};
 
 use crate::feed::NO_ROOM;
 use vte_core::{Params, Parser, Perform, PerformText, Saved, laws};
@@ -32,7 +32,7 @@ impl TextWriter<'_> {
 
     /// Writes a text, if there is room for it.
     #[inline(always)]
-    #[tactic(auto, unfolding(crate::specs::machine::TextBuffer::text_buffer_with))]
+    #[tactic(auto, unfolding(crate::specs::private::TextBuffer::text_buffer_with))]
     fn add(&mut self, text: &[u8])
         ensures { text_buffer_of self.new ≡ text_buffer_with (text_buffer_of self.old) text.now }
     {

@@ -58,15 +58,16 @@ pub use Rattle.vte_core.specs.declared.parser.machine.Machine.{Machine}
 pub use Rattle.vte_core.specs.declared.parser.refused.Refused.{Refused}
 pub use Rattle.vte_core.specs.declared.utf8.Unfinished.{Unfinished}
 pub use Rattle.vte_core.specs.declared.utf8.Unfinished.TheVariants.{Nothing, One, Three, Two}
-pub use Rattle.vte_core.specs.machine.Scans.{AreIgnored, ArePut, IsIgnored, ArePrintedAscii, IsUtf8Run, IsPrintedAscii, IsRun, PrintsRun, IsRange, Scans}
-pub use Rattle.vte_core.specs.machine.Place.{Leads, BytesLead, AtEscape, InControlSequence, InDeviceData, InDeviceControl, InEscape, InIgnoredString, InSystemCommand, InText, IsAfter, IsSettledPlace, Place, closing_events_at, left_at, rest_outcome}
-pub use Rattle.vte_core.specs.machine.Progress.{Advances, ChunkCall, chunk_call, ProgressAt, ProgressInside, IsRefusedInCommand, IsSettled, MayGoOn, ReadsUpTo, ReadsUntilRefused, IsAtPosition, IsInsidePosition}
-pub use Rattle.vte_core.specs.machine.Costs.{SpendsWithin}
-pub use Rattle.vte_core.specs.machine.ParserFields.{CountsNumbers, HoldsIntermediates, HoldsHead, HasReadWithLimit, IsMarker, SameIntermediates, SameNumbers, numbers_from, HoldsNumbers, IsAtPlace, IsPlaceOfState, HasReadHead, StaysIllShaped, ReadsHead, Carries, bytes_of, may_continue}
-unfoldable pub use Rattle.vte_core.specs.machine.Place.{outcome_from}
-pub use Rattle.vte_core.specs.machine.Store.{Stored, HoldsItems, PiecesEnd, SameItems, cut_data, cut_pieces, ends_after, fitting, pieces_from}
-pub use Rattle.vte_core.specs.machine.Takes.{TakesBytes, TakesByte}
-unfoldable pub use Rattle.vte_core.specs.machine.ParserFields.{second_range}
+pub use Rattle.vte_core.specs.private.Scans.{AreIgnored, ArePut, IsIgnored, ArePrintedAscii, IsUtf8Run, IsPrintedAscii, IsRun, PrintsRun, IsRange, Scans}
+pub use Rattle.vte_core.specs.private.Place.{Leads, BytesLead, AtEscape, InControlSequence, InDeviceData, InDeviceControl, InEscape, InIgnoredString, InSystemCommand, InText, IsAfter, IsSettledPlace, Place, closing_events_at, left_at, rest_outcome}
+pub use Rattle.vte_core.specs.private.Progress.{Advances, ChunkCall, chunk_call, ProgressAt, ProgressInside, IsRefusedInCommand, IsSettled, MayGoOn, ReadsUpTo, ReadsUntilRefused, IsAtPosition, IsInsidePosition}
+pub use Rattle.vte_core.specs.private.Costs.{SpendsWithin}
+pub use Rattle.vte_core.specs.private.ParserFields.{CountsNumbers, HoldsIntermediates, HoldsHead, HasReadWithLimit, IsMarker, SameIntermediates, SameNumbers, numbers_from, HoldsNumbers, IsAtPlace, IsPlaceOfState, HasReadHead, StaysIllShaped, ReadsHead, Carries, bytes_of, may_continue}
+unfoldable pub use Rattle.vte_core.specs.private.Place.{outcome_from}
+pub use Rattle.vte_core.specs.CommandMemory.{Stored}
+pub use Rattle.vte_core.specs.private.Store.{HoldsItems, PiecesEnd, SameItems, cut_data, cut_pieces, ends_after, fitting, pieces_from}
+pub use Rattle.vte_core.specs.private.Takes.{TakesBytes, TakesByte}
+unfoldable pub use Rattle.vte_core.specs.private.ParserFields.{second_range}
 
 -- ---- words of proofs alone
 

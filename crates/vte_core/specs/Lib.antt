@@ -31,6 +31,7 @@ pub mod Open
 pub mod OutsideRuns
 pub mod AdvanceToRun
 -- The same without a limit, where memory may be refused.
+pub mod CommandMemory
 pub mod LongParser
 pub mod LongParserCalls
 -- Laws of events.
@@ -43,5 +44,5 @@ pub mod Parts
 pub mod Saved
 -- Examples, worked out by hand.
 pub mod Examples
--- For the proof alone.
-pub mod machine
+-- For the proof alone. `HasRead` and its like lead here; callers never take them apart.
+pub mod private

@@ -3,9 +3,9 @@ use Rattle.std.specs.Prelude.{◌≡◌, ℕ, Bool, ◌+◌, ◌<◌, List, [], 
 use Rattle.std.specs.List.{concat}
 use Rattle.vte_core.specs.declared.parser.long.LongParser.{LongParser}
 use Rattle.vte_core.specs.declared.parser.refused.Refused.{Refused}
+use Rattle.vte_core.specs.CommandMemory.{LacksMemoryAt}
 use Rattle.vte_core.specs.Looks.{counted}
-use Rattle.vte_core.specs.machine.ParserFields.{HasReadWithLimit}
-use Rattle.vte_core.specs.machine.Store.{LacksMemoryAt}
+use Rattle.vte_core.specs.private.ParserFields.{HasReadWithLimit}
 use Rattle.vte_core.specs.Outcome.{ToClose, CommandToClose}
 use Rattle.vte_core.specs.Parser.{Reading, reading}
 use Rattle.vte_core.specs.Stream.{outcome}

@@ -3,7 +3,7 @@ use Rattle.std.specs.Prelude.{◌≡◌, ℕ, Bool, Option, Some, List}
 use Rattle.vte_core.specs.declared.parser.machine.Machine.{Machine}
 use Rattle.vte_core.specs.declared.parser.Parser.{Parser}
 use Rattle.vte_core.specs.Looks.{counted}
-use Rattle.vte_core.specs.machine.ParserFields.{HasReadWithLimit}
+use Rattle.vte_core.specs.private.ParserFields.{HasReadWithLimit}
 
 -- The parser continues as one that has read the stream: more bytes give the events that they add to
 -- it. A new parser has read the empty stream, and each call preserves the relation. Callers need to

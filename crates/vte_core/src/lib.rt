@@ -28,7 +28,7 @@ pub use parser::{Open, Parser};
 // for C alone
 // cargo: #[cfg(feature = "__own")]
 pub use parser::Saved;
-// takes memory
+// the parser that allocates
 // cargo: #[cfg(any(feature = "std", feature = "ansi"))]
 pub use parser::{LongParser, Refused};
 // cargo instead: pub use perform::{Perform, PerformText};

@@ -4,7 +4,7 @@ ghost use Rattle.std.specs.Fmt.{decimal, WritesOnOk};
 ghost use Rattle.std.specs.Iterator.{YieldsFirstRef, item_count, at_most, UpTo};
 ghost use Rattle.std.specs.Iterator.SizeHint.{IsWithinCount};
 ghost use Rattle.std.specs.List.{join_with_byte};
-ghost use Rattle.vte_core.specs.machine.Store.{AreParts, AreFlatGroups, IsTakenOff};
+ghost use Rattle.vte_core.specs.private.Store.{AreParts, AreFlatGroups, IsTakenOff};
 ghost use Rattle.vte_core.specs.Parameters.{with_number, count_of, colon, shown, AreGroups, max_numbers};
 
 use arrayvec::ArrayVec;
@@ -27,7 +27,7 @@ pub struct Params {
 
 impl Model for Params {
     ghost use Rattle.std.specs.Prelude.{List, ℕ};
-    ghost use Rattle.vte_core.specs.machine.Store.{cut_by_lengths, AreFlatGroups};
+    ghost use Rattle.vte_core.specs.private.Store.{cut_by_lengths, AreFlatGroups};
 
     ghost Value = { List (List ℕ) };
 
@@ -46,7 +46,7 @@ pub struct ParamsIter<'a> {
 
 impl<'a> Model for ParamsIter<'a> {
     ghost use Rattle.std.specs.Prelude.{List, ℕ};
-    ghost use Rattle.vte_core.specs.machine.Store.{cut_by_lengths, AreLengths};
+    ghost use Rattle.vte_core.specs.private.Store.{cut_by_lengths, AreLengths};
 
     ghost Value = { List (List ℕ) };
 

@@ -80,7 +80,7 @@ pub(crate) enum State {
 /// ```
 ///
 /// It keeps up to `OSC_RAW_BUF_SIZE` data bytes of an operating system command, and drops the rest.
-/// So it takes no memory, whatever the stream. [`command_lost_data`](Self::command_lost_data) says
+/// So it doesn't allocate, whatever the stream. [`command_lost_data`](Self::command_lost_data) says
 /// whether something was dropped. Its size is about `OSC_RAW_BUF_SIZE` and 300 bytes.
 // cargo: ///
 // cargo: /// `BoundedParser` is its name with and without the feature `std`. Without it,
@@ -115,7 +115,7 @@ impl<const OSC_RAW_BUF_SIZE: usize> Default for Parser<OSC_RAW_BUF_SIZE> {
 impl<const OSC_RAW_BUF_SIZE: usize> Clone for Parser<OSC_RAW_BUF_SIZE> {
     ghost is_clone = { λ parser clone. IsCopyOfParser (reading_of parser) (reading_of clone) };
 
-    // A clone takes no memory.
+    // A clone doesn't allocate.
     ghost is_infallible = { λ _. ⊤ };
 
     fn clone(&self) -> Result<Self, AllocError> {

@@ -5,7 +5,7 @@
 // make one of these. Bytes leave this module one by one, in blocks, as a copy in a buffer, or as
 // text or data: for a performer, or in a [`Run`] for the caller.
 ghost use Rattle.std.specs.Prelude.{◌≡◌, ◌+◌, ◌-◌, ◌<◌, ◌≤◌, ℕ, [], ◌∷◌, ◌++◌, false, true, length, drop, map, take, slice_index, vec_capacity, MatchOption, IsUtf8};
-ghost use Rattle.vte_core.specs.machine.Prelude.{AreOfKind, ArePut, IsRange, IsRun, IsTaken, IsWindow, PrintsRun, Put, Reports, after, character_event, counted, is_in, looked, malformed_event, from_to};
+ghost use Rattle.vte_core.specs.private.Prelude.{AreOfKind, ArePut, IsRange, IsRun, IsTaken, IsWindow, PrintsRun, Put, Reports, after, character_event, counted, is_in, looked, malformed_event, from_to};
 
 mod calls;
 mod counted_perform;

@@ -1,7 +1,7 @@
 //! The store of an operating system command.
 ghost use Rattle.std.specs.Prelude.{◌≡◌, ◌≢◌, ◌+◌, ◌-◌, ◌≤◌, ◌<◌, List, ℕ, [], ◌∷◌, ◌++◌, length, drop, take, false, ◌↔◌, IsTrue, All};
 ghost use Rattle.std.specs.List.Sorted.{IsNonDecreasing};
-ghost use Rattle.vte_core.specs.machine.Prelude.{ArePieceEnds, HasCapacity, Stored, IsRange, HoldsItems, OscDispatch, ReservesCapacity, SameItems, LooksAtMost, Reports, cut_pieces, max_pieces};
+ghost use Rattle.vte_core.specs.private.Prelude.{ArePieceEnds, HasCapacity, Stored, IsRange, HoldsItems, OscDispatch, ReservesCapacity, SameItems, LooksAtMost, Reports, cut_pieces, max_pieces};
 
 use crate::buffer::Buffer;
 use crate::reader::{CountedPerform, Granularity, Input, Reader};
@@ -28,7 +28,7 @@ pub(crate) struct Store<B: Buffer> {
 impl<B: Buffer> Model for Store<B> {
     ghost use Rattle.std.specs.Prelude.{◌≤◌, All, length};
     ghost use Rattle.std.specs.List.Sorted.{IsNonDecreasing};
-    ghost use Rattle.vte_core.specs.machine.Store.{Stored};
+    ghost use Rattle.vte_core.specs.CommandMemory.{Stored};
 
     ghost Value = { Stored };
 

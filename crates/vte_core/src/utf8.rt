@@ -1,7 +1,7 @@
 //! Characters of UTF-8, byte by byte.
 ghost use Rattle.std.specs.Prelude.{◌≡◌, ◌+◌, ◌*◌, ◌%◌, ◌<◌, ◌↔◌, IsTrue, [], ◌∷◌, true};
 ghost use Rattle.std.specs.Char.{InScalarRange};
-ghost use Rattle.vte_core.specs.machine.Prelude.{BeginsFour, BeginsThree, BeginsTwo, Carries, bytes_of, is_in, is_truncated, scalar_of, second_range, from_to};
+ghost use Rattle.vte_core.specs.private.Prelude.{BeginsFour, BeginsThree, BeginsTwo, Carries, bytes_of, is_in, is_truncated, scalar_of, second_range, from_to};
 
 /// The bytes of an unfinished character, at most three.
 #[derive(Clone, Copy)]
@@ -63,7 +63,7 @@ impl Unfinished {
 }
 
 /// Returns whether a sequence that begins with `first` may go on with `byte`.
-#[tactic(auto, unfolding(crate::specs::machine::ParserFields::second_range))]
+#[tactic(auto, unfolding(crate::specs::private::ParserFields::second_range))]
 fn may_be_second(first: u8, byte: u8) -> bool
     ensures { result ≡ is_in (second_range first) byte }
 {
@@ -74,10 +74,10 @@ fn may_be_second(first: u8, byte: u8) -> bool
     }
 }
 
-/// Returns whether a sequence of three bytes may begin with these two: with a number that is no
-/// overlong form's and no surrogate's.
+/// Returns whether a sequence of three bytes may begin with these two: the code point is neither
+/// overlong nor a surrogate.
 #[inline(always)]
-#[tactic(auto, unfolding(crate::specs::machine::ParserFields::second_range))]
+#[tactic(auto, unfolding(crate::specs::private::ParserFields::second_range))]
 pub(crate) fn may_begin_three(first: u8, second: u8) -> bool
     requires { BeginsThree first }
     ensures { result ≡ is_in (second_range first) second }
@@ -86,10 +86,10 @@ pub(crate) fn may_begin_three(first: u8, second: u8) -> bool
     is_continuation(second) && number >= 0x800 && number / 0x800 != 0xd800 / 0x800
 }
 
-/// Returns whether a sequence of four bytes may begin with these two: with a number that is no
-/// overlong form's, and not past the last character's.
+/// Returns whether a sequence of four bytes may begin with these two: the code point is neither
+/// overlong nor above U+10FFFF.
 #[inline(always)]
-#[tactic(auto, unfolding(crate::specs::machine::ParserFields::second_range))]
+#[tactic(auto, unfolding(crate::specs::private::ParserFields::second_range))]
 pub(crate) fn may_begin_four(first: u8, second: u8) -> bool
     requires { BeginsFour first }
     ensures { result ≡ is_in (second_range first) second }
@@ -183,7 +183,7 @@ pub(crate) fn character_of_three(first: u8, second: u8, third: u8) -> char
 {
     // cargo: debug_assert!(may_begin_three(first, second) && is_continuation(third));
     // SAFETY: the remainders leave at most FFFF. Callers have tested `may_begin_three`, by which
-    // the number is no surrogate's, D800 to DFFF.
+    // the number isn't a surrogate, D800 to DFFF.
     unsafe { char::from_u32_unchecked(number_of_three(first, second, third)) }
 }
 
@@ -199,7 +199,7 @@ pub(crate) fn character_of_four(first: u8, second: u8, third: u8, fourth: u8) ->
 {
     // cargo: debug_assert!(may_begin_four(first, second));
     // cargo: debug_assert!(is_continuation(third) && is_continuation(fourth));
-    // SAFETY: callers have tested `may_begin_four`, by which the front of the number is 10000 to
-    // 10F000, and the remainders leave at most FFF for its rest.
+    // SAFETY: callers have tested `may_begin_four`, by which the leading bits of the number are
+    // 10000 to 10F000, and the remainders leave at most FFF for the others.
     unsafe { char::from_u32_unchecked(number_of_four(first, second, third, fourth)) }
 }

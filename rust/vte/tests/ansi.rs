@@ -200,7 +200,7 @@ macro_rules! assert_keeps {
             assert_eq!(processor.command_lost_data(), lost, "{command}");
             assert_eq!(processor.clone().command_lost_data(), lost, "{command}");
             let _ = processor.advance(&mut lines, b"\x07");
-            // a further call, which may take memory, doesn't forget it
+            // a further call, which may allocate, doesn't forget it
             let _ = processor.advance(&mut lines, b"\x00");
             assert_eq!(processor.command_lost_data(), lost, "{command}");
             // the last one loses a `;` too

@@ -1,4 +1,4 @@
-//! What memory is taken, and what happens if it is refused.
+//! What memory is allocated, and what happens if it is refused.
 
 extern crate alloc;
 
@@ -29,7 +29,7 @@ use vte::{BoundedParser, LongParser, Refused};
 
 const MAX_HELD: usize = 0x20_0000 - 2;
 
-/// For how many bytes memory is taken at once.
+/// For how many bytes memory is allocated at once.
 const SLICE: usize = 0x1_0000;
 
 /// A title of two pieces, of which the second has so many bytes, and what it shows.
@@ -354,7 +354,7 @@ fn a_long_parser_stops_without_memory() {
     assert_eq!((answer, shown.commands), (Err(Refused { read: 3 }), 0));
     let answer = parser.advance_until_terminated(&mut shown, &stream[3..]);
     assert_eq!((answer, &*shown.texts), (Ok(2), "2"));
-    // it is terminated still, so the next byte isn't read, and in a command no memory is taken for
+    // it is terminated still, so the next byte isn't read, and a command allocates nothing for
     // it
     let answer = refused(|| parser.advance_until_terminated(&mut shown, &stream[5..]));
     assert_eq!(answer, Ok(0));

@@ -20,6 +20,6 @@ fn a_list_has_all_words_or_is_refused() {
         assert_eq!(*collect(first).unwrap(), words[first..]);
         assert!(refused(|| collect(first)).is_err());
     }
-    // an empty one takes no memory
+    // an empty one doesn't allocate
     assert!(refused(|| collect(100)).unwrap().is_empty());
 }

@@ -4,7 +4,7 @@ ghost use Rattle.std.specs.Fmt.{decimal};
 ghost use Rattle.std.specs.List.{join_with_byte};
 ghost use Rattle.vte_core.specs.Parameters.{colon, shown};
 ghost use Rattle.event_log.specs.Lines.{flag_field, hex_byte, hex_character, hex_field, pieces_fields, sequence_fields};
-ghost use Rattle.event_log.specs.machine.Line.{ExtendsLine};
+ghost use Rattle.event_log.specs.private.Line.{ExtendsLine};
 
 use super::Lines;
 use super::short::{hex_length, hex_pair, six_hex_digits};

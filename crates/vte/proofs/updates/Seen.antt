@@ -4,7 +4,7 @@
 use Rattle.vte.proofs.Common.{◌≡◌, ℕ, zero, suc, ◌+◌, ◌-◌, ◌<◌, ◌≤◌, inl, inr, true, false, eqb, Some, None, List, [], ◌∷◌, length, drop, take, get_or, refl, ap, subst, ◌∙◌, add-zero, length-drop, arith, cases_Bool, nat_tests, drop_all, drop_more, get_or-drop, get_or-take, length-take-le, ◌++◌, IsHeldTail, drop-drop, length-append, Adds, after_word, begin_update, end_update, begins_ending_in_last, begins_with, after_last_end, from_begin_update, rules}
 use Rattle.std.specs.Prelude.{◌&&◌, nat_lt}
 use Rattle.memchr.specs.Find.{NoneAfter, Nowhere, Passes, is_byte}
-use Rattle.vte.specs.machine.Hold.{IsNeither, HasNoPrivateSequence, NoneBetween}
+use Rattle.vte.specs.private.Hold.{IsNeither, HasNoPrivateSequence, NoneBetween}
 use Rattle.vte.proofs.updates.Sequences.{after_word-whole, begins_ending_in_last-tail, begins_with-is, begins_with-length, after_last_end-tail, from_begin-end_skipped, begins_with-further, not_some}
 use Rattle.std.proofs.lemmas.List.{take_rest}
 

@@ -2,7 +2,7 @@
 //! caller's area.
 ghost use Rattle.std.specs.Prelude.{◌≤◌, ◌++◌, ℕ, List, length, map};
 ghost use Rattle.std.specs.List.{flat_map};
-ghost use Rattle.vte_c.specs.machine.Buffers.{Holds, Buffers, buffers_of};
+ghost use Rattle.vte_c.specs.private.Buffers.{Holds, Buffers, buffers_of};
 ghost use Rattle.vte_c.specs.Record.{group_bytes, piece_bytes};
 
 use super::{EventWriter, bytes_of_one};

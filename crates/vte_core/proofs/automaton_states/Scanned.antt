@@ -3,13 +3,13 @@
 -- characters, failed, or inside a character, whose next byte has one range.
 use Rattle.vte_core.proofs.Common.{List, [], ap, arith, get_or, length, refl, suc, ℕ, ◌++◌, ◌<◌, ◌∙◌, ◌∷◌, ◌≡◌, ◌≢◌, ◌≤◌, Range, from_to, inl, inr, subst, sym, true, and_parts, cases_Bool, cases_eq, cases_lt, false≢true, nat_tests, is_in, rows_after_byte, utf8_rows, second_range, IsPrintedAscii, IsUtf8Run, is_layout, add-one, append_assoc, cond, drop, length-drop, take, zero, ◌&&◌, ◌+◌, ◌-◌, take-add, append-nil, get_or-drop, take_more, slice_index, Bool, false, length-append, length-take, encodes, encode, All-cons, All-head, All-nil, All-tail, All, StaysInRun, rules}
 use Rattle.vte_core.proofs.bytes.Utf8.{continuation, fits, tests-row, tests-two}
-use Rattle.vte_core.specs.machine.Automaton.{AutomatonState, Between, NeedsOne, NeedsTwo, NeedsThree, AfterE0, AfterED, AfterF0, AfterF4, AfterC2, Failed, next_if_in, next_between, next_state, state_after}
+use Rattle.vte_core.specs.private.Automaton.{AutomatonState, Between, NeedsOne, NeedsTwo, NeedsThree, AfterE0, AfterED, AfterF0, AfterF4, AfterC2, Failed, next_if_in, next_between, next_state, state_after}
 use Rattle.vte_core.proofs.bytes.Runs.{each-one, run-ascii, run-layout, utf8_run-nil, utf8_run-append}
 use Rattle.vte_core.proofs.bytes.Scalars.{in_range-bounds}
 use Rattle.vte_core.proofs.dividing.Utf8Agrees.{utf8_run-character}
 use Rattle.std.proofs.lemmas.List.{get_or-take, get_or-append-add}
 use Rattle.std.proofs.lemmas.Str.{encode_ascii, encodes-chars}
-use Rattle.vte_core.specs.machine.Scans.{Each}
+use Rattle.vte_core.specs.private.Scans.{Each}
 
 -- ---- one byte after another
 

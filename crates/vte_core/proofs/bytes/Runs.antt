@@ -7,7 +7,7 @@ use Rattle.vte_core.proofs.Common.{◌≡◌, ℕ, ◌+◌, ◌-◌, ◌<◌, �
 use Rattle.std.proofs.lemmas.List.{length-drop, length-take, get_or-take}
 use Rattle.std.proofs.lemmas.Simd.{get_or-chunk}
 use Rattle.std.specs.Array.{IsFirstChunk}
-use Rattle.vte_core.specs.machine.Scans.{Each}
+use Rattle.vte_core.specs.private.Scans.{Each}
 use Rattle.std.proofs.Common.{take-add}
 use Rattle.std.proofs.lemmas.List.Elements.{All-from_get_or}
 use Rattle.std.proofs.lemmas.Str.Ascii.{IsAscii-cons, IsAscii-from_reads, IsAscii-nil}
@@ -52,8 +52,7 @@ block-byte bytes block from n k is below = ap (λ x. get_or x k 0) is ∙ get_or
 
 -- What holds of the first bytes of a block holds of the same bytes of the input.
 pub each-block : (holds : ℕ → Type 0) (bytes block : List ℕ) (from n m : ℕ) → block ≡ take n (drop from bytes) → m ≤ n
-    → Each holds block 0 m
-    → Each holds bytes from (from + m)
+    → Each holds block 0 m → Each holds bytes from (from + m)
 each-block holds bytes block from n m is at_most all k low high =
     let same : get_or block (k - from) 0 ≡ get_or bytes k 0 =
     block-byte bytes block from n (k - from) is (omega (arith, low, high, at_most)) ∙ ap (λ i. get_or bytes i 0)
@@ -110,8 +109,7 @@ pub utf8_run-nil : (layout : Bool) → IsUtf8Run layout []
 utf8_run-nil layout =
     record {
       utf8 = IsUtf8-nil;
-      plain =
-          subst (All (StaysInRun layout)) (sym chars-nil) (All-nil (StaysInRun layout));
+      plain = subst (All (StaysInRun layout)) (sym chars-nil) (All-nil (StaysInRun layout));
     }
 
 pub utf8_run-append : {layout : Bool} {xs ys : List ℕ} → IsUtf8Run layout xs → IsUtf8Run layout ys
@@ -181,8 +179,7 @@ run-append layout bytes i j k first second are more =
     let whole : take (k - i) (drop i bytes) ≡ take (j - i) (drop i bytes) ++ take (k - j) (drop j bytes) =
     ap (λ n. take n (drop i bytes)) (let equal : k - i ≡ j - i + (k - j) = omega (arith, first, second) in equal)
     ∙ take-add (j - i) (k - j) (drop i bytes) ∙ ap (λ x. take (j - i) (drop i bytes) ++ take (k - j) x) same in
-    subst (IsUtf8Run layout) (sym whole)
-    (utf8_run-append are more)
+    subst (IsUtf8Run layout) (sym whole) (utf8_run-append are more)
 
 -- ---- a search goes on where another ended
 

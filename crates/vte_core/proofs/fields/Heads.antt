@@ -3,7 +3,7 @@
 use Rattle.vte_core.proofs.Common.{◌≡◌, ℕ, ◌+◌, ◌<◌, ◌≤◌, ◌*◌, ◌-◌, min, Bool, true, false, List, [], ◌∷◌, ◌++◌, length, take, refl, ap, sym, ◌∙◌, arith, length-append, take_all, take-append-le, nat_tests, Collected, numbers, grouped, groups_of, has_too_many_numbers, with_number, count_of, max_numbers, is_separator, is_colon, greatest_number, CountsNumbers, HoldsNumbers, append_assoc, append-nil, ◌⊎◌, inl, inr, ◌||◌, Class, Intermediate, Marker, class_of, is_head_byte, is_intermediate, is_marker, is_parameter_text, HeadProgress, Entry, Parameters, Intermediates, IllShaped, Event, head_of, is_well_shaped, sequence_event, HoldsIntermediates, HoldsHead, SameNumbers, SameIntermediates, HasReadHead, StaysIllShaped, rules}
 use Rattle.std.proofs.lemmas.List.{length-take}
 use Rattle.vte_core.proofs.fields.Numbers.{numbered, count_of-grouped, grouped-push, is_digit_no_separator, number_of-push, numbers_are}
-use Rattle.vte_core.specs.machine.ParserFields.{IsReady}
+use Rattle.vte_core.specs.private.ParserFields.{IsReady}
 use Rattle.vte_core.proofs.Shapes.{begins-intermediates, head_of-parts, held-parts, held-well_shaped, list_all-not}
 use Rattle.vte_core.proofs.bytes.Classes.{AreInClass-append}
 

@@ -3,7 +3,7 @@
 use Rattle.vte_core.proofs.Common.{◌≡◌, ℕ, suc, ◌+◌, ◌<◌, ◌≤◌, Bool, true, false, List, [], ◌∷◌, ◌++◌, length, take, drop, sum, Option, Some, None, refl, sym, ap, subst, ◌∙◌, arith, length-drop, length-append, get_or, All, take_all, take_more, take-append-le, drop-append-le, append-nil, take-append-drop, All-nil, drop_all, All-cons, All-head, All-tail, All-push, All-pop, All-take, All-drop, sum_by-cons, sum_by_push, sum_by-take-le, Number, with_number, count_of, greatest_number, max_numbers, AreGroups, ◌-◌, ◌*◌, min, map, inl, inr, append_assoc, length-take, fold, filter, slice_split, digit_value, cases_Bool, nat_tests, fold_push, numbers, numbers_of, number_of, is_colon, is_separator, numbers_from, grouped, groups_of, rules, IsFilled, AreSmall, IsSmallNumber}
 use Rattle.std.proofs.lemmas.List.{length-take-le}
 use Rattle.std.specs.Option.{unwrap_or}
-use Rattle.vte_core.specs.machine.Store.{cut_by_lengths, AreLengths, AreFlatGroups, IsTakenOff}
+use Rattle.vte_core.specs.private.Store.{cut_by_lengths, AreLengths, AreFlatGroups, IsTakenOff}
 use Rattle.std.proofs.lemmas.Int.Digits.{digits_value_push}
 use Rattle.std.proofs.lemmas.List.Splits.{slice_split_at, slice_split_none}
 

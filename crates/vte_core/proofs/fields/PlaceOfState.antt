@@ -2,11 +2,11 @@
 -- same: by cases of its state, to each of which belongs one kind of place.
 use Rattle.vte_core.proofs.Common.{◌≡◌, ℕ, true, Option, List, [], ◌∷◌, ◌++◌, refl, ap, subst, append-nil, Machine, State, Text, Escape, SystemCommand, body_outcome, device_data_outcome, executed_events, leaves, open_bytes, HoldsIntermediates, IsPlaceOfState, IsAtPlace, Place, InText, AtEscape, InSystemCommand, open_at, left_at, rest_outcome, outcome_from, events_from, IsSettledPlace, Stored, HoldsItems, SameItems, text_outcome, is_truncated, Nothing, may_continue, EscapeIntermediate, ControlSequence, DeviceControl, DeviceData, IgnoredString, HasReadWithLimit, HasReadHead, InEscape, InControlSequence, InDeviceControl, InDeviceData, InIgnoredString, take, arith, usual_limit, rules}
 use Rattle.vte_core.specs.IgnoredString.{ignored_string_outcome}
-use Rattle.vte_core.specs.machine.Place.{control_sequence_from, device_control_from, escape_from, system_command_from}
+use Rattle.vte_core.specs.private.Place.{control_sequence_from, device_control_from, escape_from, system_command_from}
 use Rattle.vte_core.proofs.Shapes.{text_outcome-end, text_outcome-nothing}
 use Rattle.vte_core.specs.declared.parser.saved.Saved.{Saved}
-use Rattle.vte_core.specs.machine.SavedLayout.{HasIntermediates, IsInHead, IsRestored, flag_of, state_bytes}
-use Rattle.vte_core.specs.machine.Store.{AreParts, ArePieceEnds}
+use Rattle.vte_core.specs.private.SavedLayout.{HasIntermediates, IsInHead, IsRestored, flag_of, state_bytes}
+use Rattle.vte_core.specs.private.Store.{AreParts, ArePieceEnds}
 use Rattle.vte_core.specs.Saved.{HasReadSaved}
 
 -- If the parser is in a state at a place, it is a place of the state.

@@ -1,8 +1,9 @@
 -- What a byte does in its part, a text or a body, it does in the stream (`bytes_lead-byte`), since only ESC cuts; ESC
 -- closes the part (`bytes_lead-escape`). So places lead on in the stream, byte by byte (`bytes_lead-append`).
-use Rattle.vte_core.proofs.Common.{◌≡◌, ℕ, false, eqb, Option, List, [], ◌∷◌, ◌++◌, refl, ap, append_assoc, arith, nat_tests, Cancel, class_of, ends_body, Event, Leads, BytesLead, report, Place, InText, AtEscape, closing_events_at, rest_outcome, outcome_from, events_from, cut_at_escape, with_bodies, outcome, events, escape, ◌+◌, rules}
+use Rattle.vte_core.proofs.Common.{◌≡◌, ℕ, false, eqb, Option, List, [], ◌∷◌, ◌++◌, refl, ap, append_assoc, arith, nat_tests, Cancel, class_of, ends_body, Event, Leads, BytesLead, report, Place, InText, AtEscape, closing_events_at, rest_outcome, outcome_from, events_from, cut_at_escape, with_bodies, outcome, events, escape, ◌+◌, rules, ◌≤◌, InSystemCommand}
 use Rattle.vte_core.proofs.Shapes.{report-append, with_bodies-report}
 use Rattle.vte_core.proofs.fields.PlaceOfState.{IsPlace, rest_outcome-nothing}
+use Rattle.vte_core.proofs.places.PlaceLeads.{command-item}
 
 -- The outcome of a stream is what its bytes give after nothing.
 pub outcome-after_nothing : (limit : Option ℕ) (stream : List ℕ)
@@ -62,3 +63,13 @@ no_escape b is = grind (arith, nat_tests)
 pub cancel_is_no_escape : (b : ℕ) → class_of b ≡ Cancel → eqb b escape ≡ false
 unfolding class_of
 cancel_is_no_escape b is = grind (arith, nat_tests)
+
+-- ---- a byte that joins an operating system command
+
+item_is_no_escape : (b : ℕ) → 0x20 ≤ b → eqb b escape ≡ false
+item_is_no_escape b low = grind (arith, nat_tests)
+
+pub bytes_lead-item : {limit : Option ℕ} {items : List ℕ} {b : ℕ} → 0x20 ≤ b
+    → BytesLead limit (InSystemCommand items) (b ∷ []) [] (InSystemCommand (items ++ b ∷ []))
+bytes_lead-item {b} low =
+    bytes_lead-byte (item_is_no_escape b low) (command-item low)

@@ -5,7 +5,7 @@
 use Rattle.vte_core.proofs.Common.{◌≡◌, ℕ, ◌≤◌, true, false, eqb, Option, List, [], ◌∷◌, ◌++◌, ap, sym, append_assoc, append-nil, arith, nat_tests, Class, Control, Intermediate, Final, High, dispatches_escape, class_of, is_cancel, is_device_data, is_head_byte, EscapeSequence, sequence_kind, body_outcome, control_sequence_end, control_sequence_outcome, device_data_outcome, device_control_after_head, ends_command, ends_device_data, device_control_outcome, escape_outcome, executed_events, first_two, are_too_many, Execute, Hook, Put, Unhook, OscDispatch, CsiDispatch, EscDispatch, head_of, is_well_shaped, sequence_event, Leads, InText, AtEscape, InEscape, InControlSequence, InDeviceControl, InDeviceData, InSystemCommand, InIgnoredString, pieces_of, bell, system_command_outcome, text_outcome, character_event, Bool, Place, refl, malformed_event, is_truncated, is_well_formed, scalar_of, nat_le, ◌<◌, cond, length, IsBounded, AreFromOneByte, IsExecuted, IsPrintable, IsShort, IsAtMostOneShort, Event, Print, Head, reported_intermediates, rules}
 use Rattle.vte_core.specs.IgnoredString.{ignored_string_outcome}
 use Rattle.vte_core.specs.SequenceKind.{ControlSequence, DeviceControl, SystemCommand, IgnoredString, SequenceKind}
-use Rattle.vte_core.specs.machine.Place.{control_sequence_from, device_control_from, escape_from, system_command_from}
+use Rattle.vte_core.specs.private.Place.{control_sequence_from, device_control_from, escape_from, system_command_from}
 use Rattle.vte_core.proofs.bytes.Classes.{spans, head_is_no_control, head_is_no_end, is_dropped, is_dropped_in_head, below_finals}
 use Rattle.vte_core.proofs.Shapes.{text_outcome-lone, text_outcome-well_formed}
 use Rattle.std.proofs.lemmas.List.{length-take}

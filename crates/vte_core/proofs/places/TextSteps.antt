@@ -5,7 +5,7 @@ use Rattle.vte_core.proofs.Shapes.{text_outcome-broken, breaks-broken, text_outc
 use Rattle.vte_core.proofs.fields.PlaceOfState.{IsPlace, may_continue-truncated}
 use Rattle.vte_core.proofs.places.PlaceLeads.{text-unfinished, text-whole, text-lone, short-character, short-malformed, one_short-from_one_byte, one_short-append, executed_low}
 use Rattle.vte_core.specs.IgnoredString.{ignored_string_outcome}
-use Rattle.vte_core.specs.machine.Place.{control_sequence_from, device_control_from, escape_from, system_command_from}
+use Rattle.vte_core.specs.private.Place.{control_sequence_from, device_control_from, escape_from, system_command_from}
 use Rattle.vte_core.proofs.bytes.Classes.{spans}
 use Rattle.vte_core.proofs.bytes.Utf8.{Tests, ascii-alone, ascii-breaks}
 use Rattle.vte_core.proofs.fields.Pieces.{few_pieces, some_pieces}

@@ -1,8 +1,8 @@
 -- What is reported from position to position. A call is followed with a performer that keeps all events; so what any
 -- performer receives is a function of the bytes, and a stretch that reports no run is known by its events.
 use Rattle.vte_core.proofs.Common.{◌≡◌, ℕ, ◌+◌, ◌<◌, inl, inr, false, Option, List, [], ◌∷◌, ◌++◌, length, take, refl, ap, sym, ◌∙◌, append_assoc, append-nil, arith, cases_Bool, slice_index, false≢true, All, All-append, All-cons, All-nil, Event, Print, replacement, after, added, reported_before, resumed_stream, breaks_at, State, Machine, IsPlaceOfState, IsAtPosition, IsInsidePosition, BytesLead, ChunkCall, chunk_call, Place, IsAfter, AddsOutsideRuns, IsOutsideRuns, drop, subst, All-drop, HasReadWithLimit, IsSettled, open_character, ReportsOutsideRuns, PrintsNoAscii, rules}
-use Rattle.vte_core.specs.machine.Progress.{AddsCharacter, HasProgress}
-use Rattle.vte_core.specs.machine.ToRun.{IsOutsideRunsInState}
+use Rattle.vte_core.specs.private.Progress.{AddsCharacter, HasProgress}
+use Rattle.vte_core.specs.private.ToRun.{IsOutsideRunsInState}
 use Rattle.vte_core.proofs.positions.Progress.{stretch-added, starts-at}
 use Rattle.vte_core.proofs.fields.PlaceOfState.{IsPlace}
 use Rattle.vte_core.proofs.places.PlaceSteps.{steps}

@@ -8,7 +8,7 @@ use Rattle.vte_core.proofs.bytes.Utf8.{ascii-alone}
 use Rattle.vte_core.proofs.fields.PlaceOfState.{is_at-by}
 use Rattle.vte_core.proofs.positions.Progress.{settled-same_state, place-settled_text}
 use Rattle.vte_core.proofs.positions.Stretches.{advances-byte, advances-reporting, advances-then, not_escape, takes_bytes-begun, reads-byte_at}
-use Rattle.vte_core.specs.machine.Prelude.{MayReadByte, Completes}
+use Rattle.vte_core.specs.private.Prelude.{MayReadByte, Completes}
 use Rattle.vte_core.proofs.places.PlaceLeads.{text-lone, text-unfinished, text-whole}
 use Rattle.vte_core.proofs.streams.StreamSteps.{outside_runs-control}
 use Rattle.vte_core.proofs.positions.AddedEvents.{adds-reads, added-inside, adds-character, keep, recorded-at, keeping}

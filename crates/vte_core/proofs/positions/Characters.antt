@@ -9,7 +9,7 @@ use Rattle.vte_core.proofs.Shapes.{breaks-broken, breaks-unfinished, breaks-whol
 use Rattle.vte_core.proofs.positions.Progress.{progress-settled, progress-broken, progress-carried, inside-all, inside-moved}
 use Rattle.vte_core.proofs.places.PartsToStream.{bytes_lead-byte}
 use Rattle.vte_core.proofs.bytes.Scalars.{second-open, third-open}
-use Rattle.vte_core.specs.machine.Progress.{Completes}
+use Rattle.vte_core.specs.private.Progress.{Completes}
 use Rattle.vte_core.proofs.streams.StreamSteps.{length-longer}
 use Rattle.vte_core.proofs.positions.AddedEvents.{added-inside, recorded-inside, reported-at, keeping}
 use Rattle.std.proofs.lemmas.List.{drop-drop}

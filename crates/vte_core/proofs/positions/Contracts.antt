@@ -1,13 +1,13 @@
 -- What a call ensures: the facts of `drive`, put into the contract of each call, of both parsers.
 use Rattle.vte_core.proofs.Common.{◌≡◌, ℕ, ◌+◌, List, Result, arith, Machine, Refused, ReportsOutsideRuns, Bool, None, length, Ok, Err, IfErr, IfOk, refl, false, read_count, ReadsUpTo, Event, ChunkCall, ReadsUntilRefused, true, chunk_call, rules}
-use Rattle.vte_core.specs.machine.Costs.{Costs}
+use Rattle.vte_core.specs.private.Costs.{Costs}
 use Rattle.vte_core.specs.declared.reader.run.Run.{Run}
 use Rattle.vte_core.specs.declared.reader.run.RunRange.{RunRange}
 use Rattle.vte_core.specs.Advance.{ReadsBytes, ReadsUntilTerminated}
 use Rattle.vte_core.specs.AdvanceToRun.{ReadsToRun}
 use Rattle.vte_core.specs.EarlyStop.{NeverStopsBefore}
 use Rattle.vte_core.specs.LongParserCalls.{IsRefusedMemory, ReadsLong}
-use Rattle.vte_core.specs.machine.ToRun.{ComesToRun, IsTaken, bytes_at}
+use Rattle.vte_core.specs.private.ToRun.{ComesToRun, IsTaken, bytes_at}
 use Rattle.vte_core.proofs.positions.ToRun.{reads-run, returns-run}
 use Rattle.vte_core.specs.declared.parser.long.LongParser.{LongParser}
 use Rattle.vte_core.specs.LongParser.{HasReadLong}

@@ -2,9 +2,9 @@
 -- says which, without the performer, which learns of a head only at its end. So both shapes, a control sequence's and
 -- a device control string's, share it (`advances-head`, `advances-past_head`).
 use Rattle.vte_core.specs.declared.head.HeadEnd.{HeadEnd}
-use Rattle.vte_core.specs.machine.ParserFields.{ReadsHeadUpTo}
-use Rattle.vte_core.specs.machine.Progress.{MayRead}
-use Rattle.vte_core.specs.machine.ToRun.{IsOutsideRunsInState}
+use Rattle.vte_core.specs.private.ParserFields.{ReadsHeadUpTo}
+use Rattle.vte_core.specs.private.Progress.{MayRead}
+use Rattle.vte_core.specs.private.ToRun.{IsOutsideRunsInState}
 use Rattle.vte_core.proofs.Common.{◌≡◌, ℕ, zero, suc, ◌+◌, ◌-◌, ◌<◌, ◌≤◌, ◌⊎◌, Option, List, [], ◌∷◌, ◌++◌, true, false, length, take, drop, refl, sym, subst, append_assoc, arith, append-nil, drop-drop, drop_more, take-add, slice_index, MatchOption, class_of, is_final, is_head_byte, is_parameter_text, AreInClass, Collected, HeadProgress, Entry, Parameters, Machine, State, ControlSequence, DeviceControl, Event, ChunkCall, Leads, CountsNumbers, SameIntermediates, IsAtPlace, IsPlaceOfState, HasReadHead, Place, InControlSequence, InDeviceControl, IsSettledPlace, Advances, ProgressAt, IsAtPosition, IsSettled, MayGoOn, TakesBytes, TakesByte, ends_body, progress_after, ReadsHead, Some, None, false≢true, rules}
 use Rattle.vte_core.proofs.bytes.Classes.{head_ends_nothing, AreInClass-append, final_ends_nothing, parameter_is_head}
 use Rattle.vte_core.proofs.positions.Progress.{progress-settled, progress-byte, settled-same_state}

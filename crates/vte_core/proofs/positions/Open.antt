@@ -6,14 +6,14 @@ use Rattle.vte_core.proofs.fields.PlaceOfState.{IsPlace, is_at-place, in_command
 use Rattle.vte_core.proofs.places.PlaceLeads.{escape-end, intermediate-end, control-head, device-head, data-put, command-item, ignored-more}
 use Rattle.vte_core.proofs.Shapes.{text_outcome-broken}
 use Rattle.vte_core.proofs.streams.After.{added-after, added-reads, after-events, after-left, after-nothing, events-empty, open_at_end-any, after-reads}
-use Rattle.vte_core.proofs.places.PartsToStream.{bytes_lead-byte, waits-byte}
-use Rattle.vte_core.proofs.positions.Progress.{place-settled_text, bytes_lead-item, progress-command}
+use Rattle.vte_core.proofs.places.PartsToStream.{bytes_lead-byte, waits-byte, bytes_lead-item}
+use Rattle.vte_core.proofs.positions.Progress.{place-settled_text, progress-command}
 use Rattle.vte_core.proofs.positions.ToRun.{reads-anew}
 use Rattle.vte_core.specs.Open.{kind_to_close, open_at_end}
 use Rattle.vte_core.specs.Stream.{IsFinished, IsUnfinished}
 use Rattle.vte_core.specs.declared.parser.open.Open.TheVariants as kind
 use Rattle.vte_core.specs.declared.utf8.Unfinished.TheVariants.{Nothing}
-use Rattle.vte_core.specs.machine.ParserFields.{open_in}
+use Rattle.vte_core.specs.private.ParserFields.{open_in}
 use Rattle.vte_core.proofs.fields.Stores.{open_for, pieces_stored}
 use Rattle.vte_core.proofs.streams.StreamSteps.{counts_data}
 

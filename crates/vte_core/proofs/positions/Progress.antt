@@ -9,10 +9,9 @@
 -- `progress-starts`: there something starts
 -- `progress-comes`, `progress-all_read`: the public clauses of a call that stops, and of one that reads all
 -- `starts-X`, `call_ends-X`, `settles`: where a call starts, where it stops or ends, and where no character is open
-use Rattle.vte_core.proofs.Common.{◌≡◌, ℕ, ◌<◌, ◌≤◌, inl, inr, true, false, not, eqb, Option, List, [], ◌∷◌, ◌++◌, ap, sym, arith, cases_lt, nat_tests, Machine, Text, Nothing, IsAtPlace, IsPlaceOfState, Place, InText, InSystemCommand, escape, BytesLead, zero, suc, ◌+◌, ◌-◌, length, take, drop, refl, subst, ◌∙◌, append_assoc, slice_index, cases_Bool, append-nil, drop_more, take-add, breaks, breaks_at, IsStart, reported_before, resumed_stream, Event, Print, replacement, after, added, open_character, ProgressAt, ProgressInside, MayGoOn, ChunkCall, IsAfter, IsSettledPlace, open_at, ComesTo, State, StopsExactly, IsSettled, ReadsUpTo, IsAtPosition, IsInsidePosition, HasReadWithLimit, bytes_of, Unfinished, rules}
+use Rattle.vte_core.proofs.Common.{◌≡◌, ℕ, ◌<◌, ◌≤◌, inl, inr, true, false, not, eqb, Option, List, [], ◌∷◌, ◌++◌, ap, sym, arith, cases_lt, nat_tests, Machine, Text, Nothing, IsAtPlace, IsPlaceOfState, Place, InText, InSystemCommand, BytesLead, zero, suc, ◌+◌, ◌-◌, length, take, drop, refl, subst, ◌∙◌, append_assoc, slice_index, cases_Bool, append-nil, drop_more, take-add, breaks, breaks_at, IsStart, reported_before, resumed_stream, Event, Print, replacement, after, added, open_character, ProgressAt, ProgressInside, MayGoOn, ChunkCall, IsAfter, IsSettledPlace, open_at, ComesTo, State, StopsExactly, IsSettled, ReadsUpTo, IsAtPosition, IsInsidePosition, HasReadWithLimit, bytes_of, Unfinished, rules}
 use Rattle.vte_core.proofs.fields.PlaceOfState.{is_at-in, IsPlace, open_at-settled, is_at-place}
-use Rattle.vte_core.proofs.places.PlaceLeads.{command-item}
-use Rattle.vte_core.proofs.places.PartsToStream.{bytes_lead-byte}
+use Rattle.vte_core.proofs.places.PartsToStream.{bytes_lead-item}
 use Rattle.vte_core.proofs.streams.After.{after-left, after-nothing, after-open_character, after-reads, added-reads, added-nothing, after_events-append}
 use Rattle.vte_core.proofs.Shapes.{breaks_at-all, breaks_at-settled, breaks_at-byte, no_start, starts-settled, starts-broken, resumed_stream-settled, resumed_stream-broken, reported-all, reported-settled, reported-broken, resumed_stream-all}
 use Rattle.vte_core.proofs.bytes.Runs.{one_byte}
@@ -61,17 +60,6 @@ may_stop-none none is = let same : not (eqb 0 0) ≡ true = rw none at is in cc
 -- A call that may not stop reads all bytes.
 pub all_read-unless_asked : (n size : ℕ) → n ≤ size → (n < size → false ≡ true) → n ≡ size
 all_read-unless_asked n size within asked = search (rules, arith)
-
--- ---- a byte that joins an operating system command
-
-item_is_no_escape : (b : ℕ) → 0x20 ≤ b → eqb b escape ≡ false
-item_is_no_escape b low = grind (arith, nat_tests)
-
-pub bytes_lead-item : {limit : Option ℕ} {items : List ℕ} {b : ℕ} → 0x20 ≤ b
-    → BytesLead limit (InSystemCommand items) (b ∷ []) [] (InSystemCommand (items ++ b ∷ []))
-bytes_lead-item {b} low =
-    bytes_lead-byte (item_is_no_escape b low)
-    (command-item low)
 
 -- ---- the bytes of a call from one position to the next
 

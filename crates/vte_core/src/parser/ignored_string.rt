@@ -1,6 +1,6 @@
 //! Ignored strings: SOS, PM, APC, and device control strings with an ill-shaped head.
 ghost use Rattle.std.specs.Prelude.{⊤};
-ghost use Rattle.vte_core.specs.machine.Prelude.{Advances, IgnoredString, MayReadAt, MovesWithin, chunk_call};
+ghost use Rattle.vte_core.specs.private.Prelude.{Advances, IgnoredString, MayReadAt, MovesWithin, chunk_call};
 
 use crate::buffer::Buffer;
 use crate::parser::machine::Machine;

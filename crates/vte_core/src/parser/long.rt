@@ -6,7 +6,7 @@ ghost use Rattle.vte_core.specs.Parser.{IsCopyOfParser};
 ghost use Rattle.vte_core.specs.Open.{SaysOpen, SaysWhetherOpen};
 ghost use Rattle.vte_core.specs.Outcome.{SaysLoss};
 ghost use Rattle.vte_core.specs.Stream.{outcome};
-ghost use Rattle.vte_core.specs.machine.Prelude.{ComesToRun, Costs, NoCharacterStops, ReadsUntilRefused, ReadsUpTo, ReportsOutsideRuns, chunk_call, counted, read_before_range, read_count, read_through_range};
+ghost use Rattle.vte_core.specs.private.Prelude.{ComesToRun, Costs, NoCharacterStops, ReadsUntilRefused, ReadsUpTo, ReportsOutsideRuns, chunk_call, counted, read_before_range, read_count, read_through_range};
 
 use crate::parser::{Machine, Open, Refused, State};
 use crate::reader::{ByCharacter, Chunk, CountedPerform, Granularity, Looks, RunRange};
@@ -61,7 +61,7 @@ impl<A: Allocator + Clone> Clone for LongParser<A> {
 }
 
 impl<A: Allocator> LongParser<A> {
-    /// Creates a parser that has read nothing. It takes no memory.
+    /// Creates a parser that has read nothing. It doesn't allocate.
     // cargo instead: pub const fn new(alloc: A) -> Self
     pub fn new(alloc: A) -> Self
         ensures reads { HasReadLong result [] }

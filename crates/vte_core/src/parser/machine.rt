@@ -2,7 +2,7 @@
 ghost use Rattle.std.specs.Prelude.{◌≡◌, ℕ, List, []};
 ghost use Rattle.vte_core.specs.declared.parser.open.Open.TheVariants.{Nothing};
 ghost use Rattle.vte_core.specs.Open.{SaysOpen, SaysWhetherOpen};
-ghost use Rattle.vte_core.specs.machine.Prelude.{HasReadWithLimit, SaysLoss, outcome};
+ghost use Rattle.vte_core.specs.private.Prelude.{HasReadWithLimit, SaysLoss, outcome};
 
 use crate::buffer::Buffer;
 use crate::head::Collected;

@@ -3,7 +3,7 @@ ghost use Rattle.std.specs.Prelude.{◌≡◌, ◌≤◌, List, ℕ, [], length,
 ghost use Rattle.vte_core.specs.Parser.{HasRead};
 ghost use Rattle.vte_core.specs.Saved.{HasReadSaved, IsZero};
 ghost use Rattle.vte_core.specs.declared.parser.State.{State};
-ghost use Rattle.vte_core.specs.machine.SavedLayout.{state_bytes};
+ghost use Rattle.vte_core.specs.private.SavedLayout.{state_bytes};
 
 use crate::head::HeadProgress;
 use crate::params::Params;

@@ -1,6 +1,6 @@
 //! Operating system commands.
 ghost use Rattle.std.specs.Prelude.{IfErr, IfOk, ⊤};
-ghost use Rattle.vte_core.specs.machine.Prelude.{Advances, MayReadAt, MovesWithin, Refuses, SystemCommand, chunk_call, read_count};
+ghost use Rattle.vte_core.specs.private.Prelude.{Advances, MayReadAt, MovesWithin, Refuses, SystemCommand, chunk_call, read_count};
 
 use crate::buffer::Buffer;
 use crate::class::ends_body;
@@ -11,7 +11,7 @@ use crate::reader::{CountedPerform, Granularity, Input, Reader};
 const BELL: u8 = 0x07;
 
 impl<B: Buffer> Machine<B> {
-    /// Reads data bytes of an operating system command, and the byte after them. It takes memory
+    /// Reads data bytes of an operating system command, and the byte after them. It allocates
     /// for the data, or else reads nothing.
     // cargo: #[inline(never)]
     pub(crate) fn read_system_command<P: CountedPerform<G>, G: Granularity, const MAY_STOP: bool>(

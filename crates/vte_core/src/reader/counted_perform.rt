@@ -1,7 +1,7 @@
 //! Performers, as the functions of a parser see them.
 // proof: they count each event as it is reported.
 ghost use Rattle.std.specs.Prelude.{◌≡◌, ◌<◌, Bool, false, true, length, map, chars};
-ghost use Rattle.vte_core.specs.machine.Prelude.{CsiDispatch, EscDispatch, Event, Execute, Hook, IsNonEmptyRun, OscDispatch, Print, Put, Reports, ReportsAll, Unhook, is_control_character, run_event};
+ghost use Rattle.vte_core.specs.private.Prelude.{CsiDispatch, EscDispatch, Event, Execute, Hook, IsNonEmptyRun, OscDispatch, Print, Put, Reports, ReportsAll, Unhook, is_control_character, run_event};
 
 use crate::head::Collected;
 use crate::perform::Perform;
@@ -83,7 +83,7 @@ pub(crate) trait CountedPerform<G: Granularity> {
             byte)
             reader.old reader.new };
 
-    /// Returns whether a call that may stop ends here. No look.
+    /// Returns whether a call that may stop ends here. It takes no look.
     fn terminated(&self) -> bool
         ensures { result ≡ is_terminated (value_of self.now) };
 }

@@ -1,6 +1,6 @@
 //! How performers take text.
 ghost use Rattle.std.specs.Prelude.{◌≡◌, ◌<◌, Bool, true, false, length, map, chars};
-ghost use Rattle.vte_core.specs.machine.Prelude.{Execute, IsNonEmptyRun, Print, Put, after, is_control_character, run_event};
+ghost use Rattle.vte_core.specs.private.Prelude.{Execute, IsNonEmptyRun, Print, Put, after, is_control_character, run_event};
 
 use crate::class::is_layout;
 use crate::perform::{Perform, PerformText};

@@ -45,7 +45,7 @@ impl<A: Allocator> LongParser<A> {
     ///
     /// The performer is asked as by
     /// [`Parser::advance_until_terminated`](crate::Parser::advance_until_terminated), and before
-    /// memory is taken: a stop needs none.
+    /// memory is allocated: a stop needs none.
     pub fn advance_until_terminated<P: Perform>(
         &mut self,
         performer: &mut P,

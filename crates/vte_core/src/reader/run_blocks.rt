@@ -4,8 +4,8 @@
 //! compilers make vector instructions of a block's tests, if they have no `&&` and `||`. But the
 //! block in which a run ends is wasted, so only long runs come here.
 ghost use Rattle.std.specs.Prelude.{◌≡◌, ◌+◌, ◌-◌, ◌*◌, ◌<◌, ◌≤◌, ℕ, true, length, slice_index};
-ghost use Rattle.vte_core.specs.machine.Automaton.{Follows, FollowsAt, StaysBetween, open_count};
-ghost use Rattle.vte_core.specs.machine.Prelude.{Each, IsRun, Scans, looked};
+ghost use Rattle.vte_core.specs.private.Automaton.{Follows, FollowsAt, StaysBetween, open_count};
+ghost use Rattle.vte_core.specs.private.Prelude.{Each, IsRun, Scans, looked};
 
 use crate::class::is_layout;
 use crate::reader::{Input, Reader, Window};

@@ -4,19 +4,18 @@
 //! byte is read often. Bytes are read by `byte_at`, `get_byte`, `get_block` and `get_window`
 //! alone, which count.
 ghost use Rattle.std.specs.Prelude.{◌≡◌, ◌+◌, ◌*◌, ◌<◌, ◌≤◌, ◌↔◌, true, false, None, MatchOption, IfSome, IsTrue, length, slice_index};
-ghost use Rattle.vte_core.specs.machine.Prelude.{ArePrintedAscii, HasNoRunAt, IsPrintedAscii, IsRange, IsRun, Scans, LooksAtMost, is_in, looked, from_to};
+ghost use Rattle.vte_core.specs.private.Prelude.{ArePrintedAscii, HasNoRunAt, IsPrintedAscii, IsRange, IsRun, Scans, LooksAtMost, is_in, looked, from_to};
 
 use crate::class::is_layout;
 use crate::reader::{CountedPerform, Granularity, Input, Reader};
 use crate::utf8::{is_continuation, is_lead, is_printed_ascii, may_begin_four, may_begin_three};
 
 /// The bytes of a run that are read one by one. Longer runs go on in blocks.
-// proof: by then single bytes have taken fewer looks than they may, enough to pay for one wasted
-// block. For that 66 are enough.
+// proof: 66 bytes pay for the looks of blocks (specs/private/Costs).
 const SHORT_RUN: usize = 96;
 
 /// The same for a run without ASCII, whose characters cost more one by one.
-// proof: a look for each byte leaves enough after the eighth.
+// proof: at one look per byte, nine bytes pay for the looks of blocks.
 const SHORT_NON_ASCII_RUN: usize = 24;
 
 impl Reader {
@@ -166,7 +165,6 @@ impl Reader {
         requires range { IsRange input.bytes.now from to }
         ensures scans { Scans (IsRun layout) input.entry.bytes.now from result self.old self.new }
         ensures ended { result < to → HasNoRunAt layout input.entry.bytes.now result }
-        // One look per three bytes fewer than a run may take: these pay for a wasted block.
         ensures count { 3 * looked self.new + 11 * from ≤ 3 * looked self.old + 11 * result + 12 }
         ensures spare { to ≤ result
             → 3 * looked self.new + 11 * from ≤ 3 * looked self.old + 11 * result }
@@ -193,7 +191,6 @@ impl Reader {
         requires within { from ≤ length input.bytes.now }
         ensures scans { Scans (IsRun layout) input.entry.bytes.now from result self.old self.new }
         ensures ended { HasNoRunAt layout input.entry.bytes.now result }
-        // 66 as in `skip_run_blocks`, and 12 as in `find_run_end_up_to`.
         ensures count { 3 * looked self.new + 11 * from ≤ 3 * looked self.old + 11 * result + 78 }
     {
         let end = self.skip_run_blocks(input, from, layout);
@@ -283,7 +280,7 @@ impl Reader {
     }
 }
 
-/// Returns the position of the first of eight bytes that is no printed ASCII.
+/// Returns the position of the first of eight bytes that isn't printed ASCII.
 #[inline(always)]
 fn first_unprinted(word: &[u8; 8]) -> Option<usize>
     ensures { MatchOption result (ArePrintedAscii word.now 0 8)
@@ -299,7 +296,7 @@ fn first_unprinted(word: &[u8; 8]) -> Option<usize>
     Some(marks.trailing_zeros() as usize / 8)
 }
 
-/// Returns whether two bytes are a character that is no control, if the first begins one of two
+/// Returns whether two bytes are a character that isn't a control, if the first begins one of two
 /// bytes.
 #[inline(always)]
 fn is_printed_pair(first: u8, second: u8) -> bool

@@ -26,7 +26,7 @@ use crate::proved::vte_core::{LongParser, Open, Perform, PerformText, Refused, R
 pub struct Parser<const OSC_RAW_BUF_SIZE: usize = 1024>(LongParser);
 
 impl Parser {
-    /// Creates a parser that has read nothing. It takes no memory.
+    /// Creates a parser that has read nothing. It doesn't allocate.
     pub const fn new() -> Self {
         Parser(LongParser::new())
     }

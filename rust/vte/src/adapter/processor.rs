@@ -52,7 +52,7 @@ macro_rules! processor {
             }
 
             /// Stops an update: parses the bytes that are held back, calls `unset_private_mode` for
-            /// its end, and clears the timeout. It takes no memory.
+            /// its end, and clears the timeout. It doesn't allocate.
             ///
             /// Call it when the update has expired: `sync_timeout` of a `StdSyncHandler` returns
             /// when that is.
@@ -95,7 +95,7 @@ processor! {
     /// [`ansi::lent::Handler`](Handler), which receives texts without owning them.
     ///
     /// Without the feature `std` a processor keeps 1,024 data bytes of an operating system command,
-    /// and takes no memory after it was created. With `std` it keeps all of them: it takes memory
+    /// and doesn't allocate after it was created. With `std` it keeps all of them: it allocates
     /// for the next 65,536 bytes before it parses them, and the program ends if there is none, as
     /// for any `Vec`. [`LongProcessor`](crate::ansi::lent::LongProcessor) returns an error instead,
     /// and [`BoundedProcessor`](crate::ansi::BoundedProcessor) has a limit whatever the features.
@@ -138,7 +138,7 @@ processor! {
     /// It keeps commands, titles and links whatever their length, as
     /// [`Processor`](crate::ansi::Processor) does with the feature `std`.
     ///
-    /// A call takes memory before it parses each 65,536 bytes: for them and an open command, and
+    /// A call allocates before it parses each 65,536 bytes: for them and an open command, and
     /// for a text that is joined from these. Bytes that are held back take theirs whole. If memory
     /// is refused, the call stops there. Nothing is lost or done twice, and the rest can be passed
     /// in again:
@@ -169,7 +169,7 @@ processor! {
     /// A processor that keeps up to `N` data bytes of an operating system command, and drops the
     /// rest: for streams that aren't trusted.
     ///
-    /// It takes no memory after it was created, whatever the stream.
+    /// It doesn't allocate after it was created, whatever the stream.
     /// [`command_lost_data`](Self::command_lost_data) says whether something was dropped. Titles
     /// and links that are too long are cut. Without the feature `std`,
     /// [`Processor`](crate::ansi::Processor) has the limit 1,024.

@@ -4,7 +4,7 @@ use vte::ansi::lent::Handler;
 use vte::ansi::{HandlerText, PrivateMode};
 use vte::{Perform, PerformText};
 
-/// A performer and handler that takes no memory: what it keeps is what there is room for.
+/// A performer and handler that doesn't allocate: what it keeps is what there is room for.
 #[derive(Default)]
 pub struct Shown {
     /// The characters that were printed.

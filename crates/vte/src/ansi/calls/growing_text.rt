@@ -26,7 +26,7 @@ impl<A: Allocator + Clone> Clone for GrowingText<A> {
 }
 
 impl<A: Allocator> GrowingText<A> {
-    /// Creates an empty text. It takes no memory.
+    /// Creates an empty text. It doesn't allocate.
     pub(crate) fn new(alloc: A) -> Self {
         GrowingText {
             text: String::new(alloc),

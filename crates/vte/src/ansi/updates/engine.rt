@@ -1,11 +1,11 @@
 //! What a processor is, whatever its limit. It takes turns: each parses bytes of a call, or holds
 //! them back.
-ghost use Rattle.std.specs.Prelude.{◌≡◌, ℕ, ◌+◌, ◌≤◌, [], length, IfErr, IfOk, MatchResult, ◌-◌, ◌<◌, ◌++◌, nat_le};
+ghost use Rattle.std.specs.Prelude.{◌≡◌, ℕ, ◌+◌, ◌≤◌, [], length, IfErr, IfOk, MatchResult, ◌-◌, ◌<◌, nat_le};
 ghost use Rattle.vte.specs.Views.{EngineHasParsedAndHolds, engine_view};
 ghost use Rattle.vte.specs.ProcessorCalls.{held_of};
-ghost use Rattle.vte.specs.machine.Hold.{released_of};
+ghost use Rattle.vte.specs.private.Hold.{released_of};
 ghost use Rattle.vte.specs.Processor.{State, hold_turn, meaning_of, max_held, parse, set_times, stop};
-ghost use Rattle.vte.specs.machine.Engine.{EngineIsAtKeepingMemory, EndsParsingTurn, EndsTurn, ArePartsAt, ArePartsAtKeepingMemory, ArePartsAtWithMemory, EngineLeadsOn};
+ghost use Rattle.vte.specs.private.Engine.{ArePartsAt, ArePartsAtKeepingMemory, EndsParsingTurn, EndsTurn, EngineIsAtKeepingMemory, EngineLeadsOn, HasMemoryIfAny, LeaveMemory};
 ghost use Rattle.vte.specs.LongProcessor.{EngineReads, EngineStops, LacksMemoryForSome, Reserves};
 ghost use Rattle.vte_handler.specs.Timeout.{timeout_meaning};
 
@@ -20,7 +20,7 @@ use vte_core::{Refused, laws};
 use vte_handler::{Handler, Timeout};
 use vte_types::{NamedPrivateMode, PrivateMode};
 
-/// For how many bytes a parsing turn takes memory at once: little beside the memory of a hold, and
+/// For how many bytes a parsing turn allocates at once: little beside the memory of a hold, and
 /// enough that few slices are taken.
 const SLICE: usize = 65_536;
 
@@ -112,16 +112,13 @@ impl<P: EventParser + Drop, B: TextBuffer + Drop, T: Timeout + Drop, A: Allocato
     /// update has ended.
     fn end_update<H: Handler, G: ParseAs<H, T, P>>(&mut self, handler: &mut H)
         // There is memory for the held bytes and `spare` more.
-        ensures stops { (s : State H.Value T.Value) (spare : ℕ)
-            → ArePartsAt (engine_view P.limit P.view B.text_size T.value_of) self.old.parser
-            self.old.state (H.value_of handler.old) s →
-            released_of self.old.hold ≡ s.held → held_of self.old.hold ≡ []
-            → (0 < length s.held
-            → P.view.has_memory self.old.parser (B.text_size self.old.state.text) s.parsed
-            (length s.held + spare)) →
-            EngineIsAtKeepingMemory (engine_view P.limit P.view B.text_size T.value_of) self.old
-            self.new (H.value_of handler.new)
-            (stop (meaning_of P.limit H.step T.set T.clear T.allows) s) }
+        ensures stops { let view = engine_view P.limit P.view B.text_size T.value_of in
+            (state : State H.Value T.Value) (spare : ℕ)
+            → ArePartsAt view self.old.parser self.old.state (H.value_of handler.old) state
+            → released_of self.old.hold ≡ state.held → held_of self.old.hold ≡ []
+            → HasMemoryIfAny view self.old.parser self.old.state state state.held spare
+            → EngineIsAtKeepingMemory view self.old self.new (H.value_of handler.new)
+            (stop (meaning_of P.limit H.step T.set T.clear T.allows) state) }
         ensures hold { self.new.hold ≡ self.old.hold }
     {
         self.parse_released::<H, G>(handler);
@@ -131,23 +128,17 @@ impl<P: EventParser + Drop, B: TextBuffer + Drop, T: Timeout + Drop, A: Allocato
 
     /// Parses the released bytes.
     fn parse_released<H: Handler, G: ParseAs<H, T, P>>(&mut self, handler: &mut H)
-        ensures parsed { (s : State H.Value T.Value) (spare : ℕ)
-            → ArePartsAt (engine_view P.limit P.view B.text_size T.value_of) self.old.parser
-            self.old.state (H.value_of handler.old) s →
-            (0 < length (released_of self.old.hold)
-            → P.view.has_memory self.old.parser (B.text_size self.old.state.text) s.parsed
-            (length (released_of self.old.hold) + spare)) →
-            ArePartsAtKeepingMemory
-            (engine_view P.limit P.view B.text_size T.value_of) self.old.parser self.old.state
+        ensures parsed { let view = engine_view P.limit P.view B.text_size T.value_of in
+            let released = released_of self.old.hold in
+            (state : State H.Value T.Value) (spare : ℕ)
+            → ArePartsAt view self.old.parser self.old.state (H.value_of handler.old) state
+            → HasMemoryIfAny view self.old.parser self.old.state state released spare
+            → ArePartsAtKeepingMemory view self.old.parser self.old.state
             self.new.parser self.new.state (H.value_of handler.new)
-            (parse (meaning_of P.limit H.step T.set T.clear T.allows) s
-            (released_of self.old.hold)) }
-        ensures memory { (s : State H.Value T.Value) (spare : ℕ) →
-            ArePartsAtWithMemory
-            (engine_view P.limit P.view B.text_size T.value_of) self.old.parser self.old.state
-            (H.value_of handler.old) s (length (released_of self.old.hold) + spare) →
-            P.view.has_memory self.new.parser (B.text_size self.new.state.text)
-            (s.parsed ++ released_of self.old.hold) spare }
+            (parse (meaning_of P.limit H.step T.set T.clear T.allows) state released) }
+        ensures memory { LeaveMemory (engine_view P.limit P.view B.text_size T.value_of)
+            self.old.parser self.old.state (H.value_of handler.old)
+            self.new.parser self.new.state (released_of self.old.hold) }
         ensures hold { self.new.hold ≡ self.old.hold }
     {
         let released = self.hold.released();
@@ -199,7 +190,7 @@ impl<P: EventParser + Drop, B: TextBuffer + Drop, T: Timeout + Drop, A: Allocato
     }
 
     /// Parses bytes up to the one that begins an update, a slice at a time, and returns how many.
-    /// Memory is taken before each slice.
+    /// Memory is allocated before each slice.
     fn take_parsing_turn<H: Handler, G: ParseAs<H, T, P>>(
         &mut self,
         handler: &mut H,

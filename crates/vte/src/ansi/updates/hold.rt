@@ -42,7 +42,7 @@ impl<A: Allocator + Clone> Clone for SyncState<A> {
 }
 
 impl<A: Allocator> SyncState<A> {
-    ghost use Rattle.vte.specs.machine.Hold.{IsAdded, released_of};
+    ghost use Rattle.vte.specs.private.Hold.{IsAdded, released_of};
     ghost use Rattle.vte.specs.ProcessorCalls.{CountsHeld, held_of};
 
     /// Allocates the memory.

@@ -1,4 +1,4 @@
-//! The parser of a processor without a limit. It takes memory before it reads, so that none is
+//! The parser of a processor without a limit. It allocates before it reads, so that nothing is
 //! refused on the way.
 ghost use Rattle.std.specs.Prelude.{◌≡◌, ◌+◌, ◌≤◌, ◌^◌, IfSome, None};
 ghost use Rattle.vte.specs.Views.{long_parser_view};

@@ -1,10 +1,10 @@
 //! The parser, together with what a processor lends it. The references are separate parameters, not
 //! fields of one struct, so that the performer can borrow each.
-ghost use Rattle.std.specs.Prelude.{◌≡◌, ◌≤◌, ◌+◌, ◌++◌, ℕ, List, Option, Some, true, false, length};
-ghost use Rattle.vte.specs.machine.Performing.{AdvancesAll, AdvancesUntilStop, performer_value};
+ghost use Rattle.std.specs.Prelude.{◌≡◌, ◌≤◌, ◌+◌, ℕ, List, Option, Some, true, false, length};
+ghost use Rattle.vte.specs.private.Performing.{AdvancesAll, AdvancesUntilStop, performer_value};
 ghost use Rattle.vte.specs.Processor.{State, meaning_of, parse};
-ghost use Rattle.vte.specs.machine.Performer.{performer_with_event};
-ghost use Rattle.vte.specs.machine.Engine.{HasParsedPrefix, ArePartsAtKeepingMemory, ArePartsAtWithMemory};
+ghost use Rattle.vte.specs.private.Performer.{performer_with_event};
+ghost use Rattle.vte.specs.private.Engine.{HasParsedPrefix, LeaveMemory, PartsLeadOn};
 ghost use Rattle.vte.specs.Views.{ParserView, engine_view, limited_parser_view};
 ghost use Rattle.vte.specs.Memory.{KeepsMemory};
 ghost use Rattle.vte_handler.specs.Timeout.{timeout_meaning};
@@ -136,18 +136,13 @@ pub(crate) fn parse_all<
     P: EventParser,
     G: ParseAs<H, T, P>,
 >(parser: &mut P, state: &mut ProcessorState<T, B>, handler: &mut H, bytes: &[u8])
-    ensures parsed { (s : State H.Value T.Value) (spare : ℕ)
-        → ArePartsAtWithMemory (engine_view P.limit P.view B.text_size T.value_of) parser.old
-        state.old (H.value_of handler.old) s (length bytes.now + spare) →
-        ArePartsAtKeepingMemory
-        (engine_view P.limit P.view B.text_size T.value_of) parser.old state.old parser.new
-        state.new
-        (H.value_of handler.new)
-        (parse (meaning_of P.limit H.step T.set T.clear T.allows) s bytes.now) }
-    ensures memory { (s : State H.Value T.Value) (spare : ℕ)
-        → ArePartsAtWithMemory (engine_view P.limit P.view B.text_size T.value_of) parser.old
-        state.old (H.value_of handler.old) s (length bytes.now + spare) →
-        P.view.has_memory parser.new (B.text_size state.new.text) (s.parsed ++ bytes.now) spare }
+    ensures parsed { PartsLeadOn (engine_view P.limit P.view B.text_size T.value_of)
+        parser.old state.old (H.value_of handler.old)
+        parser.new state.new (H.value_of handler.new) (length bytes.now)
+        (λ s IsNowAt.
+        IsNowAt (parse (meaning_of P.limit H.step T.set T.clear T.allows) s bytes.now)) }
+    ensures memory { LeaveMemory (engine_view P.limit P.view B.text_size T.value_of)
+        parser.old state.old (H.value_of handler.old) parser.new state.new bytes.now }
 {
     let mut performer = Performer {
         state,
@@ -168,14 +163,11 @@ pub(crate) fn parse_until_begin<
     G: ParseAs<H, T, P>,
 >(parser: &mut P, state: &mut ProcessorState<T, B>, handler: &mut H, bytes: &[u8]) -> (usize, bool)
     ensures within { result.0 ≤ length bytes.now }
-    ensures stops { (s : State H.Value T.Value) (spare : ℕ)
-        → ArePartsAtWithMemory (engine_view P.limit P.view B.text_size T.value_of) parser.old
-        state.old (H.value_of handler.old) s (length bytes.now + spare) →
-        HasParsedPrefix (meaning_of P.limit H.step T.set T.clear T.allows) s bytes.now result.0
-        result.1 (ArePartsAtKeepingMemory
-        (engine_view P.limit P.view B.text_size T.value_of) parser.old state.old parser.new
-        state.new
-        (H.value_of handler.new)) }
+    ensures stops { PartsLeadOn (engine_view P.limit P.view B.text_size T.value_of)
+        parser.old state.old (H.value_of handler.old)
+        parser.new state.new (H.value_of handler.new) (length bytes.now)
+        (λ s. HasParsedPrefix (meaning_of P.limit H.step T.set T.clear T.allows) s bytes.now
+        result.0 result.1) }
 {
     let mut performer = Performer {
         state,

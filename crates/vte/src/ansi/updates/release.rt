@@ -1,6 +1,6 @@
 //! What a hold releases when bytes are added to it.
 ghost use Rattle.std.specs.Prelude.{◌≡◌, ℕ, ◌+◌, ◌≤◌, ◌<◌, ◌^◌, List, ◌++◌, IsTrue, None, length};
-ghost use Rattle.vte.specs.machine.Hold.{Adds, IsHeldTail, HasNoPrivateSequence, NoneBetween};
+ghost use Rattle.vte.specs.private.Hold.{Adds, IsHeldTail, HasNoPrivateSequence, NoneBetween};
 ghost use Rattle.vte.specs.Synchronized.{begin_update, begins_with, after_last_end, end_update};
 
 use memchr::memrchr;

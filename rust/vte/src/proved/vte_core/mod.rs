@@ -22,7 +22,7 @@ pub use parser::{Open, Parser};
 // for C alone
 #[cfg(feature = "__own")]
 pub use parser::Saved;
-// takes memory
+// the parser that allocates
 #[cfg(any(feature = "std", feature = "ansi"))]
 pub use parser::{LongParser, Refused};
 pub use perform::{Perform, PerformText};

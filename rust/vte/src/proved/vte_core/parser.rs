@@ -73,7 +73,7 @@ pub(crate) enum State {
 /// ```
 ///
 /// It keeps up to `OSC_RAW_BUF_SIZE` data bytes of an operating system command, and drops the rest.
-/// So it takes no memory, whatever the stream. [`command_lost_data`](Self::command_lost_data) says
+/// So it doesn't allocate, whatever the stream. [`command_lost_data`](Self::command_lost_data) says
 /// whether something was dropped. Its size is about `OSC_RAW_BUF_SIZE` and 300 bytes.
 ///
 /// `BoundedParser` is its name with and without the feature `std`. Without it,

@@ -64,16 +64,16 @@ fn may_be_second(first: u8, byte: u8) -> bool {
     }
 }
 
-/// Returns whether a sequence of three bytes may begin with these two: with a number that is no
-/// overlong form's and no surrogate's.
+/// Returns whether a sequence of three bytes may begin with these two: the code point is neither
+/// overlong nor a surrogate.
 #[inline(always)]
 pub(crate) fn may_begin_three(first: u8, second: u8) -> bool {
     let number = (first % 16) as u32 * 0x1000 + (second % 64) as u32 * 0x40;
     is_continuation(second) && number >= 0x800 && number / 0x800 != 0xd800 / 0x800
 }
 
-/// Returns whether a sequence of four bytes may begin with these two: with a number that is no
-/// overlong form's, and not past the last character's.
+/// Returns whether a sequence of four bytes may begin with these two: the code point is neither
+/// overlong nor above U+10FFFF.
 #[inline(always)]
 pub(crate) fn may_begin_four(first: u8, second: u8) -> bool {
     let number = (first % 8) as u32 * 0x40000 + (second % 64) as u32 * 0x1000;
@@ -139,7 +139,7 @@ pub(crate) fn character_of_two(first: u8, second: u8) -> char {
 pub(crate) fn character_of_three(first: u8, second: u8, third: u8) -> char {
     debug_assert!(may_begin_three(first, second) && is_continuation(third));
     // SAFETY: the remainders leave at most FFFF. Callers have tested `may_begin_three`, by which
-    // the number is no surrogate's, D800 to DFFF.
+    // the number isn't a surrogate, D800 to DFFF.
     unsafe { char::from_u32_unchecked(number_of_three(first, second, third)) }
 }
 
@@ -149,7 +149,7 @@ pub(crate) fn character_of_three(first: u8, second: u8, third: u8) -> char {
 pub(crate) fn character_of_four(first: u8, second: u8, third: u8, fourth: u8) -> char {
     debug_assert!(may_begin_four(first, second));
     debug_assert!(is_continuation(third) && is_continuation(fourth));
-    // SAFETY: callers have tested `may_begin_four`, by which the front of the number is 10000 to
-    // 10F000, and the remainders leave at most FFF for its rest.
+    // SAFETY: callers have tested `may_begin_four`, by which the leading bits of the number are
+    // 10000 to 10F000, and the remainders leave at most FFF for the others.
     unsafe { char::from_u32_unchecked(number_of_four(first, second, third, fourth)) }
 }

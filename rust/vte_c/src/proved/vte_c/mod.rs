@@ -2,9 +2,9 @@
 //! The parser as a library for C, and for whatever links C.
 //!
 //! A parser is plain data that the caller owns, and so are the buffers for what it tells. The
-//! library takes no memory and keeps no pointer. `include/vte.h` declares these functions for C,
-//! and docs/C.md says how to use them. No pointer may be null, and what is written may not overlap
-//! anything else that is passed.
+//! library never allocates, and keeps no pointer. `vte.h` declares these functions for C, and
+//! docs/C.md says how to use them. A pointer may be null only if its length is 0, and what is
+//! written may not overlap anything else that is passed.
 
 pub(crate) mod event;
 pub(crate) use event::VteEvent;

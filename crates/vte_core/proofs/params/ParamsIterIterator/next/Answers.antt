@@ -1,6 +1,6 @@
 -- The first length is cut off with its numbers, and the other lengths fit the rest.
 use Rattle.vte_core.proofs.Common.{ℕ, List, subst}
-use Rattle.vte_core.specs.machine.Store.{AreLengths}
+use Rattle.vte_core.specs.private.Store.{AreLengths}
 use Rattle.vte_core.proofs.fields.Numbers.{AreLengths-rest}
 use Rattle.vte_core.proofs.params.ParamsIterIterator.next.Goals as goal
 

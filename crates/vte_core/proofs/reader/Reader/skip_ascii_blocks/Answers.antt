@@ -1,7 +1,7 @@
 -- A block more.
 use Rattle.vte_core.proofs.Common.{arith}
 use Rattle.vte_core.proofs.bytes.Runs.{each-both, each-block}
-use Rattle.vte_core.specs.machine.Automaton.{StaysBetween}
+use Rattle.vte_core.specs.private.Automaton.{StaysBetween}
 use Rattle.vte_core.proofs.reader.Reader.skip_ascii_blocks.Goals as goal
 
 pub loop-block-preserved : goal.loop-block-preserved

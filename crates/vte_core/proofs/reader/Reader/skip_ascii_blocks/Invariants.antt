@@ -1,7 +1,7 @@
 -- All blocks so far are plain.
 use Rattle.vte_core.proofs.Common.{length, ◌+◌, ◌-◌, ◌≡◌, ◌≤◌, looked}
-use Rattle.vte_core.specs.machine.Automaton.{StaysBetween}
-use Rattle.vte_core.specs.machine.Scans.{Each}
+use Rattle.vte_core.specs.private.Automaton.{StaysBetween}
+use Rattle.vte_core.specs.private.Scans.{Each}
 use Rattle.vte_core.proofs.reader.Reader.skip_ascii_blocks.Given as goal
 
 abbrev pub invariant-loop-block : goal.invariant-loop-block

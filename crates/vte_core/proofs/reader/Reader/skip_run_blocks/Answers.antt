@@ -1,6 +1,6 @@
 -- A block whose bytes all fit is skipped. The run ends before the character that the last bytes leave open.
 use Rattle.vte_core.proofs.Common.{◌≡◌, ◌≤◌, ◌<◌, ◌+◌, ◌-◌, false, drop, arith, false≢true, ◌∙◌, inl, inr, cases_lt, sym, subst, get_or-drop, looked, rules}
-use Rattle.vte_core.specs.machine.Scans.{Each}
+use Rattle.vte_core.specs.private.Scans.{Each}
 use Rattle.vte_core.proofs.bytes.Runs.{run-none}
 use Rattle.vte_core.proofs.automaton_states.Scanned.{run-kept}
 use Rattle.vte_core.proofs.automaton_states.Windows.{above-block, trails-ascii, trails-block, run-before-open}

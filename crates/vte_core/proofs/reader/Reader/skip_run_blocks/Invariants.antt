@@ -3,7 +3,7 @@
 -- (`none`), and what they save pays for a wasted one (`spare`). Blocks of ASCII are counted without overflow (`few`),
 -- and the larger ones aren't the first (`early`).
 use Rattle.vte_core.proofs.Common.{false, length, ◌*◌, ◌+◌, ◌-◌, ◌≡◌, ◌≤◌, ◌<◌, looked}
-use Rattle.vte_core.specs.machine.Scans.{Each}
+use Rattle.vte_core.specs.private.Scans.{Each}
 use Rattle.vte_core.proofs.automaton_states.Windows.{TrailsAt}
 use Rattle.vte_core.proofs.reader.Reader.skip_run_blocks.Given as goal
 

@@ -1,7 +1,7 @@
 -- Each byte before this one is plain, unless one was found that isn't.
 use Rattle.std.proofs.Common.{◌≡◌, true}
-use Rattle.vte_core.specs.machine.Automaton.{StaysBetween}
-use Rattle.vte_core.specs.machine.Scans.{Each}
+use Rattle.vte_core.specs.private.Automaton.{StaysBetween}
+use Rattle.vte_core.specs.private.Scans.{Each}
 use Rattle.vte_core.proofs.reader.run_blocks.are_printed_or_layout.Given as goal
 
 abbrev pub invariant-loop-byte : goal.invariant-loop-byte

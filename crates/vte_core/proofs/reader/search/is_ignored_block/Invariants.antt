@@ -1,6 +1,6 @@
 -- All bytes before this one are ignored, unless one was found that is not.
 use Rattle.std.proofs.Common.{IsTrue}
-use Rattle.vte_core.specs.machine.Scans.{AreIgnored}
+use Rattle.vte_core.specs.private.Scans.{AreIgnored}
 use Rattle.vte_core.proofs.reader.search.is_ignored_block.Given as goal
 
 abbrev pub invariant-loop-byte : goal.invariant-loop-byte

@@ -9,7 +9,7 @@ use crate::proved::vte_handler::{Handler, HandlerText, Timeout};
 /// A [`Processor`](crate::ansi::Processor) that keeps commands, titles and links whatever their
 /// length.
 ///
-/// A call takes memory before it parses each 65,536 bytes: for them and an open command, and for a
+/// A call allocates before it parses each 65,536 bytes: for them and an open command, and for a
 /// text that is joined from these. Bytes that are held back take theirs whole. If memory is
 /// refused, the call stops there. Nothing is lost or done twice, and the rest can be passed in
 /// again:

@@ -36,7 +36,7 @@ pub struct LongParser {
 }
 
 impl LongParser {
-    /// Creates a parser that has read nothing. It takes no memory.
+    /// Creates a parser that has read nothing. It doesn't allocate.
     #[inline]
     pub const fn new() -> Self {
         LongParser {

@@ -10,7 +10,7 @@ use crate::proved::vte_core::reader::{CountedPerform, Granularity, Reader};
 const BELL: u8 = 0x07;
 
 impl<B: Buffer> Machine<B> {
-    /// Reads data bytes of an operating system command, and the byte after them. It takes memory
+    /// Reads data bytes of an operating system command, and the byte after them. It allocates
     /// for the data, or else reads nothing.
     #[inline(never)]
     pub(crate) fn read_system_command<

@@ -34,7 +34,7 @@ impl LongParser {
     ///
     /// The performer is asked as by
     /// [`Parser::advance_until_terminated`](crate::Parser::advance_until_terminated), and before
-    /// memory is taken: a stop needs none.
+    /// memory is allocated: a stop needs none.
     pub fn advance_until_terminated<P: Perform + ?Sized>(
         &mut self,
         performer: &mut P,

@@ -206,7 +206,7 @@ impl Reader {
     }
 }
 
-/// Returns the position of the first of eight bytes that is no printed ASCII.
+/// Returns the position of the first of eight bytes that isn't printed ASCII.
 #[inline(always)]
 fn first_unprinted(word: &[u8; 8]) -> Option<usize> {
     // Bit 7 of each eight marks a byte: from 80 on it is set, and below 20 it is after a
@@ -219,7 +219,7 @@ fn first_unprinted(word: &[u8; 8]) -> Option<usize> {
     Some(marks.trailing_zeros() as usize / 8)
 }
 
-/// Returns whether two bytes are a character that is no control, if the first begins one of two
+/// Returns whether two bytes are a character that isn't a control, if the first begins one of two
 /// bytes.
 #[inline(always)]
 fn is_printed_pair(first: u8, second: u8) -> bool {

@@ -1,6 +1,6 @@
 -- Neither sequence begins in the blocks so far.
 use Rattle.std.proofs.Common.{◌≤◌}
-use Rattle.vte.specs.machine.Hold.{NoneBetween}
+use Rattle.vte.specs.private.Hold.{NoneBetween}
 use Rattle.vte.proofs.ansi.updates.release.skip_blocks.Given as goal
 
 abbrev pub invariant-loop-unread : goal.invariant-loop-unread

@@ -1,7 +1,7 @@
 -- In a round the call may first print a run of ASCII (`reached`), and then is before a byte (`at`), which it reads
 -- by one of three branches, of which two join (`read`).
 use Rattle.vte_core.proofs.Common.{◌<◌, length, sym, ◌∙◌, arith, rules, Advances, Text, Nothing}
-use Rattle.vte_core.specs.machine.Prelude.{MayReadByte}
+use Rattle.vte_core.specs.private.Prelude.{MayReadByte}
 use Rattle.vte_core.proofs.positions.Progress.{settled-same_state}
 use Rattle.vte_core.proofs.positions.Stretches.{advances-byte, advances-without_promise, advances-then}
 use Rattle.vte_core.proofs.positions.TextRuns.{advances-text, may_go_on-malformed, may_go_on-text}

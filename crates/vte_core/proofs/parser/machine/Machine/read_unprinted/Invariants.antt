@@ -1,6 +1,6 @@
 -- The call is before this byte, which neither is printed nor begins a longer character, and has reported no run.
 use Rattle.vte_core.proofs.Common.{◌≡◌, ◌+◌, ◌-◌, ◌≤◌, true, false, is_in, from_to, length, Text, Nothing, Advances, looked, SpendsWithin, chunk_call}
-use Rattle.vte_core.specs.machine.Prelude.{MayReadByte}
+use Rattle.vte_core.specs.private.Prelude.{MayReadByte}
 use Rattle.vte_core.proofs.parser.machine.Machine.read_unprinted.Given as goal
 
 abbrev pub invariant-loop-byte : goal.invariant-loop-byte

@@ -13,7 +13,7 @@ pub(crate) struct GrowingText {
 }
 
 impl GrowingText {
-    /// Creates an empty text. It takes no memory.
+    /// Creates an empty text. It doesn't allocate.
     #[inline]
     pub(crate) fn new() -> Self {
         GrowingText {

@@ -14,7 +14,7 @@ use crate::proved::vte_handler::{Handler, Timeout};
 use crate::proved::vte_types::{NamedPrivateMode, PrivateMode};
 use core::time::Duration;
 
-/// For how many bytes a parsing turn takes memory at once: little beside the memory of a hold, and
+/// For how many bytes a parsing turn allocates at once: little beside the memory of a hold, and
 /// enough that few slices are taken.
 const SLICE: usize = 65_536;
 
@@ -125,7 +125,7 @@ impl<P: EventParser, B: TextBuffer, T: Timeout> Engine<P, B, T> {
     }
 
     /// Parses bytes up to the one that begins an update, a slice at a time, and returns how many.
-    /// Memory is taken before each slice.
+    /// Memory is allocated before each slice.
     fn take_parsing_turn<H: Handler + ?Sized, G: ParseAs<H, T, P>>(
         &mut self,
         handler: &mut H,

@@ -1,5 +1,5 @@
 // Written by tools/erase from crates/vte/src/ansi/updates/long_parsing.rt: edit that one.
-//! The parser of a processor without a limit. It takes memory before it reads, so that none is
+//! The parser of a processor without a limit. It allocates before it reads, so that nothing is
 //! refused on the way.
 
 use crate::proved::vte::ansi::calls::joined_text::SEPARATORS;

@@ -1,23 +1,16 @@
 -- The stored part of an operating system command, and of groups.
-use Rattle.std.specs.Prelude.{◌≡◌, ℕ, zero, suc, ◌+◌, ◌-◌, ◌<◌, ◌≤◌, List, [], ◌∷◌, ◌++◌, length, take, drop, Option, Some, None, ⊤, Bool, true, false, slice_index, if◌then◌else◌, ◌==◌, nat_lt, sum, All, option_to_list}
+use Rattle.std.specs.Prelude.{◌≡◌, ℕ, zero, suc, ◌+◌, ◌-◌, ◌<◌, ◌≤◌, List, [], ◌∷◌, ◌++◌, length, take, drop, Option, Some, None, ⊤, Bool, true, false, if◌then◌else◌, ◌==◌, nat_lt, sum, All, option_to_list}
 use Rattle.std.specs.List.{filter, slice_range}
 use Rattle.std.specs.List.Sorted.{IsNonDecreasing}
+use Rattle.vte_core.specs.CommandMemory.{Stored}
 use Rattle.vte_core.specs.Parameters.{semicolon, greatest_number, max_numbers}
-use Rattle.vte_core.specs.SystemCommand.{IsCommandData, is_data_item, kept_after, max_pieces, pieces_of}
+use Rattle.vte_core.specs.SystemCommand.{is_data_item, kept_after, max_pieces, pieces_of}
 
 -- For each `;` of a text, how many data bytes come before it, starting from `count`.
 abbrev pub ends_after : ℕ → List ℕ → List ℕ
 ends_after count [] = []
 ends_after count (item ∷ items) =
     if item == semicolon then count ∷ ends_after count items else ends_after (count + 1) items
-
--- The capacity for data bytes, the data bytes, where the first 16 pieces end, and whether data
--- bytes were dropped.
-pub record Stored : Type 0 where
-  pub capacity : ℕ
-  pub bytes : List ℕ
-  pub ends : List ℕ
-  pub lost : Bool
 
 -- The bytes of `run` for which there is room after `count` bytes.
 abbrev pub fitting : Option ℕ → ℕ → List ℕ → List ℕ
@@ -29,7 +22,7 @@ abbrev pub HasCapacity : Option ℕ → ℕ → ℕ → ℕ → Type 0
 HasCapacity None capacity count more = count + more ≤ capacity
 HasCapacity (Some limit) capacity count more = ⊤
 
--- The answer of a function that takes memory for `more` bytes after `count` of them. There was
+-- The answer of a function that allocates for `more` bytes after `count` of them. There was
 -- memory for `had` bytes, and now is for `has`.
 pub record ReservesCapacity (limit : Option ℕ) (count more had has : ℕ)
     (answer : Bool) : Type 0 where
@@ -69,13 +62,6 @@ pub record HoldsItems (limit : Option ℕ) (held : Stored) (items : List ℕ) : 
   pub end : PiecesEnd max_pieces 0 held.ends (length held.bytes)
   pub fewer : length held.bytes ≤ length (filter is_data_item items)
   pub lost : held.lost ≡ nat_lt (length held.bytes) (length (filter is_data_item items))
-
--- The memory doesn't suffice for what is held and the data bytes that begin at `from`.
-pub record LacksMemoryAt (held : Stored) (bytes : List ℕ) (from : ℕ) : Type 0 where
-  pub to : ℕ
-  pub within : to ≤ length bytes
-  pub are_data : (k : ℕ) → from ≤ k → k < to → IsCommandData (slice_index bytes k)
-  pub lacks : held.capacity < length held.bytes + (to - from)
 
 -- The stores differ at most in their capacity.
 pub record SameItems (old new : Stored) : Type 0 where

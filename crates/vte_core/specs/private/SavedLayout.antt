@@ -1,12 +1,12 @@
 -- A parser saved as plain data.
-use Rattle.std.specs.Prelude.{◌≡◌, ℕ, Bool, not, ◌==◌, List, [], ◌∷◌, take, replicate, ⊤}
+use Rattle.std.specs.Prelude.{◌≡◌, ℕ, Bool, not, ◌==◌, List, [], ◌∷◌, take, ⊤}
 use Rattle.vte_core.specs.declared.head.HeadProgress.TheVariants.{Entry, Parameters, Intermediates, IllShaped}
 use Rattle.vte_core.specs.declared.parser.machine.Machine.{Machine}
 use Rattle.vte_core.specs.declared.parser.State.{State}
 use Rattle.vte_core.specs.declared.parser.State.TheVariants.{Text, Escape, EscapeIntermediate, ControlSequence, DeviceControl, DeviceData, SystemCommand, IgnoredString}
 use Rattle.vte_core.specs.declared.parser.saved.Saved.{Saved}
 use Rattle.vte_core.specs.declared.utf8.Unfinished.TheVariants.{Nothing, One, Two, Three}
-use Rattle.vte_core.specs.machine.Store.{AreParts, ArePieceEnds}
+use Rattle.vte_core.specs.private.Store.{AreParts, ArePieceEnds}
 
 -- The number of a state, and the bytes of an unfinished character.
 abbrev pub state_bytes : State → List ℕ
@@ -64,25 +64,3 @@ pub record IsRestored {B : Type 0} (saved : Saved) (machine : Machine B) : Type 
       → ArePieceEnds (take saved.byte_count saved.bytes) (take saved.end_count saved.ends)
       → machine.command.ends ≡ take saved.end_count saved.ends
   pub lost : machine.state ≡ SystemCommand → machine.command.lost ≡ flag_of saved.lost
-
-abbrev pub zeros_of : ℕ → List ℕ
-zeros_of n = replicate n 0
-
-abbrev pub zeros : Saved
-zeros = record {
-  intermediate_count = 0;
-  intermediates = zeros_of 2;
-  group_count = 0;
-  lengths = zeros_of 32;
-  number_count = 0;
-  numbers = zeros_of 32;
-  number = 0;
-  joined = 0;
-  too_many_intermediates = 0;
-  byte_count = 0;
-  bytes = zeros_of 1024;
-  end_count = 0;
-  ends = zeros_of 16;
-  lost = 0;
-  state = zeros_of 4;
-}

@@ -8,7 +8,7 @@ use Rattle.vte.specs.Memory.{KeepsMemory}
 use Rattle.vte.specs.Views.{ParserView}
 use Rattle.vte.specs.Processor.{set_times}
 use Rattle.vte.specs.Numbers.{first_numbers}
-use Rattle.vte.specs.machine.Performer.{FitsText, PerformerValue}
+use Rattle.vte.specs.private.Performer.{FitsText, PerformerValue}
 use Rattle.vte.specs.declared.ansi.calls.control.ModeChange.TheVariants.{SetPrivate}
 use Rattle.vte.specs.declared.ansi.calls.performer.Performer.{Performer}
 use Rattle.vte_core.specs.EarlyStop.{StopsExactly, resumed_stream}

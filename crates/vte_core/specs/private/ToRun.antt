@@ -12,9 +12,9 @@ use Rattle.vte_core.specs.declared.parser.State.{State}
 use Rattle.vte_core.specs.declared.parser.State.TheVariants.{Text, DeviceData}
 use Rattle.vte_core.specs.Class.{IsDeviceData, class_of, is_device_data}
 use Rattle.vte_core.specs.Event.{Event, Print, Put}
-use Rattle.vte_core.specs.machine.ParserFields.{HasReadWithLimit}
-use Rattle.vte_core.specs.machine.Progress.{ChunkCall, IsAtPosition}
-use Rattle.vte_core.specs.machine.Scans.{IsUtf8Run, IsRange}
+use Rattle.vte_core.specs.private.ParserFields.{HasReadWithLimit}
+use Rattle.vte_core.specs.private.Progress.{ChunkCall, IsAtPosition}
+use Rattle.vte_core.specs.private.Scans.{IsUtf8Run, IsRange}
 use Rattle.vte_core.specs.Stream.{added}
 use Rattle.vte_core.specs.Text.{HasNoRunAt}
 

@@ -6,7 +6,7 @@ use Rattle.vte_core.specs.Parser.{HasRead}
 use Rattle.vte_core.specs.Stream.{added, usual_limit}
 use Rattle.vte_core.specs.declared.parser.Parser.{Parser}
 use Rattle.vte_core.specs.declared.parser.saved.Saved.{Saved}
-use Rattle.vte_c.specs.machine.Buffers.{Buffers, buffers_of}
+use Rattle.vte_c.specs.private.Buffers.{Buffers, buffers_of}
 use Rattle.vte_c.specs.Record.{Entry, data_kind, events_in, has, entry_data, entry_events, kinds_in, records_from, reported, text_kind}
 use Rattle.vte_c.specs.Reported.{AreEncoded, NoEventStops, AreReadable, HasReported, NoKindStops, StopsAtKind, is_stop}
 use Rattle.vte_c.specs.declared.event.VteEvent.{VteEvent}

@@ -1,5 +1,5 @@
 -- What is true of a processor's engine between the parts of a turn.
-use Rattle.std.specs.Prelude.{◌≡◌, ℕ, ◌<◌, Bool, List, length, nat_lt, take, drop, Result, IfErr, IfOk}
+use Rattle.std.specs.Prelude.{◌≡◌, ℕ, ◌+◌, ◌++◌, ◌<◌, Bool, List, length, nat_lt, take, drop, Result, IfErr, IfOk}
 use Rattle.vte_core.specs.declared.parser.refused.Refused.{Refused}
 use Rattle.vte_core.specs.Stream.{added, events}
 use Rattle.vte.specs.Synchronized.{begin_count}
@@ -28,6 +28,13 @@ pub record ArePartsAtWithMemory {P B T V W : Type 0} (view : EngineView P B T W)
   pub parts_at : ArePartsAt view parser lent value state
   pub memory : view.parser.has_memory parser (view.text_size_of lent.text) state.parsed count
 
+-- If there are bytes to parse, there is memory for them and `spare` more.
+abbrev pub HasMemoryIfAny : {P B T V W : Type 0} → EngineView P B T W → P → ProcessorState T B
+    → State V W → List ℕ → ℕ → Type 0
+HasMemoryIfAny view parser lent state bytes spare =
+    0 < length bytes → view.parser.has_memory parser (view.text_size_of lent.text) state.parsed
+    (length bytes + spare)
+
 -- `ArePartsAt`, with the memory that was there before.
 pub record ArePartsAtKeepingMemory {P B T V W : Type 0} (view : EngineView P B T W) (parser : P)
     (lent : ProcessorState T B) (next : P) (back : ProcessorState T B)
@@ -35,6 +42,23 @@ pub record ArePartsAtKeepingMemory {P B T V W : Type 0} (view : EngineView P B T
   pub parts_at : ArePartsAt view next back value state
   pub keeps_memory : KeepsMemory (view.parser.has_memory parser (view.text_size_of lent.text))
       (view.parser.has_memory next (view.text_size_of back.text))
+
+-- From each state that the parts are at, with memory for `count` bytes and more, they lead on as
+-- `ends` says.
+abbrev pub PartsLeadOn : {P B T V W : Type 0} → EngineView P B T W → P → ProcessorState T B → V
+    → P → ProcessorState T B → V → ℕ → (State V W → (State V W → Type 0) → Type 0) → Type 0
+PartsLeadOn view parser lent old next back new count ends =
+    (state : State _ _) (spare : ℕ)
+    → ArePartsAtWithMemory view parser lent old state (count + spare)
+    → ends state (ArePartsAtKeepingMemory view parser lent next back new)
+
+-- If there was memory for bytes and `spare` more, there is memory for these after the bytes.
+abbrev pub LeaveMemory : {P B T V W : Type 0} → EngineView P B T W → P → ProcessorState T B → V
+    → P → ProcessorState T B → List ℕ → Type 0
+LeaveMemory {W} view parser lent old next back bytes =
+    (state : State _ W) (spare : ℕ)
+    → ArePartsAtWithMemory view parser lent old state (length bytes + spare)
+    → view.parser.has_memory next (view.text_size_of back.text) (state.parsed ++ bytes) spare
 
 -- The engine and the handler's value are as the state says.
 abbrev pub EngineIsAt : {P B T A V W : Type 0} → EngineView P B T W → Engine P B T A → V

@@ -15,8 +15,8 @@ use Rattle.vte_core.specs.Class.{is_intermediate, is_marker, is_parameter_text, 
 use Rattle.vte_core.specs.Intermediates.{first_two, are_too_many}
 use Rattle.vte_core.specs.Head.{head_of, is_well_shaped, reported_intermediates}
 use Rattle.vte_core.specs.Parameters.{Number, is_colon, is_separator, number_of, numbers, grouped, groups_of, has_too_many_numbers, max_numbers}
-use Rattle.vte_core.specs.machine.Place.{Place, InText, AtEscape, InEscape, InControlSequence, InDeviceControl, InDeviceData, InSystemCommand, InIgnoredString, IsAfter}
-use Rattle.vte_core.specs.machine.Store.{HoldsItems}
+use Rattle.vte_core.specs.private.Place.{Place, InText, AtEscape, InEscape, InControlSequence, InDeviceControl, InDeviceData, InSystemCommand, InIgnoredString, IsAfter}
+use Rattle.vte_core.specs.private.Store.{HoldsItems}
 use Rattle.vte_core.specs.declared.head.HeadEnd.{HeadEnd}
 use Rattle.vte_core.specs.declared.parser.open.Open.{Open}
 use Rattle.vte_core.specs.declared.parser.open.Open.TheVariants as kind

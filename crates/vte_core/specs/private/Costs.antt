@@ -4,14 +4,22 @@ use Rattle.vte_core.specs.Looks.{looked}
 use Rattle.vte_core.specs.declared.parser.machine.Machine.{Machine}
 use Rattle.vte_core.specs.declared.parser.refused.Refused.{Refused}
 use Rattle.vte_core.specs.declared.reader.Reader.{Reader}
-use Rattle.vte_core.specs.machine.Progress.{ChunkCall, IsRefusedInCommand, IsSettled, MayGoOn}
+use Rattle.vte_core.specs.private.Progress.{ChunkCall, IsRefusedInCommand, IsSettled, MayGoOn}
 
--- Where the looks go: by characters a byte of text takes at most 3, and 1 more where ESC is
--- searched; a byte of a sequence takes 3. In runs the search for the end of a run takes at most 4
--- per byte, and its events 1: 5, the rate of a call. Where a call returns runs, such a search may
--- find none, and then takes 4; the byte is read with the 3 that are left of 7. A search takes 11/3
--- per byte, so 66 bytes leave 22: for the three before the blocks of a long run, and the window of
--- 19 in which it ends.
+-- ---- where the looks go
+
+-- A byte takes at most
+--   3 in text by characters, and 1 more where ESC is searched
+--   3 in a sequence
+--   4 where the end of a run is searched, and 1 for its event: 5, the rate of a call
+--   4 where a call that returns runs finds none, and 3 to be read: 7, the rate of that call
+--
+-- The search of a run is counted in thirds of looks: 11 per byte, 12 for the character that ends
+-- it and, if it is long, 66 for its blocks: 3 × (3 + 19), for the three bytes before them and for
+-- the window in which the run ends. At 4 looks per byte, 66 bytes pay for these: 66 × 12 is
+-- 66 × 11 + 66.
+
+-- ---- bounds of functions
 
 -- The bounds of each state's function, which reads from position i to position j, and gives back no
 -- memory. It takes at least one look per byte and at most `rate`. The caller has taken `seen` of

@@ -16,11 +16,12 @@ pub use Rattle.vte_core.specs.Text.{HasNoRunAt, character_event, is_control_char
 pub use Rattle.vte_core.specs.Utf8.{is_in, is_truncated, scalar_of, from_to}
 pub use Rattle.vte_core.specs.declared.parser.State.TheVariants.{DeviceData, Escape, EscapeIntermediate, IgnoredString, SystemCommand, Text}
 pub use Rattle.vte_core.specs.declared.utf8.Unfinished.TheVariants.{Nothing, One}
-pub use Rattle.vte_core.specs.machine.Scans.{Each, AreIgnored, ArePut, ArePrintedAscii, IsPrintedAscii, IsRun, IsNonEmptyRun, PrintsRun, FindsEnd, IsRange, IsWindow, Scans, LooksAtMost}
-pub use Rattle.vte_core.specs.machine.Progress.{Completes, MayRead, MayReadAt, MayReadByte, Advances, IsSettled, ReadsUpTo, ReadsUntilRefused, IsAtPosition, chunk_call}
-pub use Rattle.vte_core.specs.machine.Costs.{Costs, HandlesByte, MovesWithin, Refuses, SpendsWithin}
-pub use Rattle.vte_core.specs.machine.ParserFields.{CountsNumbers, HoldsIntermediates, HoldsHead, HasReadWithLimit, SameIntermediates, SameNumbers, HoldsNumbers, IsAtPlace, HasReadHead, ReadsHeadUpTo, with_open_number, IsReady, BeginsFour, BeginsThree, BeginsTwo, Carries, bytes_of, second_range}
-pub use Rattle.vte_core.specs.machine.Place.{AtEscape, InControlSequence, InDeviceControl, IsSettledPlace, Place, closing_events_at}
-pub use Rattle.vte_core.specs.machine.Store.{ArePieceEnds, HasCapacity, Stored, HoldsItems, ReservesCapacity, SameItems, cut_pieces, fitting}
-pub use Rattle.vte_core.specs.machine.Takes.{Dispatches, TakesBytes, TakesByte, Reports, ReportsAll}
-pub use Rattle.vte_core.specs.machine.ToRun.{AreOfKind, ComesToRun, IsOutsideTextAndData, IsOutsideRunsInState, IsTaken, read_through_range, read_before_range}
+pub use Rattle.vte_core.specs.private.Scans.{Each, AreIgnored, ArePut, ArePrintedAscii, IsPrintedAscii, IsRun, IsNonEmptyRun, PrintsRun, FindsEnd, IsRange, IsWindow, Scans, LooksAtMost}
+pub use Rattle.vte_core.specs.private.Progress.{Completes, MayRead, MayReadAt, MayReadByte, Advances, IsSettled, ReadsUpTo, ReadsUntilRefused, IsAtPosition, chunk_call}
+pub use Rattle.vte_core.specs.private.Costs.{Costs, HandlesByte, MovesWithin, Refuses, SpendsWithin}
+pub use Rattle.vte_core.specs.private.ParserFields.{CountsNumbers, HoldsIntermediates, HoldsHead, HasReadWithLimit, SameIntermediates, SameNumbers, HoldsNumbers, IsAtPlace, HasReadHead, ReadsHeadUpTo, with_open_number, IsReady, BeginsFour, BeginsThree, BeginsTwo, Carries, bytes_of, second_range}
+pub use Rattle.vte_core.specs.private.Place.{AtEscape, InControlSequence, InDeviceControl, IsSettledPlace, Place, closing_events_at}
+pub use Rattle.vte_core.specs.CommandMemory.{Stored}
+pub use Rattle.vte_core.specs.private.Store.{ArePieceEnds, HasCapacity, HoldsItems, ReservesCapacity, SameItems, cut_pieces, fitting}
+pub use Rattle.vte_core.specs.private.Takes.{Dispatches, TakesBytes, TakesByte, Reports, ReportsAll}
+pub use Rattle.vte_core.specs.private.ToRun.{AreOfKind, ComesToRun, IsOutsideTextAndData, IsOutsideRunsInState, IsTaken, read_through_range, read_before_range}

@@ -7,8 +7,8 @@ use Rattle.vte_core.specs.Looks.{looked}
 use Rattle.vte_core.specs.declared.parser.machine.Machine.{Machine}
 use Rattle.vte_core.specs.declared.parser.State.TheVariants.{Text}
 use Rattle.vte_core.specs.declared.utf8.Unfinished.TheVariants.{Nothing}
-use Rattle.vte_core.specs.machine.Place.{Leads, BytesLead, Place}
-use Rattle.vte_core.specs.machine.ParserFields.{IsAtPlace}
+use Rattle.vte_core.specs.private.Place.{Leads, BytesLead, Place}
+use Rattle.vte_core.specs.private.ParserFields.{IsAtPlace}
 
 -- The performer received the event, which counts one look.
 pub record Reports {V : Type 0} (step : V → Event → V) (old new : V) (event : Event)

@@ -8,7 +8,7 @@ from pathlib import Path
 
 from tests.support import TOOLS
 
-HERE = TOOLS / "c_library"
+PROGRAMS = TOOLS.parent / "c/tests"
 EXAMPLES = TOOLS.parent / "c/examples"
 INCLUDE = TOOLS.parent / "c/include"
 WARNINGS = ["-O2", "-Wall", "-Wextra", "-Werror", f"-I{INCLUDE}"]
@@ -68,13 +68,13 @@ class Library:
 
     @cached_property
     def events(self):
-        return self.program(HERE / "events.c", *self.of_events)
+        return self.program(PROGRAMS / "events.c", *self.of_events)
 
     @cached_property
     def sanitized(self):
         """The same program with sanitizers, or None if cc has none."""
         def linked(*words):
-            return self.program(HERE / "events.c", *self.of_events, *SANITIZERS, *words,
+            return self.program(PROGRAMS / "events.c", *self.of_events, *SANITIZERS, *words,
                                 name="events_sanitized", optional=True)
 
         # it begins sooner without shared libraries, which clang's never are

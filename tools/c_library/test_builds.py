@@ -3,7 +3,7 @@ import re
 
 from tests.missing import miss, need
 
-from c_library.library import HERE, INCLUDE, SANITIZERS, TOOLS, compiles, output_of
+from c_library.library import INCLUDE, PROGRAMS, SANITIZERS, TOOLS, compiles, output_of
 
 # the only functions that the library of each build may need
 NEEDED = {"rt": {"memcpy", "memmove", "memset"},
@@ -47,12 +47,12 @@ def test_symbols(library):
 def test_random_bytes_as_a_parser(library):
     if library.sanitized is None:
         miss("the address and undefined-behaviour sanitizers of cc")
-    assert output_of([library.program(HERE / "any_parser.c", *SANITIZERS)]) == b""
+    assert output_of([library.program(PROGRAMS / "any_parser.c", *SANITIZERS)]) == b""
 
 
 def test_refused_memory(cargo_build):
     words = [f"-Wl,--wrap={name}" for name in ("malloc", "realloc", "free")]
-    program = cargo_build.program(HERE / "refused.c", *words)
+    program = cargo_build.program(PROGRAMS / "refused.c", *words)
     # pieces without a byte take eight each
     empty, groups = b"\x1b]" + b";" * 15 + b"\a", b"\x1b[" + b"1;" * 31 + b"1m"
     stream = empty + groups + empty * 5000 + b"text\x1b]52;c;" + b"Q" * 100_000 + b"\x1b\\more"
@@ -65,14 +65,14 @@ def test_refused_memory(cargo_build):
 
 def test_threads(cargo_build):
     """Also with the library and the program under the thread sanitizer."""
-    assert output_of([cargo_build.program(HERE / "threads.c", "-pthread")]) == b"busy\n"
+    assert output_of([cargo_build.program(PROGRAMS / "threads.c", "-pthread")]) == b"busy\n"
     folder = cargo_build.folder / "for_threads"
     environment = {"RUSTC_BOOTSTRAP": "1",
                    "CARGO_TARGET_DIR": f"{TOOLS.parent}/rust/target/for_threads",
                    "RUSTFLAGS": "-Zsanitizer=thread -Cunsafe-allow-abi-mismatch=sanitizer"}
     build = [TOOLS / "build_c_library", "--cargo", folder]
-    words = ["cc", "-O1", "-g", "-fsanitize=thread", "-pthread", f"-I{INCLUDE}", HERE / "threads.c",
-             folder / "libvte_c.a", "-o", folder / "threads"]
+    words = ["cc", "-O1", "-g", "-fsanitize=thread", "-pthread", f"-I{INCLUDE}",
+             PROGRAMS / "threads.c", folder / "libvte_c.a", "-o", folder / "threads"]
     if not compiles(build, **environment)[0] or not compiles(words)[0]:
         miss("the thread sanitizer of rustc and cc, so threads were tested without it")
     assert output_of([folder / "threads"]) == b"busy\n"

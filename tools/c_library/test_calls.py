@@ -10,7 +10,7 @@ from lib.generating.vectors import all_vectors, bytes_of, lines_of
 from tests.missing import miss, need
 
 from c_library.calling import FUNCTIONS
-from c_library.library import HERE, SANITIZERS, output_of
+from c_library.library import PROGRAMS, SANITIZERS, output_of
 from c_library.test_numbers import of_rust
 
 # a timeout that is set, which calls.c writes, and one that is cleared
@@ -164,7 +164,7 @@ def outputs_of(library, suffix, *words):
     compiler = {"c": "cc", "cpp": "c++"}[suffix]
     need(compiler, f"calls.{suffix} was not built")
     (library.folder / "calls.inc").write_text(functions())
-    made = library.program(HERE / f"calls.{suffix}", "-Wl,--wrap=clock_gettime",
+    made = library.program(PROGRAMS / f"calls.{suffix}", "-Wl,--wrap=clock_gettime",
                            f"-I{library.folder}", *words, compiler=compiler, optional=words)
     if made is None:
         miss(f"the sanitizers of {compiler}, so calls.{suffix} was not run under them")

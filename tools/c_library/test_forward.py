@@ -5,7 +5,7 @@ import re
 from lib.generating import streams
 from lib.judging import definition, house
 
-from c_library.library import EXAMPLES, HERE, SANITIZERS, output_of
+from c_library.library import EXAMPLES, PROGRAMS, SANITIZERS, output_of
 from c_library.test_examples import assert_ends_by_errors, assert_slow, program
 
 ST = b"\x1b\\"
@@ -86,6 +86,6 @@ def test_cuts(library):
         lines = definition.lines_of(forwarded(stream + b"\x18"), house.House(limit=None))
         assert lines == [*lines_without_clipboards(stream + b"\x18")], stream
     for words in [[], SANITIZERS][:1 + bool(library.sanitized)]:
-        by_cuts = library.program(HERE / "forward_cuts.c", f"-I{EXAMPLES / 'c'}", *words)
+        by_cuts = library.program(PROGRAMS / "forward_cuts.c", f"-I{EXAMPLES / 'c'}", *words)
         *passed, rest = output_of([by_cuts], b"".join(it + b"\0" for it in wanted)).split(b"\0")
         assert (dict(zip(wanted, passed)), rest) == (wanted, b"")

@@ -9,7 +9,7 @@ import pytest
 from tests.missing import need
 from tests.support import write_program
 
-from c_library.library import EXAMPLES, HERE, TOOLS, output_of
+from c_library.library import EXAMPLES, PROGRAMS, TOOLS, output_of
 from c_library.test_examples import STREAM, TEXT
 
 # the files of an installed library
@@ -131,7 +131,7 @@ def test_pkg_config(prefix):
 def cmake(place, *words, **how):
     need("cmake", "the installed library was not looked for by it")
     source = f"-DSOURCE={EXAMPLES / 'c/stripper.c'}"
-    place.run("cmake", source, *words, "-S", HERE, "-B", "built", **how)
+    place.run("cmake", source, *words, "-S", PROGRAMS, "-B", "built", **how)
 
 
 def test_cmake(prefix):

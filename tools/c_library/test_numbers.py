@@ -4,7 +4,7 @@ from functools import cache
 
 from tests.missing import need
 
-from c_library.library import HERE, INCLUDE, TOOLS, output_of
+from c_library.library import INCLUDE, PROGRAMS, TOOLS, output_of
 
 TYPES = TOOLS.parent / "rust/vte/src/proved/vte_types"
 # Rust's type, and how the names of C begin, or those that C has
@@ -64,4 +64,4 @@ def test_names():
 def test_handler(cargo_build):
     need("c++", "vte.hpp was not tested")
     words = ["-std=c++17", "-Wl,--wrap=malloc", "-Wl,--wrap=realloc"]
-    assert output_of([cargo_build.program(HERE / "handler.cpp", *words, compiler="c++")]) == b""
+    assert output_of([cargo_build.program(PROGRAMS / "handler.cpp", *words, compiler="c++")]) == b""

@@ -6,12 +6,13 @@ use crate::tape::Tape;
 use pyo3::prelude::*;
 use vte::Refused;
 
-/// How many bytes are read between two questions for memory.
+/// How many bytes are read at most before the tape is asked whether it is full.
 const STEP: usize = 1 << 12;
 /// How many values are recorded before objects are made of them: few, because their memory is then
-/// at hand, but not if the lock is taken again each time.
+/// at hand.
 const MOST: usize = 1 << 11;
-const MAX_OF_LONG: usize = 1 << 15;
+/// The same for an input that is read without the lock, which would be taken again each time.
+const MOST_WITHOUT_LOCK: usize = 1 << 15;
 
 /// Records what a stream adds.
 pub trait Reader: Send {
@@ -60,7 +61,7 @@ where
 /// Reads until objects are to be made. Returns how much was read, and whether memory was refused.
 fn read_some(reader: &mut impl Reader, source: &[u8]) -> (usize, bool) {
     let mut at = 0;
-    let most = [MOST, MAX_OF_LONG][usize::from(source.len() >= LONG)];
+    let most = if source.len() >= LONG { MOST_WITHOUT_LOCK } else { MOST };
     while at < source.len() && !reader.tape().is_full(most) && !reader.has_stopped() {
         match reader.read(&source[at..]) {
             Ok(read) => at += read,

@@ -29,8 +29,8 @@ four_bytes n = n % 256 ∷ (n / 256) % 256 ∷ (n / 65536) % 256 ∷ n / 1677721
 abbrev pub piece_bytes : List ℕ → List ℕ
 piece_bytes piece = four_bytes (min (length piece) (2 ^ 32 - 1)) ++ piece
 
--- A character or a byte that isn't in the input as it is: its UTF-8, the byte. Of a command its
--- pieces.
+-- The data of an event: of a character its UTF-8, of a sequence its groups, of a command its
+-- pieces, and of a data byte this byte.
 abbrev pub data_of : Event → List ℕ
 data_of (Print c) = encode_utf8 c
 data_of (Hook groups intermediates ignore final) = flat_map group_bytes groups
@@ -53,8 +53,8 @@ may_have_lost _ = false
 abbrev pub max_added : ℕ
 max_added = 1024 + 4 * max_pieces + 4
 
--- The minimum room: how many records the caller's buffer must have, how many data bytes its area,
--- and how many bytes of text the buffer of `vte_strip`.
+-- The minimum room, for at least what two bytes of a stream add: how many records the caller's
+-- buffer must have, how many data bytes its area, and how many bytes the buffer of `vte_strip`.
 abbrev pub min_events : ℕ
 min_events = 4
 

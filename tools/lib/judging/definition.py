@@ -15,12 +15,12 @@ ESC, BEL, ST = "\x1b", "\x07", "\x9c"
 # what ends any sequence and string, besides ESC: CAN and SUB
 ENDS = "\x18\x1a"
 WELL_SHAPED = re.compile("([<-?]?)([0-;]*)([ -/]*)")
-# Unicode's table of well-formed sequences, and the fronts of these; or any byte
+# Unicode's table of well-formed sequences, and their prefixes; or any byte
 SEGMENT = re.compile("[\xc2-\xdf][\x80-\xbf]?|[\xe1-\xec\xee\xef][\x80-\xbf]{0,2}"
                      "|\xe0([\xa0-\xbf][\x80-\xbf]?)?|\xed([\x80-\x9f][\x80-\xbf]?)?"
                      "|\xf0([\x90-\xbf][\x80-\xbf]{0,2})?|\xf4([\x80-\x8f][\x80-\xbf]{0,2})?"
                      "|[\xf1-\xf3][\x80-\xbf]{0,3}|.", re.S)
-# before the name of a rule about a limit that isn't at work, but would be for a parser with a lower
+# before the name of a rule about a limit that isn't reached, but would be by a parser with a lower
 # one
 NEAR = "near:"
 # so many readings may have looked at a byte that comes after them: that of a character looks at

@@ -1,4 +1,4 @@
-/* Times the C library, as tools/peer does the crates: calls KIND CHUNK PASSES < STREAM
+/* Times the C library, as bench/peer does the crates: calls KIND CHUNK PASSES < STREAM
  *
  * A call gets CHUNK bytes. Standard output gets a sum of what was reported, and standard error the
  * nanoseconds of the fastest pass. The kinds are vte_feed, vte_long_feed and vte_processor and, if

@@ -16,7 +16,7 @@ from lib.generating import streams
 # these two in the best build (fat link-time optimization) and in cargo's default release profile.
 IN_RUST = {"rust": "fat", "rust_release": "release", "best": "fat", "release": "release"}
 OURS_IN_RUST = ("rust", "rust_release")
-# the kinds of tools/peer that put text into memory: in runs, and character by character, both by
+# the kinds of bench/peer that put text into memory: in runs, and character by character, both by
 # ours in the best build, and those that do a part of it
 REFERENCES = {"`from_utf8`": "utf8", "a copy": "copy"}
 STRIPPERS = {"rust": "strip_runs", "`advance`": "strip", **REFERENCES}

@@ -1,6 +1,6 @@
 //! A handler that folds all calls into a checksum, as cheaply as possible.
 //!
-//! tools/peer does the same for the crate.
+//! bench/peer does the same for the crate.
 
 use crate::checksum::Checksum;
 use test_lines::{CallVisitor, Variant, visit_call};

@@ -1,6 +1,6 @@
 //! A performer that folds all events into a checksum, as cheaply as possible.
 //!
-//! tools/peer does the same for the crate.
+//! bench/peer does the same for the crate.
 use std::fmt;
 use vte::{Params, Perform};
 

@@ -1,6 +1,6 @@
 //! Benchmarks with a screen as performer or handler, and its checksum.
 //!
-//! tools/peer/src/main.rs does the same for the crate.
+//! bench/peer/src/main.rs does the same for the crate.
 
 use crate::Benchmark;
 use crate::checksum::Checksum;

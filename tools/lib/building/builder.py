@@ -71,11 +71,12 @@ def environment(folder, profile):
 
 
 def placed_peers(is_ours, folder, profile, count):
-    """Builds tools/peer over the crate, or over ours, into a folder, without warnings: so many
+    """Builds bench/peer over the crate, or over ours, into a folder, without warnings: so many
     times, each with its code at another place."""
     folder, room = Path(folder), KEPT / f"peer_{profile}{'_ours' * is_ours}"
     source = f'path = "{OURS}"' if is_ours else 'version = "=0.15.0"'
-    manifest = MANIFEST.replace("SOURCE", source).replace("MAIN", f"{TOOLS}/peer/src/main.rs")
+    main = TOOLS.parent / "bench/peer/src/main.rs"
+    manifest = MANIFEST.replace("SOURCE", source).replace("MAIN", str(main))
     for place in folder, room:
         place.mkdir(parents=True, exist_ok=True)
     (room / "Cargo.toml").write_text(manifest)
@@ -86,7 +87,7 @@ def placed_peers(is_ours, folder, profile, count):
     for place in range(count):
         start = f"link-arg=-Wl,-Ttext={CODE_START + ALIGNMENT * place:#x}"
         words = ["rustc", "--release", "--manifest-path", room / "Cargo.toml", "--", *flags]
-        made = run([CARGO_PRODUCT, *words, "-C", start], "tools/peer", environment(room, profile))
+        made = run([CARGO_PRODUCT, *words, "-C", start], "bench/peer", environment(room, profile))
         programs.append(shutil.copy(made.decode().rstrip("\n"), folder / f"peer_{place}"))
     return programs
 

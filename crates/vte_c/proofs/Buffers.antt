@@ -1,7 +1,7 @@
 -- What events leave in the buffers. Those that aren't full have room for what one byte adds, so each event is written
 -- as one entry (`event_written`), or isn't one of the kinds asked for (`event_passed`); so is all that one byte reports
 -- (`entries-unit_more`), and a run of the input (`entries-run`).
-use Rattle.vte_c.proofs.Common.{All, All-head, All-tail, AreGroups, CsiDispatch, Event, Execute, Hook, IsBounded, IsShort, List, OscDispatch, Print, [], arith, concat, usual_limit, count_of, data_of, flat_map, group_bytes, len_utf8_bounds, length, length-append, length-encode, piece_bytes, refl, sum_by-cons, two_bytes, ℕ, ◌*◌, ◌+◌, ◌<◌, ◌∷◌, ◌≡◌, ◌≤◌, AreReadable, Bool, DataRun, EscDispatch, EventWriter, HasEntries, NoRecordStops, Holds, InInput, AreFromOneByte, IsRunAt, Entry, Put, Buffers, Run, Single, StopsAtKind, TextRun, Unhook, VteEvent, add-zero, after, ap, append-nil, append_assoc, cases_Bool, false, filter-append, flag_byte, flat_map-append, has, has_kind, has_room_for, if◌then◌else◌, inl, inr, may_have_lost, is_full, entry_data, event_kind, kinds_of, length-map, map, map-append, max_added, nat_lt, nat_tests, or_parts, record_at, records_from, reported, resumed, buffers_of, run_kind, run_record, subst, sym, take, true, buffers_with_event, with_entries, with_one, with_record, without_loss, ◌%◌, ◌++◌, ◌∙◌, IsFilled}
+use Rattle.vte_c.proofs.Common.{All, All-head, All-tail, AreGroups, CsiDispatch, Event, Execute, Hook, IsBounded, IsShort, List, OscDispatch, Print, [], arith, concat, usual_limit, count_of, data_of, flat_map, group_bytes, len_utf8_bounds, length, length-append, length-encode, piece_bytes, refl, sum_by-cons, two_bytes, ℕ, ◌*◌, ◌+◌, ◌<◌, ◌∷◌, ◌≡◌, ◌≤◌, AreReadable, Bool, DataRun, EscDispatch, EventWriter, HasEntries, NoRecordStops, Holds, InInput, AreFromOneByte, IsRunAt, Entry, Put, Buffers, RunKind, Single, StopsAtKind, TextRun, Unhook, VteEvent, add-zero, after, ap, append-nil, append_assoc, cases_Bool, false, filter-append, flag_byte, flat_map-append, has, has_kind, has_room_for, if◌then◌else◌, inl, inr, may_have_lost, is_full, entry_data, event_kind, kinds_of, length-map, map, map-append, max_added, nat_lt, nat_tests, or_parts, record_at, records_from, reported, resumed, buffers_of, run_kind, run_record, subst, sym, take, true, buffers_with_event, with_entries, with_one, with_record, without_loss, ◌%◌, ◌++◌, ◌∙◌, IsFilled}
 use Rattle.std.proofs.Math.Bool.{or-false, or_assoc}
 use Rattle.std.proofs.lemmas.List.Folds.{list_any-append}
 use Rattle.vte_core.proofs.places.PlaceLeads.{short_bounded}
@@ -161,7 +161,7 @@ holds_nothing events = record {
 -- ---- a run of the input
 
 -- What is written has no bit for lost data.
-run_plain : (run : Run) (start size : ℕ)
+run_plain : (run : RunKind) (start size : ℕ)
     → without_loss (run_record (run_kind run) start size) ≡ run_record (run_kind run) start size
 unfolding without_loss
 run_plain TextRun start size = refl
@@ -183,7 +183,7 @@ single_plain offset Unhook = refl
 single_plain offset (CsiDispatch groups ints ignore final) = refl
 single_plain offset (EscDispatch ints ignore final) = refl
 
-pub entries-run : {old new : Buffers} (input : List ℕ) (run : Run) (start size : ℕ) → is_full old ≡ false
+pub entries-run : {old new : Buffers} (input : List ℕ) (run : RunKind) (start size : ℕ) → is_full old ≡ false
     → IsRunAt input run start size
     → new ≡ with_one old (run_record (run_kind run) start size)
     → HasEntries old new input (InInput run start size ∷ [])

@@ -1,9 +1,9 @@
 -- A call goes on (`ReadsOn`) by calls of the parser, whose events are written as long as there is room, and by the runs
 -- that these return. One step after another is a longer one (`goes-then`).
-use Rattle.vte_c.proofs.Common.{AreCharacters, Bool, ComesTo, DataRun, Event, ReadsOn, GoesOnFromPositions, HasReadOn, HasEntries, HasRead, NoRecordStops, InInput, IsRunOfKind, usual_limit, IsRunAt, List, OpensSilently, Parser, Print, Put, Buffers, Run, Single, Starts, StopsAtNone, ReportsUnits, TextRun, [], added, after, ap, append-nil, arith, breaks_at, cases_Bool, cases_lt, chars, data_of, drop, drop-drop, false, false≢true, filter-append, flat_map, flat_map-append, has, if◌then◌else◌, inl, inr, is_full, is_stop, entry_events, event_kind, len_utf8_bounds, length, length-append, length-drop, length-encode, map, nat_tests, refl, replacement, reported, resumed, events_of_run, run_kind, run_record, resumed_stream, subst, sym, take, reported_before, true, buffers_with_event, with_entries, with_run, with_taken, with_wanted, zero-add, ℕ, ◌++◌, ◌+◌, ◌-◌, ◌<◌, ◌∙◌, ◌∷◌, ◌≡◌, ◌≤◌}
+use Rattle.vte_c.proofs.Common.{AreCharacters, Bool, ComesTo, DataRun, Event, ReadsOn, GoesOnFromPositions, HasReadOn, HasEntries, HasRead, NoRecordStops, InInput, IsRunOfKind, usual_limit, IsRunAt, List, OpensSilently, Parser, Print, Put, Buffers, RunKind, Single, Starts, StopsAtNone, ReportsUnits, TextRun, [], added, after, ap, append-nil, arith, breaks_at, cases_Bool, cases_lt, chars, data_of, drop, drop-drop, false, false≢true, filter-append, flat_map, flat_map-append, has, if◌then◌else◌, inl, inr, is_full, is_stop, entry_events, event_kind, len_utf8_bounds, length, length-append, length-drop, length-encode, map, nat_tests, refl, replacement, reported, resumed, events_of_run, run_kind, run_record, resumed_stream, subst, sym, take, reported_before, true, buffers_with_event, with_entries, with_run, with_taken, with_wanted, zero-add, ℕ, ◌++◌, ◌+◌, ◌-◌, ◌<◌, ◌∙◌, ◌∷◌, ◌≡◌, ◌≤◌}
 use Rattle.vte_core.proofs.streams.After.{added-nothing}
 use Rattle.vte_core.specs.AdvanceToRun.{IsLongestRun, ReturnsRun, run_bytes, run_events, taken_bytes}
-use Rattle.vte_core.specs.declared.reader.run.Run.{Run as Returned}
+use Rattle.vte_core.specs.declared.reader.run.Run.{Run}
 use Rattle.vte_core.specs.declared.reader.run.Taken.{Taken}
 use Rattle.vte_core.specs.declared.reader.run.Taken.TheVariants.{Text, Data, Nothing}
 use Rattle.vte_core.proofs.EarlyStops.{passed-at}
@@ -20,17 +20,17 @@ each_reported kinds false call is [] = refl
 each_reported kinds true call is (n ∷ ns) = rw (is n, each_reported kinds true call is ns) refl
 each_reported kinds false call is (n ∷ ns) = rw (is n) (each_reported kinds false call is ns)
 
-run_reported : (kinds : ℕ) (wanted : Bool) (run : Run) (bytes : List ℕ) → has kinds (run_kind run) ≡ wanted
+run_reported : (kinds : ℕ) (wanted : Bool) (run : RunKind) (bytes : List ℕ) → has kinds (run_kind run) ≡ wanted
     → reported kinds (events_of_run run bytes) ≡ (if wanted then events_of_run run bytes else [])
 run_reported kinds wanted TextRun bytes is = each_reported kinds wanted Print (λ c. is) (chars bytes)
 run_reported kinds wanted DataRun bytes is = each_reported kinds wanted Put (λ b. is) bytes
 
-run_stops : (buffers : Buffers) (run : Run) → StopsAtNone buffers
+run_stops : (buffers : Buffers) (run : RunKind) → StopsAtNone buffers
     → is_stop buffers.kinds buffers.stops (run_kind run) ≡ false
 run_stops buffers TextRun none = none.0
 run_stops buffers DataRun none = none.1
 
-goes-run : {old new : Buffers} {since bytes : List ℕ} (run : Run) {from size : ℕ} → is_full old ≡ false
+goes-run : {old new : Buffers} {since bytes : List ℕ} (run : RunKind) {from size : ℕ} → is_full old ≡ false
     → new ≡ with_wanted old (run_record (run_kind run) from size) → IsRunAt bytes run from size
     → added usual_limit since (take size (drop from bytes)) ≡ events_of_run run (take size (drop from bytes))
     → ReadsOn old new since (since ++ take size (drop from bytes)) bytes from size
@@ -210,7 +210,7 @@ no_run bytes end (Text text) whole none buffers start = absurd (omega (arith, wh
 no_run bytes end (Data those) whole none buffers start = absurd (omega (arith, whole.0, none))
 no_run bytes end Nothing whole none buffers start = refl
 
-module _ (old mid new : Buffers) (since bytes : List ℕ) (from : ℕ) (run : Returned) {HasReadBefore : List ℕ → Type 0}
+module _ (old mid new : Buffers) (since bytes : List ℕ) (from : ℕ) (run : Run) {HasReadBefore : List ℕ → Type 0}
     (laws : Laws) (free : is_full old ≡ false) (begins : from ≤ length bytes)
     (r : ReturnsRun buffers_with_event is_full old mid usual_limit HasReadBefore (drop from bytes) run)
     (before : HasReadBefore since) where
@@ -221,7 +221,7 @@ module _ (old mid new : Buffers) (since bytes : List ℕ) (from : ℕ) (run : Re
   call = goes-call old mid since bytes from run.start laws free (r.comes since before)
 
   -- A run of this kind was recorded.
-  goes-some : (kind : Run) → 0 < length (run_bytes run)
+  goes-some : (kind : RunKind) → 0 < length (run_bytes run)
       → new ≡ with_wanted mid (run_record (run_kind kind) (from + run.start) (length (run_bytes run)))
       → IsRunOfKind kind (run_bytes run) → run_events run ≡ events_of_run kind (run_bytes run)
       → ReadsOn old new since (after_call ++ run_bytes run) bytes from run.end

@@ -30,7 +30,7 @@ pub use Rattle.vte_core.specs.declared.parser.saved.Saved.{Saved}
 pub use Rattle.vte_c.specs.private.Buffers.{AreCharacters, Holds, Buffers, Starts, has_room_for, is_full, paused_if, resumed, buffers_of, buffers_with_event, with_run, with_taken, with_wanted}
 unfoldable pub use Rattle.vte_c.specs.private.Buffers.{with_one, with_record}
 pub use Rattle.vte_c.specs.private.Feeding.{AreFirst, Continues, HasFed, ReadsOn, HasReadOn, HasEntries, NoRecordStops, StopsAtNone, has_kind, kinds_of, with_entries}
-pub use Rattle.vte_c.specs.Record.{DataRun, InInput, Entry, Run, Single, TextRun, count_byte, data_of, events_in, flag_byte, group_bytes, groups_in, is_at_limit, intermediates_in, entry_data, entry_events, event_kind, may_have_lost, numbers_in, piece_bytes, pieces_in, record_at, records_from, reported, events_of_run, run_kind, run_record, two_bytes, max_added, with_intermediates, with_loss, all_kinds}
+pub use Rattle.vte_c.specs.Record.{DataRun, InInput, Entry, RunKind, Single, TextRun, count_byte, data_of, events_in, flag_byte, group_bytes, groups_in, is_at_limit, intermediates_in, entry_data, entry_events, event_kind, may_have_lost, numbers_in, piece_bytes, pieces_in, record_at, records_from, reported, events_of_run, run_kind, run_record, two_bytes, max_added, with_intermediates, with_loss, all_kinds}
 unfoldable pub use Rattle.vte_c.specs.Record.{event_in, events_of, has, without_loss}
 pub use Rattle.vte_c.specs.private.TextBuffer.{TextBuffer, text_buffer_of, text_buffer_with_event}
 unfoldable pub use Rattle.vte_c.specs.private.TextBuffer.{text_buffer_with}

@@ -1,6 +1,6 @@
 -- A parser that read a part of a call goes on as one that has read another stream (`Continues`), and so it does after
 -- the next part: what the parts add is joined.
-use Rattle.vte_c.proofs.Common.{AreFirst, Continues, Event, GoesOnFromPositions, List, Print, [], add_assoc, added, ap, append-nil, append_assoc, arith, breaks, usual_limit, breaks_at, cases_Bool, drop, drop-drop, inl, inr, length, length-drop, open_character, refl, replacement, resumed_stream, suc, sym, take, take-add, take-append-drop, reported_before, true, zero, zero-add, ℕ, ◌++◌, ◌+◌, ◌∙◌, ◌∷◌, ◌≡◌, ◌≤◌, NoEventStops, Bool, DataRun, NoKindStops, NoRecordStops, InInput, IsStart, Entry, OpensSilently, Put, Run, Single, TextRun, VteEvent, add-one, chars, false, flat_map, get_or, has, has_kind, if◌then◌else◌, is_stop, entry_data, entry_events, event_kind, map, or_parts, records_from, reported, events_of_run, run_kind, take_more, ◌-◌, ◌<◌}
+use Rattle.vte_c.proofs.Common.{AreFirst, Continues, Event, GoesOnFromPositions, List, Print, [], add_assoc, added, ap, append-nil, append_assoc, arith, breaks, usual_limit, breaks_at, cases_Bool, drop, drop-drop, inl, inr, length, length-drop, open_character, refl, replacement, resumed_stream, suc, sym, take, take-add, take-append-drop, reported_before, true, zero, zero-add, ℕ, ◌++◌, ◌+◌, ◌∙◌, ◌∷◌, ◌≡◌, ◌≤◌, NoEventStops, Bool, DataRun, NoKindStops, NoRecordStops, InInput, IsStart, Entry, OpensSilently, Put, RunKind, Single, TextRun, VteEvent, add-one, chars, false, flat_map, get_or, has, has_kind, if◌then◌else◌, is_stop, entry_data, entry_events, event_kind, map, or_parts, records_from, reported, events_of_run, run_kind, take_more, ◌-◌, ◌<◌}
 use Rattle.vte_core.proofs.EarlyStops.{added-append}
 use Rattle.vte_core.proofs.streams.After.{added-nothing}
 use Rattle.vte_core.proofs.Shapes.{breaks-next}
@@ -127,7 +127,7 @@ no_event_stops-each : (stop : ℕ → Bool) (call : ℕ → Event) → ((n : ℕ
 no_event_stops-each stop call other [] = tt
 no_event_stops-each stop call other (n ∷ ns) = (other n, no_event_stops-each stop call other ns)
 
-pub no_event_stops-run : (stop : ℕ → Bool) (run : Run) (bytes : List ℕ) → stop (run_kind run) ≡ false
+pub no_event_stops-run : (stop : ℕ → Bool) (run : RunKind) (bytes : List ℕ) → stop (run_kind run) ≡ false
     → NoEventStops stop (events_of_run run bytes)
 no_event_stops-run stop TextRun bytes other = no_event_stops-each stop Print (λ c. other) (chars bytes)
 no_event_stops-run stop DataRun bytes other = no_event_stops-each stop Put (λ b. other) bytes

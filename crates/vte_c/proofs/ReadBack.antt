@@ -1,6 +1,6 @@
 -- A caller finds in its buffers the records and data of the entries that a call wrote, and reads their events back from
 -- them (`entries_read`, `fed`). More bytes after the input change nothing (`entry_events_later`).
-use Rattle.vte_c.proofs.Common.{AreGroups, AreReadable, Bool, CsiDispatch, DataRun, EscDispatch, Event, Hook, InInput, IsBounded, Entry, List, OscDispatch, Print, Put, Run, usual_limit, Single, TextRun, VteEvent, [], add-zero, ap, append_assoc, arith, cases_Bool, concat, count_byte, count_of, data_of, drop, drop-append_seam, drop-drop, eqb-true, event_in, events_of, false, flag_byte, flat_map, get_or, group_bytes, groups_in, inl, inr, intermediates_in, entry_data, entry_events, kinds_of, length, length-append, map, map-set_same, min, numbers_in, piece_bytes, pieces_in, record_at, records_from, refl, events_of_run, run_kind, run_record, set, sum_by-cons, sym, take, take-append-drop, take-append_seam, take-map, true, two_bytes, with_intermediates, with_loss, without_loss, ℕ, ◌%◌, ◌*◌, ◌++◌, ◌+◌, ◌/◌, ◌==◌, ◌∙◌, ◌∷◌, ◌≡◌, ◌≤◌, Execute, HasGiven, HasReadSaved, Saved, Unhook, added, append-nil, events, has, event_kind, nat_tests, no_room, fed_count, reported, ◌<◌, AreEncoded, EventWriter, HasFed, HasReadOn, HasEntries, HasRead, HasReported, NoRecordStops, IsRunAt, Parser, Buffers, Starts, drop-append-le, events_in, filter-append, length-drop, length-map, length-take, buffers_of, take-append-le, all_kinds}
+use Rattle.vte_c.proofs.Common.{AreGroups, AreReadable, Bool, CsiDispatch, DataRun, EscDispatch, Event, Hook, InInput, IsBounded, Entry, List, OscDispatch, Print, Put, RunKind, usual_limit, Single, TextRun, VteEvent, [], add-zero, ap, append_assoc, arith, cases_Bool, concat, count_byte, count_of, data_of, drop, drop-append_seam, drop-drop, eqb-true, event_in, events_of, false, flag_byte, flat_map, get_or, group_bytes, groups_in, inl, inr, intermediates_in, entry_data, entry_events, kinds_of, length, length-append, map, map-set_same, min, numbers_in, piece_bytes, pieces_in, record_at, records_from, refl, events_of_run, run_kind, run_record, set, sum_by-cons, sym, take, take-append-drop, take-append_seam, take-map, true, two_bytes, with_intermediates, with_loss, without_loss, ℕ, ◌%◌, ◌*◌, ◌++◌, ◌+◌, ◌/◌, ◌==◌, ◌∙◌, ◌∷◌, ◌≡◌, ◌≤◌, Execute, HasGiven, HasReadSaved, Saved, Unhook, added, append-nil, events, has, event_kind, nat_tests, no_room, fed_count, reported, ◌<◌, AreEncoded, EventWriter, HasFed, HasReadOn, HasEntries, HasRead, HasReported, NoRecordStops, IsRunAt, Parser, Buffers, Starts, drop-append-le, events_in, filter-append, length-drop, length-map, length-take, buffers_of, take-append-le, all_kinds}
 use Rattle.std.specs.Char.{encode_utf8}
 use Rattle.vte_core.proofs.bytes.Runs.{chars-encode}
 use Rattle.vte_c.proofs.Buffers.{length-groups, length-two_bytes, length-records}
@@ -95,7 +95,7 @@ read_single input area back offset _ bounded is_there = refl
 
 -- The data of each is where those before it end.
 
-read_run : (input area : List ℕ) (run : Run) (start size : ℕ)
+read_run : (input area : List ℕ) (run : RunKind) (start size : ℕ)
     → events_of input area (run_record (run_kind run) start size) ≡ events_of_run run (take size (drop start input))
 unfolding events_of
 read_run input area TextRun start size = refl
@@ -237,7 +237,7 @@ same_run input more start size within =
     let whole : size ≤ length (drop start input) = omega (arith, length-drop start input) in
     rw (drop-append-le start input more, take-append-le size (drop start input) more) refl
 
-run_later : (input more : List ℕ) (run : Run) (start size : ℕ) → IsRunAt input run start size
+run_later : (input more : List ℕ) (run : RunKind) (start size : ℕ) → IsRunAt input run start size
     → IsRunAt (input ++ more) run start size
 run_later input more run start size is_run =
     let same = same_run input more start size is_run.within in

@@ -179,16 +179,16 @@ abbrev pub reported : ℕ → List Event → List Event
 reported kinds events = filter (λ event. has kinds (event_kind event)) events
 
 -- What a run of bytes is: text, or data of a device control string.
-pub data Run : Type 0 where
-  TextRun : Run
-  DataRun : Run
+pub data RunKind : Type 0 where
+  TextRun : RunKind
+  DataRun : RunKind
 
-abbrev pub run_kind : Run → ℕ
+abbrev pub run_kind : RunKind → ℕ
 run_kind TextRun = text_kind
 run_kind DataRun = data_kind
 
 -- The events of a run: of a text each character is printed, of data each byte is put.
-abbrev pub events_of_run : Run → List ℕ → List Event
+abbrev pub events_of_run : RunKind → List ℕ → List Event
 events_of_run TextRun bytes = map Print (chars bytes)
 events_of_run DataRun bytes = map Put bytes
 
@@ -199,7 +199,7 @@ run_record kind start size = record (blank_record kind size) { start = start }
 -- What a record is for: an event, with its data in the area, or a run in the input.
 pub data Entry : Type 0 where
   Single : Event → Entry
-  InInput : Run → ℕ → ℕ → Entry
+  InInput : RunKind → ℕ → ℕ → Entry
 
 abbrev pub entry_data : Entry → List ℕ
 entry_data (Single event) = data_of event

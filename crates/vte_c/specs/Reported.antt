@@ -9,7 +9,7 @@ use Rattle.vte_core.specs.Saved.{HasReadSaved}
 use Rattle.vte_core.specs.Stream.{added, events, usual_limit}
 use Rattle.vte_core.specs.Text.{HasNoControls}
 use Rattle.vte_core.specs.declared.parser.saved.Saved.{Saved}
-use Rattle.vte_c.specs.Record.{Run, TextRun, DataRun, Entry, Single, InInput, has, entry_data, entry_events, event_kind, records_from, reported, without_loss}
+use Rattle.vte_c.specs.Record.{RunKind, TextRun, DataRun, Entry, Single, InInput, has, entry_data, entry_events, event_kind, records_from, reported, without_loss}
 use Rattle.vte_c.specs.declared.event.VteEvent.{VteEvent}
 
 -- The parser has read the stream except for the unread bytes at its end. What was given of its
@@ -63,12 +63,12 @@ pub record StopsAtKind (stops : ℕ) (kinds : List ℕ) : Type 0 where
 
 -- A text is well-formed characters, none of them a control. Data may be any bytes: its events are
 -- these.
-abbrev pub IsRunOfKind : Run → List ℕ → Type 0
+abbrev pub IsRunOfKind : RunKind → List ℕ → Type 0
 IsRunOfKind TextRun bytes = IsUtf8 bytes × HasNoControls bytes
 IsRunOfKind DataRun bytes = ⊤
 
 -- A part of the input that is a run, of one byte or more.
-pub record IsRunAt (input : List ℕ) (run : Run) (start size : ℕ) : Type 0 where
+pub record IsRunAt (input : List ℕ) (run : RunKind) (start size : ℕ) : Type 0 where
   pub within : start + size ≤ length input
   pub some : 0 < size
   pub is : IsRunOfKind run (take size (drop start input))

@@ -116,20 +116,21 @@ pub prefix-more : (limit : Option ℕ) (stream bytes more : List ℕ)
 prefix-more limit stream [] more some = absurd (omega (arith, begin_count-nothing limit stream, some))
 prefix-more limit stream (b ∷ bytes) more some =
     elim (cases_Bool (nat_lt 0 (begin_count (added limit stream (b ∷ []))))) [
-  | inl begins ↦ rw begins refl
-  | inr no_begin ↦
-      let none : begin_count (added limit stream (b ∷ [])) ≡ 0 = grind (arith, nat_tests) in
-      let later : 0 < begin_count (added limit (stream ++ b ∷ []) (prefix_to_begin limit (stream ++ b ∷ []) bytes)) =
-      omega (
-        arith,
-        begin_count-added limit stream (b ∷ [])
-            (prefix_to_begin limit (stream ++ b ∷ []) bytes),
-        none,
-        rw no_begin at some,
-      )
-      in
-      rw no_begin (ap (λ prefix. b ∷ prefix) (prefix-more limit (stream ++ b ∷ []) bytes more later))
-]
+      | inl begins ↦ rw begins refl
+      | inr no_begin ↦
+          let none : begin_count (added limit stream (b ∷ [])) ≡ 0 = grind (arith, nat_tests) in
+          let later : 0
+          < begin_count (added limit (stream ++ b ∷ []) (prefix_to_begin limit (stream ++ b ∷ []) bytes)) =
+          omega (
+            arith,
+            begin_count-added limit stream (b ∷ [])
+                (prefix_to_begin limit (stream ++ b ∷ []) bytes),
+            none,
+            rw no_begin at some,
+          )
+          in
+          rw no_begin (ap (λ prefix. b ∷ prefix) (prefix-more limit (stream ++ b ∷ []) bytes more later))
+    ]
 
 -- Bytes in which no update begins are their own prefix.
 pub prefix-all : (limit : Option ℕ) (stream bytes : List ℕ)

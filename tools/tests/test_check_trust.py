@@ -29,7 +29,7 @@ UNSAFE = {
         f"{CARGO}reader.rs", f"{TEXT} unsafe fn take_run() {{ unsafe {{ f() }} }}",
         stands("3 text_between take_run", "4 text_between take_run")),
     "not around a call": (
-        f"{CARGO}reader/calls.rs", "fn advance_to_run() { take_run(bytes, range) }",
+        f"{CARGO}reader/advance.rs", "fn advance_to_run() { take_run(bytes, range) }",
         stands("0", "1 advance_to_run")),
     "of attributes, functions, traits, types and macros": (
         "a.rs", "unsafe #[unsafe(no_mangle)]\npub extern \"C\" fn f() {} unsafe impl T for U {} "
@@ -53,13 +53,13 @@ PARSER = {
     "others make a parser": ("parser", "pub(crate) fn new(bytes: B) -> Self", ""),
     "others set its looks": ("reader/looks", "pub tally: Snapshot<Tally>,", MADE),
     "a call passes its bytes on": (
-        "reader/calls", "self.drive::<P, InRuns, true>(performer, Chunk::new(bytes)) // bytes", ""),
-    "a call takes a run": ("reader/long_calls", "Ok(take_run(bytes, range))", ""),
-    "a call reads bytes": ("reader/calls", "for byte in bytes {}", USED),
-    "a call gives its bytes to others": ("reader/long_calls", "f(bytes); Chunk::new(bytes)", USED),
-    "a call opens a chunk": ("reader/calls", "let reader = Chunk::new(bytes).open();", USED),
-    "a call keeps a run": ("reader/calls", "let run = take_run(bytes, range);", USED),
-    "bytes by another name": ("reader/calls", "    pub fn advance(&mut self, data: &[u8])", USED),
+        "reader/advance", "self.drive::<P, InRuns, true>(performer, Chunk::new(bytes)) // bytes", ""),
+    "a call takes a run": ("reader/advance_long", "Ok(take_run(bytes, range))", ""),
+    "a call reads bytes": ("reader/advance", "for byte in bytes {}", USED),
+    "a call gives its bytes to others": ("reader/advance_long", "f(bytes); Chunk::new(bytes)", USED),
+    "a call opens a chunk": ("reader/advance", "let reader = Chunk::new(bytes).open();", USED),
+    "a call keeps a run": ("reader/advance", "let run = take_run(bytes, range);", USED),
+    "bytes by another name": ("reader/advance", "    pub fn advance(&mut self, data: &[u8])", USED),
     "a search reads a byte": ("reader/run_end", "if input.bytes[at] == 0 {", UNCOUNTED),
     "a search counts by itself": ("reader/run_blocks", "self.count_looks(0);", UNCOUNTED),
     "a search sets the tally": ("reader/run_end", "reader.tally = tally_before;", UNCOUNTED),
@@ -93,7 +93,7 @@ def test_all_files_and_handles():
 @pytest.mark.parametrize("place, word, fault", [
     ("reader", "tally", r"nothing there is \btally:"),
     ("reader", "count_looks", r"nothing there is \bfn count_looks\("),
-    ("reader/calls", "take_run", r"nothing there is ^ *take_run\(bytes, range\)$"),
+    ("reader/advance", "take_run", r"nothing there is ^ *take_run\(bytes, range\)$"),
     ("reader/run_end", "", "it isn't there"),
     ("reader", "no word of it", None)])
 def test_a_name_that_nothing_has_any_more(place, word, fault):

@@ -199,8 +199,7 @@ impl Collected {
         ensures count { looked reader.new + from
             ≡ looked reader.old + min (result.position + 1) (length input.entry.bytes.now) }
     {
-        // In a local, because a field would be stored at each digit, and as wide as the sum that
-        // each digit makes.
+        // A local, because the field would be cut to 16 bits and stored at each digit.
         let mut number = u32::from(self.number);
         let mut position = from;
         let mut next = None;

@@ -1,4 +1,4 @@
-//! The parser with a limit, and what it is made of. The calls that read are in `reader/calls`.
+//! The parser with a limit, and what it is made of. The calls that read are in `reader/advance`.
 ghost use Rattle.std.specs.Prelude.{◌≡◌, true, false, ℕ, List, [], Some, ⊤};
 ghost use Rattle.vte_core.specs.Advance.{ReadsBytes, ReadsUntilTerminated};
 ghost use Rattle.vte_core.specs.EarlyStop.{NoCharacterStops};

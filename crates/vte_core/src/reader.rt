@@ -7,11 +7,11 @@
 ghost use Rattle.std.specs.Prelude.{◌≡◌, ◌+◌, ◌-◌, ◌<◌, ◌≤◌, ℕ, [], ◌∷◌, ◌++◌, false, true, length, drop, map, take, slice_index, vec_capacity, MatchOption, IsUtf8};
 ghost use Rattle.vte_core.specs.private.Prelude.{AreOfKind, ArePut, IsRange, IsRun, IsTaken, IsWindow, PrintsRun, Put, Reports, after, character_event, counted, is_in, looked, malformed_event, from_to};
 
-mod calls;
+mod advance;
+// cargo: #[cfg(any(feature = "std", feature = "ansi"))]
+mod advance_long;
 mod counted_perform;
 mod granularity;
-// cargo: #[cfg(any(feature = "std", feature = "ansi"))]
-mod long_calls;
 // cargo lacks: only contracts read it
 mod looks;
 mod run;

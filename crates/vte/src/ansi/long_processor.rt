@@ -78,8 +78,8 @@ impl<T: Timeout + Drop, A: Allocator> LongProcessor<T, A> {
         self.engine.hold.len()
     }
 
-    /// Returns whether data bytes are in no piece of the operating system command that is open, or
-    /// else ended last: those after the 16th piece. Bytes that are held back don't count.
+    /// Returns whether the operating system command that is open lost data bytes, or if none is
+    /// open, the last one: those after the 16th piece. Bytes that are held back don't count.
     pub fn command_lost_data(&self) -> bool
         ensures lost { result ≡ lost_data_long (parser_in_long self.now) }
         ensures open { SaysParsedLoss None (HasParsedAndHoldsLong T.value_of self.now) result }

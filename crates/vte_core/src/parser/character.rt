@@ -65,7 +65,8 @@ impl<B: Buffer> Machine<B> {
         }
     }
 
-    /// Reads the second and third byte of a character of three. The second was looked at.
+    /// Reads the second and third byte of a character of three. The second, at `next`, was looked
+    /// at.
     #[inline(always)]
     pub(crate) fn complete_three<P: CountedPerform<G>, G: Granularity, const MAY_STOP: bool>(
         &mut self,
@@ -74,33 +75,33 @@ impl<B: Buffer> Machine<B> {
         first: u8,
         second: u8,
         input: Input<'_>,
-        from: usize,
+        next: usize,
     ) -> usize
         requires may_read { MayReadByte
             (chunk_call MAY_STOP P.step P.is_terminated B.limit input.bytes.now)
-            (P.value_of performer.old) (Text Nothing) self.old from second }
+            (P.value_of performer.old) (Text Nothing) self.old next second }
         requires lead { BeginsThree first }
         ensures completes { Completes
             (chunk_call MAY_STOP P.step P.is_terminated B.limit input.entry.bytes.now)
-            (P.value_of performer.old) (P.value_of performer.new) from result (One first) self.new }
-        ensures spends { SpendsWithin 2 1 2 input.entry.bytes.now from result self.old self.new
+            (P.value_of performer.old) (P.value_of performer.new) next result (One first) self.new }
+        ensures spends { SpendsWithin 2 1 2 input.entry.bytes.now next result self.old self.new
             reader.old reader.new }
     {
         if !may_begin_three(first, second) {
             performer.print_char(reader, char::REPLACEMENT_CHARACTER);
-            return from;
+            return next;
         }
-        if from + 1 >= input.len() {
+        if next + 1 >= input.len() {
             self.state = State::Text(Unfinished::Two(first, second));
-            return from + 1;
+            return next + 1;
         }
-        let third = reader.byte_at(input, from + 1);
+        let third = reader.byte_at(input, next + 1);
         if !is_continuation(third) {
             performer.print_char(reader, char::REPLACEMENT_CHARACTER);
-            return from + 1;
+            return next + 1;
         }
         reader.report_character(performer, character_of_three(first, second, third));
-        from + 2
+        next + 2
     }
 
     /// Reads the character of four bytes that begins at a position, whose first two were looked at.

@@ -94,8 +94,8 @@ impl<A: Allocator> LongParser<A> {
         }
     }
 
-    /// Returns whether data bytes are in no piece of the operating system command that is open, or
-    /// else ended last: those after the 16th piece.
+    /// Returns whether the operating system command that is open lost data bytes, or if none is
+    /// open, the last one: those after the 16th piece.
     pub fn command_lost_data(&self) -> bool
         ensures lost { result ≡ lost_data_long self.now }
         ensures open { (stream : List ℕ) → HasReadLong self.now stream

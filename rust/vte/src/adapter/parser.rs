@@ -132,8 +132,8 @@ impl<const OSC_RAW_BUF_SIZE: usize> Parser<OSC_RAW_BUF_SIZE> {
         }
     }
 
-    /// Returns whether data bytes are in no piece of the operating system command that is open, or
-    /// else ended last: those after the 16th piece.
+    /// Returns whether the operating system command that is open lost data bytes, or if none is
+    /// open, the last one: those after the 16th piece.
     pub fn command_lost_data(&self) -> bool {
         self.0.command_lost_data()
     }

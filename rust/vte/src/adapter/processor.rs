@@ -44,9 +44,9 @@ macro_rules! processor {
                 self.0.sync_bytes_count()
             }
 
-            /// Returns whether data bytes are in no piece of the operating system command that is
-            /// open, or else ended last: those after the 16th piece, and if there is a limit those
-            /// after it. Bytes that are held back don't count.
+            /// Returns whether the operating system command that is open lost data bytes, or if
+            /// none is open, the last one: those after the 16th piece, and if there is a limit
+            /// those after it. Bytes that are held back don't count.
             pub fn command_lost_data(&self) -> bool {
                 self.0.command_lost_data()
             }

@@ -69,11 +69,11 @@ fn skip_blocks(text: &[u8], before: usize) -> usize
 fn has_no_private_sequence(block: &[u8; 34]) -> bool
     ensures { IsTrue result → HasNoPrivateSequence block.now 32 }
 {
-    let mut plain = true;
+    let mut none_found = true;
     for at in 0..32 {
-        plain &= (block[at] != ESCAPE) | (block[at + 2] != b'?');
+        none_found &= (block[at] != ESCAPE) | (block[at + 2] != b'?');
     }
-    plain
+    none_found
 }
 
 /// Returns whether the text starts with a begin-update.

@@ -4,4 +4,4 @@ use Rattle.vte.specs.private.Hold.{HasNoPrivateSequence}
 use Rattle.vte.proofs.ansi.updates.release.has_no_private_sequence.Given as goal
 
 abbrev pub invariant-loop-at : goal.invariant-loop-at
-invariant-loop-at l = IsTrue l.plain → HasNoPrivateSequence l.block l.at
+invariant-loop-at l = IsTrue l.none_found → HasNoPrivateSequence l.block l.at

@@ -18,8 +18,8 @@ returns-then-not-may_begin_three-clause-completes g c =
     r.looked_at
 
 -- The call ends after two bytes: still open.
-pub returns-then-from-len-clause-completes : goal.returns-then-from-len-clause-completes
-returns-then-from-len-clause-completes g c = search (rules, arith, completes-all, goes-second)
+pub returns-then-next-len-clause-completes : goal.returns-then-next-len-clause-completes
+returns-then-next-len-clause-completes g c = search (rules, arith, completes-all, goes-second)
 
 -- The third byte does not continue: broken after two.
 pub returns-then-not-is_continuation-clause-completes : goal.returns-then-not-is_continuation-clause-completes
@@ -30,7 +30,7 @@ returns-then-not-is_continuation-clause-completes g c =
     completes-broken (goes-second c.args.self.now c.requires.lead.low second r.within r.looked_at)
     (λ more. third-broken c.args.first c.args.second c.byte_at-third.result more misfits) r.begun
     c.print_char-then-not-is_continuation.ensures.value
-    (omega (arith, r.within, c.if-from-len.false)) c.byte_at-third.ensures.value
+    (omega (arith, r.within, c.if-next-len.false)) c.byte_at-third.ensures.value
 
 -- Three bytes spell a character.
 pub returns-clause-completes : goal.returns-clause-completes
@@ -42,4 +42,4 @@ returns-clause-completes g c =
     spells-three c.requires.lead.low c.requires.lead.high second third in
     completes-whole (goes-second c.args.self.now c.requires.lead.low second r.within r.looked_at)
     (λ more. (spells.is_whole, c.character_of_three.ensures)) r.begun c.report_character.ensures.value
-    (omega (arith, r.within, c.if-from-len.false)) c.byte_at-third.ensures.value (counted _)
+    (omega (arith, r.within, c.if-next-len.false)) c.byte_at-third.ensures.value (counted _)

@@ -150,8 +150,7 @@ impl Collected {
         input: &[u8],
         from: usize,
     ) -> HeadEnd {
-        // In a local, because a field would be stored at each digit, and as wide as the sum that
-        // each digit makes.
+        // A local, because the field would be cut to 16 bits and stored at each digit.
         let mut number = u32::from(self.number);
         let mut position = from;
         let mut next = None;

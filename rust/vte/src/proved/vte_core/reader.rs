@@ -1,11 +1,11 @@
 // Written by tools/erase from crates/vte_core/src/reader.rt: edit that one.
 //! The only module that has the bytes of a call, and the only way to report events.
 
-mod calls;
+mod advance;
+#[cfg(any(feature = "std", feature = "ansi"))]
+mod advance_long;
 mod counted_perform;
 mod granularity;
-#[cfg(any(feature = "std", feature = "ansi"))]
-mod long_calls;
 mod run;
 mod run_blocks;
 mod run_end;

@@ -118,7 +118,8 @@ fn number_of_four(first: u8, second: u8, third: u8, fourth: u8) -> u32 {
         + (fourth % 64) as u32
 }
 
-/// Returns the character of this number, which is a surrogate's for no well-formed sequence.
+/// Returns the character of this number, or `Broken` for a surrogate's, which no well-formed
+/// sequence has.
 fn whole_character(code: u32) -> Carried {
     match char::from_u32(code) {
         Some(c) => Carried::Whole(c),

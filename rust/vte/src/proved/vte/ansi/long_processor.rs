@@ -42,8 +42,8 @@ impl<T: Timeout> LongProcessor<T> {
         self.engine.hold.len()
     }
 
-    /// Returns whether data bytes are in no piece of the operating system command that is open, or
-    /// else ended last: those after the 16th piece. Bytes that are held back don't count.
+    /// Returns whether the operating system command that is open lost data bytes, or if none is
+    /// open, the last one: those after the 16th piece. Bytes that are held back don't count.
     pub fn command_lost_data(&self) -> bool {
         self.engine.parser.command_lost_data()
     }

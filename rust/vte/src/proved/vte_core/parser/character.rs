@@ -47,7 +47,8 @@ impl<B: Buffer> Machine<B> {
         }
     }
 
-    /// Reads the second and third byte of a character of three. The second was looked at.
+    /// Reads the second and third byte of a character of three. The second, at `next`, was looked
+    /// at.
     #[inline(always)]
     pub(crate) fn complete_three<
         P: CountedPerform<G> + ?Sized,
@@ -60,23 +61,23 @@ impl<B: Buffer> Machine<B> {
         first: u8,
         second: u8,
         input: &[u8],
-        from: usize,
+        next: usize,
     ) -> usize {
         if !may_begin_three(first, second) {
             performer.print_char(reader, char::REPLACEMENT_CHARACTER);
-            return from;
+            return next;
         }
-        if from + 1 >= input.len() {
+        if next + 1 >= input.len() {
             self.state = State::Text(Unfinished::Two(first, second));
-            return from + 1;
+            return next + 1;
         }
-        let third = reader.byte_at(input, from + 1);
+        let third = reader.byte_at(input, next + 1);
         if !is_continuation(third) {
             performer.print_char(reader, char::REPLACEMENT_CHARACTER);
-            return from + 1;
+            return next + 1;
         }
         reader.report_character(performer, character_of_three(first, second, third));
-        from + 2
+        next + 2
     }
 
     /// Reads the character of four bytes that begins at a position, whose first two were looked at.

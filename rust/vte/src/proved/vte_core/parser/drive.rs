@@ -48,8 +48,8 @@ impl<B: Buffer> Machine<B> {
         }
     }
 
-    /// Reads at least one byte, before which the performer was asked, or none if memory is refused
-    /// for it.
+    /// Reads at least one byte, or none if memory is refused for it. The performer was asked before
+    /// that byte.
     #[inline]
     pub(crate) fn read_by_state<
         P: CountedPerform<G> + ?Sized,

@@ -54,8 +54,8 @@ impl LongParser {
         }
     }
 
-    /// Returns whether data bytes are in no piece of the operating system command that is open, or
-    /// else ended last: those after the 16th piece.
+    /// Returns whether the operating system command that is open lost data bytes, or if none is
+    /// open, the last one: those after the 16th piece.
     #[inline]
     pub fn command_lost_data(&self) -> bool {
         self.machine.command_lost_data()

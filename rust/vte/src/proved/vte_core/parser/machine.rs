@@ -24,8 +24,8 @@ impl<B: Buffer> Machine<B> {
         }
     }
 
-    /// Returns whether data bytes are in no piece of the operating system command that is open, or
-    /// else ended last.
+    /// Returns whether the operating system command that is open lost data bytes, or if none is
+    /// open, the last one: those that are in no piece.
     pub(crate) fn command_lost_data(&self) -> bool {
         self.command.has_lost_data()
     }

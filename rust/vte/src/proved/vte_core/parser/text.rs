@@ -150,8 +150,9 @@ impl<B: Buffer> Machine<B> {
         position
     }
 
-    /// Reads text character by character, for a call that can't stop. Each round has its byte from
-    /// the one before, which takes fewer instructions, but more if the call may stop.
+    /// Reads text character by character, for a call that can't stop. A round looks at the byte of
+    /// the next one, which takes fewer instructions than each looking at its own. In a call that
+    /// may stop it takes more.
     #[inline(always)]
     fn read_characters<P: CountedPerform<G> + ?Sized, G: Granularity>(
         &mut self,

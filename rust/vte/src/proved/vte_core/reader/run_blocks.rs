@@ -24,20 +24,20 @@ impl Reader {
         }
         let mut at = from;
         // Two are enough at first, since most runs are of ASCII.
-        let mut plain = ASCII_BLOCKS / 2;
+        let mut ascii_blocks = ASCII_BLOCKS / 2;
         let most = if layout { ASCII_BLOCKS } else { usize::MAX };
         while let Some(window) = self.get_window(input, at - 3) {
             if !continues_run(&window, layout) {
                 break;
             }
             at += 16;
-            plain = if is_ascii(&window.current) {
-                plain + 1
+            ascii_blocks = if is_ascii(&window.current) {
+                ascii_blocks + 1
             } else {
                 0
             };
-            if plain >= most {
-                plain = 0;
+            if ascii_blocks >= most {
+                ascii_blocks = 0;
                 at = self.skip_ascii_blocks(input, at);
             }
         }

@@ -57,11 +57,11 @@ fn skip_blocks(text: &[u8], before: usize) -> usize {
 /// followed by what both have as their third byte. Compilers make vector instructions of the loop.
 #[inline(always)]
 fn has_no_private_sequence(block: &[u8; 34]) -> bool {
-    let mut plain = true;
+    let mut none_found = true;
     for at in 0..32 {
-        plain &= (block[at] != ESCAPE) | (block[at + 2] != b'?');
+        none_found &= (block[at] != ESCAPE) | (block[at + 2] != b'?');
     }
-    plain
+    none_found
 }
 
 /// Returns whether the text starts with a begin-update.

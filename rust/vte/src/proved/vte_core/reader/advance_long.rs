@@ -1,4 +1,4 @@
-// Written by tools/erase from crates/vte_core/src/reader/long_calls.rt: edit that one.
+// Written by tools/erase from crates/vte_core/src/reader/advance_long.rt: edit that one.
 //! The calls that read bytes into a [`LongParser`].
 
 use crate::proved::vte_core::parser::{LongParser, Refused};

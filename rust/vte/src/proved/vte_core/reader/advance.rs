@@ -1,4 +1,4 @@
-// Written by tools/erase from crates/vte_core/src/reader/calls.rt: edit that one.
+// Written by tools/erase from crates/vte_core/src/reader/advance.rt: edit that one.
 //! The calls that read bytes into a [`Parser`].
 
 use crate::proved::vte_core::parser::Parser;

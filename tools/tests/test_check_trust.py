@@ -53,10 +53,12 @@ PARSER = {
     "others make a parser": ("parser", "pub(crate) fn new(bytes: B) -> Self", ""),
     "others set its looks": ("reader/looks", "pub tally: Snapshot<Tally>,", MADE),
     "a call passes its bytes on": (
-        "reader/advance", "self.drive::<P, InRuns, true>(performer, Chunk::new(bytes)) // bytes", ""),
+        "reader/advance",
+        "self.drive::<P, InRuns, true>(performer, Chunk::new(bytes)) // bytes", ""),
     "a call takes a run": ("reader/advance_long", "Ok(take_run(bytes, range))", ""),
     "a call reads bytes": ("reader/advance", "for byte in bytes {}", USED),
-    "a call gives its bytes to others": ("reader/advance_long", "f(bytes); Chunk::new(bytes)", USED),
+    "a call gives its bytes to others": (
+        "reader/advance_long", "f(bytes); Chunk::new(bytes)", USED),
     "a call opens a chunk": ("reader/advance", "let reader = Chunk::new(bytes).open();", USED),
     "a call keeps a run": ("reader/advance", "let run = take_run(bytes, range);", USED),
     "bytes by another name": ("reader/advance", "    pub fn advance(&mut self, data: &[u8])", USED),

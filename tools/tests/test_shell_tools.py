@@ -7,8 +7,8 @@ from importlib import import_module
 from pathlib import Path
 from types import SimpleNamespace
 
+import conftest
 import pytest
-from c_library import conftest
 from lib.generating.streams import generate
 
 from tests.support import TOOLS, run_here, write, write_program
@@ -90,7 +90,7 @@ def test_functions_that_may_panic(function, is_known):
 def test_streams_of_c(monkeypatch, words, count, seed):
     write_program("tools/run_pytest", "shift; echo $*")
     assert run_here("test_c_library", *words.split()) == (0, [words])
-    parser, of_c = ArgumentParser(), import_module("c_library.test_streams")
+    parser, of_c = ArgumentParser(), import_module("test_streams")
     conftest.pytest_addoption(SimpleNamespace(addoption=parser.add_argument))
     monkeypatch.setattr(of_c, "hostile_stream", lambda *it: [b"%d %d" % it[:2]])
     monkeypatch.setattr(of_c, "recorded", lambda: [("long", [b"a" * 20_000])])

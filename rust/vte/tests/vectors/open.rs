@@ -1,4 +1,4 @@
-//! What is unfinished, at each byte of streams. tools/c_library/test_open.py tries all vectors, by
+//! What is unfinished, at each byte of streams. c/tests/test_open.py tries all vectors, by
 //! a grammar.
 use vte::Open::*;
 use vte::{BoundedParser, Open, Parser, Perform};

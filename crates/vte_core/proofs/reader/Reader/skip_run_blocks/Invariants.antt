@@ -1,7 +1,7 @@
 -- The bytes so far lead to a state that the last three of them say (`leads`), and have no control that is left out
--- (`kept`). Blocks have 16 bytes or more (`whole`), each of which was looked at (`at_least`), none before the first block
--- (`none`), and what they save pays for a wasted one (`spare`). Blocks of ASCII are counted without overflow (`at_most`),
--- and the larger ones aren't the first (`early`).
+-- (`kept`). Blocks have 16 bytes or more (`whole`), each of which was looked at (`at_least`), none before the first
+-- block (`none`), and what they save pays for a wasted one (`spare`). Blocks of ASCII are counted without overflow
+-- (`at_most`), and the larger ones aren't the first (`early`).
 use Rattle.vte_core.proofs.Common.{false, length, ◌*◌, ◌+◌, ◌-◌, ◌≡◌, ◌≤◌, ◌<◌, looked}
 use Rattle.vte_core.specs.private.Scans.{Each}
 use Rattle.vte_core.proofs.automaton_states.Windows.{TrailsAt}

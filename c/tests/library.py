@@ -8,7 +8,7 @@ from pathlib import Path
 
 from tests.support import TOOLS
 
-PROGRAMS = TOOLS.parent / "c/tests"
+PROGRAMS = Path(__file__).parent
 EXAMPLES = TOOLS.parent / "c/examples"
 INCLUDE = TOOLS.parent / "c/include"
 WARNINGS = ["-O2", "-Wall", "-Wextra", "-Werror", f"-I{INCLUDE}"]

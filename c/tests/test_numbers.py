@@ -4,7 +4,7 @@ from functools import cache
 
 from tests.missing import need
 
-from c_library.library import INCLUDE, PROGRAMS, TOOLS, output_of
+from library import INCLUDE, PROGRAMS, TOOLS, output_of
 
 TYPES = TOOLS.parent / "rust/vte/src/proved/vte_types"
 # Rust's type, and how the names of C begin, or those that C has

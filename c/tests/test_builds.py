@@ -3,7 +3,7 @@ import re
 
 from tests.missing import miss, need
 
-from c_library.library import INCLUDE, PROGRAMS, SANITIZERS, TOOLS, compiles, output_of
+from library import INCLUDE, PROGRAMS, SANITIZERS, TOOLS, compiles, output_of
 
 # the only functions that the library of each build may need
 NEEDED = {"rt": {"memcpy", "memmove", "memset"},

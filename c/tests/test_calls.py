@@ -9,9 +9,9 @@ from lib.generating.calls import TRAIT, calls_of
 from lib.generating.vectors import all_vectors, bytes_of, lines_of
 from tests.missing import miss, need
 
-from c_library.calling import FUNCTIONS
-from c_library.library import PROGRAMS, SANITIZERS, output_of
-from c_library.test_numbers import of_rust
+from calling import FUNCTIONS
+from library import PROGRAMS, SANITIZERS, output_of
+from test_numbers import of_rust
 
 # a timeout that is set, which calls.c writes, and one that is cleared
 SET = "set_timeout 150"

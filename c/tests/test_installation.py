@@ -9,8 +9,8 @@ import pytest
 from tests.missing import need
 from tests.support import write_program
 
-from c_library.library import EXAMPLES, PROGRAMS, TOOLS, output_of
-from c_library.test_examples import STREAM, TEXT
+from library import EXAMPLES, PROGRAMS, TOOLS, output_of
+from test_examples import STREAM, TEXT
 
 # the files of an installed library
 HEADERS = "vte.h", "vte_long.h", "vte_handler.h", "vte.hpp"

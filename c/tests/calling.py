@@ -4,7 +4,7 @@ from ctypes import (CFUNCTYPE, Structure, byref, c_size_t, c_uint8, c_uint16, c_
                     c_void_p, create_string_buffer, sizeof)
 from functools import partial
 
-from c_library.library import INCLUDE
+from library import INCLUDE
 
 TEXT, EXECUTE, HOOK, DATA, UNHOOK, OSC, CSI, ESC = range(8)
 ALL_KINDS, NO_ROOM, ROOMS = 0xFF, 2 ** 64 - 1, (128, 2112)

@@ -5,7 +5,7 @@ from ctypes import c_char
 
 import pytest
 
-from c_library.calling import (ALL_KINDS, CSI, DATA, ESC, EXECUTE, FUNCTIONS, HOOK, NO_ROOM, OSC,
+from calling import (ALL_KINDS, CSI, DATA, ESC, EXECUTE, FUNCTIONS, HOOK, NO_ROOM, OSC,
                                ROOMS, TEXT, UNHOOK, Parser, Processor, parsers)
 
 OK, BELL, TRUNCATED = 0, 1, 2

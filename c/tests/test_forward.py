@@ -5,8 +5,8 @@ import re
 from lib.generating import streams
 from lib.judging import definition, house
 
-from c_library.library import EXAMPLES, PROGRAMS, SANITIZERS, output_of
-from c_library.test_examples import assert_ends_by_errors, assert_slow, program
+from library import EXAMPLES, PROGRAMS, SANITIZERS, output_of
+from test_examples import assert_ends_by_errors, assert_slow, program
 
 ST = b"\x1b\\"
 # streams, and what is passed on of them, worked out by hand

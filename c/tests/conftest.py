@@ -3,7 +3,7 @@ from functools import cache
 import pytest
 from tests.missing import need
 
-from c_library.library import Library
+from library import Library
 
 
 def pytest_addoption(parser):

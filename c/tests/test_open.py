@@ -3,8 +3,8 @@ from lib.generating.hostile_streams import hostile_stream
 from lib.generating.vectors import bytes_of, vectors
 from lib.judging.open_ends import open_at_end
 
-from c_library.calling import OSC, parsers
-from c_library.library import at_once
+from calling import OSC, parsers
+from library import at_once
 
 
 def test_prefixes(library):

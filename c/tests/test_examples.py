@@ -6,7 +6,7 @@ import subprocess
 import pytest
 from tests.missing import need
 
-from c_library.library import EXAMPLES, INCLUDE, output_of
+from library import EXAMPLES, INCLUDE, output_of
 
 # before glibc 2.34 pseudo-terminals were in a library of their own
 OF_PTY = "-lutil"

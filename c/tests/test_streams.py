@@ -5,7 +5,7 @@ from lib.generating.streams import recorded
 from lib.generating.vectors import bytes_of, lines_of, vectors
 from lib.judging import definition, house
 
-from c_library.library import at_once, output_of
+from library import at_once, output_of
 
 # arguments of the C program: chunks of one byte, of 4,096, and of random sizes in random room
 WAYS = [["1"], ["4096"], ["0"], ["7", "4", "2112"]]

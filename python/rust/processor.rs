@@ -119,8 +119,8 @@ impl Reader for Processor {
 
     fn read(&mut self, bytes: &[u8]) -> Result<usize, Refused> {
         let (bytes, before) = (step(bytes), self.calls.0.size());
-        let most = self.processor.sync_bytes_count() + bytes.len();
-        self.calls.0.reserve(most, self.command)?;
+        let parsed = self.processor.sync_bytes_count() + bytes.len();
+        self.calls.0.reserve(parsed, self.command)?;
         self.is_stopped = false;
         self.processor.advance_text(&mut self.calls, bytes)?;
         self.command = match self.calls.0.size() == before {

@@ -10,9 +10,9 @@ use vte::Refused;
 const STEP: usize = 1 << 12;
 /// How many values are recorded before objects are made of them: few, because their memory is then
 /// at hand.
-const MOST: usize = 1 << 11;
+const MAX_SIZE: usize = 1 << 11;
 /// The same for an input that is read without the lock, which would be taken again each time.
-const MOST_WITHOUT_LOCK: usize = 1 << 15;
+const MAX_SIZE_WITHOUT_LOCK: usize = 1 << 15;
 
 /// Records what a stream adds.
 pub trait Reader: Send {
@@ -42,31 +42,35 @@ pub fn read<F>(
 where
     F: FnOnce(PyObject, usize) -> Made,
 {
-    let (refusal, mut at) = (Refusal::new(py)?, 0);
+    let (refusal, mut position) = (Refusal::new(py)?, 0);
     reader.tape().end_run();
     loop {
-        let rest = &source[at..];
+        let rest = &source[position..];
         let (read, is_refused) = run(py, rest.len(), || read_some(reader, rest));
-        at += read;
-        let ends = is_refused || at == source.len() || reader.has_stopped();
+        position += read;
+        let ends = is_refused || position == source.len() || reader.has_stopped();
         let done = match reader.tape().make(py, ends) {
             Ok(()) if !ends => continue,
             Ok(()) if is_refused => Err(no_memory(py)),
             done => done,
         };
-        return refusal.or(py, reader.tape(), at, done, answer);
+        return refusal.or(py, reader.tape(), position, done, answer);
     }
 }
 
 /// Reads until objects are to be made. Returns how much was read, and whether memory was refused.
 fn read_some(reader: &mut impl Reader, source: &[u8]) -> (usize, bool) {
-    let mut at = 0;
-    let most = if source.len() >= LONG { MOST_WITHOUT_LOCK } else { MOST };
-    while at < source.len() && !reader.tape().is_full(most) && !reader.has_stopped() {
-        match reader.read(&source[at..]) {
-            Ok(read) => at += read,
-            Err(Refused { read }) => return (at + read, true),
+    let mut position = 0;
+    let max_size = if source.len() >= LONG {
+        MAX_SIZE_WITHOUT_LOCK
+    } else {
+        MAX_SIZE
+    };
+    while position < source.len() && !reader.tape().is_full(max_size) && !reader.has_stopped() {
+        match reader.read(&source[position..]) {
+            Ok(read) => position += read,
+            Err(Refused { read }) => return (position + read, true),
         }
     }
-    (at, false)
+    (position, false)
 }

@@ -109,8 +109,8 @@ fn malformed_end(bytes: &[u8]) -> &[u8] {
         Ok(_) => false,
         Err(error) => error.valid_up_to() == 0 && error.error_len().is_none(),
     };
-    let most = bytes.len().min(3);
-    end((1..=most).rev().find(is_front).unwrap_or(1))
+    let longest = bytes.len().min(3);
+    end((1..=longest).rev().find(is_front).unwrap_or(1))
 }
 
 /// What stands for malformed bytes.

@@ -187,10 +187,10 @@ impl Tape {
 
     /// Takes memory for what bytes add, and the command that they may end.
     pub fn reserve(&mut self, bytes: usize, command: usize) -> Result<(), Refused> {
-        let most = Self::PER_BYTE * bytes + Self::BEFORE;
-        let values = self.values.try_reserve(most);
+        let added = Self::PER_BYTE * bytes + Self::BEFORE;
+        let values = self.values.try_reserve(added);
         values
-            .and_then(|()| self.content.try_reserve(most + command))
+            .and_then(|()| self.content.try_reserve(added + command))
             .map_err(|_| Refused { read: 0 })
     }
 
@@ -266,8 +266,8 @@ impl Tape {
     }
 
     /// Whether so many values are recorded, or memory was refused to one.
-    pub fn is_full(&self, most: usize) -> bool {
-        self.values.len() >= most || self.is_refused
+    pub fn is_full(&self, max_size: usize) -> bool {
+        self.values.len() >= max_size || self.is_refused
     }
 
     /// Returns once whether there was no memory to record something. Then all that wasn't made is

@@ -65,7 +65,7 @@ impl Reader {
             → open_count (slice_index input.entry.bytes.now (from - 3))
             (slice_index input.entry.bytes.now (from - 2))
             (slice_index input.entry.bytes.now (from - 1)) ≡ 0 }
-        ensures ascii_blocks { Each StaysBetween input.entry.bytes.now from result }
+        ensures plain { Each StaysBetween input.entry.bytes.now from result }
         ensures count { looked self.new + from ≤ looked self.old + result + 35 }
         ensures at_least { looked self.old + result ≤ looked self.new + from }
     {

@@ -6,60 +6,63 @@ use Rattle.std.proofs.lemmas.Slice.Eq.{bytes_eq-Decides}
 use Rattle.event_log.specs.declared.lines.short.TheConstants.{HEX_PAIRS}
 
 -- Two texts have room one after the other exactly if they have room together.
-fit_together : (before between both : Bool) (bytes first reached second : List ℕ)
+texts-fit_together : (before between both : Bool) (bytes first reached second : List ℕ)
     → between ≡ (before && has_room_after bytes first) → both ≡ (between && has_room_after reached second)
     → (IsTrue between → reached ≡ bytes ++ first) → both ≡ (before && has_room_after bytes (first ++ second))
-fit_together false between both bytes first reached second one other appended = rw (other, one)
-fit_together true true both bytes first reached second one other appended = simp length-append
+texts-fit_together false between both bytes first reached second first_fits second_fits appended =
+    rw (second_fits, first_fits)
+texts-fit_together true true both bytes first reached second first_fits second_fits appended = simp length-append
     (let sizes = ap length (appended refl) ∙ length-append bytes first in grind (arith, nat_tests))
-fit_together true false both bytes first reached second one other appended =
+texts-fit_together true false both bytes first reached second first_fits second_fits appended =
     simp length-append (grind (arith, nat_tests))
 
 -- A line that doesn't fit doesn't fit with more either.
-fitted_before : (between both has_room : Bool) → both ≡ (between && has_room) → IsTrue both → IsTrue between
-fitted_before true both has_room is fits = refl
-fitted_before false both has_room is fits = sym is ∙ fits
+texts-first_fits : (between both has_room : Bool) → both ≡ (between && has_room) → IsTrue both → IsTrue between
+texts-first_fits true both has_room both_fit fit = refl
+texts-first_fits false both has_room both_fit fit = sym both_fit ∙ fit
 
 pub extends_then : {old mid new : Lines} {first second : List ℕ} → ExtendsLine old first mid
     → ExtendsLine mid second new → ExtendsLine old (first ++ second) new
-extends_then {old} {mid} {new} {first} {second} one other = record {
-  start = other.start ∙ one.start;
+extends_then {old} {mid} {new} {first} {second} first_extends second_extends = record {
+  start = second_extends.start ∙ first_extends.start;
   fits =
-      fit_together old.fits mid.fits new.fits old.bytes.items first mid.bytes.items second one.fits other.fits
-      one.appended;
-  appended = λ fits. other.appended fits
-      ∙ ap (λ (bytes : List ℕ). bytes ++ second) (one.appended (fitted_before _ _ _ other.fits fits))
+      texts-fit_together old.fits mid.fits new.fits old.bytes.items first mid.bytes.items second first_extends.fits
+      second_extends.fits first_extends.appended;
+  appended = λ fits. second_extends.appended fits
+      ∙ ap (λ (bytes : List ℕ). bytes ++ second)
+      (first_extends.appended (texts-first_fits _ _ _ second_extends.fits fits))
       ∙ append_assoc old.bytes.items first second;
   kept = (
-    one.kept.0 ++ other.kept.0,
-    other.kept.1 ∙ ap (λ (bytes : List ℕ). bytes ++ other.kept.0) one.kept.1
-        ∙ append_assoc old.bytes.items one.kept.0 other.kept.0,
+    first_extends.kept.0 ++ second_extends.kept.0,
+    second_extends.kept.1 ∙ ap (λ (bytes : List ℕ). bytes ++ second_extends.kept.0) first_extends.kept.1
+        ∙ append_assoc old.bytes.items first_extends.kept.0 second_extends.kept.0,
   );
-  lost = other.lost ∙ one.lost;
+  lost = second_extends.lost ∙ first_extends.lost;
 }
 
 -- ---- decimal digits
 
-pub one_digit : (n : ℕ) → n < 10 → decimal n ≡ (48 + n % 10) ∷ []
-one_digit n low = grind (arith, decimal_digit)
+pub decimal-one_digit : (n : ℕ) → n < 10 → decimal n ≡ (48 + n % 10) ∷ []
+decimal-one_digit n low = grind (arith, decimal_digit)
 
-pub two_digits : (n : ℕ) → 10 ≤ n → n < 100 → decimal n ≡ (48 + n / 10 % 10) ∷ (48 + n % 10) ∷ []
-two_digits n high low = grind (arith, decimal_step, one_digit)
+pub decimal-two_digits : (n : ℕ) → 10 ≤ n → n < 100 → decimal n ≡ (48 + n / 10 % 10) ∷ (48 + n % 10) ∷ []
+decimal-two_digits n high low = grind (arith, decimal_step, decimal-one_digit)
 
 -- A number's last three digits come after those of its thousands.
-pub three_more : (n : ℕ) → 1000 ≤ n → n < 2 ^ 64
+pub decimal-three_more : (n : ℕ) → 1000 ≤ n → n < 2 ^ 64
     → decimal n ≡ decimal (n / 1000) ++ (48 + n / 100 % 10) ∷ (48 + n / 10 % 10) ∷ (48 + n % 10) ∷ []
-three_more n high fits = grind (arith, decimal_step, append_assoc)
+decimal-three_more n high fits = grind (arith, decimal_step, append_assoc)
 
-pub three_digits : (n : ℕ) → 100 ≤ n → n < 1000
+pub decimal-three_digits : (n : ℕ) → 100 ≤ n → n < 1000
     → decimal n ≡ (48 + n / 100 % 10) ∷ (48 + n / 10 % 10) ∷ (48 + n % 10) ∷ []
-three_digits n high low = grind (arith, decimal_step, two_digits)
+decimal-three_digits n high low = grind (arith, decimal_step, decimal-two_digits)
 
 -- The fields of pieces are pushed one after another.
-pub pieces_as_pushed : {P : Type 0} (f : P → List ℕ) (pieces : List P)
-    → pieces_fields (map f pieces) ≡ blank ++ decimal (length pieces) ++ flat_map (λ piece. hex_field (f piece)) pieces
+pub pieces_fields-as_pushed : {P : Type 0} (bytes_of : P → List ℕ) (pieces : List P)
+    → pieces_fields (map bytes_of pieces)
+    ≡ blank ++ decimal (length pieces) ++ flat_map (λ piece. hex_field (bytes_of piece)) pieces
 unfolding pieces_fields
-pieces_as_pushed f pieces = rw (length-map, flat_map-map hex_field f pieces) refl
+pieces_fields-as_pushed bytes_of pieces = rw (length-map, flat_map-map hex_field bytes_of pieces) refl
 
 -- ---- the two hex digits of each byte
 
@@ -76,9 +79,9 @@ entries_checked : entries_match 256 ≡ true
 unfolding hex_byte hex_digit
 entries_checked = refl
 
-pub table_entry : (b : ℕ) → b < 256
+pub entry-of_byte : (b : ℕ) → b < 256
     → get_or HEX_PAIRS.now (2 * b) 0 ∷ get_or HEX_PAIRS.now (2 * b + 1) 0 ∷ [] ≡ hex_byte b
-table_entry =
+entry-of_byte =
     (Decides-below_and (λ b. bytes_eq (entry b) (hex_byte b)) (λ b. entry b ≡ hex_byte b) entries_match
     (λ b. bytes_eq-Decides _ _) refl (λ _. refl) 256).0 entries_checked
 
@@ -86,23 +89,23 @@ table_entry =
 
 -- The line of a character has the last four, five or six of six hex digits, by the size of its number.
 
-pub line_of_four : (n : ℕ) → n < 0x10000
+pub line_of-four_digits : (n : ℕ) → n < 0x10000
     → line_of (Print n) ≡ codes "print " ++ (hex_byte (n / 0x100) ++ hex_byte (n % 0x100)) ++ line_feed
 unfolding line_of hex_character hex_length six_hex_digits hex_byte
-line_of_four n below =
+line_of-four_digits n below =
     let start : 6 - max 4 (hex_length n) ≡ 2 = grind (arith, nat_tests) in
     let high : n / 0x100 % 0x100 ≡ n / 0x100 = omega arith in
     rw (start, high) refl
 
-pub line_of_five : (n : ℕ) → 0x10000 ≤ n → n < 0x100000
+pub line_of-five_digits : (n : ℕ) → 0x10000 ≤ n → n < 0x100000
     → line_of (Print n) ≡ codes "print " ++ drop 1 (six_hex_digits n) ++ line_feed
 unfolding line_of hex_character hex_length
-line_of_five n above below =
+line_of-five_digits n above below =
     let start : 6 - max 4 (hex_length n) ≡ 1 = grind (arith, nat_tests) in
     rw start refl
 
-pub line_of_six : (n : ℕ) → 0x100000 ≤ n → line_of (Print n) ≡ codes "print " ++ six_hex_digits n ++ line_feed
+pub line_of-six_digits : (n : ℕ) → 0x100000 ≤ n → line_of (Print n) ≡ codes "print " ++ six_hex_digits n ++ line_feed
 unfolding line_of hex_character hex_length
-line_of_six n above =
+line_of-six_digits n above =
     let start : 6 - max 4 (hex_length n) ≡ 0 = grind (arith, nat_tests) in
     rw start refl

@@ -2,7 +2,7 @@
 -- short enough has room for its text.
 use Rattle.vte_c.proofs.Common.{Event, HasRead, IsUtf8, List, Parser, TextBuffer, [], add-zero, add_assoc, added, after, ap, append-nil, append_assoc, arith, usual_limit, cases_Bool, chars, encodes-chars, false, flat_map-append, inl, inr, le-leb, length, length-append, map, nat_le, nat_tests, plain_text, plain_text_of, refl, sym, take, true, text_buffer_with, text_buffer_with_event, ℕ, ◌&&◌, ◌*◌, ◌++◌, ◌+◌, ◌<◌, ◌∙◌, ◌∷◌, ◌≡◌, ◌≤◌}
 use Rattle.vte_core.specs.Text.{run_event}
-use Rattle.event_log.proofs.Lengths.{text_of_run}
+use Rattle.event_log.proofs.Lengths.{text_of-run}
 use Rattle.vte_core.proofs.EarlyStops.{added-append}
 use Rattle.vte_core.proofs.streams.After.{added-nothing}
 
@@ -54,7 +54,7 @@ pub writes_run : (buffer : TextBuffer) (text : List ℕ) → IsUtf8 text → 0 <
     → text_buffer_with buffer text ≡ after text_buffer_with_event buffer (map (run_event true) (chars text))
 writes_run buffer text utf8 some =
     let spelt : plain_text (map (run_event true) (chars text)) ≡ text =
-    text_of_run (chars text) ∙ encodes-chars text utf8 in
+    text_of-run (chars text) ∙ encodes-chars text utf8 in
     rw spelt at (written (chars text) (rw spelt some))
   where
     written : (cs : List ℕ) → 0 < length (plain_text (map (run_event true) cs))

@@ -13,25 +13,25 @@ pub record HasReadSome (parser : Parser 1024) : Type 0 where
 
 -- A text, followed by the text of what the unread bytes and any more add, is the whole text, which
 -- depends on the bytes to come.
-pub record AddsUpTo (text_of : Event → List ℕ) (whole : List ℕ → List ℕ) (text : List ℕ)
+pub record AddsUpTo (text_of : Event → List ℕ) (whole_text : List ℕ → List ℕ) (text : List ℕ)
     (parser : Parser 1024) (unread : List ℕ)
     : Type 0 where
   pub since : List ℕ
   pub parsed : HasRead parser since
   pub goes_on : (more : List ℕ)
-      → text ++ flat_map text_of (added usual_limit since (unread ++ more)) ≡ whole more
+      → text ++ flat_map text_of (added usual_limit since (unread ++ more)) ≡ whole_text more
 
 -- The text is what a record holds, and nothing was lost.
-pub record HasKept (text_of : Event → List ℕ) (whole : List ℕ → List ℕ) (held : Record)
+pub record HasKept (text_of : Event → List ℕ) (whole_text : List ℕ → List ℕ) (held : Record)
     (parser : Parser 1024) (unread : List ℕ)
     : Type 0 where
-  pub adds_up : AddsUpTo text_of whole held.bytes parser unread
+  pub adds_up : AddsUpTo text_of whole_text held.bytes parser unread
   pub kept : held.lost ≡ false
 
 -- The text is all that a writer has taken.
-pub record HasWritten (text_of : Event → List ℕ) (whole : List ℕ → List ℕ) (taken : Option (List ℕ))
-    (parser : Parser 1024) (unread : List ℕ)
+pub record HasWritten (text_of : Event → List ℕ) (whole_text : List ℕ → List ℕ)
+    (taken : Option (List ℕ)) (parser : Parser 1024) (unread : List ℕ)
     : Type 0 where
   pub written : List ℕ
   pub taken_is : taken ≡ Some written
-  pub adds_up : AddsUpTo text_of whole written parser unread
+  pub adds_up : AddsUpTo text_of whole_text written parser unread

@@ -5,13 +5,13 @@ use Rattle.vte_core.specs.Event.{Event}
 use Rattle.vte_core.specs.Stream.{events}
 use Rattle.event_log.proofs.laws.text_of_parts.Goals as goal
 
-text-joined : (events_of : List ℕ → List Event) (parts : List (List ℕ))
+texts-joined : (events_of : List ℕ → List Event) (parts : List (List ℕ))
     → flat_map (λ part. plain_text (events_of part)) parts ≡ plain_text (flat_map events_of parts)
-text-joined events_of [] = refl
-text-joined events_of (part ∷ parts) =
-    ap (λ text. plain_text (events_of part) ++ text) (text-joined events_of parts)
+texts-joined events_of [] = refl
+texts-joined events_of (part ∷ parts) =
+    ap (λ text. plain_text (events_of part) ++ text) (texts-joined events_of parts)
     ∙ sym (flat_map-append plain_text_of (events_of part) (flat_map events_of parts))
 
 pub returns : goal.returns
-returns c = λ limit stream cuts are.
-    text-joined (events limit) _ ∙ ap plain_text (c.events_of_parts.ensures.parts limit stream cuts are)
+returns c = λ limit stream cuts are_cuts.
+    texts-joined (events limit) _ ∙ ap plain_text (c.events_of_parts.ensures.parts limit stream cuts are_cuts)

@@ -7,7 +7,8 @@ abbrev pub invariant-loop : goal.invariant-loop
 invariant-loop g l = record {
   reads : HasReadSome l.parser;
   empty : g.C.Collector.record_of l.collector ≡ empty_record;
-  come : (input held : List ℕ) → g.R.Source.to_come l.fn.reader ≡ Some input → g.W.Sink.taken l.fn.writer ≡ Some held →
+  reads_part : (input held : List ℕ) → g.R.Source.to_come l.fn.reader ≡ Some input
+      → g.W.Sink.taken l.fn.writer ≡ Some held →
       HasReadPart g.C.Collector.text_of input held l.counter l.parser (g.R.Source.to_come l.reader)
       (g.W.Sink.taken l.writer);
 }

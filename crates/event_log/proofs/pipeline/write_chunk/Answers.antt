@@ -1,18 +1,18 @@
 -- At first the chunk is unread. In the end nothing is, and a flush keeps what was written.
 use Rattle.event_log.proofs.Common.{rules, nil_from_length}
 use Rattle.std.proofs.lemmas.Result.{on_ok_weaker}
-use Rattle.event_log.proofs.Progress.{written_before, written_kept}
+use Rattle.event_log.proofs.Progress.{written-before_chunk, written-kept}
 use Rattle.event_log.proofs.pipeline.write_chunk.Goals as goal
 
 pub loop-unread-init : goal.loop-unread-init
 loop-unread-init g c = record {
   reads = c.requires.parsed;
   empty = c.requires.empty;
-  written = λ whole h. written_before c.args.chunk.now h;
+  written = λ whole_text has_written. written-before_chunk c.args.chunk.now has_written;
 }
 
 pub returns-clause-writes : goal.returns-clause-writes
-returns-clause-writes g c = λ whole h.
-    let none = nil_from_length c.loop-unread.unread.now (search rules) in
-    let written = rw none at c.loop-unread.invariant.written whole h in
-    on_ok_weaker c.flush.result (written_kept written) c.flush.ensures.keeps
+returns-clause-writes g c = λ whole_text has_written.
+    let none_unread = nil_from_length c.loop-unread.unread.now (search rules) in
+    let written = rw none_unread at c.loop-unread.invariant.written whole_text has_written in
+    on_ok_weaker c.flush.result (written-kept written) c.flush.ensures.keeps

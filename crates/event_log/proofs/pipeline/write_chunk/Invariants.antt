@@ -6,9 +6,10 @@ abbrev pub invariant-loop-unread : goal.invariant-loop-unread
 invariant-loop-unread g l = record {
   reads : HasReadSome l.parser;
   empty : g.C.Collector.record_of l.collector ≡ empty_record;
-  written : (whole : List ℕ → List ℕ)
-      → HasWritten g.C.Collector.text_of whole (g.W.Sink.taken l.fn.writer) l.fn.parser [] →
-      HasWritten g.C.Collector.text_of (λ more. whole (l.fn.chunk ++ more)) (g.W.Sink.taken l.writer) l.parser l.unread;
+  written : (whole_text : List ℕ → List ℕ)
+      → HasWritten g.C.Collector.text_of whole_text (g.W.Sink.taken l.fn.writer) l.fn.parser [] →
+      HasWritten g.C.Collector.text_of (λ more. whole_text (l.fn.chunk ++ more)) (g.W.Sink.taken l.writer) l.parser
+      l.unread;
 }
 
 abbrev pub decreases-loop-unread : goal.decreases-loop-unread

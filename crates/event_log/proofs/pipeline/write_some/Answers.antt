@@ -1,14 +1,14 @@
--- What the collector collected is appended to what was written (`written_more`).
-use Rattle.event_log.proofs.Records.{adds_up_at_first}
-use Rattle.event_log.proofs.Progress.{written_more}
+-- What the collector collected is appended to what was written (`written-more`).
+use Rattle.event_log.proofs.Records.{adds_up-at_first}
+use Rattle.event_log.proofs.Progress.{written-more}
 use Rattle.event_log.proofs.pipeline.write_some.Goals as goal
 
 pub returns-clause-reads : goal.returns-clause-reads
 returns-clause-reads g c =
-    let k = (c.collect-unread.ensures.collects _ (adds_up_at_first c.requires.parsed c.args.bytes.now)).adds_up in
-    record { since = k.since; parsed = k.parsed }
+    let adds_up = (c.collect-unread.ensures.collects _ (adds_up-at_first c.requires.parsed c.args.bytes.now)).adds_up in
+    record { since = adds_up.since; parsed = adds_up.parsed }
 
 pub returns-clause-writes : goal.returns-clause-writes
-returns-clause-writes g c = λ whole h.
-    written_more h
+returns-clause-writes g c = λ whole_text has_written.
+    written-more has_written
     (λ part before. (c.collect-unread.ensures.collects part before).adds_up) c.in_ok-write_out.ensures.appends

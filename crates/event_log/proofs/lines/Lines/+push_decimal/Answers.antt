@@ -1,20 +1,20 @@
 -- A number of up to three digits is pushed digit by digit; a longer one is its thousands, and then its last three
 -- digits.
 use Rattle.event_log.proofs.Common.{arith}
-use Rattle.event_log.proofs.Fields.{extends_then, one_digit, two_digits, three_digits, three_more}
+use Rattle.event_log.proofs.Fields.{extends_then, decimal-one_digit, decimal-two_digits, decimal-three_digits, decimal-three_more}
 use Rattle.event_log.proofs.lines.Lines.+push_decimal.Goals as goal
 
 pub returns-in-0-to-9 : goal.returns-in-0-to-9
-returns-in-0-to-9 t c = rw (one_digit c.args.number (omega arith)) (rw c.digit.ensures at c.push.ensures)
+returns-in-0-to-9 t c = rw (decimal-one_digit c.args.number (omega arith)) (rw c.digit.ensures at c.push.ensures)
 
 pub returns-in-10-to-99 : goal.returns-in-10-to-99
 returns-in-10-to-99 t c =
-    rw (two_digits c.args.number (omega arith) (omega arith))
+    rw (decimal-two_digits c.args.number (omega arith) (omega arith))
     (rw (c.digit-in-10-to-99.ensures, c.digit-in-10-to-99-2.ensures) at c.push-in-10-to-99.ensures)
 
 pub returns-in-100-to-999 : goal.returns-in-100-to-999
 returns-in-100-to-999 t c =
-    rw (three_digits c.args.number (omega arith) (omega arith))
+    rw (decimal-three_digits c.args.number (omega arith) (omega arith))
     (rw (
       c.digit-in-100-to-999.ensures,
       c.digit-in-100-to-999-2.ensures,
@@ -23,7 +23,7 @@ returns-in-100-to-999 t c =
 
 pub returns-in_default : goal.returns-in_default
 returns-in_default t c =
-    rw (three_more c.args.number (omega arith) (omega arith))
+    rw (decimal-three_more c.args.number (omega arith) (omega arith))
     (extends_then c.push_decimal.ensures
     (rw (
       c.digit-in_default.ensures,

@@ -18,27 +18,28 @@ loop-group-init c =
 
 pub loop-group-preserved : goal.loop-group-preserved
 loop-group-preserved c =
-    let h = c.loop-group.invariant in
+    let invariant = c.loop-group.invariant in
     let next = c.in-Some-group.ensures.steps in
-    let all = extends_then h.pushed (extends_then c.push-in-loop-group.ensures c.push_numbers-in-loop-group.ensures) in
+    let separated = extends_then c.push-in-loop-group.ensures c.push_numbers-in-loop-group.ensures in
+    let pushed_more = extends_then invariant.pushed separated in
     record {
       along = grind (arith, common_steps);
-      filled = All-tail IsFilled c.in-Some-group.group.now c.next-in-loop-group.new.self (rw next at h.filled);
-      pushed = grind (arith, common_steps, all);
+      filled = All-tail IsFilled c.in-Some-group.group.now c.next-in-loop-group.new.self (rw next at invariant.filled);
+      pushed = grind (arith, common_steps, pushed_more);
     }
 
 pub returns : goal.returns
 returns c =
     let bracket = c.push-2.ensures in
     elim c.match-next.branch [
-      | in-Some+in-None w ↦
-          let h = w.loop-group.invariant in
-          let passed = map (λ (group : Bor (List ℕ)). group.now) w.loop-group.yielded in
+      | in-Some+in-None at_branch ↦
+          let invariant = at_branch.loop-group.invariant in
+          let passed = map (λ (group : Bor (List ℕ)). group.now) at_branch.loop-group.yielded in
           let all : group_text (get_or c.args.params.now 0 []) ++ flat_map after_semicolon passed
           ≡ shown c.args.params.now =
-          groups_written c.args.params.now _ _ passed _ h.along refl w.in-None.ensures.steps.0 in
-          extends_then (rw all at h.pushed) (rw w.self-is at bracket)
-      | in_default w ↦
-          let none = sym c.iter-groups.ensures.value ∙ w.in_default.ensures.steps.0 in
-          rw (none, shown-nil) (extends_then c.push.ensures (rw w.self-is at bracket))
+          groups_written c.args.params.now _ _ passed _ invariant.along refl at_branch.in-None.ensures.steps.0 in
+          extends_then (rw all at invariant.pushed) (rw at_branch.self-is at bracket)
+      | in_default at_branch ↦
+          let no_groups = sym c.iter-groups.ensures.value ∙ at_branch.in_default.ensures.steps.0 in
+          rw (no_groups, shown-nil) (extends_then c.push.ensures (rw at_branch.self-is at bracket))
     ]

@@ -5,9 +5,9 @@ use Rattle.event_log.proofs.plain.PlainCollector.collect.Given as goal
 abbrev pub invariant-loop-self : goal.invariant-loop-self
 invariant-loop-self l = record {
   within : length l.unread ≤ length l.bytes;
-  none : length l.unread ≡ length l.bytes → l.self ≡ empty_record;
-  keeps : (whole : List ℕ → List ℕ) → AddsUpTo plain_text_of whole [] l.fn.parser l.bytes
-      → HasKept plain_text_of whole l.self l.parser l.unread;
+  nothing_read : length l.unread ≡ length l.bytes → l.self ≡ empty_record;
+  keeps : (whole_text : List ℕ → List ℕ) → AddsUpTo plain_text_of whole_text [] l.fn.parser l.bytes
+      → HasKept plain_text_of whole_text l.self l.parser l.unread;
 }
 
 abbrev pub decreases-loop-self : goal.decreases-loop-self

@@ -1,22 +1,22 @@
--- A run that fits is taken at once (`takes_run`). Otherwise its characters are, one by one: the iterator yields all.
+-- A run that fits is taken at once (`run-taken`). Otherwise its characters are, one by one: the iterator yields all.
 use Rattle.event_log.proofs.Common.{◌∙◌, true, ap, sym, arith, map, after, record_in, plain_text_of, run_event, record_with_event, record_with_text}
 use Rattle.std.proofs.lemmas.Iterator.{YieldsList-from_chars}
 use Rattle.std.proofs.lemmas.Iterator.Consumers.{YieldsList-end}
 use Rattle.std.proofs.lemmas.List.{map-id}
-use Rattle.event_log.proofs.Lengths.{after-more, takes_run, text_of_one}
+use Rattle.event_log.proofs.Lengths.{after-more, run-taken, text_of-character}
 use Rattle.event_log.proofs.plain.PlainPerformText.print_text.Goals as goal
 
 pub returns-then-text-remaining_capacity : goal.returns-then-text-remaining_capacity
 returns-then-text-remaining_capacity c =
     let appended = rw c.as_bytes.ensures.value at c.append.ensures in
     rw (← c.self.view_is) (appended
-    ∙ takes_run (record_in c.self.inside.texts) c.args.text.now c.utf8.text
+    ∙ run-taken (record_in c.self.inside.texts) c.args.text.now c.utf8.text
     (omega (arith, c.remaining_capacity.ensures, c.if-text-remaining_capacity.true)))
 
 pub loop-c-preserved : goal.loop-c-preserved
 loop-c-preserved c =
     let appended = rw (c.as_bytes-in-loop-c.ensures.value, c.encode_utf8.ensures.value) at c.append-in-loop-c.ensures in
-    appended ∙ ap (record_with_text (record_in c.loop-c.self-inside.texts)) (sym (text_of_one c.in-Some.c))
+    appended ∙ ap (record_with_text (record_in c.loop-c.self-inside.texts)) (sym (text_of-character c.in-Some.c))
     ∙ after-more (record_with_event plain_text_of) (run_event true) c.loop-c.yielded c.in-Some.c _ _ c.loop-c.invariant
 
 pub returns : goal.returns

@@ -1,5 +1,5 @@
 -- What events leave in the buffers. Those that aren't full have room for what one byte adds, so each event is written
--- as one entry (`event_written`), or isn't one of the kinds asked for (`event_passed`); so is all that one byte reports
+-- as one entry (`event-written`), or isn't one of the kinds asked for (`event-passed`); so is all that one byte reports
 -- (`entries-unit_more`), and a run of the input (`entries-run`).
 use Rattle.vte_c.proofs.Common.{All, All-head, All-tail, AreGroups, CsiDispatch, Event, Execute, Hook, IsBounded, IsShort, List, OscDispatch, Print, [], arith, concat, usual_limit, count_of, data_of, flat_map, group_bytes, len_utf8_bounds, length, length-append, length-encode, piece_bytes, refl, sum_by-cons, two_bytes, ℕ, ◌*◌, ◌+◌, ◌<◌, ◌∷◌, ◌≡◌, ◌≤◌, AreReadable, Bool, DataRun, EscDispatch, EventWriter, HasEntries, NoRecordStops, Holds, InInput, AreFromOneByte, IsRunAt, Entry, Put, Buffers, RunKind, Single, StopsAtKind, TextRun, Unhook, VteEvent, add-zero, after, ap, append-nil, append_assoc, cases_Bool, false, filter-append, flag_byte, flat_map-append, has, has_kind, has_room_for, if◌then◌else◌, inl, inr, may_have_lost, is_full, entry_data, event_kind, kinds_of, length-map, map, map-append, max_added, nat_lt, nat_tests, or_parts, record_at, records_from, reported, resumed, buffers_of, run_kind, run_record, subst, sym, take, true, buffers_with_event, with_entries, with_one, with_record, without_loss, ◌%◌, ◌++◌, ◌∙◌, IsFilled}
 use Rattle.std.proofs.Math.Bool.{or-false, or_assoc}
@@ -34,7 +34,7 @@ length-piece_bytes (piece ∷ pieces) =
 length-filled : (groups : List (List ℕ)) → All IsFilled groups → length groups ≤ count_of groups
 length-filled [] filled = omega arith
 length-filled (group ∷ groups) filled =
-    let some : 0 < length group = All-head IsFilled group groups filled in
+    let not_empty : 0 < length group = All-head IsFilled group groups filled in
     omega (arith, sum_by-cons length group groups, length-filled groups (All-tail IsFilled group groups filled))
 
 pub length-groups : (groups : List (List ℕ)) → AreGroups groups → length groups ≤ 32
@@ -44,7 +44,8 @@ group_bytes-at_most : (groups : List (List ℕ)) → AreGroups groups → length
 group_bytes-at_most groups groups_are =
     omega (arith, length-group_bytes groups, length-groups groups groups_are, groups_are.at_most)
 
--- No event has more data bytes.
+-- No event has more data bytes: a command has at most 16 pieces, each after four bytes, with 1,024 bytes together. A
+-- sequence has at most 96: 32 groups, each after one byte, with 32 numbers of two bytes together.
 abbrev max_data : ℕ
 max_data = 1088
 
@@ -89,14 +90,14 @@ with_entries-append buffers front back =
     (rw (append_assoc buffers.events, append_assoc buffers.area, or_assoc) refl)
 
 -- As long as buffers aren't full, no record stops.
-pub unmet : {old new : Buffers} {input : List ℕ} {entries : List Entry} → HasEntries old new input entries
-    → is_full new ≡ false
+pub no_record_stops-free : {old new : Buffers} {input : List ℕ} {entries : List Entry}
+    → HasEntries old new input entries → is_full new ≡ false
     → NoRecordStops old.stops (records_from old.used entries)
-unmet {old} {new} {input} {entries} has_entries free =
+no_record_stops-free {old} {new} {input} {entries} has_entries free =
     let met : new.met ≡ false = grind (arith, nat_tests) in
     no_kind_stops-none old.stops (records_from old.used entries)
     (or_parts old.met (has_kind old.stops (records_from old.used entries))
-    (sym (ap (λ (r : Buffers). r.met) has_entries.written) ∙ met)).1
+    (sym (ap (λ (held : Buffers). held.met) has_entries.written) ∙ met)).1
 
 readable-append : (input : List ℕ) (front back : List Entry) → AreReadable input front → AreReadable input back
     → AreReadable input (front ++ back)
@@ -107,9 +108,9 @@ readable-append input (InInput run start size ∷ front) back front_are back_are
     (front_are.0, readable-append input front back front_are.1 back_are)
 
 -- At most two records may all be the last ones: one that stops, and one after it.
-stops_soon : (stops offset : ℕ) (entries : List Entry) → length entries ≤ 2
+stops_at_kind-two : (stops offset : ℕ) (entries : List Entry) → length entries ≤ 2
     → StopsAtKind stops (kinds_of (records_from offset entries))
-stops_soon stops offset entries at_most =
+stops_at_kind-two stops offset entries at_most =
     let count = length-map (records_from offset entries) (λ (event : VteEvent). event.kind) in
     record {
       before = [];
@@ -124,7 +125,7 @@ entries-nothing buffers input =
     record {
       readable = tt;
       written = simp (append-nil, add-zero, or-false) refl;
-      first = stops_soon buffers.stops buffers.used [] (omega arith);
+      first = stops_at_kind-two buffers.stops buffers.used [] (omega arith);
     }
 
 pub entries-then : {old mid new : Buffers} {input : List ℕ} {front back : List Entry} → HasEntries old mid input front
@@ -133,26 +134,28 @@ pub entries-then : {old mid new : Buffers} {input : List ℕ} {front back : List
 entries-then {old} {mid} {new} {input} {front} {back} has_front free has_back =
     let before = records_from old.used front in
     let soon =
-    subst (λ (r : Buffers). StopsAtKind r.stops (kinds_of (records_from r.used back))) has_front.written
+    subst (λ (held : Buffers). StopsAtKind held.stops (kinds_of (records_from held.used back))) has_front.written
     has_back.first in
     record {
       readable = readable-append input front back has_front.readable has_back.readable;
       written =
-          has_back.written ∙ ap (λ (r : Buffers). with_entries r back) has_front.written
+          has_back.written ∙ ap (λ (held : Buffers). with_entries held back) has_front.written
           ∙ with_entries-append old front back;
       first = record {
         before = kinds_of before ++ soon.before;
         last = soon.last;
         parts = rw (records-append old.used front back, map-append, append_assoc (kinds_of before), ← soon.parts) refl;
-        others = no_kind_stops-append old.stops (kinds_of before) soon.before (unmet has_front free) soon.others;
+        others =
+            no_kind_stops-append old.stops (kinds_of before) soon.before (no_record_stops-free has_front free)
+            soon.others;
         at_most = soon.at_most;
       };
     }
 
 -- ---- before a write the area holds no data of the event
 
-pub holds_nothing : (events : EventWriter) → Holds (buffers_of events) events events.used []
-holds_nothing events = record {
+pub holds-nothing : (events : EventWriter) → Holds (buffers_of events) events events.used []
+holds-nothing events = record {
   same = refl;
   ends = omega (arith, events.used_limit, events.size_limit);
   held = λ within. sym (append-nil (take events.used events.area.now));
@@ -161,79 +164,80 @@ holds_nothing events = record {
 -- ---- a run of the input
 
 -- What is written has no bit for lost data.
-run_plain : (run : RunKind) (start size : ℕ)
+run-without_loss : (run : RunKind) (start size : ℕ)
     → without_loss (run_record (run_kind run) start size) ≡ run_record (run_kind run) start size
 unfolding without_loss
-run_plain TextRun start size = refl
-run_plain DataRun start size = refl
+run-without_loss TextRun start size = refl
+run-without_loss DataRun start size = refl
 
-bell_plain : (bell : Bool) → flag_byte bell % 2 ≡ flag_byte bell
-bell_plain true = refl
-bell_plain false = refl
+bell-without_loss : (bell : Bool) → flag_byte bell % 2 ≡ flag_byte bell
+bell-without_loss true = refl
+bell-without_loss false = refl
 
-single_plain : (offset : ℕ) (event : Event)
+single-without_loss : (offset : ℕ) (event : Event)
     → without_loss (record_at offset (Single event)) ≡ record_at offset (Single event)
 unfolding without_loss
-single_plain offset (OscDispatch pieces bell) = rw (bell_plain bell) refl
-single_plain offset (Print c) = refl
-single_plain offset (Execute byte) = refl
-single_plain offset (Hook groups ints ignore final) = refl
-single_plain offset (Put byte) = refl
-single_plain offset Unhook = refl
-single_plain offset (CsiDispatch groups ints ignore final) = refl
-single_plain offset (EscDispatch ints ignore final) = refl
+single-without_loss offset (OscDispatch pieces bell) = rw (bell-without_loss bell) refl
+single-without_loss offset (Print c) = refl
+single-without_loss offset (Execute byte) = refl
+single-without_loss offset (Hook groups ints ignore final) = refl
+single-without_loss offset (Put byte) = refl
+single-without_loss offset Unhook = refl
+single-without_loss offset (CsiDispatch groups ints ignore final) = refl
+single-without_loss offset (EscDispatch ints ignore final) = refl
 
 pub entries-run : {old new : Buffers} (input : List ℕ) (run : RunKind) (start size : ℕ) → is_full old ≡ false
     → IsRunAt input run start size
     → new ≡ with_one old (run_record (run_kind run) start size)
     → HasEntries old new input (InInput run start size ∷ [])
 unfolding with_one
-entries-run {old} {new} input run start size free is_run is =
-    let some : nat_lt old.count old.capacity ≡ true = grind (arith, nat_tests) in
+entries-run {old} {new} input run start size free is_run recorded =
+    let has_record_room : nat_lt old.count old.capacity ≡ true = grind (arith, nat_tests) in
     record {
       readable = (is_run, tt);
-      written = rw (is, some, run_plain run start size) (simp (append-nil, add-zero, or-false));
-      first = stops_soon old.stops old.used (InInput run start size ∷ []) (omega arith);
+      written = rw (recorded, has_record_room, run-without_loss run start size) (simp (append-nil, add-zero, or-false));
+      first = stops_at_kind-two old.stops old.used (InInput run start size ∷ []) (omega arith);
     }
 
 -- ---- a pause, apart from which an event is written the same (`resumed`)
 
-pub resumed_same : (buffers : Buffers) → buffers.paused ≡ false → resumed buffers ≡ buffers
-resumed_same buffers none = ap (λ (paused : Bool). record buffers { paused = paused }) (sym none)
+pub resumed-same : (buffers : Buffers) → buffers.paused ≡ false → resumed buffers ≡ buffers
+resumed-same buffers unpaused = ap (λ (paused : Bool). record buffers { paused = paused }) (sym unpaused)
 
-pub unpaused : (buffers : Buffers) → is_full buffers ≡ false → buffers.paused ≡ false
-unpaused buffers free = grind (arith, nat_tests)
+pub free-unpaused : (buffers : Buffers) → is_full buffers ≡ false → buffers.paused ≡ false
+free-unpaused buffers free = grind (arith, nat_tests)
 
-pub resumed_free : (buffers : Buffers) → is_full buffers ≡ false → is_full (resumed buffers) ≡ false
-resumed_free buffers free = ap is_full (resumed_same buffers (unpaused buffers free)) ∙ free
+pub resumed-free : (buffers : Buffers) → is_full buffers ≡ false → is_full (resumed buffers) ≡ false
+resumed-free buffers free = ap is_full (resumed-same buffers (free-unpaused buffers free)) ∙ free
 
-either : (choice : Bool) (a b c d : Buffers) → resumed a ≡ resumed c → resumed b ≡ resumed d
-    → resumed (if choice then a else b) ≡ resumed (if choice then c else d)
-either true a b c d first_same second_same = first_same
-either false a b c d first_same second_same = second_same
+choice-resumed : (choice : Bool) (first second other_first other_second : Buffers)
+    → resumed first ≡ resumed other_first → resumed second ≡ resumed other_second
+    → resumed (if choice then first else second) ≡ resumed (if choice then other_first else other_second)
+choice-resumed true first second other_first other_second same_first same_second = same_first
+choice-resumed false first second other_first other_second same_first same_second = same_second
 
-either_paused : (choice paused : Bool) (a b : Buffers) → a.paused ≡ paused → b.paused ≡ paused
-    → (if choice then a else b).paused ≡ paused
-either_paused true paused a b first_is second_is = first_is
-either_paused false paused a b first_is second_is = second_is
+choice-paused : (choice paused : Bool) (first second : Buffers) → first.paused ≡ paused → second.paused ≡ paused
+    → (if choice then first else second).paused ≡ paused
+choice-paused true paused first second first_is second_is = first_is
+choice-paused false paused first second first_is second_is = second_is
 
 -- An event is written in the same way after a pause.
-with_event_resumed : (buffers : Buffers) (event : Event)
+event-resumed : (buffers : Buffers) (event : Event)
     → resumed (buffers_with_event buffers event) ≡ resumed (buffers_with_event (resumed buffers) event)
 unfolding with_one with_record
-with_event_resumed buffers event =
-    either (has buffers.kinds (event_kind event)) _ _ _ _
-    (either (has_room_for buffers (length (data_of event))) _ _ _ _
-    (either (nat_lt buffers.count buffers.capacity) _ _ _ _ refl refl) refl) refl
+event-resumed buffers event =
+    choice-resumed (has buffers.kinds (event_kind event)) _ _ _ _
+    (choice-resumed (has_room_for buffers (length (data_of event))) _ _ _ _
+    (choice-resumed (nat_lt buffers.count buffers.capacity) _ _ _ _ refl refl) refl) refl
 
-pub paused_after : (buffers : Buffers) (event : Event) → may_have_lost event ≡ false
+pub paused-after_event : (buffers : Buffers) (event : Event) → may_have_lost event ≡ false
     → (buffers_with_event buffers event).paused ≡ buffers.paused
 unfolding with_one with_record
-paused_after buffers event kept =
-    either_paused (has buffers.kinds (event_kind event)) buffers.paused _ _
+paused-after_event buffers event kept =
+    choice-paused (has buffers.kinds (event_kind event)) buffers.paused _ _
     (rw kept
-    (either_paused (has_room_for buffers (length (data_of event))) buffers.paused _ _
-    (either_paused (nat_lt buffers.count buffers.capacity) buffers.paused _ _ refl refl) refl)) refl
+    (choice-paused (has_room_for buffers (length (data_of event))) buffers.paused _ _
+    (choice-paused (nat_lt buffers.count buffers.capacity) buffers.paused _ _ refl refl) refl)) refl
 
 -- ---- events of the parser
 
@@ -243,24 +247,25 @@ pub record HasRoomFor (buffers : Buffers) (count size : ℕ) : Type 0 where
   pub data_fits : buffers.used + size ≤ buffers.size
 
 -- Buffers that aren't full have room for what one byte adds.
-has_room : (buffers : Buffers) → is_full buffers ≡ false → HasRoomFor buffers 2 max_added
-has_room buffers free = record { events = grind (arith, nat_tests); data_fits = grind (arith, nat_tests) }
+free-has_room : (buffers : Buffers) → is_full buffers ≡ false → HasRoomFor buffers 2 max_added
+free-has_room buffers free = record { events = grind (arith, nat_tests); data_fits = grind (arith, nat_tests) }
 
-pub event_written : (buffers : Buffers) (event : Event) → buffers.paused ≡ false
+pub event-written : (buffers : Buffers) (event : Event) → buffers.paused ≡ false
     → HasRoomFor buffers 1 (length (data_of event))
     → has buffers.kinds (event_kind event) ≡ true
     → resumed (buffers_with_event buffers event) ≡ with_entries buffers (Single event ∷ [])
 unfolding with_one with_record
-event_written buffers event going room_for wanted =
+event-written buffers event unpaused room_for wanted =
     let has_both : has_room_for buffers (length (data_of event)) ≡ true = grind (arith, nat_tests) in
-    let some : nat_lt buffers.count buffers.capacity ≡ true = grind (arith, nat_tests) in
-    rw (wanted, has_both, some, single_plain buffers.used event, going) (simp (append-nil, or-false))
+    let has_record_room : nat_lt buffers.count buffers.capacity ≡ true = grind (arith, nat_tests) in
+    rw (wanted, has_both, has_record_room, single-without_loss buffers.used event, unpaused)
+    (simp (append-nil, or-false))
 
 -- An event that isn't reported leaves the buffers as they are.
-pub event_passed : (buffers : Buffers) (event : Event) → buffers.paused ≡ false
+pub event-passed : (buffers : Buffers) (event : Event) → buffers.paused ≡ false
     → has buffers.kinds (event_kind event) ≡ false
     → resumed (buffers_with_event buffers event) ≡ buffers
-event_passed buffers event going other = rw other (resumed_same buffers going)
+event-passed buffers event unpaused other = rw other (resumed-same buffers unpaused)
 
 -- Each event that is reported has an entry.
 abbrev pub entries_of : Buffers → List Event → List Entry
@@ -270,15 +275,15 @@ entries-event : (input : List ℕ) (buffers : Buffers) (event : Event) → IsBou
     → buffers.paused ≡ false
     → HasRoomFor buffers 1 (length (data_of event))
     → HasEntries buffers (resumed (buffers_with_event buffers event)) input (entries_of buffers (event ∷ []))
-entries-event input buffers event bounded going room_for = elim (cases_Bool (has buffers.kinds (event_kind event))) [
+entries-event input buffers event bounded unpaused room_for = elim (cases_Bool (has buffers.kinds (event_kind event))) [
   | inl wanted ↦
-      rw (event_written buffers event going room_for wanted, wanted)
+      rw (event-written buffers event unpaused room_for wanted, wanted)
       (record {
         readable = (bounded, tt);
         written = refl;
-        first = stops_soon buffers.stops buffers.used (Single event ∷ []) (omega arith);
+        first = stops_at_kind-two buffers.stops buffers.used (Single event ∷ []) (omega arith);
       })
-  | inr other ↦ rw (event_passed buffers event going other, other) (entries-nothing buffers input)
+  | inr other ↦ rw (event-passed buffers event unpaused other, other) (entries-nothing buffers input)
 ]
 
 -- One event has at most one entry, with no more data.
@@ -286,8 +291,8 @@ record AreFew (buffers : Buffers) (event : Event) : Type 0 where
   pub count : length (entries_of buffers (event ∷ [])) ≤ 1
   pub size : length (flat_map entry_data (entries_of buffers (event ∷ []))) ≤ length (data_of event)
 
-are_few : (buffers : Buffers) (event : Event) → AreFew buffers event
-are_few buffers event = elim (cases_Bool (has buffers.kinds (event_kind event))) [
+event-has_few : (buffers : Buffers) (event : Event) → AreFew buffers event
+event-has_few buffers event = elim (cases_Bool (has buffers.kinds (event_kind event))) [
   | inl wanted ↦
       record { count = rw wanted (omega arith); size = rw wanted (omega (arith, length-append (data_of event) [])) }
   | inr other ↦ record { count = rw other (omega arith); size = rw other (omega arith) }
@@ -297,62 +302,64 @@ entries-unit : (input : List ℕ) (buffers : Buffers) (unit : List Event) → Ar
     → is_full buffers ≡ false
     → HasEntries buffers (resumed (after buffers_with_event buffers unit)) input (entries_of buffers unit)
 entries-unit input buffers [] brief free =
-    rw (resumed_same buffers (unpaused buffers free)) (entries-nothing buffers input)
+    rw (resumed-same buffers (free-unpaused buffers free)) (entries-nothing buffers input)
 entries-unit input buffers (event ∷ []) brief free =
-    let room_for = has_room buffers free in
+    let room_for = free-has_room buffers free in
     let size = data_of-at_most event brief in
-    entries-event input buffers event brief (unpaused buffers free)
+    entries-event input buffers event brief (free-unpaused buffers free)
     (record { events = omega (arith, room_for.events); data_fits = omega (arith, room_for.data_fits) })
 entries-unit input buffers (event ∷ last ∷ []) brief free =
-    let room_for = has_room buffers free in
+    let room_for = free-has_room buffers free in
     -- The first event has at most 1,088 bytes of data, and the last one at most four.
     let size = data_of-at_most event brief.0 in
     let short = data_of-short last brief.1 in
     -- Each has at most one entry, with no more data than the event.
-    let at_most = are_few buffers event in
-    let more = are_few buffers last in
+    let first_few = event-has_few buffers event in
+    let last_few = event-has_few buffers last in
     let next : Buffers = resumed (buffers_with_event buffers event) in
     -- The buffers aren't full, so they have room for the first event.
     let first =
-    entries-event input buffers event brief.0 (unpaused buffers free)
+    entries-event input buffers event brief.0 (free-unpaused buffers free)
     (record { events = omega (arith, room_for.events); data_fits = omega (arith, room_for.data_fits) }) in
-    -- After that event, the buffers differs from the old one by the entry alone.
-    let kinds : next.kinds ≡ buffers.kinds = ap (λ (r : Buffers). r.kinds) first.written in
-    let count = ap (λ (r : Buffers). r.count) first.written in
-    let most = ap (λ (r : Buffers). r.capacity) first.written in
-    let used = ap (λ (r : Buffers). r.used) first.written in
-    let whole = ap (λ (r : Buffers). r.size) first.written in
+    -- After that event, the buffers differ from the old ones by the entry alone.
+    let kinds : next.kinds ≡ buffers.kinds = ap (λ (held : Buffers). held.kinds) first.written in
+    let count = ap (λ (held : Buffers). held.count) first.written in
+    let same_capacity = ap (λ (held : Buffers). held.capacity) first.written in
+    let used = ap (λ (held : Buffers). held.used) first.written in
+    let same_size = ap (λ (held : Buffers). held.size) first.written in
     -- So what is left is enough for the last event.
     let room_for_last : HasRoomFor next 1 (length (data_of last)) = record {
-      events = omega (arith, room_for.events, at_most.count, count, most);
-      data_fits = omega (arith, room_for.data_fits, at_most.size, size, short, used, whole);
+      events = omega (arith, room_for.events, first_few.count, count, same_capacity);
+      data_fits = omega (arith, room_for.data_fits, first_few.size, size, short, used, same_size);
     } in
-    -- The last event is written into that buffers, which reports the same kinds.
+    -- The last event is written into these buffers, which report the same kinds.
     let second =
     subst
-    (λ (k : ℕ). HasEntries next (resumed (buffers_with_event next last)) input (map Single (reported k (last ∷ []))))
+    (λ (asked : ℕ).
+    HasEntries next (resumed (buffers_with_event next last)) input (map Single (reported asked (last ∷ []))))
     kinds
     (entries-event input next last (short_bounded usual_limit last brief.1) refl room_for_last) in
     -- The entries of both events are those of the first, followed by those of the last.
     let both : entries_of buffers (event ∷ last ∷ [])
     ≡ entries_of buffers (event ∷ []) ++ entries_of buffers (last ∷ []) =
-    ap (map Single) (filter-append (λ e. has buffers.kinds (event_kind e)) (event ∷ []) (last ∷ []))
+    ap (map Single) (filter-append (λ event. has buffers.kinds (event_kind event)) (event ∷ []) (last ∷ []))
     ∙ map-append Single _ _ in
     -- A pause after the first event doesn't change how the last one is written, so the two steps join.
-    rw (with_event_resumed (buffers_with_event buffers event) last, both) (record {
+    rw (event-resumed (buffers_with_event buffers event) last, both) (record {
       readable = readable-append input _ _ first.readable second.readable;
       written =
-          second.written ∙ ap (λ (r : Buffers). with_entries r (entries_of buffers (last ∷ []))) first.written
+          second.written ∙ ap (λ (held : Buffers). with_entries held (entries_of buffers (last ∷ []))) first.written
           ∙ with_entries-append buffers _ _;
-      first = stops_soon buffers.stops buffers.used (entries_of buffers (event ∷ []) ++ entries_of buffers (last ∷ []))
+      first = stops_at_kind-two buffers.stops buffers.used
+          (entries_of buffers (event ∷ []) ++ entries_of buffers (last ∷ []))
           (omega (
             arith,
-            at_most.count,
-            more.count,
+            first_few.count,
+            last_few.count,
             length-append (entries_of buffers (event ∷ [])) (entries_of buffers (last ∷ [])),
           ));
     })
-entries-unit input buffers (event ∷ last ∷ more ∷ events) brief free = absurd brief
+entries-unit input buffers (event ∷ last ∷ third ∷ events) brief free = absurd brief
 
 pub entries-unit_more : {old : Buffers} (input : List ℕ) (buffers : Buffers) (before unit : List Event)
     → HasEntries old (resumed (after buffers_with_event buffers before)) input (entries_of old before)
@@ -361,14 +368,15 @@ pub entries-unit_more : {old : Buffers} (input : List ℕ) (buffers : Buffers) (
     (entries_of old (before ++ unit))
 entries-unit_more {old} input buffers before unit has_entries free brief =
     let mid : Buffers = after buffers_with_event buffers before in
-    -- The buffers before the unit isn't full, so it isn't paused either.
-    let same : resumed mid ≡ mid = resumed_same mid (unpaused mid free) in
+    -- The buffers before the unit aren't full, so they aren't paused either.
+    let same : resumed mid ≡ mid = resumed-same mid (free-unpaused mid free) in
     let first : HasEntries old mid input (entries_of old before) = rw same at has_entries in
-    let kinds : mid.kinds ≡ old.kinds = ap (λ (r : Buffers). r.kinds) first.written in
-    -- The unit is written into that buffers, which reports the kinds of the old one.
+    let kinds : mid.kinds ≡ old.kinds = ap (λ (held : Buffers). held.kinds) first.written in
+    -- The unit is written into these buffers, which report the kinds of the old ones.
     rw (after_events-append buffers_with_event buffers before unit, filter-append, map-append)
     (entries-then first free
     (subst
-    (λ (k : ℕ). HasEntries mid (resumed (after buffers_with_event mid unit)) input (map Single (reported k unit)))
+    (λ (asked : ℕ).
+    HasEntries mid (resumed (after buffers_with_event mid unit)) input (map Single (reported asked unit)))
     kinds
     (entries-unit input mid unit brief free)))

@@ -8,53 +8,55 @@ use Rattle.vte_core.specs.declared.reader.run.Taken.{Taken}
 use Rattle.vte_core.specs.declared.reader.run.Taken.TheVariants.{Text, Data, Nothing}
 use Rattle.vte_core.proofs.EarlyStops.{passed-at}
 use Rattle.vte_c.proofs.Continuations.{no_event_stops-entries, no_event_stops-append, no_event_stops-before, no_event_stops-earlier, no_event_stops-front, no_event_stops-reported, no_event_stops-run, continues-added, continues-call, continues-nothing, continues-then}
-use Rattle.vte_c.proofs.Buffers.{event_passed, event_written, entries-nothing, entries-run, entries-then, entries-unit_more, entries_of, paused_after, resumed_free, resumed_same, unmet, unpaused}
+use Rattle.vte_c.proofs.Buffers.{event-passed, event-written, entries-nothing, entries-run, entries-then, entries-unit_more, entries_of, paused-after_event, resumed-free, resumed-same, no_record_stops-free, free-unpaused}
 
 -- ---- a run of the input
 
 -- All events of a run are reported, or none.
-each_reported : (kinds : ℕ) (wanted : Bool) (call : ℕ → Event) → ((n : ℕ) → has kinds (event_kind (call n)) ≡ wanted)
+calls-reported : (kinds : ℕ) (wanted : Bool) (call : ℕ → Event) → ((n : ℕ) → has kinds (event_kind (call n)) ≡ wanted)
     → (ns : List ℕ) → reported kinds (map call ns) ≡ (if wanted then map call ns else [])
-each_reported kinds true call is [] = refl
-each_reported kinds false call is [] = refl
-each_reported kinds true call is (n ∷ ns) = rw (is n, each_reported kinds true call is ns) refl
-each_reported kinds false call is (n ∷ ns) = rw (is n) (each_reported kinds false call is ns)
+calls-reported kinds true call each_wanted [] = refl
+calls-reported kinds false call each_wanted [] = refl
+calls-reported kinds true call each_wanted (n ∷ ns) =
+    rw (each_wanted n, calls-reported kinds true call each_wanted ns) refl
+calls-reported kinds false call each_wanted (n ∷ ns) =
+    rw (each_wanted n) (calls-reported kinds false call each_wanted ns)
 
-run_reported : (kinds : ℕ) (wanted : Bool) (run : RunKind) (bytes : List ℕ) → has kinds (run_kind run) ≡ wanted
+run-reported : (kinds : ℕ) (wanted : Bool) (run : RunKind) (bytes : List ℕ) → has kinds (run_kind run) ≡ wanted
     → reported kinds (events_of_run run bytes) ≡ (if wanted then events_of_run run bytes else [])
-run_reported kinds wanted TextRun bytes is = each_reported kinds wanted Print (λ c. is) (chars bytes)
-run_reported kinds wanted DataRun bytes is = each_reported kinds wanted Put (λ b. is) bytes
+run-reported kinds wanted TextRun bytes kind_wanted = calls-reported kinds wanted Print (λ c. kind_wanted) (chars bytes)
+run-reported kinds wanted DataRun bytes kind_wanted = calls-reported kinds wanted Put (λ b. kind_wanted) bytes
 
-run_stops : (buffers : Buffers) (run : RunKind) → StopsAtNone buffers
+run-never_stops : (buffers : Buffers) (run : RunKind) → StopsAtNone buffers
     → is_stop buffers.kinds buffers.stops (run_kind run) ≡ false
-run_stops buffers TextRun none = none.0
-run_stops buffers DataRun none = none.1
+run-never_stops buffers TextRun stops_at_none = stops_at_none.0
+run-never_stops buffers DataRun stops_at_none = stops_at_none.1
 
 goes-run : {old new : Buffers} {since bytes : List ℕ} (run : RunKind) {from size : ℕ} → is_full old ≡ false
     → new ≡ with_wanted old (run_record (run_kind run) from size) → IsRunAt bytes run from size
     → added usual_limit since (take size (drop from bytes)) ≡ events_of_run run (take size (drop from bytes))
     → ReadsOn old new since (since ++ take size (drop from bytes)) bytes from size
-goes-run {old} {new} {since} {bytes} run {from} {size} free is is_run adds =
+goes-run {old} {new} {since} {bytes} run {from} {size} free recorded is_run adds =
     let part : List ℕ = take size (drop from bytes) in
     let goes_on = rw adds at (continues-added since (drop from bytes) size) in
-    let before = λ (none : StopsAtNone old) (i : ℕ) (earlier : i < size).
+    let before = λ (stops_at_none : StopsAtNone old) (i : ℕ) (earlier : i < size).
     no_event_stops-earlier (is_stop old.kinds old.stops) since (drop from bytes) i size (omega arith)
-    (rw adds (no_event_stops-run (is_stop old.kinds old.stops) run part (run_stops old run none))) in
+    (rw adds (no_event_stops-run (is_stop old.kinds old.stops) run part (run-never_stops old run stops_at_none))) in
     elim (cases_Bool (has old.kinds (run_kind run))) [
       | inl wanted ↦ record {
         given = events_of_run run part;
         entries = InInput run from size ∷ [];
         continues = goes_on;
-        shows = rw (append-nil (events_of_run run part)) (sym (run_reported old.kinds true run part wanted));
-        holds = entries-run bytes run from size free is_run (rw wanted at is);
+        shows = rw (append-nil (events_of_run run part)) (sym (run-reported old.kinds true run part wanted));
+        holds = entries-run bytes run from size free is_run (rw wanted at recorded);
         before = before;
       }
       | inr other ↦ record {
         given = events_of_run run part;
         entries = [];
         continues = goes_on;
-        shows = sym (run_reported old.kinds false run part other);
-        holds = rw (rw other at is) (entries-nothing old bytes);
+        shows = sym (run-reported old.kinds false run part other);
+        holds = rw (rw other at recorded) (entries-nothing old bytes);
         before = before;
       }
     ]
@@ -66,31 +68,31 @@ events-singles input [] = refl
 events-singles input (event ∷ events) = ap (λ (events : List Event). event ∷ events) (events-singles input events)
 
 -- Before the first byte at most U+FFFD is given, for a character that it breaks, and that doesn't fill the buffers.
-goes_on_at_first : (old : Buffers) (broken : Bool) → Starts old
+free-at_first : (old : Buffers) (broken : Bool) → Starts old
     → NoRecordStops old.stops (after buffers_with_event old (if broken then Print replacement ∷ [] else [])).events
     → is_full (after buffers_with_event old (if broken then Print replacement ∷ [] else [])) ≡ false
-goes_on_at_first old false starts others = grind (arith, nat_tests)
-goes_on_at_first old true starts others =
+free-at_first old false starts no_stops = grind (arith, nat_tests)
+free-at_first old true starts no_stops =
     -- U+FFFD has at most four bytes of data, and its event doesn't pause the writer.
     let small : length (data_of (Print replacement)) ≤ 4 =
     omega (arith, length-encode replacement, (len_utf8_bounds replacement).1) in
     let next : Buffers = buffers_with_event old (Print replacement) in
-    let going : next.paused ≡ false = paused_after old (Print replacement) refl ∙ starts.paused in
-    let same : resumed next ≡ next = resumed_same next going in
+    let unpaused : next.paused ≡ false = paused-after_event old (Print replacement) refl ∙ starts.paused in
+    let same : resumed next ≡ next = resumed-same next unpaused in
     elim (cases_Bool (has old.kinds 0)) [
       | inl wanted ↦
-          let is : next ≡ with_entries old (Single (Print replacement) ∷ []) =
+          let written : next ≡ with_entries old (Single (Print replacement) ∷ []) =
           sym same
-          ∙ event_written old (Print replacement) starts.paused
+          ∙ event-written old (Print replacement) starts.paused
           (record {
             events = omega (arith, starts.capacity, starts.count);
             data_fits = omega (arith, starts.size, starts.used);
           }) wanted in
-          let other : has old.stops 0 ≡ false = (rw (is, starts.events) at others).0 in
-          rw is (grind (arith, nat_tests, length-append))
+          let other : has old.stops 0 ≡ false = (rw (written, starts.events) at no_stops).0 in
+          rw written (grind (arith, nat_tests, length-append))
       | inr passed ↦
-          let is : next ≡ old = sym same ∙ event_passed old (Print replacement) starts.paused passed in
-          rw is (grind (arith, nat_tests))
+          let unchanged : next ≡ old = sym same ∙ event-passed old (Print replacement) starts.paused passed in
+          rw unchanged (grind (arith, nat_tests))
     ]
 
 -- The code cites these laws of the parser.
@@ -100,19 +102,20 @@ pub record Laws : Type 0 where
   pub silent : OpensSilently usual_limit
 
 module _ (old new : Buffers) (since bytes : List ℕ) (from n : ℕ) (laws : Laws) (free : is_full old ≡ false)
-    (s : ComesTo buffers_with_event is_full old usual_limit since (drop from bytes) new n) where
+    (comes : ComesTo buffers_with_event is_full old usual_limit since (drop from bytes) new n) where
   abbrev given_at : ℕ → List Event
   given_at i = reported_before usual_limit since (drop from bytes) i
 
   -- All that was given is written, since the buffers weren't full at any start that the call came to.
-  given_written : (i : ℕ) → i ≤ n
+  given-written : (i : ℕ) → i ≤ n
       → HasEntries old (resumed (after buffers_with_event old (given_at i))) bytes (entries_of old (given_at i))
-  given_written i come =
+  given-written i within =
       passed-at (λ events. HasEntries old (resumed (after buffers_with_event old events)) bytes (entries_of old events))
       (λ events. is_full (after buffers_with_event old events) ≡ false)
-      since (drop from bytes) laws.units (rw (resumed_same old (unpaused old free)) (entries-nothing old bytes)) free
+      since (drop from bytes) laws.units
+      (rw (resumed-same old (free-unpaused old free)) (entries-nothing old bytes)) free
       (entries-unit_more bytes old)
-      i (omega (arith, s.within)) (λ j earlier. s.earlier j (omega arith))
+      i (omega (arith, comes.within)) (λ j earlier. comes.earlier j (omega arith))
 
   goes-call : ReadsOn old (resumed new) since (resumed_stream since (drop from bytes) n) bytes from n
   goes-call = record {
@@ -121,16 +124,17 @@ module _ (old new : Buffers) (since bytes : List ℕ) (from n : ℕ) (laws : Law
     continues = continues-call laws.goes_on since (drop from bytes) n;
     shows = events-singles bytes (reported old.kinds (given_at n));
     holds =
-        subst (λ (r : Buffers). HasEntries old (resumed r) bytes (entries_of old (given_at n))) (sym s.performed)
-        (given_written n (omega arith));
-    before = λ none.
-        no_event_stops-before (is_stop old.kinds old.stops) none.0 since (drop from bytes) n s.within laws.silent
+        subst (λ (held : Buffers). HasEntries old (resumed held) bytes (entries_of old (given_at n)))
+        (sym comes.performed) (given-written n (omega arith));
+    before = λ stops_at_none.
+        no_event_stops-before (is_stop old.kinds old.stops) stops_at_none.0 since (drop from bytes) n comes.within
+        laws.silent
         (λ i earlier start.
         no_event_stops-reported old.kinds old.stops (given_at i)
         (rw (events-singles bytes (reported old.kinds (given_at i))) at
         (no_event_stops-entries old.stops bytes old.used (entries_of old (given_at i))
-        (unmet (given_written i (omega arith))
-        (resumed_free (after buffers_with_event old (given_at i)) (s.earlier i earlier start))))));
+        (no_record_stops-free (given-written i (omega arith))
+        (resumed-free (after buffers_with_event old (given_at i)) (comes.earlier i earlier start))))));
   }
 
 -- ---- one step after the other, if the buffers aren't full in between
@@ -142,7 +146,7 @@ goes-nothing {buffers} {since} {bytes} {from} = record {
   continues = continues-nothing since (drop from bytes);
   shows = refl;
   holds = entries-nothing buffers bytes;
-  before = λ none i earlier. absurd (omega arith);
+  before = λ stops_at_none i earlier. absurd (omega arith);
 }
 
 goes-then : {old mid new : Buffers} {since next last bytes : List ℕ} {from n m : ℕ}
@@ -154,8 +158,8 @@ goes-then {old} {mid} {since} {bytes} {from} {n} {m} reads free within reads_on 
     let size = length-drop from bytes in
     -- The second step begins n bytes after the first, with the same kinds and stops.
     let rest : drop (from + n) bytes ≡ drop n unread = sym (drop-drop n from bytes) in
-    let kinds : mid.kinds ≡ old.kinds = ap (λ (r : Buffers). r.kinds) reads.holds.written in
-    let stops : mid.stops ≡ old.stops = ap (λ (r : Buffers). r.stops) reads.holds.written in
+    let kinds : mid.kinds ≡ old.kinds = ap (λ (held : Buffers). held.kinds) reads.holds.written in
+    let stops : mid.stops ≡ old.stops = ap (λ (held : Buffers). held.stops) reads.holds.written in
     record {
       given = reads.given ++ reads_on.given;
       entries = reads.entries ++ reads_on.entries;
@@ -164,24 +168,25 @@ goes-then {old} {mid} {since} {bytes} {from} {n} {m} reads free within reads_on 
           rw (flat_map-append (entry_events bytes) reads.entries reads_on.entries, filter-append, reads.shows)
           (rw kinds at (ap (λ (events : List Event). reported old.kinds reads.given ++ events) reads_on.shows));
       holds = entries-then reads.holds free reads_on.holds;
-      before = λ none i earlier. elim (cases_lt i n) [
-        | inl front ↦ reads.before none i front
+      before = λ stops_at_none i earlier. elim (cases_lt i n) [
+        | inl front ↦ reads.before stops_at_none i front
         | inr after_it ↦
             let k : ℕ = i - n in
-            let place : n + k ≡ i = omega arith in
+            let position : n + k ≡ i = omega arith in
             let front = reads.continues.prefixes k (omega (arith, within)) in
             let stop : ℕ → Bool = is_stop old.kinds old.stops in
             -- The buffers weren't full after the first step, so none of its events stops.
             let given_without_stop =
             no_event_stops-reported old.kinds old.stops reads.given
             (rw reads.shows at
-            (no_event_stops-entries old.stops bytes old.used reads.entries (unmet reads.holds free))) in
+            (no_event_stops-entries old.stops bytes old.used reads.entries (no_record_stops-free reads.holds free))) in
             -- Before the end of the second step, none of its events stops either.
-            let more = rw (kinds, stops, rest) at (reads_on.before (rw (kinds, stops) none) k (omega arith)) in
-            -- What the bytes up to place i add is the first part of these events.
-            rw (← place)
+            let later_without_stop =
+            rw (kinds, stops, rest) at (reads_on.before (rw (kinds, stops) stops_at_none) k (omega arith)) in
+            -- What the first i bytes add is the first part of these events.
+            rw (← position)
             (no_event_stops-front stop (added usual_limit since (take (n + k) unread)) front.others
-            (rw front.parts at (no_event_stops-append stop _ _ given_without_stop more)))
+            (rw front.parts at (no_event_stops-append stop _ _ given_without_stop later_without_stop)))
       ];
     }
 
@@ -203,74 +208,76 @@ gone-then has_read free within has_read_on =
 -- ---- a call of the parser, and the run that it returned
 
 -- A run that has no bytes isn't there.
-no_run : (bytes : List ℕ) (end : ℕ) (taken : Taken) → IsLongestRun bytes end taken → length (taken_bytes taken) ≡ 0
+run-empty : (bytes : List ℕ) (end : ℕ) (taken : Taken) → IsLongestRun bytes end taken → length (taken_bytes taken) ≡ 0
     → (buffers : Buffers) (start : ℕ)
     → with_taken buffers start taken ≡ resumed buffers
-no_run bytes end (Text text) whole none buffers start = absurd (omega (arith, whole.0, none))
-no_run bytes end (Data those) whole none buffers start = absurd (omega (arith, whole.0, none))
-no_run bytes end Nothing whole none buffers start = refl
+run-empty bytes end (Text text) longest no_bytes buffers start = absurd (omega (arith, longest.0, no_bytes))
+run-empty bytes end (Data those) longest no_bytes buffers start = absurd (omega (arith, longest.0, no_bytes))
+run-empty bytes end Nothing longest no_bytes buffers start = refl
 
 module _ (old mid new : Buffers) (since bytes : List ℕ) (from : ℕ) (run : Run) {HasReadBefore : List ℕ → Type 0}
     (laws : Laws) (free : is_full old ≡ false) (begins : from ≤ length bytes)
-    (r : ReturnsRun buffers_with_event is_full old mid usual_limit HasReadBefore (drop from bytes) run)
+    (returned : ReturnsRun buffers_with_event is_full old mid usual_limit HasReadBefore (drop from bytes) run)
     (before : HasReadBefore since) where
   abbrev after_call : List ℕ
   after_call = resumed_stream since (drop from bytes) run.start
 
-  call : ReadsOn old (resumed mid) since after_call bytes from run.start
-  call = goes-call old mid since bytes from run.start laws free (r.comes since before)
+  goes-to_run_start : ReadsOn old (resumed mid) since after_call bytes from run.start
+  goes-to_run_start = goes-call old mid since bytes from run.start laws free (returned.comes since before)
 
   -- A run of this kind was recorded.
-  goes-some : (kind : RunKind) → 0 < length (run_bytes run)
+  goes-recorded : (kind : RunKind) → 0 < length (run_bytes run)
       → new ≡ with_wanted mid (run_record (run_kind kind) (from + run.start) (length (run_bytes run)))
       → IsRunOfKind kind (run_bytes run) → run_events run ≡ events_of_run kind (run_bytes run)
       → ReadsOn old new since (after_call ++ run_bytes run) bytes from run.end
-  goes-some kind some is plain same =
+  goes-recorded kind not_empty recorded is_run same_events =
       let here : take (length (run_bytes run)) (drop (from + run.start) bytes) ≡ run_bytes run =
-      ap (take (length (run_bytes run))) (sym (drop-drop run.start from bytes)) ∙ sym r.is_run.bytes_are in
+      ap (take (length (run_bytes run))) (sym (drop-drop run.start from bytes)) ∙ sym returned.is_run.bytes_are in
       let within : from + run.start + length (run_bytes run) ≤ length bytes =
-      omega (arith, begins, r.is_run.end, r.is_run.within, length-drop from bytes) in
-      let open_room = r.may_go_on (omega (arith, r.is_run.end)) in
-      let same_room : resumed mid ≡ mid = resumed_same mid (unpaused mid open_room) in
-      let more =
-      goes-run {since = after_call} kind open_room is
-      (record { within = within; some = some; is = rw here plain }) (rw here (r.adds since before ∙ same)) in
-      rw r.is_run.end (goes-then (rw same_room at call) open_room within (rw here at more))
+      omega (arith, begins, returned.is_run.end, returned.is_run.within, length-drop from bytes) in
+      let open_room = returned.may_go_on (omega (arith, returned.is_run.end)) in
+      let same_room : resumed mid ≡ mid = resumed-same mid (free-unpaused mid open_room) in
+      let by_run =
+      goes-run {since = after_call} kind open_room recorded
+      (record { within = within; some = not_empty; is = rw here is_run })
+      (rw here (returned.adds since before ∙ same_events)) in
+      rw returned.is_run.end (goes-then (rw same_room at goes-to_run_start) open_room within (rw here at by_run))
 
   goes-taken : (taken : Taken) → run.taken ≡ taken → AreCharacters taken → IsLongestRun (drop from bytes) run.end taken
       → new ≡ with_taken mid (from + run.start) taken
       → ReadsOn old new since (after_call ++ run_bytes run) bytes from run.end
-  goes-taken (Text text) is utf8 whole written =
-      let bytes_are : run_bytes run ≡ text.now = ap taken_bytes is in
-      goes-some TextRun (rw bytes_are whole.0) (rw bytes_are written) (rw bytes_are (utf8, whole.1)) (rw is refl)
-  goes-taken (Data those) is utf8 whole written =
-      let bytes_are : run_bytes run ≡ those.now = ap taken_bytes is in
-      goes-some DataRun (rw bytes_are whole.0) (rw bytes_are written) tt (rw is refl)
-  goes-taken Nothing is utf8 whole written =
-      let none : run_bytes run ≡ [] = ap taken_bytes is in
-      let end : run.end ≡ run.start = omega (arith, r.is_run.end, ap length none) in
-      rw (none, append-nil after_call, end, written) call
+  goes-taken (Text text) same_taken utf8 longest written =
+      let bytes_are : run_bytes run ≡ text.now = ap taken_bytes same_taken in
+      goes-recorded TextRun (rw bytes_are longest.0) (rw bytes_are written) (rw bytes_are (utf8, longest.1))
+      (rw same_taken refl)
+  goes-taken (Data those) same_taken utf8 longest written =
+      let bytes_are : run_bytes run ≡ those.now = ap taken_bytes same_taken in
+      goes-recorded DataRun (rw bytes_are longest.0) (rw bytes_are written) tt (rw same_taken refl)
+  goes-taken Nothing same_taken utf8 longest written =
+      let no_bytes : run_bytes run ≡ [] = ap taken_bytes same_taken in
+      let end : run.end ≡ run.start = omega (arith, returned.is_run.end, ap length no_bytes) in
+      rw (no_bytes, append-nil after_call, end, written) goes-to_run_start
 
   pub goes-to-run : AreCharacters run.taken → new ≡ with_run mid from run
       → ReadsOn old new since (after_call ++ run_bytes run) bytes from run.end
-  goes-to-run utf8 is = goes-taken run.taken refl utf8 r.is_run.whole is
+  goes-to-run utf8 recorded = goes-taken run.taken refl utf8 returned.is_run.whole recorded
 
   -- With room for what two bytes add, a call reads one, unless a record that stops was written.
-  pub further : Starts old → from < length bytes → new ≡ with_run mid from run
+  pub goes-further : Starts old → from < length bytes → new ≡ with_run mid from run
       → NoRecordStops old.stops new.events → 0 < run.end
   unfolding reported_before
-  further starts some is others = elim (cases_lt 0 run.end) [
-    | inl more ↦ more
-    | inr none ↦
+  goes-further starts before_end recorded no_stops = elim (cases_lt 0 run.end) [
+    | inl moved ↦ moved
+    | inr at_0 ↦
         let unread : List ℕ = drop from bytes in
-        let start : run.start ≡ 0 = omega (arith, none, r.is_run.end) in
-        let empty : length (run_bytes run) ≡ 0 = omega (arith, none, r.is_run.end) in
+        let start : run.start ≡ 0 = omega (arith, at_0, returned.is_run.end) in
+        let empty : length (run_bytes run) ≡ 0 = omega (arith, at_0, returned.is_run.end) in
         let same : new ≡ resumed mid =
-        is ∙ no_run unread run.end run.taken r.is_run.whole empty mid (from + run.start) in
-        let performed = rw (start, added-nothing usual_limit since) at (r.comes since before).performed in
-        let goes_on = goes_on_at_first old (breaks_at since unread 0) starts (rw (same, performed) at others) in
+        recorded ∙ run-empty unread run.end run.taken returned.is_run.whole empty mid (from + run.start) in
+        let performed = rw (start, added-nothing usual_limit since) at (returned.comes since before).performed in
+        let goes_on = free-at_first old (breaks_at since unread 0) starts (rw (same, performed) at no_stops) in
         absurd
         (false≢true
         (sym goes_on ∙ ap is_full (sym performed)
-        ∙ r.stops (omega (arith, none, start)) (omega (arith, start, length-drop from bytes, some))))
+        ∙ returned.stops (omega (arith, at_0, start)) (omega (arith, start, length-drop from bytes, before_end))))
   ]

@@ -7,8 +7,8 @@ use Rattle.vte_core.proofs.Shapes.{breaks-next}
 
 -- ---- some events are the first of others (`AreFirst`)
 
-first_same : {events all : List Event} → all ≡ events → AreFirst events all
-first_same {events} same = record { others = []; parts = same ∙ sym (append-nil events) }
+first-same : {events all : List Event} → all ≡ events → AreFirst events all
+first-same {events} same = record { others = []; parts = same ∙ sym (append-nil events) }
 
 first-then : {front events all : List Event} → AreFirst front events → AreFirst events all → AreFirst front all
 first-then {front} first later = record {
@@ -28,12 +28,12 @@ first-after {events} before first = record {
 -- ---- one part after another
 
 pub continues-nothing : (since bytes : List ℕ) → Continues since since bytes 0 []
-continues-nothing since bytes = record { goes_on = λ more. refl; prefixes = λ k within. first_same (rw zero-add refl) }
+continues-nothing since bytes = record { goes_on = λ more. refl; prefixes = λ k within. first-same (rw zero-add refl) }
 
-pub continues-then : {since next last bytes : List ℕ} {n m : ℕ} {given more : List Event}
-    → Continues since next bytes n given → Continues next last (drop n bytes) m more
-    → n ≤ length bytes → Continues since last bytes (n + m) (given ++ more)
-continues-then {bytes} {n} {m} {given} {more} continues continues_on within = record {
+pub continues-then : {since next last bytes : List ℕ} {n m : ℕ} {given given_next : List Event}
+    → Continues since next bytes n given → Continues next last (drop n bytes) m given_next
+    → n ≤ length bytes → Continues since last bytes (n + m) (given ++ given_next)
+continues-then {bytes} {n} {m} {given} {given_next} continues continues_on within = record {
   goes_on =
       λ unread.
       rw (append_assoc given, ← drop-drop m n bytes, continues.goes_on unread, continues_on.goes_on unread) refl;
@@ -51,25 +51,25 @@ continues-added since bytes n = record {
   goes_on = λ more.
       let parts = added-append usual_limit since (take n bytes) (drop n bytes ++ more) in
       rw (← parts, ← append_assoc (take n bytes), take-append-drop) refl;
-  prefixes = λ k within. first_same (rw (take-add n k bytes, added-append) refl);
+  prefixes = λ k within. first-same (rw (take-add n k bytes, added-append) refl);
 }
 
 -- ---- a call of the parser
 
 -- A call that stops before that byte has given U+FFFD, which no byte has added so far.
-broken_first : GoesOnFromPositions usual_limit → (stream unread : List ℕ) (k : ℕ)
+broken-first : GoesOnFromPositions usual_limit → (stream unread : List ℕ) (k : ℕ)
     → breaks (open_character stream) unread ≡ true
     → AreFirst (added usual_limit stream (take k unread)) (Print replacement ∷ added usual_limit [] (take k unread))
 unfolding reported_before resumed_stream breaks_at
-broken_first goes_on stream unread zero broken =
+broken-first goes_on stream unread zero broken =
     record { others = Print replacement ∷ added usual_limit [] []; parts = rw (added-nothing usual_limit stream) refl }
-broken_first goes_on stream [] (suc k) broken =
+broken-first goes_on stream [] (suc k) broken =
     record { others = Print replacement ∷ added usual_limit [] []; parts = rw (added-nothing usual_limit stream) refl }
-broken_first goes_on stream (byte ∷ unread) (suc k) broken =
+broken-first goes_on stream (byte ∷ unread) (suc k) broken =
     let front : List ℕ = byte ∷ take k unread in
     let breaks_it : breaks_at stream front 0 ≡ true =
     rw (append-nil stream) (breaks-next (open_character stream) byte (take k unread) unread ∙ broken) in
-    first_same
+    first-same
     (sym
     (rw (append-nil front, reported_before, resumed_stream, breaks_it, added-nothing usual_limit stream) at
     (goes_on stream front [] 0)))
@@ -83,23 +83,18 @@ continues-call goes_on since bytes n = elim (cases_Bool (breaks_at since bytes n
     prefixes = λ k within.
         rw (take-add n k bytes, added-append, append_assoc (added usual_limit since (take n bytes)))
         (first-after (added usual_limit since (take n bytes))
-        (broken_first goes_on (since ++ take n bytes) (drop n bytes) k broken));
+        (broken-first goes_on (since ++ take n bytes) (drop n bytes) k broken));
   })
-  | inr whole ↦ rw (whole, append-nil (added usual_limit since (take n bytes))) (continues-added since bytes n)
+  | inr unbroken ↦ rw (unbroken, append-nil (added usual_limit since (take n bytes))) (continues-added since bytes n)
 ]
-
--- ---- events that stop a call
-
--- No such event is given before the last byte that a call reads: a byte before that ends at a start, where the call
--- would have stopped, or adds nothing that stops.
 
 -- ---- records of kinds that do not stop
 
 pub no_kind_stops-none : (stops : ℕ) (records : List VteEvent) → has_kind stops records ≡ false
     → NoRecordStops stops records
-no_kind_stops-none stops [] none = tt
-no_kind_stops-none stops (event ∷ records) none =
-    let apart = or_parts (has stops event.kind) (has_kind stops records) none in
+no_kind_stops-none stops [] none_of_kinds = tt
+no_kind_stops-none stops (event ∷ records) none_of_kinds =
+    let apart = or_parts (has stops event.kind) (has_kind stops records) none_of_kinds in
     (apart.0, no_kind_stops-none stops records apart.1)
 
 pub no_kind_stops-append : (stops : ℕ) (front back : List ℕ) → NoKindStops stops front → NoKindStops stops back
@@ -124,13 +119,13 @@ no_event_stops-append stop (event ∷ front) back none_stops none_after =
 
 no_event_stops-each : (stop : ℕ → Bool) (call : ℕ → Event) → ((n : ℕ) → stop (event_kind (call n)) ≡ false)
     → (ns : List ℕ) → NoEventStops stop (map call ns)
-no_event_stops-each stop call other [] = tt
-no_event_stops-each stop call other (n ∷ ns) = (other n, no_event_stops-each stop call other ns)
+no_event_stops-each stop call kind_goes_on [] = tt
+no_event_stops-each stop call kind_goes_on (n ∷ ns) = (kind_goes_on n, no_event_stops-each stop call kind_goes_on ns)
 
 pub no_event_stops-run : (stop : ℕ → Bool) (run : RunKind) (bytes : List ℕ) → stop (run_kind run) ≡ false
     → NoEventStops stop (events_of_run run bytes)
-no_event_stops-run stop TextRun bytes other = no_event_stops-each stop Print (λ c. other) (chars bytes)
-no_event_stops-run stop DataRun bytes other = no_event_stops-each stop Put (λ b. other) bytes
+no_event_stops-run stop TextRun bytes kind_goes_on = no_event_stops-each stop Print (λ c. kind_goes_on) (chars bytes)
+no_event_stops-run stop DataRun bytes kind_goes_on = no_event_stops-each stop Put (λ b. kind_goes_on) bytes
 
 -- The events of records that don't stop don't stop either.
 pub no_event_stops-entries : (stops : ℕ) (input : List ℕ) (place : ℕ) (entries : List Entry)
@@ -168,14 +163,17 @@ no_event_stops-earlier stop stream bytes i n earlier none_stops =
 
 -- ---- what the bytes before the last add
 
+-- No event that stops is given before the last byte that a call reads: a byte before that ends at a start, where the
+-- call would have stopped, or adds nothing that stops.
+
 module _ (stop : ℕ → Bool) (no_text : stop 0 ≡ false) (stream bytes : List ℕ) (n : ℕ) (within : n ≤ length bytes)
     (silent : OpensSilently usual_limit)
     (asked : (i : ℕ) → i < n → IsStart stream bytes i
     → NoEventStops stop (reported_before usual_limit stream bytes i)) where
-  at_start : (i : ℕ) → i < n → open_character (stream ++ take i bytes) ≡ []
+  no_event_stops-at_start : (i : ℕ) → i < n → open_character (stream ++ take i bytes) ≡ []
       → NoEventStops stop (added usual_limit stream (take i bytes))
   unfolding reported_before
-  at_start i earlier closed =
+  no_event_stops-at_start i earlier closed =
       no_event_stops-front stop (added usual_limit stream (take i bytes))
       (if breaks_at stream bytes i then Print replacement ∷ [] else [])
       (asked i earlier (record { within = omega arith; starts = inl closed }))
@@ -186,14 +184,15 @@ module _ (stop : ℕ → Bool) (no_text : stop 0 ≡ false) (stream bytes : List
   no_event_stops-before (suc i) earlier =
       let byte : ℕ = get_or bytes i 0 in
       let here : List ℕ = stream ++ take i bytes in
-      let one : take (suc i) bytes ≡ take i bytes ++ byte ∷ [] = rw (← add-one) (take_more bytes i 0 (omega arith)) in
+      let one_more : take (suc i) bytes ≡ take i bytes ++ byte ∷ [] =
+      rw (← add-one) (take_more bytes i 0 (omega arith)) in
       let before = no_event_stops-before i (omega arith) in
       elim (silent here byte) [
-        | inl closed ↦ at_start (suc i) earlier (rw (one, ← append_assoc) closed)
-        | inr opens ↦ rw (one, added-append usual_limit stream (take i bytes) (byte ∷ []))
+        | inl closed ↦ no_event_stops-at_start (suc i) earlier (rw (one_more, ← append_assoc) closed)
+        | inr opens ↦ rw (one_more, added-append usual_limit stream (take i bytes) (byte ∷ []))
             (no_event_stops-append stop (added usual_limit stream (take i bytes))
             (added usual_limit here (byte ∷ [])) before (elim opens [
-              | inl none ↦ rw none tt
+              | inl nothing ↦ rw nothing tt
               | inr broken ↦ rw broken (no_text, tt)
             ]))
       ]

@@ -15,17 +15,17 @@ with_all-append : (buffer : TextBuffer) (front back : List ℕ)
     → with_all (with_all buffer front) back ≡ with_all buffer (front ++ back)
 with_all-append buffer front back = rw (append_assoc buffer.text, add_assoc buffer.used, length-append front back) refl
 
-all_written : (buffer : TextBuffer) (events : List Event) → buffer.fits ≡ true
+events-written_in_full : (buffer : TextBuffer) (events : List Event) → buffer.fits ≡ true
     → buffer.used + length (plain_text events) ≤ buffer.size
     → after text_buffer_with_event buffer events ≡ with_all buffer (plain_text events)
 unfolding text_buffer_with
-all_written buffer [] whole fits = simp (append-nil, add-zero)
-all_written buffer (event ∷ events) whole fits =
+events-written_in_full buffer [] has_fitted fits = simp (append-nil, add-zero)
+events-written_in_full buffer (event ∷ events) has_fitted fits =
     let all = length-append (plain_text_of event) (plain_text events) in
     let first : (buffer.fits && nat_le (buffer.used + length (plain_text_of event)) buffer.size) ≡ true =
-    rw whole (le-leb _ _ (omega arith)) in
+    rw has_fitted (le-leb _ _ (omega arith)) in
     rw first
-    (all_written (with_all buffer (plain_text_of event)) events whole (omega arith)
+    (events-written_in_full (with_all buffer (plain_text_of event)) events has_fitted (omega arith)
     ∙ with_all-append buffer (plain_text_of event) (plain_text events))
 
 -- ---- a run
@@ -35,33 +35,33 @@ text_buffer_with-append : (buffer : TextBuffer) (front back : List ℕ)
 unfolding text_buffer_with
 text_buffer_with-append buffer front back =
     elim (cases_Bool (buffer.fits && nat_le (buffer.used + length front) buffer.size)) [
-      | inl some ↦ rw (some, append_assoc buffer.text, add_assoc buffer.used, length-append front back) refl
+      | inl has_room ↦ rw (has_room, append_assoc buffer.text, add_assoc buffer.used, length-append front back) refl
       | inr full ↦
-          let none : (buffer.fits && nat_le (buffer.used + length (front ++ back)) buffer.size) ≡ false =
+          let both_full : (buffer.fits && nat_le (buffer.used + length (front ++ back)) buffer.size) ≡ false =
           grind (arith, nat_tests, length-append) in
-          rw (full, none) refl
+          rw (full, both_full) refl
     ]
 
-some_written : (buffer : TextBuffer) (event : Event) (events : List Event)
+events-written_as_text : (buffer : TextBuffer) (event : Event) (events : List Event)
     → after text_buffer_with_event buffer (event ∷ events) ≡ text_buffer_with buffer (plain_text (event ∷ events))
-some_written buffer event [] = rw (append-nil (plain_text_of event)) refl
-some_written buffer event (next ∷ events) =
-    some_written (text_buffer_with_event buffer event) next events
+events-written_as_text buffer event [] = rw (append-nil (plain_text_of event)) refl
+events-written_as_text buffer event (next ∷ events) =
+    events-written_as_text (text_buffer_with_event buffer event) next events
     ∙ text_buffer_with-append buffer (plain_text_of event) (plain_text (next ∷ events))
 
 -- A run is written as its characters are, one after another.
-pub writes_run : (buffer : TextBuffer) (text : List ℕ) → IsUtf8 text → 0 < length text
+pub run-written : (buffer : TextBuffer) (text : List ℕ) → IsUtf8 text → 0 < length text
     → text_buffer_with buffer text ≡ after text_buffer_with_event buffer (map (run_event true) (chars text))
-writes_run buffer text utf8 some =
+run-written buffer text utf8 not_empty =
     let spelt : plain_text (map (run_event true) (chars text)) ≡ text =
     text_of-run (chars text) ∙ encodes-chars text utf8 in
-    rw spelt at (written (chars text) (rw spelt some))
+    rw spelt at (written (chars text) (rw spelt not_empty))
   where
     written : (cs : List ℕ) → 0 < length (plain_text (map (run_event true) cs))
         → text_buffer_with buffer (plain_text (map (run_event true) cs))
         ≡ after text_buffer_with_event buffer (map (run_event true) cs)
-    written [] none = absurd (omega arith)
-    written (c ∷ cs) some = sym (some_written buffer (run_event true c) (map (run_event true) cs))
+    written [] not_empty = absurd (omega arith)
+    written (c ∷ cs) not_empty = sym (events-written_as_text buffer (run_event true c) (map (run_event true) cs))
 
 -- ---- chunks
 
@@ -70,16 +70,16 @@ pub record HasTextOf (old new : TextBuffer) (stream bytes : List ℕ) (n : ℕ) 
   pub parsed : HasRead parser (stream ++ take n bytes)
   pub holds : new ≡ with_all old (plain_text (added usual_limit stream (take n bytes)))
 
-pub written_nothing : {stream : List ℕ} {parser : Parser 1024} (buffer : TextBuffer) (bytes : List ℕ)
+pub has_text-nothing : {stream : List ℕ} {parser : Parser 1024} (buffer : TextBuffer) (bytes : List ℕ)
     → HasRead parser stream
     → HasTextOf buffer buffer stream bytes 0 parser
-written_nothing {stream} buffer bytes parsed =
+has_text-nothing {stream} buffer bytes parsed =
     record {
       parsed = rw (append-nil stream) parsed;
       holds = rw (added-nothing usual_limit stream) (simp (append-nil, add-zero));
     }
 
-pub written_more : {old new later : TextBuffer} {stream bytes : List ℕ} {n : ℕ} {parser parser_later : Parser 1024}
+pub has_text-more : {old new later : TextBuffer} {stream bytes : List ℕ} {n : ℕ} {parser parser_later : Parser 1024}
     (chunk : List ℕ) → old.fits ≡ true
     → length (plain_text (added usual_limit (stream ++ take n bytes) chunk)) ≤ 8 * length chunk
     → HasTextOf old new stream bytes n parser
@@ -87,15 +87,15 @@ pub written_more : {old new later : TextBuffer} {stream bytes : List ℕ} {n : �
     → later ≡ after text_buffer_with_event new (added usual_limit (stream ++ take n bytes) chunk)
     → HasRead parser_later ((stream ++ take n bytes) ++ chunk)
     → HasTextOf old later stream bytes (n + length chunk) parser_later
-written_more {old} {new} {stream} {bytes} {n} chunk kept slow has_text parts fits performed parsed =
+has_text-more {old} {new} {stream} {bytes} {n} chunk kept slow has_text parts fits performed parsed =
     let before = added usual_limit stream (take n bytes) in
     let more = added usual_limit (stream ++ take n bytes) chunk in
     record {
       parsed = rw (parts, ← append_assoc) parsed;
       holds =
           rw (parts, added-append usual_limit stream (take n bytes) chunk, flat_map-append plain_text_of before more)
-          (performed ∙ all_written new more (ap (λ (r : TextBuffer). r.fits) has_text.holds ∙ kept)
+          (performed ∙ events-written_in_full new more (ap (λ (held : TextBuffer). held.fits) has_text.holds ∙ kept)
           (omega (arith, fits, slow))
-          ∙ ap (λ (r : TextBuffer). with_all r (plain_text more)) has_text.holds
+          ∙ ap (λ (held : TextBuffer). with_all held (plain_text more)) has_text.holds
           ∙ with_all-append old (plain_text before) (plain_text more));
     }

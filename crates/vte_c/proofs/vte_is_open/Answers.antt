@@ -7,23 +7,23 @@ use Rattle.vte_core.specs.contracts.parser.open.Open.{the_type}
 use denote.Enum.Declared.{tag_of}
 use Rattle.vte_c.proofs.vte_is_open.Goals as goal
 
-nothing_by_code : (kind : Open) → tag_of the_type kind ≡ 0 → kind ≡ Nothing
-nothing_by_code Nothing none = refl
-nothing_by_code _ none = cc
+kind-nothing_by_code : (kind : Open) → tag_of the_type kind ≡ 0 → kind ≡ Nothing
+kind-nothing_by_code Nothing code_is_0 = refl
+kind-nothing_by_code _ code_is_0 = cc
 
-code_is : (kind : Open) → tag_of the_type kind ≡ open_code kind
-code_is Nothing = refl
-code_is Character = refl
-code_is EscapeSequence = refl
-code_is ControlSequence = refl
-code_is DeviceControl = refl
-code_is SystemCommand = refl
-code_is IgnoredString = refl
+kind-code : (kind : Open) → tag_of the_type kind ≡ open_code kind
+kind-code Nothing = refl
+kind-code Character = refl
+kind-code EscapeSequence = refl
+kind-code ControlSequence = refl
+kind-code DeviceControl = refl
+kind-code SystemCommand = refl
+kind-code IgnoredString = refl
 
 pub returns-clause-which : goal.returns-clause-which
 returns-clause-which c = λ stream reads.
-    code_is c.open.result ∙ ap open_code (c.open.ensures.which stream (c.restore.ensures stream reads))
+    kind-code c.open.result ∙ ap open_code (c.open.ensures.which stream (c.restore.ensures stream reads))
 
 pub returns-clause-closed : goal.returns-clause-closed
 returns-clause-closed c = λ closed stream reads.
-    (c.open.ensures.closed (nothing_by_code c.open.result closed) stream (c.restore.ensures stream reads)).1
+    (c.open.ensures.closed (kind-nothing_by_code c.open.result closed) stream (c.restore.ensures stream reads)).1

@@ -1,7 +1,7 @@
--- The caller's counts and slices are those of the writer (`counts_are`). So what `read_into` ensures, of the bytes that
--- 32 bits can count, holds for the caller.
+-- The caller's counts and slices are those of the writer (`counts-of_writer`). So what `read_into` ensures, of the
+-- bytes that 32 bits can count, holds for the caller.
 use Rattle.vte_c.proofs.Common.{Event, HasReported, List, [], append_assoc, arith, drop, drop-append-le, length, length-take, fed_count, rules, sym, take, take-append-drop, take-take, ℕ, ◌++◌, ◌<◌, ◌∙◌, ◌≡◌, ◌≤◌}
-use Rattle.vte_c.proofs.ReadBack.{counts_are, counted}
+use Rattle.vte_c.proofs.ReadBack.{counts-of_writer, fed_count-with_room}
 use Rattle.vte_c.proofs.feed.feed.Goals as goal
 
 pub returns : goal.returns
@@ -13,22 +13,23 @@ returns c =
     let kinds = c.new-writer.ensures.kinds in
     let stops = c.new-writer.ensures.stops in
     -- The call reads from the first m bytes: all of them, or as many as 32 bits can count.
-    let whole : take m bytes ++ drop m bytes ≡ bytes = take-append-drop m bytes in
+    let parts : take m bytes ++ drop m bytes ≡ bytes = take-append-drop m bytes in
     let within : read.result ≤ length (take m bytes) = read.ensures.within in
     -- So the count that it returns isn't that of a call without room.
     let count : fed_count read.result ≡ read.result =
-    counted read.result (omega (arith, within, length-take m bytes, c.min-end.ensures)) in
+    fed_count-with_room read.result (omega (arith, within, length-take m bytes, c.min-end.ensures)) in
     -- `read_into` ensures this of the first m bytes, whatever follows: here the other bytes, and `rest`.
     let feeds =
     λ (given : List Event) (stream rest : List ℕ)
-    (h : HasReported c.args.kinds c.args.parser.now given stream (bytes ++ rest)).
-    read.ensures.feeds given stream (drop m bytes ++ rest) (rw (kinds, ← append_assoc (take m bytes), whole) h) in
+    (has_reported : HasReported c.args.kinds c.args.parser.now given stream (bytes ++ rest)).
+    read.ensures.feeds given stream (drop m bytes ++ rest)
+    (rw (kinds, ← append_assoc (take m bytes), parts) has_reported) in
     -- The caller's counts, records and data are those of the writer, whose slices are the caller's.
-    let are =
+    let of_writer =
     λ (given : List Event) (stream rest : List ℕ)
-    (h : HasReported c.args.kinds c.args.parser.now given stream (bytes ++ rest)).
-    let fed = feeds given stream rest h in
-    counts_are writer c.min.result c.min-2.result (fed.encodes [])
+    (has_reported : HasReported c.args.kinds c.args.parser.now given stream (bytes ++ rest)).
+    let fed = feeds given stream rest has_reported in
+    counts-of_writer writer c.min.result c.min-2.result (fed.encodes [])
     (c.events-1.given.1.1 (sym (fed.events_name ∙ c.new-writer.ensures.same_events)))
     (c.area-1.given.1.1 (sym (fed.area_name ∙ c.new-writer.ensures.same_area)))
     (omega (arith, c.min.ensures, c.count.ensures, c.events-1.given.1.0))
@@ -37,16 +38,16 @@ returns c =
       enough = λ most size. sym count;
       within = omega (arith, count, within, length-take m bytes);
       -- What was reported of the first m bytes is reported of all, of which the others are still unread.
-      exact = λ given stream rest h.
-          let a = are given stream rest h in
-          let reports = rw kinds at ((feeds given stream rest h).reports (drop m bytes)) in
+      exact = λ given stream rest has_reported.
+          let same = of_writer given stream rest has_reported in
+          let reports = rw kinds at ((feeds given stream rest has_reported).reports (drop m bytes)) in
           let unread = drop-append-le read.result (take m bytes) (drop m bytes) within in
-          rw (count, a.same_count, a.same_records, a.same_area)
-          (rw (← append_assoc (drop read.result (take m bytes)), ← unread, whole) at reports);
-      encoded = λ given stream rest h.
-          let a = are given stream rest h in
-          rw (a.same_count, a.same_used, a.same_records, a.same_area)
-          (rw whole at ((feeds given stream rest h).encodes (drop m bytes)));
+          rw (count, same.same_count, same.same_records, same.same_area)
+          (rw (← append_assoc (drop read.result (take m bytes)), ← unread, parts) at reports);
+      encoded = λ given stream rest has_reported.
+          let same = of_writer given stream rest has_reported in
+          rw (same.same_count, same.same_used, same.same_records, same.same_area)
+          (rw parts at ((feeds given stream rest has_reported).encodes (drop m bytes)));
       fits = (omega (arith, c.min.ensures, c.events-1.given.1.0), omega (arith, c.min-2.ensures, c.area-1.given.1.0));
       -- On this path there is enough room, so neither of these two cases is possible.
       too_few = λ few. record {
@@ -64,13 +65,14 @@ returns c =
         unwritten = search rules;
       };
       -- If there is a byte and no record stops, at least one byte is read.
-      progress = λ given stream rest h most size others some.
-          let a = are given stream rest h in
-          let there : 0 < length (take m bytes) = omega (arith, c.min-end.ensures, length-take m bytes, some) in
-          (feeds given stream rest h).progress (rw (stops, ← a.same_count, ← a.same_records) others) there;
-      first = λ given stream rest h.
-          let a = are given stream rest h in
-          rw (a.same_count, a.same_records, ← stops) (feeds given stream rest h).first;
+      progress = λ given stream rest has_reported most size no_stops not_empty.
+          let same = of_writer given stream rest has_reported in
+          let there : 0 < length (take m bytes) = omega (arith, c.min-end.ensures, length-take m bytes, not_empty) in
+          (feeds given stream rest has_reported).progress
+          (rw (stops, ← same.same_count, ← same.same_records) no_stops) there;
+      first = λ given stream rest has_reported.
+          let same = of_writer given stream rest has_reported in
+          rw (same.same_count, same.same_records, ← stops) (feeds given stream rest has_reported).first;
       -- A prefix of the bytes that were read is also one of the first m bytes.
       until = λ stream reads not_text not_data i earlier.
           let front = take-take i m bytes (omega (arith, count, within, length-take m bytes)) in

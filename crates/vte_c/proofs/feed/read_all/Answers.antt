@@ -10,34 +10,37 @@ loop-position-init c =
 
 pub loop-position-preserved : goal.loop-position-preserved
 loop-position-preserved c =
-    let v = c.loop-position.invariant in
-    let r = c.read_more-read.ensures in
+    let invariant = c.loop-position.invariant in
+    let round = c.read_more-read.ensures in
     record {
-      within = omega (arith, r.within);
+      within = omega (arith, round.within);
       goes = λ since reads.
-          let a = v.goes since reads in
-          gone-then a (sym c.is_full.ensures ∙ c.if-not-is_full.true) r.within (r.reads_on a.next a.reads);
+          let has_read_on = invariant.goes since reads in
+          gone-then has_read_on (sym c.is_full.ensures ∙ c.if-not-is_full.true) round.within
+          (round.reads_on has_read_on.next has_read_on.reads);
       first = λ at_first. absurd (c.if-read-eq0.false (omega (arith, at_first)));
     }
 
 pub returns-then-read-eq0-clause-reads_on : goal.returns-then-read-eq0-clause-reads_on
 returns-then-read-eq0-clause-reads_on c = λ since reads.
-    let a = c.loop-position.invariant.goes since reads in
-    let r = c.read_more-read.ensures in
-    let place : c.loop-position.position + c.read_more-read.result ≡ c.loop-position.position =
+    let has_read_on = c.loop-position.invariant.goes since reads in
+    let round = c.read_more-read.ensures in
+    let position : c.loop-position.position + c.read_more-read.result ≡ c.loop-position.position =
     omega (arith, c.if-read-eq0.true) in
-    rw place at (gone-then a (sym c.is_full.ensures ∙ c.if-not-is_full.true) r.within (r.reads_on a.next a.reads))
+    rw position at (gone-then has_read_on (sym c.is_full.ensures ∙ c.if-not-is_full.true) round.within
+    (round.reads_on has_read_on.next has_read_on.reads))
 
 pub returns-then-read-eq0-clause-progress : goal.returns-then-read-eq0-clause-progress
-returns-then-read-eq0-clause-progress c = λ since reads others some.
-    let v = c.loop-position.invariant in
-    let a = v.goes since reads in
+returns-then-read-eq0-clause-progress c = λ since reads no_stops not_empty.
+    let invariant = c.loop-position.invariant in
+    let has_read_on = invariant.goes since reads in
     elim (cases_lt 0 c.loop-position.position) [
       | inl past ↦ past
-      | inr none ↦
-          let same : buffers_of c.loop-position.writer ≡ buffers_of c.args.writer.now = v.first (omega (arith, none)) in
+      | inr at_0 ↦
+          let same : buffers_of c.loop-position.writer ≡ buffers_of c.args.writer.now =
+          invariant.first (omega (arith, at_0)) in
           let further : 0 < c.read_more-read.result =
-          c.read_more-read.ensures.progress a.next a.reads (rw same c.requires.starts)
-          (rw (← ap (λ (r : Buffers). r.stops) same) at others) in
+          c.read_more-read.ensures.progress has_read_on.next has_read_on.reads (rw same c.requires.starts)
+          (rw (← ap (λ (held : Buffers). held.stops) same) at no_stops) in
           absurd (omega (arith, further, c.if-read-eq0.true))
     ]

@@ -1,8 +1,8 @@
 -- A call of the parser goes on to the run that it returns, and by this run (`goes-to-run`), and reads a byte if it can
--- (`further`).
+-- (`goes-further`).
 use Rattle.vte_c.proofs.Common.{List, arith, drop, length, length-drop, buffers_of, resumed_stream, take, ℕ, ◌++◌, ◌-◌, ◌≡◌, ◌≤◌, usual_limit}
 use Rattle.vte_core.specs.AdvanceToRun.{run_bytes}
-use Rattle.vte_c.proofs.CallSteps.{Laws, further, goes-to-run}
+use Rattle.vte_c.proofs.CallSteps.{Laws, goes-further, goes-to-run}
 use Rattle.vte_c.proofs.feed.read_more.Goals as goal
 use Rattle.std.proofs.lemmas.List.{take_rest}
 
@@ -36,7 +36,7 @@ returns c =
             c.requires.has_room begins returned reads c.add_run.ensures.utf8 written;
       };
       progress =
-          λ since reads starts others. further (buffers_of c.args.writer.now) (buffers_of call.new.performer)
+          λ since reads starts no_stops. goes-further (buffers_of c.args.writer.now) (buffers_of call.new.performer)
           (buffers_of c.add_run.new.self) since bytes c.args.from run laws
-          c.requires.has_room begins returned reads starts c.requires.within written others;
+          c.requires.has_room begins returned reads starts c.requires.within written no_stops;
     }

@@ -1,19 +1,19 @@
 -- A saved parser of zeros is a new one, which has read nothing. What calls give is joined, and in the end nothing is
 -- unread (`ReadBack`).
 use Rattle.vte_c.proofs.Common.{refl, sym, ◌∙◌, usual_limit}
-use Rattle.vte_c.proofs.ReadBack.{all_reported, given_all, given_before, given_first}
+use Rattle.vte_c.proofs.ReadBack.{events-reported, given-all, given-before, given-nothing}
 use Rattle.vte_c.proofs.laws.events_are_reported.Goals as goal
 
 pub returns-clause-starts : goal.returns-clause-starts
 returns-clause-starts c =
-    λ kinds parser zero.
-    given_first (c.empty_stream.ensures usual_limit) (rw (c.new.ensures.zeros ∙ sym zero) at c.new.ensures.reads)
+    λ kinds parser zeros.
+    given-nothing (c.empty_stream.ensures usual_limit) (rw (c.new.ensures.zeros ∙ sym zeros) at c.new.ensures.reads)
 
 pub returns-clause-more : goal.returns-clause-more
-returns-clause-more c = λ kinds. given_before
+returns-clause-more c = λ kinds. given-before
 
 pub returns-clause-all : goal.returns-clause-all
-returns-clause-all c = λ kinds parser given stream h. given_all refl parser given stream h
+returns-clause-all c = λ kinds parser given stream has_reported. given-all refl parser given stream has_reported
 
 pub returns-clause-every : goal.returns-clause-every
-returns-clause-every c = all_reported
+returns-clause-every c = events-reported

@@ -1,16 +1,16 @@
 -- A saved parser of zeros is a new one, which has read nothing. What calls give is joined, and in the end nothing is
 -- unread (`ReadBack`).
 use Rattle.vte_c.proofs.Common.{refl, sym, ◌∙◌, usual_limit}
-use Rattle.vte_c.proofs.ReadBack.{given_all, given_before, given_first}
+use Rattle.vte_c.proofs.ReadBack.{given-all, given-before, given-nothing}
 use Rattle.vte_c.proofs.laws.text_is_stripped.Goals as goal
 
 pub returns-clause-starts : goal.returns-clause-starts
 returns-clause-starts c =
-    λ parser zero.
-    given_first (c.empty_stream.ensures usual_limit) (rw (c.new.ensures.zeros ∙ sym zero) at c.new.ensures.reads)
+    λ parser zeros.
+    given-nothing (c.empty_stream.ensures usual_limit) (rw (c.new.ensures.zeros ∙ sym zeros) at c.new.ensures.reads)
 
 pub returns-clause-more : goal.returns-clause-more
-returns-clause-more c = given_before
+returns-clause-more c = given-before
 
 pub returns-clause-all : goal.returns-clause-all
-returns-clause-all c = λ parser text stream h. given_all refl parser text stream h
+returns-clause-all c = λ parser text stream has_stripped. given-all refl parser text stream has_stripped

@@ -1,33 +1,35 @@
 -- The caller's slice and count are those of the writer, so what `read_into` ensures holds for the caller.
-use Rattle.vte_c.proofs.Common.{ap, arith, length, length-take, fed_count, rules, sym, ℕ, ◌≡◌, ◌≤◌}
-use Rattle.vte_c.proofs.ReadBack.{counted}
+use Rattle.vte_c.proofs.Common.{List, ap, arith, length, length-take, fed_count, rules, sym, ℕ, ◌++◌, ◌≡◌, ◌≤◌}
+use Rattle.vte_c.specs.Reported.{HasStripped}
+use Rattle.vte_c.proofs.ReadBack.{fed_count-with_room}
 use Rattle.vte_c.proofs.text.strip.Goals as goal
 
 pub returns : goal.returns
 returns c =
     let read = c.read_into-read in
-    let count : fed_count read.result ≡ read.result = counted read.result (omega arith) in
+    let used : ℕ = read.new.writer.used in
+    let count : fed_count read.result ≡ read.result = fed_count-with_room read.result (omega arith) in
+    -- The slice holds what the writer's does, and all that was written is in it.
+    let of_writer =
+    λ (text stream rest : List ℕ) (has_stripped : HasStripped c.args.parser.now text stream (c.args.bytes.now ++ rest)).
+    let strips = read.ensures.strips text stream rest has_stripped in
+    let held : c.text-1.given.0 ≡ read.new.writer.bytes.now = c.text-1.given.1.1 (sym strips.name) in
+    let within : used ≤ length c.args.text.now =
+    omega
+    (arith, strips.number, length-take used read.new.writer.bytes.now, ap length held, c.text-1.given.1.0) in
+    let both : (c.text-1.given.0 ≡ read.new.writer.bytes.now) × (used ≤ length c.args.text.now) = (held, within) in
+    both in
     record {
       enough = λ size. sym count;
       within = omega (arith, count, read.ensures.within);
       progress = search rules;
-      fills = λ text stream rest h size less.
-          let strips = read.ensures.strips text stream rest h in
-          let used : ℕ = read.new.writer.used in
-          let held : c.text-1.given.0 ≡ read.new.writer.bytes.now = c.text-1.given.1.1 (sym strips.name) in
-          let at_most : used ≤ length c.args.text.now =
-          omega
-          (arith, strips.number, length-take used read.new.writer.bytes.now, ap length held, c.text-1.given.1.0) in
-          omega (arith, read.ensures.fills less, ap length held, c.min.ensures, at_most);
-      exact = λ text stream rest h.
-          let strips = read.ensures.strips text stream rest h in
-          let used : ℕ = read.new.writer.used in
-          let held : c.text-1.given.0 ≡ read.new.writer.bytes.now = c.text-1.given.1.1 (sym strips.name) in
-          let at_most : used ≤ length c.args.text.now =
-          omega
-          (arith, strips.number, length-take used read.new.writer.bytes.now, ap length held, c.text-1.given.1.0) in
-          let written : c.min.result ≡ used = omega (arith, c.min.ensures) in
-          rw (count, written, held) strips.strips;
+      fills = λ text stream rest has_stripped size less.
+          let same = of_writer text stream rest has_stripped in
+          omega (arith, read.ensures.fills less, ap length same.0, c.min.ensures, same.1);
+      exact = λ text stream rest has_stripped.
+          let same = of_writer text stream rest has_stripped in
+          let written : c.min.result ≡ used = omega (arith, c.min.ensures, same.1) in
+          rw (count, written, same.0) (read.ensures.strips text stream rest has_stripped).strips;
       fits = omega (arith, c.min.ensures, c.text-1.given.1.0);
       too_little = search rules;
     }

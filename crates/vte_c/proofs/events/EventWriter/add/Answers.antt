@@ -1,13 +1,13 @@
--- Before the write the area holds no data of the event (`holds_nothing`), so after it the area holds exactly these
+-- Before the write the area holds no data of the event (`holds-nothing`), so after it the area holds exactly these
 -- bytes.
 use Rattle.vte_c.proofs.Common.{Buffers, ap, arith}
-use Rattle.vte_c.proofs.Buffers.{holds_nothing}
+use Rattle.vte_c.proofs.Buffers.{holds-nothing}
 use Rattle.vte_c.proofs.events.EventWriter.add.Goals as goal
 
 pub add_written-requires : goal.add_written-requires
 add_written-requires c =
-    let held = c.write-end.ensures.holds _ _ (holds_nothing c.args.self.now) in
-    omega (arith, c.write-end.ensures.after, ap (λ (r : Buffers). r.used) held.same)
+    let held = c.write-end.ensures.holds _ _ (holds-nothing c.args.self.now) in
+    omega (arith, c.write-end.ensures.after, ap (λ (written : Buffers). written.used) held.same)
 
 pub returns : goal.returns
-returns c = c.add_written.ensures _ _ (c.write-end.ensures.holds _ _ (holds_nothing c.args.self.now))
+returns c = c.add_written.ensures _ _ (c.write-end.ensures.holds _ _ (holds-nothing c.args.self.now))

@@ -1,6 +1,6 @@
--- The records of buffers leave out whether data was lost, so they stay as they are (`loss_unseen`).
+-- The records of buffers leave out whether data was lost, so they stay as they are (`records-same_without_loss`).
 use Rattle.vte_c.proofs.Common.{length, length-set, map, refl, set, take, without_loss, ◌≡◌}
-use Rattle.vte_c.proofs.ReadBack.{loss_unseen}
+use Rattle.vte_c.proofs.ReadBack.{records-same_without_loss}
 use Rattle.vte_c.proofs.events.EventWriter.add_loss.Goals as goal
 
 pub returns-then-self-index-eq-OSC : goal.returns-then-self-index-eq-OSC
@@ -10,5 +10,6 @@ returns-then-self-index-eq-OSC c =
     length-set writer.events.now writer.command c.with_loss.result in
     let written : map without_loss (take writer.count (set writer.events.now writer.command c.with_loss.result))
     ≡ map without_loss (take writer.count writer.events.now) =
-    rw c.with_loss.ensures (loss_unseen writer.events.now writer.count writer.command _ c.if-self-index-eq-OSC.true) in
+    rw c.with_loss.ensures
+    (records-same_without_loss writer.events.now writer.count writer.command _ c.if-self-index-eq-OSC.true) in
     rw (size, written) refl

@@ -4,6 +4,6 @@ use Rattle.vte_c.proofs.events.EventWriter.write_groups.Goals as goal
 
 pub loop-group-preserved : goal.loop-group-preserved
 loop-group-preserved c =
-    let v = c.loop-group.invariant.2 in
-    let done = v.0 ++ group_bytes c.in-Some.group.now in
-    (tt, tt, (done, c.write_group-end.ensures _ _ v.1, rw (append_assoc v.0) (search rules)))
+    let invariant = c.loop-group.invariant.2 in
+    let done = invariant.0 ++ group_bytes c.in-Some.group.now in
+    (tt, tt, (done, c.write_group-end.ensures _ _ invariant.1, rw (append_assoc invariant.0) (search rules)))

@@ -3,6 +3,6 @@ use Rattle.vte_c.proofs.Common.{append_assoc}
 use Rattle.vte_c.proofs.events.EventWriter.write_piece.Goals as goal
 
 pub returns : goal.returns
-returns c = λ buffers text h.
+returns c = λ buffers text holds.
     rw (← append_assoc text, ← c.min-length.ensures)
-    (c.write.ensures.holds buffers _ (c.write-end.ensures.holds buffers text h))
+    (c.write.ensures.holds buffers _ (c.write-end.ensures.holds buffers text holds))

@@ -3,7 +3,7 @@
 use Rattle.vte_c.proofs.Common.{AreFirst, Continues, Event, GoesOnFromPositions, List, Print, [], add_assoc, added, ap, append-nil, append_assoc, arith, breaks, usual_limit, breaks_at, cases_Bool, drop, drop-drop, inl, inr, length, length-drop, open_character, refl, replacement, resumed_stream, suc, sym, take, take-add, take-append-drop, reported_before, true, zero, zero-add, ℕ, ◌++◌, ◌+◌, ◌∙◌, ◌∷◌, ◌≡◌, ◌≤◌, NoEventStops, Bool, DataRun, NoKindStops, NoRecordStops, InInput, IsStart, Entry, OpensSilently, Put, RunKind, Single, TextRun, VteEvent, add-one, chars, false, flat_map, get_or, has, has_kind, if◌then◌else◌, is_stop, entry_data, entry_events, event_kind, map, or_parts, records_from, reported, events_of_run, run_kind, take_more, ◌-◌, ◌<◌}
 use Rattle.vte_core.proofs.EarlyStops.{added-append}
 use Rattle.vte_core.proofs.streams.After.{added-nothing}
-use Rattle.vte_core.proofs.Shapes.{breaks-next}
+use Rattle.vte_core.proofs.shapes.BrokenCharacters.{breaks-next}
 
 -- ---- some events are the first of others (`AreFirst`)
 

@@ -7,7 +7,7 @@ use Rattle.vte_core.proofs.streams.After.{added-nothing, after-open_character}
 use Rattle.vte_core.proofs.places.PlaceLeads.{one_short-append}
 use Rattle.vte_core.proofs.places.Steps.{text_at}
 use Rattle.vte_core.proofs.streams.Parts.{added-broken, resumes-after}
-use Rattle.vte_core.proofs.Shapes.{breaks_at-byte, breaks_at-settled, starts-settled, starts-broken}
+use Rattle.vte_core.proofs.shapes.BrokenCharacters.{breaks_at-byte, breaks_at-settled, starts-settled, starts-broken}
 use Rattle.vte_core.proofs.streams.StreamSteps.{added-byte, LeadsTo, leads_to, events_grow, bytes_are_brief, opens_silently}
 
 -- ---- what is kept from start to start holds wherever a call stops
@@ -28,9 +28,9 @@ module _ {limit : Option ℕ} (P Q : List Event → Type 0) (stream bytes : List
   passed-below (suc m) i below within asked =
       let reports : ReportsUnit limit stream bytes i = units stream bytes i within in
       subst P (sym reports.parts) (elim reports.begun [
-        | inl none ↦
-            kept reports.before reports.unit (subst P (sym none) at_first)
-            (subst Q (sym none) asked_first) reports.brief
+        | inl nothing_before ↦
+            kept reports.before reports.unit (subst P (sym nothing_before) at_first)
+            (subst Q (sym nothing_before) asked_first) reports.brief
         | inr t ↦
             let earlier : t.start < i = t.earlier in
             let before = passed-below m t.start (omega arith) (omega arith) (λ j first. asked j (omega arith)) in
@@ -53,11 +53,11 @@ ReportsAtMostOneShort limit stream b =
 
 reports_little : (limit : Option ℕ) (stream : List ℕ) (b : ℕ) → (open_character stream ≡ [] → ⊥)
     → breaks (open_character stream) (b ∷ []) ≡ false → ReportsAtMostOneShort limit stream b
-reports_little limit stream b some unbroken =
+reports_little limit stream b some_open unbroken =
     let adds = added-byte limit stream b in
     let breaks_none : breaks (open_at adds.place) (b ∷ []) ≡ false =
     ap (λ u. breaks u (b ∷ [])) (sym adds.begun) ∙ unbroken in
-    elim (adds.step.little (text_at adds.place (λ none. some (adds.begun ∙ none))) breaks_none) [
+    elim (adds.step.little (text_at adds.place (λ none_open. some_open (adds.begun ∙ none_open))) breaks_none) [
       | inl nothing ↦ (rw (adds.reported ∙ nothing) tt, inr (adds.reported ∙ nothing))
       | inr last ↦ (rw adds.reported last.1, inl (adds.ends ∙ last.0))
     ]
@@ -80,25 +80,26 @@ pub added_from : (limit : Option ℕ) (stream prefix rest : List ℕ) (broken : 
     → added limit stream (prefix ++ rest)
     ≡ (added limit stream prefix ++ (if broken then Print replacement ∷ [] else []))
     ++ added limit (if broken then [] else stream ++ prefix) rest
-added_from limit stream prefix rest true is =
+added_from limit stream prefix rest true rest_breaks =
     added-append limit stream prefix rest
     ∙ ap (λ (events : List Event). added limit stream prefix ++ events)
-    (rw append-nil at (added-broken limit (stream ++ prefix) rest [] (is refl)))
+    (rw append-nil at (added-broken limit (stream ++ prefix) rest [] (rest_breaks refl)))
     ∙ sym (append_assoc (added limit stream prefix) (Print replacement ∷ []) (added limit [] rest))
-added_from limit stream prefix rest false is = rw append-nil (added-append limit stream prefix rest)
+added_from limit stream prefix rest false rest_breaks = rw append-nil (added-append limit stream prefix rest)
 
 pub after_from : {limit : Option ℕ} (stream rest : List ℕ) {place : Place} (broken : Bool)
     → (broken ≡ true → breaks (open_character stream) rest ≡ true)
     → IsAfter limit ((if broken then [] else stream) ++ rest) place → IsAfter limit (stream ++ rest) place
-after_from {limit} stream rest {place} true is is_after = resumes-after limit stream rest place (is refl) is_after
-after_from stream rest false is is_after = is_after
+after_from {limit} stream rest {place} true rest_breaks is_after =
+    resumes-after limit stream rest place (rest_breaks refl) is_after
+after_from stream rest false rest_breaks is_after = is_after
 
 ends_from : (stream rest : List ℕ) (broken : Bool) → (broken ≡ true → breaks (open_character stream) rest ≡ true)
     → open_character (stream ++ rest) ≡ open_character ((if broken then [] else stream) ++ rest)
-ends_from stream rest broken is =
+ends_from stream rest broken rest_breaks =
     let leads : LeadsTo None ((if broken then [] else stream) ++ rest) = leads_to in
     after-open_character
-    (after_from stream rest broken is leads.is_after) leads.is_place
+    (after_from stream rest broken rest_breaks leads.is_after) leads.is_place
     ∙ sym (after-open_character leads.is_after leads.is_place)
 
 -- What the bytes before a position add, divided at the last start before it.
@@ -112,11 +113,11 @@ record Added (limit : Option ℕ) (stream bytes : List ℕ) (i : ℕ) : Type 0 w
 
 one_short-opens : (limit : Option ℕ) (stream : List ℕ) (b : ℕ) → (open_character (stream ++ b ∷ []) ≡ [] → ⊥)
     → IsAtMostOneShort (added limit stream (b ∷ []))
-one_short-opens limit stream b some = search (rules, arith, opens_silently, one_short-replacement)
+one_short-opens limit stream b some_open = search (rules, arith, opens_silently, one_short-replacement)
 
-none_or_some : (xs : List ℕ) → (xs ≡ []) ⊎ (xs ≡ [] → ⊥)
-none_or_some [] = inl refl
-none_or_some (x ∷ xs) = inr (λ same. cc)
+is_empty_or_not : (bytes : List ℕ) → (bytes ≡ []) ⊎ (bytes ≡ [] → ⊥)
+is_empty_or_not [] = inl refl
+is_empty_or_not (b ∷ bytes) = inr (λ same. cc)
 
 -- From position i, one byte leads to the next position.
 module _ (limit : Option ℕ) (stream bytes : List ℕ) (i : ℕ) (within : i < length bytes) where
@@ -126,62 +127,64 @@ module _ (limit : Option ℕ) (stream bytes : List ℕ) (i : ℕ) (within : i < 
   abbrev b : ℕ
   b = get_or bytes i 0
 
-  one : take (i + 1) bytes ≡ take i bytes ++ b ∷ []
-  one = take_more bytes i 0 within
+  take-next : take (i + 1) bytes ≡ take i bytes ++ b ∷ []
+  take-next = take_more bytes i 0 within
 
-  joined : open_character (stream ++ take (i + 1) bytes) ≡ open_character (here ++ b ∷ [])
-  joined =
-      ap (λ (v : List ℕ). open_character (stream ++ v)) one
+  open_character-next : open_character (stream ++ take (i + 1) bytes) ≡ open_character (here ++ b ∷ [])
+  open_character-next =
+      ap (λ (v : List ℕ). open_character (stream ++ v)) take-next
       ∙ ap open_character (sym (append_assoc stream (take i bytes) (b ∷ [])))
 
-  breaks_here : breaks_at stream bytes i ≡ breaks (open_character here) (b ∷ [])
-  breaks_here = breaks_at-byte stream bytes i within refl refl
+  breaks_at-next : breaks_at stream bytes i ≡ breaks (open_character here) (b ∷ [])
+  breaks_at-next = breaks_at-byte stream bytes i within refl refl
 
   -- If the position is a start, the unit is what the byte adds.
-  from_start : IsStart stream bytes i → Added limit stream bytes (i + 1)
+  added-from_start : IsStart stream bytes i → Added limit stream bytes (i + 1)
   unfolding reported_before resumed_stream
-  from_start starts =
+  added-from_start starts =
       let from : List ℕ = resumed_stream stream bytes i in
-      let is : breaks_at stream bytes i ≡ true
-      → breaks (open_character here) (b ∷ []) ≡ true = λ same. sym breaks_here ∙ same in
+      let next_breaks : breaks_at stream bytes i ≡ true
+      → breaks (open_character here) (b ∷ []) ≡ true = λ same. sym breaks_at-next ∙ same in
       record {
         before = reported_before limit stream bytes i;
         unit = added limit from (b ∷ []);
         parts =
-            ap (added limit stream) one ∙ added_from limit stream (take i bytes) (b ∷ []) (breaks_at stream bytes i) is;
+            ap (added limit stream) take-next
+            ∙ added_from limit stream (take i bytes) (b ∷ []) (breaks_at stream bytes i) next_breaks;
         brief = bytes_are_brief limit from b;
         one_short =
-            λ some.
+            λ some_open.
             one_short-opens limit from b
-            (λ same. some (joined ∙ ends_from here (b ∷ []) (breaks_at stream bytes i) is ∙ same));
+            (λ same.
+            some_open (open_character-next ∙ ends_from here (b ∷ []) (breaks_at stream bytes i) next_breaks ∙ same));
         begun = inr (record { start = i; earlier = omega arith; starts = starts; events_are = refl });
       }
 
   -- If the byte belongs to an open character, the unit goes on.
-  from_carried : Added limit stream bytes i → (open_character here ≡ [] → ⊥)
+  added-carried : Added limit stream bytes i → (open_character here ≡ [] → ⊥)
       → breaks (open_character here) (b ∷ []) ≡ false
       → Added limit stream bytes (i + 1)
-  from_carried adds some unbroken =
-      let little = reports_little limit here b some unbroken in
+  added-carried adds some_open unbroken =
+      let little = reports_little limit here b some_open unbroken in
       let last : List Event = added limit here (b ∷ []) in
       record {
         before = adds.before;
         unit = adds.unit ++ last;
         parts =
-            ap (added limit stream) one ∙ added-append limit stream (take i bytes) (b ∷ [])
+            ap (added limit stream) take-next ∙ added-append limit stream (take i bytes) (b ∷ [])
             ∙ ap (λ (events : List Event). events ++ last) adds.parts ∙ append_assoc adds.before adds.unit last;
-        brief = one_short-append limit adds.unit last (adds.one_short some) little.0;
+        brief = one_short-append limit adds.unit last (adds.one_short some_open) little.0;
         one_short =
             λ open_there. elim little.1 [
-              | inl none ↦ absurd (open_there (joined ∙ none))
-              | inr nothing ↦ rw (nothing, append-nil) (adds.one_short some)
+              | inl settled ↦ absurd (open_there (open_character-next ∙ settled))
+              | inr nothing ↦ rw (nothing, append-nil) (adds.one_short some_open)
             ];
         begun = elim adds.begun [
-          | inl none ↦ inl none
+          | inl settled ↦ inl settled
           | inr t ↦
               inr (record {
                 start = t.start;
-                earlier = (let h : t.start < i = t.earlier in omega arith);
+                earlier = (let before_here : t.start < i = t.earlier in omega arith);
                 starts = t.starts;
                 events_are = t.events_are;
               })
@@ -189,11 +192,11 @@ module _ (limit : Option ℕ) (stream bytes : List ℕ) (i : ℕ) (within : i < 
       }
 
   added_further : Added limit stream bytes i → Added limit stream bytes (i + 1)
-  added_further adds = elim (none_or_some (open_character here)) [
-    | inl none ↦ from_start (starts-settled within none)
-    | inr some ↦ elim (cases_Bool (breaks (open_character here) (b ∷ []))) [
-      | inl broken ↦ from_start (starts-broken within (breaks_here ∙ broken))
-      | inr unbroken ↦ from_carried adds some unbroken
+  added_further adds = elim (is_empty_or_not (open_character here)) [
+    | inl none_open ↦ added-from_start (starts-settled within none_open)
+    | inr some_open ↦ elim (cases_Bool (breaks (open_character here) (b ∷ []))) [
+      | inl broken ↦ added-from_start (starts-broken within (breaks_at-next ∙ broken))
+      | inr unbroken ↦ added-carried adds some_open unbroken
     ]
   ]
 
@@ -226,12 +229,13 @@ reports_units limit stream bytes i within = record {
     a : Added limit stream bytes i
     a = added_to limit stream bytes i within
 
-    by_break : (t : Bool) → breaks_at stream bytes i ≡ t
-        → AreFromOneByte limit (a.unit ++ (if t then Print replacement ∷ [] else []))
-    by_break true e =
+    by_break : (broken : Bool) → breaks_at stream bytes i ≡ broken
+        → AreFromOneByte limit (a.unit ++ (if broken then Print replacement ∷ [] else []))
+    by_break true is_broken =
         one_short-append limit a.unit (Print replacement ∷ [])
-        (a.one_short (λ none. false≢true (sym (breaks_at-settled stream bytes i none) ∙ e))) one_short-replacement
-    by_break false e = rw append-nil a.brief
+        (a.one_short (λ none_open. false≢true (sym (breaks_at-settled stream bytes i none_open) ∙ is_broken)))
+        one_short-replacement
+    by_break false is_broken = rw append-nil a.brief
 
 -- ---- what is reported before a position, and then what follows adds, is what all bytes add
 
@@ -242,7 +246,7 @@ breaks_there stream bytes n broken = broken
 
 -- A character that unread bytes break is broken whatever follows them.
 breaks-more : (opened unread more : List ℕ) → breaks opened unread ≡ true → breaks opened (unread ++ more) ≡ true
-breaks-more opened unread more is = search (rules, arith)
+breaks-more opened unread more broken = search (rules, arith)
 
 pub goes_on_from : (limit : Option ℕ) → GoesOnFromPositions limit
 unfolding reported_before resumed_stream

@@ -5,7 +5,7 @@ pub mod Common
 -- From a byte to its class, and from bytes to UTF-8 and to runs of text.
 pub mod bytes
 -- From a text or head to what it gives, by its definition alone, and to what is reported where a character breaks.
-pub mod Shapes
+pub mod shapes
 -- From a text to its division, which is std's too.
 pub mod dividing
 -- From the parser's fields to its place (`is_at-by`, `is_at-in`), and how a byte changes them.

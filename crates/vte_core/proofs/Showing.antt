@@ -8,8 +8,8 @@ use Rattle.std.proofs.lemmas.Str.Parse.{digit_from_value}
 use Rattle.vte_core.proofs.fields.Numbers.{numbered, with_number-begins, with_number-joins, IsNoSeparator, IsSmall, is_digit_no_separator, count_of-grouped, numbers_are}
 use Rattle.vte_core.proofs.bytes.Classes.{head_ends_nothing, parameter_is_head}
 use Rattle.vte_core.proofs.places.PlaceLeads.{control-dispatched, control-head, escape-key}
-use Rattle.vte_core.proofs.Shapes.{held-parts, held-well_shaped}
-use Rattle.vte_core.proofs.places.PartsToStream.{no_escape, bytes_lead-append, bytes_lead-byte, bytes_lead-escape, bytes_lead-nothing}
+use Rattle.vte_core.proofs.shapes.HeadParts.{held-parts, held-well_shaped}
+use Rattle.vte_core.proofs.places.BytesInStream.{no_escape, bytes_lead-append, bytes_lead-byte, bytes_lead-escape, bytes_lead-nothing}
 use Rattle.vte_core.proofs.streams.StreamSteps.{reported_by_stream}
 
 -- ---- what is written
@@ -26,10 +26,10 @@ after_colon number = colon ∷ decimal number
 abbrev pub after_semicolon : List ℕ → List ℕ
 after_semicolon group = semicolon ∷ group_text group
 
-join_from_front : (byte : ℕ) (x : List ℕ) (xs : List (List ℕ))
-    → join_with_byte byte (x ∷ xs) ≡ x ++ flat_map (λ y. byte ∷ y) xs
-join_from_front byte x [] = sym (append-nil x)
-join_from_front byte x (y ∷ xs) = ap (λ (l : List ℕ). x ++ byte ∷ l) (join_from_front byte y xs)
+join_from_front : (byte : ℕ) (first : List ℕ) (rest : List (List ℕ))
+    → join_with_byte byte (first ∷ rest) ≡ first ++ flat_map (λ next. byte ∷ next) rest
+join_from_front byte first [] = sym (append-nil first)
+join_from_front byte first (next ∷ rest) = ap (λ (l : List ℕ). first ++ byte ∷ l) (join_from_front byte next rest)
 
 group_text_from_front : (first : ℕ) (rest : List ℕ)
     → group_text (first ∷ rest) ≡ decimal first ++ flat_map after_colon rest
@@ -49,13 +49,14 @@ pub group_written : (numbers : List ℕ) (i : ℕ) → 1 ≤ length numbers
     → length (take (length numbers - 1) (drop 1 numbers)) ≤ i
     → decimal (get_or numbers 0 0) ++ flat_map after_colon (take i (take (length numbers - 1) (drop 1 numbers)))
     ≡ group_text numbers
-group_written numbers i some end = search (rules, arith, take_all, group_text_from_front)
+group_written numbers i some_number all_taken = search (rules, arith, take_all, group_text_from_front)
 
 -- After its last group, the loop over the groups after the first has written the text of all groups.
 pub groups_written : (groups : List (List ℕ)) (first : List ℕ) (rest passed left : List (List ℕ))
     → groups ≡ first ∷ rest → passed ++ left ≡ rest → left ≡ []
     → group_text first ++ flat_map after_semicolon passed ≡ shown groups
-groups_written groups first rest passed left start along none = search (rules, arith, append-nil, shown_from_front)
+groups_written groups first rest passed left begins along none_left =
+    search (rules, arith, append-nil, shown_from_front)
 
 -- ---- what is read
 
@@ -75,8 +76,8 @@ number_of-decimal n small =
     let value : digits_value 10 (decimal n) ≡ n = (decimal_is_IsNumeral n (omega arith)).1 in
     omega (arith, value)
 
-no_separators : (n : ℕ) → n ≤ greatest_number → All IsNoSeparator (decimal n)
-no_separators n small = search (rules, arith, is_digit_no_separator, digits-decimal)
+no_separators-decimal : (n : ℕ) → n ≤ greatest_number → All IsNoSeparator (decimal n)
+no_separators-decimal n small = search (rules, arith, is_digit_no_separator, digits-decimal)
 
 -- ---- a text of numbers, each but the first with its separator before it
 
@@ -88,28 +89,30 @@ separator number = if number.joined then colon else semicolon
 abbrev spelled : Number → List ℕ
 spelled number = separator number ∷ decimal number.value
 
-separates : (number : Number) → is_separator (separator number) ≡ true
-separates number = search (rules, arith)
+is_separator-separator : (number : Number) → is_separator (separator number) ≡ true
+is_separator-separator number = search (rules, arith)
 
 is_colon-separator : (number : Number) → is_colon (separator number) ≡ number.joined
 is_colon-separator number = search (rules, arith)
 
 digits_after : (joined : Bool) (digits more text : List ℕ) → All IsNoSeparator more
     → numbers_from joined digits (more ++ text) ≡ numbers_from joined (digits ++ more) text
-digits_after joined digits [] text none = rw (append-nil digits) refl
-digits_after joined digits (b ∷ more) text none =
-    let rest = digits_after joined (digits ++ b ∷ []) more text (All-tail IsNoSeparator b more none) in
-    rw (All-head IsNoSeparator b more none) (rw (append_assoc digits (b ∷ []) more) at rest)
+digits_after joined digits [] text none_separates = rw (append-nil digits) refl
+digits_after joined digits (b ∷ more) text none_separates =
+    let rest = digits_after joined (digits ++ b ∷ []) more text (All-tail IsNoSeparator b more none_separates) in
+    rw (All-head IsNoSeparator b more none_separates) (rw (append_assoc digits (b ∷ []) more) at rest)
 
 spelled_after : (joined : Bool) (digits : List ℕ) {numbers : List Number} → All IsSmall numbers
     → numbers_from joined digits (flat_map spelled numbers) ≡ numbered joined (number_of digits) ∷ numbers
-spelled_after joined digits {numbers = []} all = refl
-spelled_after joined digits {numbers = n ∷ numbers} all =
-    let small = All-head IsSmall n numbers all in
-    let rest = digits_after n.joined [] (decimal n.value) (flat_map spelled numbers) (no_separators n.value small)
-    ∙ spelled_after n.joined (decimal n.value) (All-tail IsSmall n numbers all)
+spelled_after joined digits {numbers = []} all_small = refl
+spelled_after joined digits {numbers = n ∷ numbers} all_small =
+    let small = All-head IsSmall n numbers all_small in
+    let rest = digits_after n.joined [] (decimal n.value) (flat_map spelled numbers)
+    (no_separators-decimal n.value small)
+    ∙ spelled_after n.joined (decimal n.value) (All-tail IsSmall n numbers all_small)
     ∙ ap (λ value. numbered n.joined value ∷ numbers) (number_of-decimal n.value small) in
-    rw (separates n, is_colon-separator n) (ap (λ (l : List Number). numbered joined (number_of digits) ∷ l) rest)
+    rw (is_separator-separator n, is_colon-separator n)
+    (ap (λ (l : List Number). numbered joined (number_of digits) ∷ l) rest)
 
 -- ---- groups as such numbers
 
@@ -122,14 +125,14 @@ in_group (n ∷ ns) = numbered false n ∷ map (numbered true) ns
 groups-spelled : (groups : List (List ℕ)) → All IsFilled groups
     → flat_map spelled (flat_map in_group groups) ≡ flat_map after_semicolon groups
 unfolding in_group
-groups-spelled [] filled = refl
-groups-spelled ([] ∷ groups) filled =
-    absurd (omega (arith, All-head IsFilled [] groups filled))
-groups-spelled ((n ∷ ns) ∷ groups) filled =
+groups-spelled [] are_filled = refl
+groups-spelled ([] ∷ groups) are_filled =
+    absurd (omega (arith, All-head IsFilled [] groups are_filled))
+groups-spelled ((n ∷ ns) ∷ groups) are_filled =
     search (
       rules,
       arith,
-      (groups-spelled groups (All-tail IsFilled (n ∷ ns) groups filled)),
+      (groups-spelled groups (All-tail IsFilled (n ∷ ns) groups are_filled)),
       flat_map-append,
       numbered,
       in_group,
@@ -141,8 +144,8 @@ groups-spelled ((n ∷ ns) ∷ groups) filled =
 -- The text of groups, with a `;` before it, spells their numbers.
 shown-spelled : (groups : List (List ℕ)) → AreParameters groups
     → semicolon ∷ shown groups ≡ flat_map spelled (flat_map in_group groups)
-shown-spelled [] ok = absurd (omega (arith, ok.some))
-shown-spelled (first ∷ groups) ok = search (rules, arith, shown_from_front, groups-spelled)
+shown-spelled [] are_parameters = absurd (omega (arith, are_parameters.some))
+shown-spelled (first ∷ groups) are_parameters = search (rules, arith, shown_from_front, groups-spelled)
 
 IsSmall-in_group : (group : List ℕ) → AreSmall group → All IsSmall (in_group group)
 unfolding in_group
@@ -183,18 +186,18 @@ grouped-groups before ((n ∷ ns) ∷ groups) filled =
 
 -- The text of groups gives back the numbers in the groups.
 numbers-shown : (groups : List (List ℕ)) → AreParameters groups → numbers (shown groups) ≡ flat_map in_group groups
-numbers-shown groups ok =
-    let all = IsSmall-groups groups ok.groups_are.small in
+numbers-shown groups are_parameters =
+    let all = IsSmall-groups groups are_parameters.groups_are.small in
     let later =
-    ap (numbers_from false []) (shown-spelled groups ok) ∙ spelled_after false [] all in
+    ap (numbers_from false []) (shown-spelled groups are_parameters) ∙ spelled_after false [] all in
     numbers_are (shown groups) ∙ ap (drop 1) later
 
 at_most-groups : (groups : List (List ℕ)) → AreParameters groups → length (flat_map in_group groups) ≤ max_numbers
-at_most-groups groups ok =
+at_most-groups groups are_parameters =
     omega (
       arith,
-      ok.groups_are.at_most,
-      ap count_of (grouped-groups [] groups ok.groups_are.filled),
+      are_parameters.groups_are.at_most,
+      ap count_of (grouped-groups [] groups are_parameters.groups_are.filled),
       count_of-grouped
           (flat_map in_group groups),
     )
@@ -202,12 +205,12 @@ at_most-groups groups ok =
 -- The text of groups gives the groups back.
 groups_of-shown : (groups : List (List ℕ)) → AreParameters groups → groups_of (shown groups) ≡ groups
 unfolding groups_of
-groups_of-shown groups ok = search (rules, arith, numbers-shown, take_all, at_most-groups, grouped-groups)
+groups_of-shown groups are_parameters = search (rules, arith, numbers-shown, take_all, at_most-groups, grouped-groups)
 
 has_too_many_numbers-shown : (groups : List (List ℕ)) → AreParameters groups
     → has_too_many_numbers (shown groups) ≡ false
 unfolding has_too_many_numbers
-has_too_many_numbers-shown groups ok = search (rules, arith, at_most-groups, numbers-shown)
+has_too_many_numbers-shown groups are_parameters = search (rules, arith, at_most-groups, numbers-shown)
 
 -- ---- the text has only bytes of parameters
 
@@ -221,22 +224,25 @@ separator_is_parameter number = search (rules, arith)
 
 parameters-digits : (ds more : List ℕ) → All IsDigit ds → AreInClass is_parameter_text more
     → AreInClass is_parameter_text (ds ++ more)
-parameters-digits [] more digits are = are
-parameters-digits (d ∷ ds) more digits are =
-    (digit_is_parameter d (All-head IsDigit d ds digits), parameters-digits ds more (All-tail IsDigit d ds digits) are)
+parameters-digits [] more digits are_parameters = are_parameters
+parameters-digits (d ∷ ds) more digits are_parameters = (
+  digit_is_parameter d (All-head IsDigit d ds digits),
+  parameters-digits ds more (All-tail IsDigit d ds digits) are_parameters,
+)
 
 parameters-spelled : (numbers : List Number) → All IsSmall numbers
     → AreInClass is_parameter_text (flat_map spelled numbers)
-parameters-spelled [] all = tt
-parameters-spelled (number ∷ numbers) all =
+parameters-spelled [] all_small = tt
+parameters-spelled (number ∷ numbers) all_small =
     let rest =
     parameters-digits (decimal number.value) (flat_map spelled numbers)
-    (digits-decimal number.value (All-head IsSmall number numbers all))
-    (parameters-spelled numbers (All-tail IsSmall number numbers all)) in
+    (digits-decimal number.value (All-head IsSmall number numbers all_small))
+    (parameters-spelled numbers (All-tail IsSmall number numbers all_small)) in
     (separator_is_parameter number, rest)
 
 parameters-shown : (groups : List (List ℕ)) → AreParameters groups → AreInClass is_parameter_text (shown groups)
-parameters-shown groups ok = search (rules, arith, shown-spelled, parameters-spelled, in_group, IsSmall-groups)
+parameters-shown groups are_parameters =
+    search (rules, arith, shown-spelled, parameters-spelled, in_group, IsSmall-groups)
 
 -- ---- a control sequence
 
@@ -244,13 +250,13 @@ parameters-shown groups ok = search (rules, arith, shown-spelled, parameters-spe
 
 bytes_lead-head : (limit : Option ℕ) (head bytes : List ℕ) → AreInClass is_parameter_text bytes
     → BytesLead limit (InControlSequence head) bytes [] (InControlSequence (head ++ bytes))
-bytes_lead-head limit head [] are = rw append-nil bytes_lead-nothing
-bytes_lead-head limit head (b ∷ bytes) are =
-    let is = parameter_is_head (class_of b) are.0 in
+bytes_lead-head limit head [] are_parameters = rw append-nil bytes_lead-nothing
+bytes_lead-head limit head (b ∷ bytes) are_parameters =
+    let is_head = parameter_is_head (class_of b) are_parameters.0 in
     let one =
-    bytes_lead-byte (no_escape b (head_ends_nothing (class_of b) is))
-    (control-head is) in
-    let rest = bytes_lead-head limit (head ++ b ∷ []) bytes are.1 in
+    bytes_lead-byte (no_escape b (head_ends_nothing (class_of b) is_head))
+    (control-head is_head) in
+    let rest = bytes_lead-head limit (head ++ b ∷ []) bytes are_parameters.1 in
     rw append_assoc at (bytes_lead-append one rest)
 
 -- ESC, `[`, bytes of parameters and `m` report the sequence of these bytes.
@@ -258,9 +264,9 @@ bytes_lead-shown : (limit : Option ℕ) (bytes : List ℕ) → AreInClass is_par
     → BytesLead limit (InText []) (0x1b ∷ 0x5b ∷ (bytes ++ 0x6d ∷ []))
     (sequence_event CsiDispatch (head_of bytes) 0x6d ∷ []) (InText [])
 unfolding class_of sequence_kind
-bytes_lead-shown limit bytes are =
+bytes_lead-shown limit bytes are_parameters =
     let well_shaped : is_well_shaped (head_of bytes) ≡ true =
-    rw append-nil at (held-well_shaped [] bytes [] tt are tt) in
+    rw append-nil at (held-well_shaped [] bytes [] tt are_parameters tt) in
     let begun =
     bytes_lead-append
     (bytes_lead-escape refl)
@@ -269,13 +275,13 @@ bytes_lead-shown limit bytes are =
     bytes_lead-byte refl (control-dispatched refl well_shaped) in
     let rest =
     bytes_lead-append
-    (bytes_lead-head limit [] bytes are) last in
+    (bytes_lead-head limit [] bytes are_parameters) last in
     bytes_lead-append begun rest
 
 pub shown_dispatched : (limit : Option ℕ) (groups : List (List ℕ)) → AreParameters groups → DispatchesShown limit groups
 unfolding sequence_event
-shown_dispatched limit groups ok =
-    let are = parameters-shown groups ok in
-    let parts = rw append-nil at (held-parts [] (shown groups) [] tt are tt) in
-    reported_by_stream refl (bytes_lead-shown limit (shown groups) are)
-    ∙ rw (parts, groups_of-shown groups ok, has_too_many_numbers-shown groups ok) refl
+shown_dispatched limit groups are_parameters =
+    let are_parameter_bytes = parameters-shown groups are_parameters in
+    let parts = rw append-nil at (held-parts [] (shown groups) [] tt are_parameter_bytes tt) in
+    reported_by_stream refl (bytes_lead-shown limit (shown groups) are_parameter_bytes)
+    ∙ rw (parts, groups_of-shown groups are_parameters, has_too_many_numbers-shown groups are_parameters) refl

@@ -3,7 +3,7 @@
 -- By the kind of place and of byte.
 pub mod PlaceLeads
 -- From a text or body to the stream.
-pub mod PartsToStream
+pub mod BytesInStream
 -- What a byte does: in a text; CAN, SUB and ESC at all places; then all bytes.
 pub mod Steps
 pub mod TextSteps

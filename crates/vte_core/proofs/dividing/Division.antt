@@ -3,7 +3,7 @@
 use Rattle.vte_core.proofs.Common.{◌≡◌, ◌≢◌, ℕ, zero, suc, ◌<◌, ◌≤◌, Bool, true, false, List, [], ◌∷◌, length, take, drop, refl, sym, subst, ap, ◌∙◌, arith, inl, inr, length-take-le, concat, take-append-drop, false≢true, cases_lt, Range, utf8_rows, rows_after_byte, rows_after_bytes, is_well_formed, is_truncated, allowed_length, trailing_count, segments_after, ◌++◌, length-append, length-drop, take-append_seam, drop-append_seam, segments, rules}
 use Rattle.vte_core.specs.Division.{IsSegment, IsAllDivided, IsRightSegment, AreRightSegments}
 use Rattle.vte_core.proofs.bytes.Utf8.{rows_after_bytes-none, some_whole, some_open, neither_whole_nor_open, allowed, allowed_length-none, unwanted, wanted}
-use Rattle.vte_core.proofs.Shapes.{trailing_count-whole, not_well_formed-nothing}
+use Rattle.vte_core.proofs.shapes.FirstSegment.{trailing_count-well_formed, not_well_formed-nothing}
 use Rattle.std.proofs.lemmas.List.{length-take}
 
 -- The segment that starts with b, followed by `bytes`, is the right one.
@@ -25,14 +25,14 @@ allowed_length-le rows (b ∷ bytes) =
 -- After as many bytes as the rows allow, some row is left.
 allowed_length-is_kept : (rows : List (List Range)) (bytes : List ℕ) → rows ≢ []
     → rows_after_bytes (take (allowed_length rows bytes) bytes) rows ≢ []
-allowed_length-is_kept rows [] some none = some none
-allowed_length-is_kept rows (b ∷ bytes) some none = elim (allowed rows b bytes) [
-  | unwanted _ is ↦ some (is_kept is)
-  | wanted left is ↦ allowed_length-is_kept (rows_after_byte b rows) bytes left (is_kept is)
+allowed_length-is_kept rows [] some_row none_left = some_row none_left
+allowed_length-is_kept rows (b ∷ bytes) some_row none_left = elim (allowed rows b bytes) [
+  | unwanted _ length_is ↦ some_row (is_kept length_is)
+  | wanted left length_is ↦ allowed_length-is_kept (rows_after_byte b rows) bytes left (is_kept length_is)
 ]
   where
     is_kept : {n : ℕ} → allowed_length rows (b ∷ bytes) ≡ n → rows_after_bytes (take n (b ∷ bytes)) rows ≡ []
-    is_kept is = subst (λ n. rows_after_bytes (take n (b ∷ bytes)) rows ≡ []) is none
+    is_kept length_is = subst (λ n. rows_after_bytes (take n (b ∷ bytes)) rows ≡ []) length_is none_left
 
 -- After more bytes than the rows allow, no row is left.
 allowed_length-longest : (rows : List (List Range)) (bytes : List ℕ) (n : ℕ) → allowed_length rows bytes < n
@@ -41,9 +41,9 @@ allowed_length-longest : (rows : List (List Range)) (bytes : List ℕ) (n : ℕ)
 allowed_length-longest rows [] n past within = absurd (omega arith)
 allowed_length-longest rows (b ∷ bytes) zero past within = absurd (omega arith)
 allowed_length-longest rows (b ∷ bytes) (suc n) past within = elim (allowed rows b bytes) [
-  | unwanted none _ ↦ ap (rows_after_bytes (take n bytes)) none ∙ rows_after_bytes-none (take n bytes)
-  | wanted _ is ↦
-      allowed_length-longest (rows_after_byte b rows) bytes n (omega (arith, past, is)) (omega (arith, within))
+  | unwanted none_left _ ↦ ap (rows_after_bytes (take n bytes)) none_left ∙ rows_after_bytes-none (take n bytes)
+  | wanted _ length_is ↦
+      allowed_length-longest (rows_after_byte b rows) bytes n (omega (arith, past, length_is)) (omega (arith, within))
 ]
 
 is_segment : (b : ℕ) (bytes : List ℕ) → IsSegment (b ∷ take (trailing_count b bytes) bytes)
@@ -53,11 +53,11 @@ is_segment b bytes = by_rows (rows_after_byte b utf8_rows) refl
     segment : List (List Range) → List ℕ
     segment rows = take (allowed_length rows bytes) bytes
 
-    by_tests : {rows : List (List Range)} → rows_after_byte b utf8_rows ≡ rows → (whole more : Bool)
-        → some_whole (rows_after_bytes (segment rows) rows) ≡ whole
-        → some_open (rows_after_bytes (segment rows) rows) ≡ more
+    by_tests : {rows : List (List Range)} → rows_after_byte b utf8_rows ≡ rows → (well_formed truncated : Bool)
+        → some_whole (rows_after_bytes (segment rows) rows) ≡ well_formed
+        → some_open (rows_after_bytes (segment rows) rows) ≡ truncated
         → (rows_after_bytes (segment rows) rows ≡ [] → ⊥) → IsSegment (b ∷ segment (rows_after_byte b utf8_rows))
-    by_tests {rows} same true more is_whole is_open is_kept =
+    by_tests {rows} same true truncated is_whole is_open is_kept =
         inl (ap (λ (rows : List (List Range)). some_whole (rows_after_bytes (segment rows) rows)) same ∙ is_whole)
     by_tests {rows} same false true is_whole is_open is_kept =
         inr (inl (ap (λ (rows : List (List Range)). some_open (rows_after_bytes (segment rows) rows)) same ∙ is_open))
@@ -78,12 +78,13 @@ divided_right b bytes = record {
   within = allowed_length-le (rows_after_byte b utf8_rows) bytes;
   is_segment = is_segment b bytes;
   whole =
-      λ n within well. rw (take-append-drop n bytes) at (trailing_count-whole b (take n bytes) (drop n bytes) well)
+      λ n within well_formed. rw (take-append-drop n bytes) at
+      (trailing_count-well_formed b (take n bytes) (drop n bytes) well_formed)
       ∙ length-take-le n bytes within;
-  longest = λ n within more. elim (cases_lt (trailing_count b bytes) n) [
+  longest = λ n within truncated. elim (cases_lt (trailing_count b bytes) n) [
     | inl past ↦
-        let none = allowed_length-longest (rows_after_byte b utf8_rows) bytes n past within in
-        absurd (false≢true (sym (ap some_open none) ∙ more))
+        let none_left = allowed_length-longest (rows_after_byte b utf8_rows) bytes n past within in
+        absurd (false≢true (sym (ap some_open none_left) ∙ truncated))
     | inr reaches ↦ reaches
   ];
 }
@@ -116,25 +117,26 @@ prefix_of prefix rest bytes same =
 
 whole_is_segment : (b : ℕ) (bytes : List ℕ) → IsDividedRight b bytes → (prefix rest : List ℕ)
     → prefix ++ rest ≡ b ∷ bytes → is_well_formed prefix ≡ true → prefix ≡ b ∷ take (trailing_count b bytes) bytes
-whole_is_segment b bytes divided [] rest same well = absurd (false≢true (sym not_well_formed-nothing ∙ well))
-whole_is_segment b bytes divided (a ∷ u) rest same well =
+whole_is_segment b bytes divided [] rest same well_formed =
+    absurd (false≢true (sym not_well_formed-nothing ∙ well_formed))
+whole_is_segment b bytes divided (a ∷ u) rest same well_formed =
     let first : a ≡ b = cc in
     let later : u ++ rest ≡ bytes = cc in
     let prefix = prefix_of u rest bytes later in
-    let is_kept : is_well_formed (b ∷ take (length u) bytes) ≡ true = rw (← prefix.0, ← first) well in
-    let far : trailing_count b bytes ≡ length u = divided.whole (length u) prefix.1 is_kept in
-    rw (far, ← prefix.0, first) refl
+    let is_kept : is_well_formed (b ∷ take (length u) bytes) ≡ true = rw (← prefix.0, ← first) well_formed in
+    let counts : trailing_count b bytes ≡ length u = divided.whole (length u) prefix.1 is_kept in
+    rw (counts, ← prefix.0, first) refl
 
 truncated_is_shorter : (b : ℕ) (bytes : List ℕ) → IsDividedRight b bytes → (prefix rest : List ℕ)
     → prefix ++ rest ≡ b ∷ bytes
     → is_truncated prefix ≡ true → length prefix ≤ length (b ∷ take (trailing_count b bytes) bytes)
-truncated_is_shorter b bytes divided [] rest same more = omega arith
-truncated_is_shorter b bytes divided (a ∷ u) rest same more =
+truncated_is_shorter b bytes divided [] rest same truncated = omega arith
+truncated_is_shorter b bytes divided (a ∷ u) rest same truncated =
     let first : a ≡ b = cc in
     let later : u ++ rest ≡ bytes = cc in
     let prefix = prefix_of u rest bytes later in
-    let is_kept : is_truncated (b ∷ take (length u) bytes) ≡ true = rw (← prefix.0, ← first) more in
-    let far : length u ≤ trailing_count b bytes = divided.longest (length u) prefix.1 is_kept in
+    let is_kept : is_truncated (b ∷ take (length u) bytes) ≡ true = rw (← prefix.0, ← first) truncated in
+    let at_least : length u ≤ trailing_count b bytes = divided.longest (length u) prefix.1 is_kept in
     omega (arith, length-take (trailing_count b bytes) bytes)
 
 right_segment : (b : ℕ) (bytes : List ℕ)
@@ -158,42 +160,48 @@ are_right_segments text = right_segments (length text) text (omega arith)
 
 -- ---- and there is no other division
 
-nonempty : (segment : List ℕ) → IsSegment segment → 0 < length segment
+segment-nonempty : (segment : List ℕ) → IsSegment segment → 0 < length segment
 unfolding is_truncated
-nonempty [] (inl well) = absurd (false≢true (sym not_well_formed-nothing ∙ well))
-nonempty [] (inr (inl more)) = absurd (false≢true more)
-nonempty [] (inr (inr one)) = absurd (omega arith)
-nonempty (b ∷ segment) is = omega arith
+segment-nonempty [] (inl well_formed) = absurd (false≢true (sym not_well_formed-nothing ∙ well_formed))
+segment-nonempty [] (inr (inl truncated)) = absurd (false≢true truncated)
+segment-nonempty [] (inr (inr lone)) = absurd (omega arith)
+segment-nonempty (b ∷ segment) segment_is = omega arith
 
 -- Of two right segments at the start of one text, neither is longer.
-not_longer : {bytes x q y : List ℕ} → bytes ++ x ≡ q ++ y → IsRightSegment bytes x → IsRightSegment q y
-    → length bytes ≤ length q
-not_longer {bytes} {x} {q} same right other = search (rules, arith, nonempty)
+segment-not_longer : {segment rest other other_rest : List ℕ} → segment ++ rest ≡ other ++ other_rest
+    → IsRightSegment segment rest → IsRightSegment other other_rest
+    → length segment ≤ length other
+segment-not_longer {segment} {rest} {other} same is_right other_is_right = search (rules, arith, segment-nonempty)
 
-same_prefix : {bytes x q y : List ℕ} → bytes ++ x ≡ q ++ y → length bytes ≡ length q → (bytes ≡ q) × (x ≡ y)
-same_prefix {bytes} {x} {q} {y} same long =
-    let prefix : take (length bytes) (bytes ++ x) ≡ bytes = take-append_seam bytes x in
-    let later : drop (length bytes) (bytes ++ x) ≡ x = drop-append_seam bytes x in
-    (sym prefix ∙ rw (same, long) (take-append_seam q y), sym later ∙ rw (same, long) (drop-append_seam q y))
+same_prefix : {segment rest other other_rest : List ℕ} → segment ++ rest ≡ other ++ other_rest
+    → length segment ≡ length other → (segment ≡ other) × (rest ≡ other_rest)
+same_prefix {segment} {rest} {other} {other_rest} same long =
+    let prefix : take (length segment) (segment ++ rest) ≡ segment = take-append_seam segment rest in
+    let later : drop (length segment) (segment ++ rest) ≡ rest = drop-append_seam segment rest in (
+      sym prefix ∙ rw (same, long) (take-append_seam other other_rest),
+      sym later ∙ rw (same, long) (drop-append_seam other other_rest),
+    )
 
 one_division : (these those : List (List ℕ)) → AreRightSegments these → AreRightSegments those
     → concat these ≡ concat those
     → these ≡ those
-one_division [] [] are others same = refl
-one_division [] (q ∷ those) are others same =
-    absurd (omega (arith, nonempty q others.0.is_segment, length-append q (concat those), ap length same))
-one_division (p ∷ these) [] are others same =
-    absurd (omega (arith, nonempty p are.0.is_segment, length-append p (concat these), ap length same))
-one_division (p ∷ these) (q ∷ those) are others same =
-    let le = not_longer same are.0 others.0 in
-    let ge : length q ≤ length p = not_longer (sym same) others.0 are.0 in
+one_division [] [] are_right others_are_right same = refl
+one_division [] (q ∷ those) are_right others_are_right same =
+    let some_bytes = segment-nonempty q others_are_right.0.is_segment in
+    absurd (omega (arith, some_bytes, length-append q (concat those), ap length same))
+one_division (p ∷ these) [] are_right others_are_right same =
+    let some_bytes = segment-nonempty p are_right.0.is_segment in
+    absurd (omega (arith, some_bytes, length-append p (concat these), ap length same))
+one_division (p ∷ these) (q ∷ those) are_right others_are_right same =
+    let le = segment-not_longer same are_right.0 others_are_right.0 in
+    let ge : length q ≤ length p = segment-not_longer (sym same) others_are_right.0 are_right.0 in
     let long : length p ≡ length q = omega arith in
     let parts = same_prefix same long in
-    let rest = one_division these those are.1 others.1 parts.1 in
+    let rest = one_division these those are_right.1 others_are_right.1 parts.1 in
     let first : p ≡ q = parts.0 in
     cc
 
 pub only_division : (all : List (List ℕ)) → AreRightSegments all → segments (concat all) ≡ all
-only_division all are =
-    one_division (segments (concat all)) all (are_right_segments (concat all)) are
+only_division all are_right =
+    one_division (segments (concat all)) all (are_right_segments (concat all)) are_right
     (all_divided (concat all))

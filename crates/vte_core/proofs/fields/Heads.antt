@@ -4,7 +4,7 @@ use Rattle.vte_core.proofs.Common.{◌≡◌, ℕ, ◌+◌, ◌<◌, ◌≤◌, 
 use Rattle.std.proofs.lemmas.List.{length-take}
 use Rattle.vte_core.proofs.fields.Numbers.{numbered, count_of-grouped, grouped-push, is_digit_no_separator, number_of-push, numbers_are}
 use Rattle.vte_core.specs.private.ParserFields.{IsReady}
-use Rattle.vte_core.proofs.Shapes.{begins-intermediates, head_of-parts, held-parts, held-well_shaped, list_all-not}
+use Rattle.vte_core.proofs.shapes.HeadParts.{begins-intermediates, head_of-parts, held-parts, held-well_shaped, list_all-not}
 use Rattle.vte_core.proofs.bytes.Classes.{AreInClass-append}
 
 -- ---- numbers
@@ -66,12 +66,12 @@ pub counts-separator : {old settled new : Collected} {more : Bool} {text : List 
     → HoldsNumbers settled more text → is_separator b ≡ true
     → new.params ≡ settled.params → new.joined ≡ is_colon b → new.number ≡ 0 → CountsNumbers new (text ++ b ∷ [])
 unfolding groups_of
-counts-separator {old} {text} b counts holds is params joined number = record {
+counts-separator {old} {text} b counts holds separates params joined number = record {
   prefix = counts.prefix ++ numbered old.joined old.number ∷ [];
   digits = [];
   goes_on =
       λ later. ap numbers (append_assoc text (b ∷ []) later) ∙ counts.goes_on (b ∷ later)
-      ∙ rw (is, joined, counts.number, append_assoc counts.prefix) refl;
+      ∙ rw (separates, joined, counts.number, append_assoc counts.prefix) refl;
   params = params ∙ holds.groups ∙ ap (λ ns. grouped (take max_numbers ns)) (counts-numbers old text counts);
   number = number;
 }
@@ -103,9 +103,10 @@ CountsNumbers-kept : {old new : Collected} {text : List ℕ} → SameNumbers old
     → CountsNumbers new text
 CountsNumbers-kept same_numbers counts = search (rules, arith)
 
-Holds-kept : {old new : Collected} {ints : List ℕ} → SameIntermediates old new → HoldsIntermediates old ints
+HoldsIntermediates-kept : {old new : Collected} {ints : List ℕ} → SameIntermediates old new
+    → HoldsIntermediates old ints
     → HoldsIntermediates new ints
-Holds-kept same_intermediates holds = search (rules, arith)
+HoldsIntermediates-kept same_intermediates holds = search (rules, arith)
 
 -- A head can go on with an intermediate, however far it has come.
 pub holds-intermediate : {old new : Collected} {progress : HeadProgress} {head : List ℕ} (b : ℕ)
@@ -113,7 +114,7 @@ pub holds-intermediate : {old new : Collected} {progress : HeadProgress} {head :
     → class_of b ≡ Intermediate
     → SameNumbers old new → ((ints : List ℕ) → HoldsIntermediates old ints → HoldsIntermediates new (ints ++ b ∷ []))
     → HoldsHead new Intermediates (head ++ b ∷ [])
-holds-intermediate b holds is_class same_numbers more = record {
+holds-intermediate b holds is_class same_numbers holds_more = record {
   marker = holds.marker;
   parameters = holds.parameters;
   intermediates = holds.intermediates ++ b ∷ [];
@@ -123,7 +124,7 @@ holds-intermediate b holds is_class same_numbers more = record {
   are_intermediates =
       AreInClass-append is_intermediate holds.intermediates (b ∷ []) holds.are_intermediates (rw is_class refl, tt);
   reaches = omega (arith, length-append {A = ℕ});
-  holds = rw append_assoc at (more (holds.marker ++ holds.intermediates) holds.holds);
+  holds = rw append_assoc at (holds_more (holds.marker ++ holds.intermediates) holds.holds);
   counts = CountsNumbers-kept same_numbers holds.counts;
 }
 
@@ -132,9 +133,9 @@ pub holds-marker : (old new : Collected) (head : List ℕ) (b : ℕ) → HoldsHe
     → SameNumbers old new
     → ((ints : List ℕ) → HoldsIntermediates old ints → HoldsIntermediates new (ints ++ b ∷ []))
     → HoldsHead new Parameters (head ++ b ∷ [])
-holds-marker old new head b holds is_class same_numbers more =
+holds-marker old new head b holds is_class same_numbers holds_more =
     let nothing : head ≡ [] = holds.shape ∙ rw (holds.reaches.0, holds.reaches.1, holds.reaches.2) refl in
-    let none : HoldsIntermediates old [] = rw (holds.reaches.0, holds.reaches.2) at holds.holds in
+    let holds_none : HoldsIntermediates old [] = rw (holds.reaches.0, holds.reaches.2) at holds.holds in
     record {
       marker = b ∷ [];
       parameters = holds.parameters;
@@ -144,7 +145,7 @@ holds-marker old new head b holds is_class same_numbers more =
       are_parameters = holds.are_parameters;
       are_intermediates = tt;
       reaches = (omega arith, refl);
-      holds = more [] none;
+      holds = holds_more [] holds_none;
       counts = CountsNumbers-kept same_numbers holds.counts;
     }
 
@@ -155,19 +156,20 @@ after_no_intermediate : {old new : Collected} (progress : HeadProgress) (head : 
     → is_parameter_text (class_of b) ≡ true → SameIntermediates old new
     → ((text : List ℕ) → CountsNumbers old text → CountsNumbers new (text ++ b ∷ []))
     → HoldsHead new Parameters (head ++ b ∷ [])
-after_no_intermediate {old} progress head b holds none is same_intermediates more =
-    let kept : HoldsIntermediates old (holds.marker ++ []) = rw none at holds.holds in
+after_no_intermediate {old} progress head b holds no_intermediate is_parameter same_intermediates counts_more =
+    let kept : HoldsIntermediates old (holds.marker ++ []) = rw no_intermediate at holds.holds in
     record {
       marker = holds.marker;
       parameters = holds.parameters ++ b ∷ [];
       intermediates = [];
-      shape = rw (holds.shape, none) (simp (append-nil, append_assoc));
+      shape = rw (holds.shape, no_intermediate) (simp (append-nil, append_assoc));
       is_marker = holds.is_marker;
-      are_parameters = AreInClass-append is_parameter_text holds.parameters (b ∷ []) holds.are_parameters (is, tt);
+      are_parameters = AreInClass-append is_parameter_text holds.parameters (b ∷ []) holds.are_parameters
+          (is_parameter, tt);
       are_intermediates = tt;
       reaches = (omega (arith, length-append {A = ℕ}), refl);
-      holds = Holds-kept same_intermediates kept;
-      counts = more holds.parameters holds.counts;
+      holds = HoldsIntermediates-kept same_intermediates kept;
+      counts = counts_more holds.parameters holds.counts;
     }
 
 -- A head that has come no further than its parameters holds no intermediate, so a byte of the parameters fits.
@@ -176,34 +178,35 @@ pub holds-parameter : {old new : Collected} {progress : HeadProgress} (head : Li
     → is_parameter_text (class_of b) ≡ true → SameIntermediates old new
     → ((text : List ℕ) → CountsNumbers old text → CountsNumbers new (text ++ b ∷ []))
     → HoldsHead new Parameters (head ++ b ∷ [])
-holds-parameter {old} head b (inl at_entry) has_read is same_intermediates more =
+holds-parameter {old} head b (inl at_entry) has_read is_parameter same_intermediates counts_more =
     search (rules, arith, after_no_intermediate)
-holds-parameter {old} head b (inr at_parameters) has_read is same_intermediates more =
+holds-parameter {old} head b (inr at_parameters) has_read is_parameter same_intermediates counts_more =
     let holds : HoldsHead old Parameters head =
-    rw at_parameters at has_read in after_no_intermediate Parameters head b holds holds.reaches.1 is same_intermediates
-    more
+    rw at_parameters at has_read in
+    after_no_intermediate Parameters head b holds holds.reaches.1 is_parameter same_intermediates counts_more
 
 -- A marker after a marker or a parameter makes the head ill-shaped for good.
 ill_shaped-marker : (old : Collected) (head : List ℕ) (b : ℕ) → HoldsHead old Parameters head → class_of b ≡ Marker
     → StaysIllShaped (head ++ b ∷ [])
 unfolding is_well_shaped
-ill_shaped-marker old head b holds is = search (rules, arith, append-nil, append_assoc, head_of-parts, list_all-not)
+ill_shaped-marker old head b holds is_marker =
+    search (rules, arith, append-nil, append_assoc, head_of-parts, list_all-not)
 
 -- After an intermediate, any byte other than an intermediate makes the head ill-shaped for good.
 ill_shaped-after_intermediate : (old : Collected) (head : List ℕ) (b : ℕ) → HoldsHead old Intermediates head
     → is_intermediate (class_of b) ≡ false → StaysIllShaped (head ++ b ∷ [])
 unfolding is_well_shaped
-ill_shaped-after_intermediate old head b holds is = record {
+ill_shaped-after_intermediate old head b holds no_intermediate = record {
   stays = λ more.
       let same : (head ++ b ∷ []) ++ more ≡ holds.marker ++ (holds.parameters ++ (holds.intermediates ++ (b ∷ more))) =
       rw holds.shape (simp append_assoc) in
-      let begins = λ (has : Class → Bool) (h1 : has Intermediate ≡ false).
-      begins-intermediates has h1 holds.intermediates (b ∷ more) holds.are_intermediates
-      (λ none. absurd (omega (arith, ap length none, holds.reaches))) in
-      let p =
+      let begins = λ (has : Class → Bool) (excludes : has Intermediate ≡ false).
+      begins-intermediates has excludes holds.intermediates (b ∷ more) holds.are_intermediates
+      (λ no_intermediates. absurd (omega (arith, ap length no_intermediates, holds.reaches))) in
+      let parts =
       head_of-parts holds.marker holds.parameters (holds.intermediates ++ b ∷ more) holds.is_marker holds.are_parameters
       (begins is_parameter_text refl) (λ _. begins is_marker refl) in
-      rw (same, p) (list_all-not holds.intermediates b more is);
+      rw (same, parts) (list_all-not holds.intermediates b more no_intermediate);
 }
 
 ill_shaped-more : (head : List ℕ) (b : ℕ) → StaysIllShaped head → StaysIllShaped (head ++ b ∷ [])
@@ -217,7 +220,8 @@ pub head-ready : {old new : Collected} (more : Bool) {ignored : Bool} {progress 
     → ((text : List ℕ) → CountsNumbers old text → HoldsNumbers new more text)
     → SameIntermediates old new → HoldsHead old progress head → ignored ≡ (new.too_many_intermediates || more)
     → IsReady new ignored head
-head-ready more settles same_intermediates holds is = search (rules, arith, held-parts, Holds-kept, held-well_shaped)
+head-ready more settles same_intermediates holds ignored_is =
+    search (rules, arith, held-parts, HoldsIntermediates-kept, held-well_shaped)
 
 pub holds-nothing : (new : Collected) → HoldsIntermediates new [] → CountsNumbers new [] → HoldsHead new Entry []
 holds-nothing new holds counts = search (rules, arith)

@@ -1,5 +1,5 @@
--- How lengths cut numbers into groups, also with a number more (`pushed`), and how a byte more changes the numbers of a
--- parameter text.
+-- How lengths cut numbers into groups, also with one more number (`pushed`), and how one more byte changes the numbers
+-- of a parameter text. By induction over the lengths, and over the text, with the digits since the last separator.
 use Rattle.vte_core.proofs.Common.{◌≡◌, ℕ, suc, ◌+◌, ◌<◌, ◌≤◌, Bool, true, false, List, [], ◌∷◌, ◌++◌, length, take, drop, sum, Option, Some, None, refl, sym, ap, subst, ◌∙◌, arith, length-drop, length-append, get_or, All, take_all, take_more, take-append-le, drop-append-le, append-nil, take-append-drop, All-nil, drop_all, All-cons, All-head, All-tail, All-push, All-pop, All-take, All-drop, sum_by-cons, sum_by_push, sum_by-take-le, Number, with_number, count_of, greatest_number, max_numbers, AreGroups, ◌-◌, ◌*◌, min, map, inl, inr, append_assoc, length-take, fold, filter, slice_split, digit_value, cases_Bool, nat_tests, fold_push, numbers, numbers_of, number_of, is_colon, is_separator, numbers_from, grouped, groups_of, rules, IsFilled, AreSmall, IsSmallNumber}
 use Rattle.std.proofs.lemmas.List.{length-take-le}
 use Rattle.std.specs.Option.{unwrap_or}
@@ -30,9 +30,9 @@ sum_rest n lengths numbers whole =
 
 pub AreLengths-rest : {n : ℕ} {lengths numbers : List ℕ} → AreLengths (n ∷ lengths) numbers
     → AreLengths lengths (drop n numbers)
-AreLengths-rest {n} {lengths} {numbers} ok = record {
-  whole = (sum_rest n lengths numbers ok.whole).1;
-  filled = All-tail (λ m. 0 < m) n lengths ok.filled;
+AreLengths-rest {n} {lengths} {numbers} are_lengths = record {
+  whole = (sum_rest n lengths numbers are_lengths.whole).1;
+  filled = All-tail (λ m. 0 < m) n lengths are_lengths.filled;
 }
 
 pub length-cut_by_lengths : (lengths numbers : List ℕ) → length (cut_by_lengths lengths numbers) ≡ length lengths
@@ -41,10 +41,10 @@ length-cut_by_lengths (n ∷ lengths) numbers = ap suc (length-cut_by_lengths le
 
 pub count_of-cut_by_lengths : {lengths numbers : List ℕ} → AreLengths lengths numbers
     → count_of (cut_by_lengths lengths numbers) ≡ length numbers
-count_of-cut_by_lengths {lengths = []} ok = ok.whole
-count_of-cut_by_lengths {lengths = n ∷ lengths} {numbers} ok =
-    let rest = sum_rest n lengths numbers ok.whole in
-    let more = count_of-cut_by_lengths (AreLengths-rest ok) in
+count_of-cut_by_lengths {lengths = []} are_lengths = are_lengths.whole
+count_of-cut_by_lengths {lengths = n ∷ lengths} {numbers} are_lengths =
+    let rest = sum_rest n lengths numbers are_lengths.whole in
+    let more = count_of-cut_by_lengths (AreLengths-rest are_lengths) in
     omega (
       arith,
       rest,
@@ -57,12 +57,12 @@ count_of-cut_by_lengths {lengths = n ∷ lengths} {numbers} ok =
 
 filled-cut_by_lengths : {lengths numbers : List ℕ} → AreLengths lengths numbers
     → All IsFilled (cut_by_lengths lengths numbers)
-filled-cut_by_lengths {lengths = []} ok = All-nil IsFilled
-filled-cut_by_lengths {lengths = n ∷ lengths} {numbers} ok =
-    let rest = sum_rest n lengths numbers ok.whole in
+filled-cut_by_lengths {lengths = []} are_lengths = All-nil IsFilled
+filled-cut_by_lengths {lengths = n ∷ lengths} {numbers} are_lengths =
+    let rest = sum_rest n lengths numbers are_lengths.whole in
     All-cons IsFilled (take n numbers) (cut_by_lengths lengths (drop n numbers))
-    (omega (arith, All-head (λ m. 0 < m) n lengths ok.filled, length-take-le n numbers rest.0))
-    (filled-cut_by_lengths (AreLengths-rest ok))
+    (omega (arith, All-head (λ m. 0 < m) n lengths are_lengths.filled, length-take-le n numbers rest.0))
+    (filled-cut_by_lengths (AreLengths-rest are_lengths))
 
 small-cut_by_lengths : (lengths numbers : List ℕ) → AreSmall numbers → All AreSmall (cut_by_lengths lengths numbers)
 small-cut_by_lengths [] numbers small = All-nil AreSmall
@@ -74,7 +74,7 @@ small-cut_by_lengths (n ∷ lengths) numbers small =
 pub AreGroups-cut_by_lengths : (lengths numbers : List ℕ) → AreFlatGroups lengths numbers
     → length numbers ≤ max_numbers
     → AreGroups (cut_by_lengths lengths numbers)
-AreGroups-cut_by_lengths lengths numbers ok at_most =
+AreGroups-cut_by_lengths lengths numbers are_flat at_most =
     search (rules, arith, count_of-cut_by_lengths, small-cut_by_lengths, filled-cut_by_lengths)
 
 -- ---- a number more
@@ -117,12 +117,12 @@ cut_by_lengths-last : (rest numbers more : List ℕ) (n m : ℕ) → sum rest + 
     → cut_by_lengths (rest ++ m ∷ []) (numbers ++ more)
     ≡ cut_by_lengths rest (take (sum rest) numbers) ++ (drop (sum rest) numbers ++ more) ∷ []
 cut_by_lengths-last rest numbers more n m whole size =
-    let at = sum rest in
-    ap (λ v. cut_by_lengths (rest ++ m ∷ []) (v ++ more)) (sym (take-append-drop at numbers))
-    ∙ ap (cut_by_lengths (rest ++ m ∷ [])) (append_assoc (take at numbers) (drop at numbers) more)
-    ∙ cut_by_lengths-push rest (take at numbers) m (drop at numbers ++ more)
-    (sym (length-take-le at numbers (omega arith)))
-    (omega (arith, length-append (drop at numbers) more, length-drop at numbers))
+    let start = sum rest in
+    ap (λ v. cut_by_lengths (rest ++ m ∷ []) (v ++ more)) (sym (take-append-drop start numbers))
+    ∙ ap (cut_by_lengths (rest ++ m ∷ [])) (append_assoc (take start numbers) (drop start numbers) more)
+    ∙ cut_by_lengths-push rest (take start numbers) m (drop start numbers ++ more)
+    (sym (length-take-le start numbers (omega arith)))
+    (omega (arith, length-append (drop start numbers) more, length-drop start numbers))
 
 -- What holds once a number is pushed.
 pub record IsPushed (joined : Bool) (lengths rest numbers : List ℕ) (last : Option ℕ) (value : ℕ) : Type 0 where
@@ -150,46 +150,50 @@ pushed-alone : {joined : Bool} {lengths rest numbers : List ℕ} {value : ℕ} �
     → with_number (cut_by_lengths lengths numbers) (numbered false value)
     ≡ with_number (cut_by_lengths lengths numbers) (numbered joined value)
     → IsPushed joined lengths rest numbers None value
-pushed-alone {joined} {lengths} {rest} {numbers} {value} ok parts same =
+pushed-alone {joined} {lengths} {rest} {numbers} {value} are_lengths parts same =
     subst (λ rest. IsPushed joined lengths rest numbers None value) (parts ∙ append-nil rest)
-    (cut_by_lengths-more (omega (arith, ok.whole)) ok.filled
+    (cut_by_lengths-more (omega (arith, are_lengths.whole)) are_lengths.filled
     (rw (
-      take_all (sum lengths) numbers (omega (arith, ok.whole)),
+      take_all (sum lengths) numbers (omega (arith, are_lengths.whole)),
       drop_all (sum lengths) numbers
-          (omega (arith, ok.whole)),
+          (omega (arith, are_lengths.whole)),
     )
     (sym (with_number-begins (cut_by_lengths lengths numbers) value) ∙ same)))
 
 pub pushed : (joined : Bool) (lengths rest numbers : List ℕ) (last : Option ℕ) (value : ℕ)
     → AreLengths lengths numbers → IsTakenOff joined lengths rest last → IsPushed joined lengths rest numbers last value
-pushed true lengths rest numbers (Some n) value ok taken =
-    let whole : sum rest + n ≡ length numbers = sym (sum_push rest n) ∙ ap sum (sym taken.parts) ∙ ok.whole in
+pushed true lengths rest numbers (Some n) value are_lengths taken =
+    let whole : sum rest + n ≡ length numbers = sym (sum_push rest n) ∙ ap sum (sym taken.parts) ∙ are_lengths.whole in
     let old = simp append-nil at (cut_by_lengths-last rest numbers [] n n whole (omega arith)) in
     cut_by_lengths-more whole
-    (All-pop (λ m. 0 < m) lengths rest (Some n) taken.parts ok.filled).0
+    (All-pop (λ m. 0 < m) lengths rest (Some n) taken.parts are_lengths.filled).0
     (sym (with_number-joins (cut_by_lengths rest (take (sum rest) numbers)) (drop (sum rest) numbers) value)
     ∙ ap (λ groups. with_number groups (numbered true value))
     (sym old ∙ ap (λ those. cut_by_lengths those numbers) (sym taken.parts)))
-pushed true [] rest numbers None value ok taken = pushed-alone ok taken.parts refl
-pushed true (n ∷ lengths) rest numbers None value ok taken = absurd (omega (arith, taken.found refl refl))
-pushed false lengths rest numbers (Some n) value ok taken = let h = taken.alone refl in cc
-pushed false lengths rest numbers None value ok taken =
-    pushed-alone ok taken.parts refl
+pushed true [] rest numbers None value are_lengths taken = pushed-alone are_lengths taken.parts refl
+pushed true (n ∷ lengths) rest numbers None value are_lengths taken = absurd (omega (arith, taken.found refl refl))
+pushed false lengths rest numbers (Some n) value are_lengths taken = let none_found = taken.alone refl in cc
+pushed false lengths rest numbers None value are_lengths taken =
+    pushed-alone are_lengths taken.parts refl
 
 -- ---- lengths that are added up one after another
 
 -- The sum of the first i + 1 is that of the first i and the next.
-pub sum_take_more : (xs : List ℕ) (i : ℕ) → i < length xs → sum (take (i + 1) xs) ≡ sum (take i xs) + get_or xs i 0
-sum_take_more xs i some = rw (take_more xs i 0 some) (sum_by_push (λ x. x) (take i xs) (get_or xs i 0))
+pub sum_take_more : (lengths : List ℕ) (i : ℕ) → i < length lengths
+    → sum (take (i + 1) lengths) ≡ sum (take i lengths) + get_or lengths i 0
+sum_take_more lengths i within =
+    rw (take_more lengths i 0 within) (sum_by_push (λ n. n) (take i lengths) (get_or lengths i 0))
 
 -- The first i and the next come to no more than all.
-pub sum_take_below : (xs : List ℕ) (i : ℕ) → i < length xs → sum (take i xs) + get_or xs i 0 ≤ sum xs
-sum_take_below xs i some = omega (arith, sum_take_more xs i some, sum_by-take-le (λ x. x) xs (i + 1))
+pub sum_take_below : (lengths : List ℕ) (i : ℕ) → i < length lengths
+    → sum (take i lengths) + get_or lengths i 0 ≤ sum lengths
+sum_take_below lengths i within = omega (arith, sum_take_more lengths i within, sum_by-take-le (λ n. n) lengths (i + 1))
 
-pub filled_take_more : (xs : List ℕ) (i : ℕ) → i < length xs → All (λ n. 0 < n) (take i xs) → 0 < get_or xs i 0
-    → All (λ n. 0 < n) (take (i + 1) xs)
-filled_take_more xs i some all first =
-    rw (take_more xs i 0 some) (All-push (λ n. 0 < n) (take i xs) (get_or xs i 0) all first)
+pub filled_take_more : (lengths : List ℕ) (i : ℕ) → i < length lengths → All (λ n. 0 < n) (take i lengths)
+    → 0 < get_or lengths i 0
+    → All (λ n. 0 < n) (take (i + 1) lengths)
+filled_take_more lengths i within all first =
+    rw (take_more lengths i 0 within) (All-push (λ n. 0 < n) (take i lengths) (get_or lengths i 0) all first)
 
 -- ---- the numbers of a text, from its prefix
 
@@ -203,15 +207,16 @@ split_numbers : (joined : Bool) (digits text : List ℕ) → All IsNoSeparator d
     → numbers_of (joined ∷ map is_colon (filter is_separator text))
     (map number_of (slice_split is_separator (digits ++ text)))
     ≡ numbers_from joined digits text
-split_numbers joined digits [] none = rw (append-nil digits, slice_split_none is_separator digits none) refl
-split_numbers joined digits (b ∷ text) none = elim (cases_Bool (is_separator b)) [
+split_numbers joined digits [] none_separates =
+    rw (append-nil digits, slice_split_none is_separator digits none_separates) refl
+split_numbers joined digits (b ∷ text) none_separates = elim (cases_Bool (is_separator b)) [
   | inl cuts ↦
       let rest = split_numbers (is_colon b) [] text (All-nil IsNoSeparator) in
-      rw (slice_split_at is_separator digits b text none cuts, cuts)
+      rw (slice_split_at is_separator digits b text none_separates cuts, cuts)
       (ap (λ (l : List Number). numbered joined (number_of digits) ∷ l) rest)
   | inr stays ↦
       let rest =
-      split_numbers joined (digits ++ b ∷ []) text (All-push IsNoSeparator digits b none stays) in
+      split_numbers joined (digits ++ b ∷ []) text (All-push IsNoSeparator digits b none_separates stays) in
       rw stays (rw (append_assoc digits (b ∷ []) text) at rest)
 ]
 
@@ -307,8 +312,8 @@ All-fold {Q} {R} keeps groups (number ∷ numbers) have all =
     (All-head (λ (m : Number). R m.value) number numbers have) all)
 
 any_group : (groups : List (List ℕ)) → 0 < count_of groups → 0 < length groups
-any_group [] some = some
-any_group (group ∷ groups) some = omega arith
+any_group [] some_number = some_number
+any_group (group ∷ groups) some_number = omega arith
 
 -- Each text has a group, even an empty text.
 pub some_group : (text : List ℕ) → 0 < length (groups_of text)
@@ -322,7 +327,7 @@ filled-grouped numbers =
       begins = λ value _. omega arith;
       joins = λ group value _ filled. omega (arith, length-append group (value ∷ []));
     } in
-    All-fold keeps [] numbers (λ k d h. tt) (All-nil IsFilled)
+    All-fold keeps [] numbers (λ _ _ _. tt) (All-nil IsFilled)
 
 AreGroups-grouped : (numbers : List Number) → length numbers ≤ max_numbers → All IsSmall numbers
     → AreGroups (grouped numbers)

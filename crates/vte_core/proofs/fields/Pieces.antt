@@ -13,11 +13,11 @@ cut_onto : (earlier prefix text : List ℕ) → All (λ b. (b == semicolon) ≡ 
     cut_data (length earlier) (earlier ++ (prefix ++ filter is_data_item text))
     (ends_after (length earlier + length prefix) text)
     ≡ slice_split (λ b. b == semicolon) (prefix ++ text)
-cut_onto earlier prefix [] none =
+cut_onto earlier prefix [] none_ends =
     let all = drop_at earlier (prefix ++ []) (length earlier) refl in
-    rw (all, append-nil prefix) (sym (slice_split_none (λ b. b == semicolon) prefix none))
-cut_onto earlier prefix (item ∷ text) none =
-    by_test (item == semicolon) refl (λ earlier prefix none. cut_onto earlier prefix text none)
+    rw (all, append-nil prefix) (sym (slice_split_none (λ b. b == semicolon) prefix none_ends))
+cut_onto earlier prefix (item ∷ text) none_ends =
+    by_test (item == semicolon) refl (λ earlier prefix none_ends. cut_onto earlier prefix text none_ends)
   where
     by_test : (is_end : Bool) → (item == semicolon) ≡ is_end
         → ((earlier prefix : List ℕ) → All (λ b. (b == semicolon) ≡ false) prefix →
@@ -27,19 +27,20 @@ cut_onto earlier prefix (item ∷ text) none =
         → cut_data (length earlier) (earlier ++ (prefix ++ filter is_data_item (item ∷ text)))
         (ends_after (length earlier + length prefix) (item ∷ text))
         ≡ slice_split (λ b. b == semicolon) (prefix ++ item ∷ text)
-    by_test true e rests =
+    by_test true tests rests =
         -- A `;` ends the piece, and the next one begins with nothing.
         let more = rests (earlier ++ prefix) [] (λ k d lt. absurd (omega arith)) in
-        let first = slice_split_at (λ b. b == semicolon) prefix item text none e in
+        let first = slice_split_at (λ b. b == semicolon) prefix item text none_ends tests in
         let later = filter is_data_item text in
         let counted = length-append earlier prefix in
         let joined = append_assoc earlier prefix later in
         let all = drop_at earlier (prefix ++ later) (length earlier) refl in
         let cut = take_at prefix later (length prefix) refl in
         grind (arith, more, first, counted, joined, all, cut)
-    by_test false e rests =
+    by_test false tests rests =
         -- Any other item continues the piece.
-        let more = rests earlier (prefix ++ item ∷ []) (All-push (λ b. (b == semicolon) ≡ false) prefix item none e) in
+        let more =
+        rests earlier (prefix ++ item ∷ []) (All-push (λ b. (b == semicolon) ≡ false) prefix item none_ends tests) in
         let counted = length-append prefix (item ∷ []) in
         let joined = append_assoc prefix (item ∷ []) (filter is_data_item text) in
         let same = append_assoc prefix (item ∷ []) text in
@@ -67,8 +68,8 @@ pieces_length (item ∷ text) = search (rules, arith, (pieces_length text), leng
 
 length-concat_take : (n : ℕ) (pieces : List (List ℕ)) → length (concat (take n pieces)) ≤ length (concat pieces)
 length-concat_take n pieces =
-    let whole = ap concat (sym (take-append-drop n pieces)) ∙ concat-append (take n pieces) (drop n pieces) in
-    omega (arith, ap length whole, length-append (concat (take n pieces)) (concat (drop n pieces)))
+    let joined = ap concat (sym (take-append-drop n pieces)) ∙ concat-append (take n pieces) (drop n pieces) in
+    omega (arith, ap length joined, length-append (concat (take n pieces)) (concat (drop n pieces)))
 
 kept-fits : (limit count : ℕ) (items : List ℕ) → count ≤ limit
     → count + length (filter is_data_item (kept_after (Some limit) count items)) ≤ limit
@@ -139,15 +140,15 @@ pub contents_last : (slices later : List (Bor (List ℕ))) (slice : Bor (List �
     later ≡ set slices (length ends) slice → slice.now ≡ drop start bytes →
     contents (take index slices) ++ cut_data start bytes (drop index ends) ≡ cut_data 0 bytes ends →
     contents (take (length ends + 1) later) ≡ take max_pieces (cut_data 0 bytes ends)
-contents_last slices later slice bytes ends start index at_end at_most all written is cut =
+contents_last slices later slice bytes ends start index at_end at_most all written last_is cut =
     -- The last slice comes after those that end at an end.
     let taken = take_more_set slices (length ends) slice (omega arith) in
     let pushed = map_push (λ (slice : Bor (List ℕ)). slice.now) (take (length ends) slices) slice in
     -- No end is left, so the rest of the bytes is one piece.
     let left = drop_all index ends (omega arith) in
     -- Fewer than 16 ends cut at most 16 pieces, so all of them count.
-    let whole = take_all max_pieces (cut_data 0 bytes ends) (omega (arith, length-cut_data 0 bytes ends)) in
-    rw (written, taken, pushed, is, whole) (rw (left, at_end) at cut)
+    let all_count = take_all max_pieces (cut_data 0 bytes ends) (omega (arith, length-cut_data 0 bytes ends)) in
+    rw (written, taken, pushed, last_is, all_count) (rw (left, at_end) at cut)
 
 -- 16 ends leave no place for what is after them.
 pub contents_all : (slices : List (Bor (List ℕ))) (bytes ends : List ℕ) (start index : ℕ) →

@@ -3,7 +3,7 @@
 use Rattle.vte_core.proofs.Common.{◌≡◌, ℕ, true, Option, List, [], ◌∷◌, ◌++◌, refl, ap, subst, append-nil, Machine, State, Text, Escape, SystemCommand, body_outcome, device_data_outcome, executed_events, leaves, open_bytes, HoldsIntermediates, IsPlaceOfState, IsAtPlace, Place, InText, AtEscape, InSystemCommand, open_at, left_at, rest_outcome, outcome_from, events_from, IsSettledPlace, Stored, HoldsItems, SameItems, text_outcome, is_truncated, Nothing, may_continue, EscapeIntermediate, ControlSequence, DeviceControl, DeviceData, IgnoredString, HasReadWithLimit, HasReadHead, InEscape, InControlSequence, InDeviceControl, InDeviceData, InIgnoredString, take, arith, usual_limit, rules}
 use Rattle.vte_core.specs.IgnoredString.{ignored_string_outcome}
 use Rattle.vte_core.specs.private.Place.{control_sequence_from, device_control_from, escape_from, system_command_from}
-use Rattle.vte_core.proofs.Shapes.{text_outcome-end, text_outcome-nothing}
+use Rattle.vte_core.proofs.shapes.FirstSegment.{text_outcome-end, text_outcome-nothing}
 use Rattle.vte_core.specs.declared.parser.saved.Saved.{Saved}
 use Rattle.vte_core.specs.private.SavedLayout.{HasIntermediates, IsInHead, IsRestored, flag_of, state_bytes}
 use Rattle.vte_core.specs.private.Store.{AreParts, ArePieceEnds}
@@ -47,7 +47,7 @@ in_command {limit} begun is_at = command-by_place (is_at-in begun is_at)
 
 -- `IsPlace` is true of each place at which some parser is.
 abbrev pub IsPlace : Place → Type 0
-IsPlace (InText u) = may_continue u ≡ true
+IsPlace (InText opened) = may_continue opened ≡ true
 IsPlace _ = Unit {0}
 
 is_place-by_state : {B : Type 0} (limit : Option ℕ) (state : State) (parser : Machine B) (place : Place)
@@ -60,8 +60,8 @@ pub is_at-place : {B : Type 0} {limit : Option ℕ} {parser : Machine B} {place 
 is_at-place {limit} {parser} {place} is_at = is_place-by_state limit parser.state parser place is_at.fields
 
 pub may_continue-truncated : (opened : List ℕ) → is_truncated opened ≡ true → may_continue opened ≡ true
-may_continue-truncated [] more = refl
-may_continue-truncated (a ∷ opened) more = more
+may_continue-truncated [] truncated = refl
+may_continue-truncated (a ∷ opened) truncated = truncated
 
 text_outcome-open : (limit : Option ℕ) (opened : List ℕ) → may_continue opened ≡ true
     → text_outcome (opened ++ []) ≡ leaves (left_at limit (InText opened))
@@ -73,24 +73,24 @@ pub rest_outcome-nothing : (limit : Option ℕ) (place : Place) → IsPlace plac
     → rest_outcome limit place [] ≡ leaves (left_at limit place)
 unfolding body_outcome executed_events escape_from control_sequence_from device_control_from device_data_outcome
     system_command_from ignored_string_outcome
-rest_outcome-nothing limit (InText u) is = text_outcome-open limit u is
-rest_outcome-nothing limit (InSystemCommand items) is = simp append-nil
-rest_outcome-nothing limit _ is = refl
+rest_outcome-nothing limit (InText opened) is_place = text_outcome-open limit opened is_place
+rest_outcome-nothing limit (InSystemCommand items) is_place = simp append-nil
+rest_outcome-nothing limit _ is_place = refl
 
 pub outcome_from-nothing : (limit : Option ℕ) (place : Place) → IsPlace place
     → outcome_from limit place [] ≡ leaves (left_at limit place)
 unfolding outcome_from
-outcome_from-nothing limit place is = rest_outcome-nothing limit place is
+outcome_from-nothing limit place is_place = rest_outcome-nothing limit place is_place
 
 pub events_from-nothing : (limit : Option ℕ) (place : Place) → IsPlace place → events_from limit place [] ≡ []
-events_from-nothing limit place is = ap (λ outcome. outcome.reported) (outcome_from-nothing limit place is)
+events_from-nothing limit place is_place = ap (λ outcome. outcome.reported) (outcome_from-nothing limit place is_place)
 
 pub open_bytes-at : (limit : Option ℕ) (place : Place) → open_bytes (left_at limit place) ≡ open_at place
 open_bytes-at limit place = search (rules, arith)
 
 pub open_at-settled : (place : Place) → IsSettledPlace place → open_at place ≡ []
-open_at-settled (InText u) none = none
-open_at-settled _ none = refl
+open_at-settled (InText opened) none_open = none_open
+open_at-settled _ none_open = refl
 
 -- A parser between characters is at the place of a text with nothing open.
 pub is_at-text_begun : {B : Type 0} {limit : Option ℕ} {parser : Machine B} → parser.state ≡ Text Nothing
@@ -113,7 +113,7 @@ place_of_state-same : {B C : Type 0} (limit : Option ℕ) (state : State) (old :
     → (IsInHead state → HasIntermediates state → old.collected ≡ new.collected)
     → (state ≡ SystemCommand → SameItems old.command new.command)
     → IsPlaceOfState limit state old place → IsPlaceOfState limit state new place
-place_of_state-same limit (Text unfinished) old new (InText u) ints head items fields = fields
+place_of_state-same limit (Text unfinished) old new (InText opened) ints head items fields = fields
 place_of_state-same limit Escape old new AtEscape ints head items fields = ints tt [] fields
 place_of_state-same limit EscapeIntermediate old new (InEscape bytes) ints head items fields = ints tt bytes fields
 place_of_state-same limit (ControlSequence progress) old new (InControlSequence read) ints head items fields =

@@ -46,12 +46,12 @@ fitting-full limit count run full = search (rules, arith)
 pieces_from-run : (limit : Option ℕ) (bytes ends run more : List ℕ) → All IsDataItem run →
     pieces_from limit bytes ends (run ++ more)
     ≡ pieces_from limit (bytes ++ fitting limit (length bytes) run) ends more
-pieces_from-run limit bytes ends [] more none = rw (fitting-nothing limit (length bytes), append-nil bytes) refl
-pieces_from-run limit bytes ends (b ∷ run) more none =
-    let rest = pieces_from-run limit (bytes ++ b ∷ []) ends run more (All-tail IsDataItem b run none) in
+pieces_from-run limit bytes ends [] more are_data = rw (fitting-nothing limit (length bytes), append-nil bytes) refl
+pieces_from-run limit bytes ends (b ∷ run) more are_data =
+    let rest = pieces_from-run limit (bytes ++ b ∷ []) ends run more (All-tail IsDataItem b run are_data) in
     elim (cases_Bool (has_room limit (length bytes))) [
       | inl room ↦
-          let one = pieces_from-byte limit bytes ends room b (All-head IsDataItem b run none) (run ++ more) in
+          let one = pieces_from-byte limit bytes ends room b (All-head IsDataItem b run are_data) (run ++ more) in
           let kept = fitting-room limit (length bytes) b run room in
           let same : bytes ++ fitting limit (length bytes) (b ∷ run)
           ≡ (bytes ++ b ∷ []) ++ fitting limit (length (bytes ++ b ∷ [])) run =
@@ -68,37 +68,37 @@ pieces_from-run limit bytes ends (b ∷ run) more none =
 -- A data byte belongs to the piece after the last end.
 piece_ends-more : (left start : ℕ) (ends : List ℕ) (count more : ℕ) → length ends < left
     → PiecesEnd left start ends count → PiecesEnd left start ends (count + more)
-piece_ends-more zero start ends count more at_most are = absurd (omega arith)
-piece_ends-more (suc left) start [] count more at_most are = omega arith
-piece_ends-more (suc left) start (end ∷ ends) count more at_most are =
-    (are.0, piece_ends-more left end ends count more (omega arith) are.1)
+piece_ends-more zero start ends count more at_most pieces_end = absurd (omega arith)
+piece_ends-more (suc left) start [] count more at_most pieces_end = omega arith
+piece_ends-more (suc left) start (end ∷ ends) count more at_most pieces_end =
+    (pieces_end.0, piece_ends-more left end ends count more (omega arith) pieces_end.1)
 
 piece_ends-push : (left start : ℕ) (ends : List ℕ) (count : ℕ) → length ends < left → PiecesEnd left start ends count
     → PiecesEnd left start (ends ++ count ∷ []) count
-piece_ends-push zero start ends count at_most are = absurd (omega arith)
-piece_ends-push (suc zero) start [] count at_most are = (are, refl)
-piece_ends-push (suc (suc left)) start [] count at_most are = (are, omega arith)
-piece_ends-push (suc left) start (end ∷ ends) count at_most are =
-    (are.0, piece_ends-push left end ends count (omega arith) are.1)
+piece_ends-push zero start ends count at_most pieces_end = absurd (omega arith)
+piece_ends-push (suc zero) start [] count at_most pieces_end = (pieces_end, refl)
+piece_ends-push (suc (suc left)) start [] count at_most pieces_end = (pieces_end, omega arith)
+piece_ends-push (suc left) start (end ∷ ends) count at_most pieces_end =
+    (pieces_end.0, piece_ends-push left end ends count (omega arith) pieces_end.1)
 
 piece_ends-within : (left start : ℕ) (ends : List ℕ) (count : ℕ) → PiecesEnd left start ends count → start ≤ count
-piece_ends-within zero start [] count are = omega arith
-piece_ends-within zero start (end ∷ ends) count are = absurd are
-piece_ends-within (suc left) start [] count are = are
-piece_ends-within (suc left) start (end ∷ ends) count are =
-    omega (arith, are.0, piece_ends-within left end ends count are.1)
+piece_ends-within zero start [] count pieces_end = omega arith
+piece_ends-within zero start (end ∷ ends) count pieces_end = absurd pieces_end
+piece_ends-within (suc left) start [] count pieces_end = pieces_end
+piece_ends-within (suc left) start (end ∷ ends) count pieces_end =
+    omega (arith, pieces_end.0, piece_ends-within left end ends count pieces_end.1)
 
 -- All bytes are in the pieces.
 piece_ends-stored : (left start : ℕ) (bytes ends : List ℕ) → PiecesEnd left start ends (length bytes)
     → start + length (concat (take left (cut_data start bytes ends))) ≡ length bytes
-piece_ends-stored zero start bytes [] are = omega (arith, are)
-piece_ends-stored zero start bytes (end ∷ ends) are = absurd are
-piece_ends-stored (suc left) start bytes [] are = search (rules, arith, take-nil, append-nil, length-drop)
-piece_ends-stored (suc left) start bytes (end ∷ ends) are =
+piece_ends-stored zero start bytes [] pieces_end = omega (arith, pieces_end)
+piece_ends-stored zero start bytes (end ∷ ends) pieces_end = absurd pieces_end
+piece_ends-stored (suc left) start bytes [] pieces_end = search (rules, arith, take-nil, append-nil, length-drop)
+piece_ends-stored (suc left) start bytes (end ∷ ends) pieces_end =
     search (
       rules,
       arith,
-      (piece_ends-stored left end bytes ends are.1),
+      (piece_ends-stored left end bytes ends pieces_end.1),
       piece_ends-within,
       length-append,
       length-take,
@@ -112,21 +112,21 @@ slice_within start end bytes more order within = search (rules, arith, drop-appe
 -- After the last piece, further bytes and ends make no difference.
 piece_ends-complete : (start : ℕ) (bytes ends more later : List ℕ) → PiecesEnd (length ends) start ends (length bytes) →
     take (length ends) (cut_data start (bytes ++ more) (ends ++ later)) ≡ take (length ends) (cut_data start bytes ends)
-piece_ends-complete start bytes [] more later are = refl
-piece_ends-complete start bytes (end ∷ ends) more later are =
-    search (rules, arith, (piece_ends-complete end bytes ends more later are.1), slice_within, piece_ends-within)
+piece_ends-complete start bytes [] more later pieces_end = refl
+piece_ends-complete start bytes (end ∷ ends) more later pieces_end =
+    search (rules, arith, (piece_ends-complete end bytes ends more later pieces_end.1), slice_within, piece_ends-within)
 
 -- ---- how many data bytes came, and whether some were dropped
 
 data-run : (run : List ℕ) → All IsDataItem run → filter is_data_item run ≡ run
-data-run [] none = refl
-data-run (b ∷ run) none =
-    rw (ne_eqb b semicolon (All-head IsDataItem b run none), data-run run (All-tail IsDataItem b run none)) refl
+data-run [] are_data = refl
+data-run (b ∷ run) are_data =
+    rw (ne_eqb b semicolon (All-head IsDataItem b run are_data), data-run run (All-tail IsDataItem b run are_data)) refl
 
 count-run : (items run : List ℕ) → All IsDataItem run
     → length (filter is_data_item (items ++ run)) ≡ length (filter is_data_item items) + length run
-count-run items run none =
-    rw (filter-append is_data_item items run, data-run run none) (length-append (filter is_data_item items) run)
+count-run items run are_data =
+    rw (filter-append is_data_item items run, data-run run are_data) (length-append (filter is_data_item items) run)
 
 count-end : (items : List ℕ)
     → length (filter is_data_item (items ++ semicolon ∷ [])) ≡ length (filter is_data_item items)
@@ -134,10 +134,11 @@ count-end items = rw (filter-append is_data_item items (semicolon ∷ []), appen
 
 -- The flag of a store that held `before` of `count` data bytes, and holds `after` of them when n
 -- more have come.
-loses-more : (before after count n : ℕ) {old new : Bool} → before ≤ count → before ≤ after → after ≤ before + n
+lost-more : (before after count n : ℕ) {old new : Bool} → before ≤ count → before ≤ after → after ≤ before + n
     → old ≡ nat_lt before count
     → new ≡ (old || nat_lt (after - before) n) → new ≡ nat_lt after (count + n)
-loses-more before after count n some low high was is = grind (arith, nat_tests, some, low, high, was, is)
+lost-more before after count n held_at_most low high old_is new_is =
+    grind (arith, nat_tests, held_at_most, low, high, old_is, new_is)
 
 length-fitting : (limit : Option ℕ) (count : ℕ) (run : List ℕ) → length (fitting limit count run) ≤ length run
 length-fitting None count run = omega arith
@@ -164,10 +165,10 @@ done-complete {limit} {held} complete keeps more =
     rw complete at (piece_ends-complete 0 held.bytes held.ends (filter is_data_item kept)
     (ends_after (length held.bytes) kept) (rw complete keeps.end))
 
-none-counts : {limit : Option ℕ} {held : Stored} {items : List ℕ} (more : List ℕ) → IsDone limit held
+pieces_of-done : {limit : Option ℕ} {held : Stored} {items : List ℕ} (more : List ℕ) → IsDone limit held
     → HoldsItems limit held items
     → (later : List ℕ) → pieces_of limit ((items ++ more) ++ later) ≡ pieces_from limit held.bytes held.ends later
-none-counts {items} more done keeps later =
+pieces_of-done {items} more done keeps later =
     rw (append_assoc items more later) (keeps.goes_on (more ++ later) ∙ done (more ++ later) ∙ sym (done later))
 
 -- After 16 ends, data bytes are dropped.
@@ -176,13 +177,13 @@ pub keeps-later : (limit : Option ℕ) (old new : Stored) (items run : List ℕ)
     → new.bytes ≡ old.bytes → new.ends ≡ old.ends
     → new.lost ≡ (old.lost || nat_lt (length new.bytes - length old.bytes) (length run))
     → HoldsItems limit old items → HoldsItems limit new (items ++ run)
-keeps-later limit old new items run complete none bytes ends lost keeps =
-    search (rules, arith, none-counts, done-complete, count-run, loses-more)
+keeps-later limit old new items run complete are_data bytes ends lost keeps =
+    search (rules, arith, pieces_of-done, done-complete, count-run, lost-more)
 
 -- If no more items count, a `;` changes nothing.
 pub keeps-done : {limit : Option ℕ} {held : Stored} {items : List ℕ} → IsDone limit held → HoldsItems limit held items
     → HoldsItems limit held (items ++ semicolon ∷ [])
-keeps-done {items} done keeps = search (rules, arith, none-counts, count-end)
+keeps-done {items} done keeps = search (rules, arith, pieces_of-done, count-end)
 
 -- Before 16 ends, data bytes are kept as far as there is room.
 pub keeps-run : (limit : Option ℕ) (old new : Stored) (items run : List ℕ) → length old.ends < max_pieces
@@ -191,7 +192,7 @@ pub keeps-run : (limit : Option ℕ) (old new : Stored) (items run : List ℕ) �
     → new.lost ≡ (old.lost || nat_lt (length new.bytes - length old.bytes) (length run))
     → HoldsItems limit old items
     → HoldsItems limit new (items ++ run)
-keeps-run limit old new items run at_most none bytes ends lost keeps =
+keeps-run limit old new items run at_most are_data bytes ends lost keeps =
     search (rules, arith, piece_ends-more, length-append, length-fitting, append_assoc, pieces_from-run, count-run)
 
 -- Before 16 ends, a `;` ends a piece if there is room.
@@ -235,8 +236,8 @@ record ContinuesPiece (start : ℕ) (bytes ends : List ℕ) (byte : ℕ) : Type 
 
 piece-goes_on : (left start : ℕ) (bytes ends : List ℕ) (byte : ℕ) → PiecesEnd left start ends (length bytes)
     → ContinuesPiece start bytes ends byte
-piece-goes_on left start bytes [] byte are =
-    let within = piece_ends-within left start [] (length bytes) are in
+piece-goes_on left start bytes [] byte pieces_end =
+    let within = piece_ends-within left start [] (length bytes) pieces_end in
     record {
       pieces = [];
       last = drop start bytes;
@@ -244,10 +245,12 @@ piece-goes_on left start bytes [] byte are =
       before = refl;
       later = rw (drop-append-le start bytes (byte ∷ []) within) refl;
     }
-piece-goes_on zero start bytes (end ∷ ends) byte are = absurd are
-piece-goes_on (suc left) start bytes (end ∷ ends) byte are =
-    let on = piece-goes_on left end bytes ends byte are.1 in
-    let slice = slice_within start end bytes (byte ∷ []) are.0 (piece_ends-within left end ends (length bytes) are.1) in
+piece-goes_on zero start bytes (end ∷ ends) byte pieces_end = absurd pieces_end
+piece-goes_on (suc left) start bytes (end ∷ ends) byte pieces_end =
+    let on = piece-goes_on left end bytes ends byte pieces_end.1 in
+    let slice =
+    slice_within start end bytes (byte ∷ []) pieces_end.0
+    (piece_ends-within left end ends (length bytes) pieces_end.1) in
     record {
       pieces = slice_range bytes start end ∷ on.pieces;
       last = on.last;
@@ -275,29 +278,30 @@ concat-last : (pieces : List (List ℕ)) (last : List ℕ)
 concat-last pieces last = rw (concat-append pieces (last ∷ []), append-nil last) (length-append (concat pieces) last)
 
 -- One more data byte that is in a piece isn't dropped.
-loss-same : (items : List ℕ) (byte : ℕ) (pieces : List (List ℕ)) (last : List ℕ)
+loses_data-same : (items : List ℕ) (byte : ℕ) (pieces : List (List ℕ)) (last : List ℕ)
     → pieces_of None items ≡ pieces ++ last ∷ []
     → pieces_of None (items ++ byte ∷ []) ≡ pieces ++ (last ++ byte ∷ []) ∷ [] → byte ≢ semicolon
     → loses_data None (items ++ byte ∷ []) ≡ loses_data None items
 unfolding loses_data
-loss-same items byte pieces last before later other = search (rules, arith, count-run, concat-last, length-append)
+loses_data-same items byte pieces last before later other = search (rules, arith, count-run, concat-last, length-append)
 
 pub open_for : {held : Stored} {items : List ℕ} {byte : ℕ} → HoldsItems None held items → length held.ends < max_pieces
     → byte ≢ semicolon → IsOpenFor items byte
 open_for {held} {items} {byte} keeps at_most other =
-    let g = piece-goes_on max_pieces 0 held.bytes held.ends byte keeps.end in
-    let some : length g.pieces < max_pieces = omega (arith, g.ended) in
+    let continues = piece-goes_on max_pieces 0 held.bytes held.ends byte keeps.end in
+    let few : length continues.pieces < max_pieces = omega (arith, continues.ended) in
     let more =
     keeps.goes_on (byte ∷ []) ∙ pieces_from-byte None held.bytes held.ends refl byte other []
     ∙ pieces_from-nothing None (held.bytes ++ byte ∷ []) held.ends in
     let before =
-    pieces_held keeps ∙ ap (take max_pieces) g.before ∙ pieces-at_most g.pieces g.last some in
-    let later = more ∙ ap (take max_pieces) g.later ∙ pieces-at_most g.pieces (g.last ++ byte ∷ []) some in
+    pieces_held keeps ∙ ap (take max_pieces) continues.before ∙ pieces-at_most continues.pieces continues.last few in
+    let later =
+    more ∙ ap (take max_pieces) continues.later ∙ pieces-at_most continues.pieces (continues.last ++ byte ∷ []) few in
     record {
-      pieces = g.pieces;
-      last = g.last;
-      at_most = some;
+      pieces = continues.pieces;
+      last = continues.last;
+      at_most = few;
       before = before;
       later = later;
-      lost = loss-same items byte g.pieces g.last before later other;
+      lost = loses_data-same items byte continues.pieces continues.last before later other;
     }

@@ -7,7 +7,7 @@ use Rattle.vte_core.specs.IgnoredString.{ignored_string_outcome}
 use Rattle.vte_core.specs.SequenceKind.{ControlSequence, DeviceControl, SystemCommand, IgnoredString, SequenceKind}
 use Rattle.vte_core.specs.private.Place.{control_sequence_from, device_control_from, escape_from, system_command_from}
 use Rattle.vte_core.proofs.bytes.Classes.{spans, head_is_no_control, head_is_no_end, is_dropped, is_dropped_in_head, below_finals}
-use Rattle.vte_core.proofs.Shapes.{text_outcome-lone, text_outcome-well_formed}
+use Rattle.vte_core.proofs.shapes.FirstSegment.{text_outcome-lone, text_outcome-well_formed}
 use Rattle.std.proofs.lemmas.List.{length-take}
 use Rattle.vte_core.proofs.fields.Numbers.{AreGroups-groups_of, some_group}
 use Rattle.vte_core.proofs.bytes.Scalars.{well_formed_is_scalar}
@@ -21,10 +21,10 @@ drops InDeviceData = false
 drops (InSystemCommand items) = false
 drops _ = true
 
-pub byte-dropped : {limit : Option ℕ} {place : Place} {b : ℕ} {k : Class} → drops place ≡ true → class_of b ≡ k
-    → is_dropped k ≡ true → Leads limit place b [] place
+pub byte-dropped : {limit : Option ℕ} {place : Place} {b : ℕ} {class : Class} → drops place ≡ true → class_of b ≡ class
+    → is_dropped class ≡ true → Leads limit place b [] place
 unfolding body_outcome escape_from control_sequence_from device_control_from ignored_string_outcome executed_events
-byte-dropped at e h = search (rules, arith)
+byte-dropped place_drops is_class dropped = search (rules, arith)
 
 -- ---- C0
 
@@ -38,15 +38,16 @@ executes _ = false
 pub byte-executed : {limit : Option ℕ} {place : Place} {b : ℕ} → executes place ≡ true → class_of b ≡ Control
     → Leads limit place b (Execute b ∷ []) place
 unfolding body_outcome escape_from control_sequence_from executed_events
-byte-executed at e = search (rules, arith)
+byte-executed place_executes is_control = search (rules, arith)
 
 -- ---- after ESC
 
 pub escape-intermediate : {limit : Option ℕ} {b : ℕ} → class_of b ≡ Intermediate
     → Leads limit AtEscape b [] (InEscape (b ∷ []))
 unfolding body_outcome executed_events escape_outcome escape_from
-escape-intermediate {b} e =
-    let s = spans b e in record { leads = λ rest. simp (e, below_finals b (omega arith)) }
+escape-intermediate {b} is_intermediate =
+    let range = spans b is_intermediate in
+    record { leads = λ rest. simp (is_intermediate, below_finals b (omega arith)) }
 
 -- The place after a key that begins a body.
 abbrev begun_by : SequenceKind → Place
@@ -60,99 +61,99 @@ abbrev begins_body : SequenceKind → Bool
 begins_body EscapeSequence = false
 begins_body _ = true
 
-pub escape-key : {limit : Option ℕ} {b : ℕ} (k : SequenceKind) → class_of b ≡ Final → sequence_kind b ≡ k
-    → begins_body k ≡ true
-    → Leads limit AtEscape b [] (begun_by k)
+pub escape-key : {limit : Option ℕ} {b : ℕ} (kind : SequenceKind) → class_of b ≡ Final → sequence_kind b ≡ kind
+    → begins_body kind ≡ true
+    → Leads limit AtEscape b [] (begun_by kind)
 unfolding body_outcome executed_events control_sequence_outcome control_sequence_from device_control_outcome
     device_control_from system_command_outcome system_command_from
-escape-key k e is begins = search (rules, arith)
+escape-key kind is_final is_kind begins = search (rules, arith)
 
 -- ---- after ESC and intermediates
 
 pub intermediate-more : {limit : Option ℕ} {ints : List ℕ} {b : ℕ} → class_of b ≡ Intermediate
     → Leads limit (InEscape ints) b [] (InEscape (ints ++ b ∷ []))
 unfolding escape_from executed_events
-intermediate-more e = record { leads = λ rest. simp (e, append_assoc) }
+intermediate-more is_intermediate = record { leads = λ rest. simp (is_intermediate, append_assoc) }
 
-pub intermediate-end : {limit : Option ℕ} {ints : List ℕ} {b : ℕ} {k : Class} → class_of b ≡ k
-    → dispatches_escape k ≡ true
+pub intermediate-end : {limit : Option ℕ} {ints : List ℕ} {b : ℕ} {class : Class} → class_of b ≡ class
+    → dispatches_escape class ≡ true
     → Leads limit (InEscape ints) b (EscDispatch (first_two ints) (are_too_many ints) b ∷ []) (InText [])
 unfolding escape_from executed_events
-intermediate-end e h = search (rules, arith)
+intermediate-end is_class dispatches = search (rules, arith)
 
 -- A byte that has no other meaning after ESC ends an escape sequence.
-pub escape-end : {limit : Option ℕ} {b : ℕ} {k : Class} → class_of b ≡ k → dispatches_escape k ≡ true
+pub escape-end : {limit : Option ℕ} {b : ℕ} {class : Class} → class_of b ≡ class → dispatches_escape class ≡ true
     → sequence_kind b ≡ EscapeSequence
     → Leads limit AtEscape b (EscDispatch [] false b ∷ []) (InText [])
 unfolding body_outcome executed_events escape_outcome
-escape-end e h key = search (rules, arith)
+escape-end is_class dispatches is_kind = search (rules, arith)
 
 -- ---- in the head of a control sequence
 
 pub control-head : {limit : Option ℕ} {head : List ℕ} {b : ℕ} → is_head_byte (class_of b) ≡ true
     → Leads limit (InControlSequence head) b [] (InControlSequence (head ++ b ∷ []))
 unfolding control_sequence_from executed_events
-control-head {b} is =
+control-head {b} is_head =
     record {
       leads = λ rest.
-          simp (is, head_is_no_control (class_of b) is, head_is_no_end (class_of b) is, append_assoc);
+          simp (is_head, head_is_no_control (class_of b) is_head, head_is_no_end (class_of b) is_head, append_assoc);
     }
 
 pub control-dispatched : {limit : Option ℕ} {head : List ℕ} {b : ℕ} → class_of b ≡ Final
     → is_well_shaped (head_of head) ≡ true
     → Leads limit (InControlSequence head) b (sequence_event CsiDispatch (head_of head) b ∷ []) (InText [])
 unfolding control_sequence_from control_sequence_end executed_events
-control-dispatched e well = record { leads = λ rest. simp (e, append-nil, well) }
+control-dispatched is_final well_shaped = record { leads = λ rest. simp (is_final, append-nil, well_shaped) }
 
 pub control-silent : {limit : Option ℕ} {head : List ℕ} {b : ℕ} → class_of b ≡ Final
     → is_well_shaped (head_of head) ≡ false → Leads limit (InControlSequence head) b [] (InText [])
 unfolding control_sequence_from control_sequence_end executed_events
-control-silent e ill = record { leads = λ rest. simp (e, append-nil, ill) }
+control-silent is_final ill_shaped = record { leads = λ rest. simp (is_final, append-nil, ill_shaped) }
 
 -- ---- in the head of a device control string
 
-pub device-dropped : {limit : Option ℕ} {head : List ℕ} {b : ℕ} {k : Class} → class_of b ≡ k
-    → is_dropped_in_head k ≡ true → Leads limit (InDeviceControl head) b [] (InDeviceControl head)
+pub device-dropped : {limit : Option ℕ} {head : List ℕ} {b : ℕ} {class : Class} → class_of b ≡ class
+    → is_dropped_in_head class ≡ true → Leads limit (InDeviceControl head) b [] (InDeviceControl head)
 unfolding device_control_from
-device-dropped e h = search (rules, arith)
+device-dropped is_class dropped = search (rules, arith)
 
 pub device-head : {limit : Option ℕ} {head : List ℕ} {b : ℕ} → is_head_byte (class_of b) ≡ true
     → Leads limit (InDeviceControl head) b [] (InDeviceControl (head ++ b ∷ []))
 unfolding device_control_from
-device-head {b} is = record { leads = λ rest. simp (is, head_is_no_end (class_of b) is, append_assoc) }
+device-head {b} is_head = record { leads = λ rest. simp (is_head, head_is_no_end (class_of b) is_head, append_assoc) }
 
 pub device-well_shaped : {limit : Option ℕ} {head : List ℕ} {b : ℕ} → class_of b ≡ Final
     → is_well_shaped (head_of head) ≡ true
     → Leads limit (InDeviceControl head) b (sequence_event Hook (head_of head) b ∷ []) InDeviceData
 unfolding device_control_from device_control_after_head
-device-well_shaped e well = record { leads = λ rest. simp (e, append-nil, well) }
+device-well_shaped is_final well_shaped = record { leads = λ rest. simp (is_final, append-nil, well_shaped) }
 
 pub device-ill_shaped : {limit : Option ℕ} {head : List ℕ} {b : ℕ} → class_of b ≡ Final
     → is_well_shaped (head_of head) ≡ false → Leads limit (InDeviceControl head) b [] InIgnoredString
 unfolding device_control_from device_control_after_head
-device-ill_shaped e ill = record { leads = λ rest. simp (e, append-nil, ill) }
+device-ill_shaped is_final ill_shaped = record { leads = λ rest. simp (is_final, append-nil, ill_shaped) }
 
 -- ---- in the data of a hooked string
 
 -- A byte of a class that is data doesn't end the data of a device control string.
 data_is_no_end : (b : ℕ) → is_device_data (class_of b) ≡ true → ends_device_data b ≡ false
 unfolding class_of
-data_is_no_end b h = grind (arith, nat_tests)
+data_is_no_end b is_data = grind (arith, nat_tests)
 
 pub data-put : {limit : Option ℕ} {b : ℕ} → is_device_data (class_of b) ≡ true
     → Leads limit InDeviceData b (Put b ∷ []) InDeviceData
 unfolding device_data_outcome
-data-put {b} is = record { leads = λ rest. simp (is, data_is_no_end b is) }
+data-put {b} is_data = record { leads = λ rest. simp (is_data, data_is_no_end b is_data) }
 
 pub data-dropped : {limit : Option ℕ} {b : ℕ} → ends_device_data b ≡ false → is_device_data (class_of b) ≡ false
     → Leads limit InDeviceData b [] InDeviceData
 unfolding device_data_outcome
-data-dropped on none = record { leads = λ rest. simp (on, none) }
+data-dropped no_end no_data = record { leads = λ rest. simp (no_end, no_data) }
 
 pub data-terminator : {limit : Option ℕ} {b : ℕ} → class_of b ≡ High → eqb b 0x9c ≡ true
     → Leads limit InDeviceData b (Unhook ∷ []) (InText [])
 unfolding device_data_outcome
-data-terminator e is = record { leads = λ rest. simp (e, is) }
+data-terminator is_high is_terminator = record { leads = λ rest. simp (is_high, is_terminator) }
 
 -- ---- in an operating system command
 
@@ -164,40 +165,42 @@ pub command-item : {limit : Option ℕ} {items : List ℕ} {b : ℕ} → 0x20 �
     → Leads limit (InSystemCommand items) b [] (InSystemCommand (items ++ b ∷ []))
 unfolding system_command_from
 command-item {b} low =
-    let is : nat_le 0x20 b ≡ true =
-    grind (arith, nat_tests) in record { leads = λ rest. simp (item_is_no_end b low, is, append_assoc) }
+    let is_item : nat_le 0x20 b ≡ true =
+    grind (arith, nat_tests) in record { leads = λ rest. simp (item_is_no_end b low, is_item, append_assoc) }
 
 -- In an operating system command, bytes of C0 other than BEL are dropped.
 pub command-control : {limit : Option ℕ} {items : List ℕ} {b : ℕ} → class_of b ≡ Control → eqb b bell ≡ false
     → Leads limit (InSystemCommand items) b [] (InSystemCommand items)
 unfolding system_command_from class_of
-command-control {b} e other = search (rules, arith)
+command-control {b} is_control no_bell = search (rules, arith)
 
 pub command-bell : {limit : Option ℕ} {items : List ℕ} {b : ℕ} → class_of b ≡ Control → eqb b bell ≡ true
     → Leads limit (InSystemCommand items) b (OscDispatch (pieces_of limit items) true ∷ []) (InText [])
 unfolding system_command_from
-command-bell e is = record { leads = λ rest. simp (e, is, append-nil) }
+command-bell is_control is_bell = record { leads = λ rest. simp (is_control, is_bell, append-nil) }
 
 -- ---- in a string that means nothing
 
 pub ignored-more : {limit : Option ℕ} {b : ℕ} → is_cancel (class_of b) ≡ false
     → Leads limit InIgnoredString b [] InIgnoredString
 unfolding ignored_string_outcome
-ignored-more other = record { leads = λ rest. simp other }
+ignored-more no_cancel = record { leads = λ rest. simp no_cancel }
 
 -- ---- in a text
 
-pub text-unfinished : {limit : Option ℕ} {u : List ℕ} {b : ℕ} → Leads limit (InText u) b [] (InText (u ++ b ∷ []))
-text-unfinished {u} {b} = record { leads = λ rest. ap text_outcome (sym (append_assoc u (b ∷ []) rest)) }
+pub text-unfinished : {limit : Option ℕ} {opened : List ℕ} {b : ℕ}
+    → Leads limit (InText opened) b [] (InText (opened ++ b ∷ []))
+text-unfinished {opened} {b} = record { leads = λ rest. ap text_outcome (sym (append_assoc opened (b ∷ []) rest)) }
 
-pub text-whole : {limit : Option ℕ} {u : List ℕ} {b : ℕ} → is_well_formed (u ++ b ∷ []) ≡ true
-    → Leads limit (InText u) b (character_event (scalar_of (u ++ b ∷ [])) ∷ []) (InText [])
-text-whole {u} {b} whole =
-    record { leads = λ rest. rw append_assoc at (text_outcome-well_formed (u ++ b ∷ []) rest whole) }
+pub text-well_formed : {limit : Option ℕ} {opened : List ℕ} {b : ℕ} → is_well_formed (opened ++ b ∷ []) ≡ true
+    → Leads limit (InText opened) b (character_event (scalar_of (opened ++ b ∷ [])) ∷ []) (InText [])
+text-well_formed {opened} {b} well_formed =
+    record { leads = λ rest. rw append_assoc at (text_outcome-well_formed (opened ++ b ∷ []) rest well_formed) }
 
 pub text-lone : {limit : Option ℕ} {b : ℕ} → is_well_formed (b ∷ []) ≡ false → is_truncated (b ∷ []) ≡ false
     → Leads limit (InText []) b (malformed_event (b ∷ []) ∷ []) (InText [])
-text-lone {b} whole more = record { leads = λ rest. text_outcome-lone rest b whole more }
+text-lone {b} not_well_formed not_truncated =
+    record { leads = λ rest. text_outcome-lone rest b not_well_formed not_truncated }
 
 -- ---- the events of one byte are small
 
@@ -213,20 +216,21 @@ two_at_most bytes = omega (arith, length-take 2 bytes)
 pub bounded-head : (limit : Option ℕ) (head : Head) (final : ℕ) → (0x40 ≤ final) × (final < 0x7f)
     → IsBounded limit (sequence_event CsiDispatch head final) × IsBounded limit (sequence_event Hook head final)
 unfolding sequence_event
-bounded-head limit head final is =
+bounded-head limit head final in_range =
     let groups = AreGroups-groups_of head.parameter_text in
     let at_most = two_at_most (reported_intermediates head) in
-    let some = some_group head.parameter_text in
-    ((groups, at_most, is.1, is.0, some), (groups, at_most, is.1, is.0, some))
+    let has_group = some_group head.parameter_text in
+    ((groups, at_most, in_range.1, in_range.0, has_group), (groups, at_most, in_range.1, in_range.0, has_group))
 
-short-chosen : (t : Bool) (b c : ℕ) → (t ≡ true → IsExecuted b) → (t ≡ false → IsPrintable c)
-    → IsShort (cond t (Execute b) (Print c))
-short-chosen true b c e p = e refl
-short-chosen false b c e p = p refl
+short-chosen : (executed : Bool) (byte scalar : ℕ) → (executed ≡ true → IsExecuted byte)
+    → (executed ≡ false → IsPrintable scalar)
+    → IsShort (cond executed (Execute byte) (Print scalar))
+short-chosen true byte scalar if_executed if_printed = if_executed refl
+short-chosen false byte scalar if_executed if_printed = if_printed refl
 
 pub short-character : (bytes : List ℕ) → is_well_formed bytes ≡ true → IsShort (character_event (scalar_of bytes))
 unfolding character_event
-short-character bytes whole = search (rules, arith, short-chosen, well_formed_is_scalar)
+short-character bytes well_formed = search (rules, arith, short-chosen, well_formed_is_scalar)
 
 pub short-malformed : (b : ℕ) → IsShort (malformed_event (b ∷ []))
 unfolding malformed_event
@@ -241,4 +245,4 @@ one_short-from_one_byte limit reported one_short = search (rules, arith)
 
 pub one_short-append : (limit : Option ℕ) (prefix rest : List Event) → IsAtMostOneShort prefix → IsAtMostOneShort rest
     → AreFromOneByte limit (prefix ++ rest)
-one_short-append limit prefix rest t s = search (rules, arith)
+one_short-append limit prefix rest prefix_short rest_short = search (rules, arith)

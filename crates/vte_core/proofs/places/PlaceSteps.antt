@@ -3,7 +3,7 @@
 use Rattle.vte_core.proofs.Common.{◌≡◌, ℕ, ◌<◌, inl, inr, true, false, eqb, Option, List, refl, arith, cases_Bool, nat_tests, Class, Control, Cancel, Intermediate, Final, Delete, High, class_of, ends_body, is_head_byte, dispatches_escape, SequenceKind, EscapeSequence, sequence_kind, AreFromOneByte, Event, head_of, is_well_shaped, sequence_event, Leads, Place, InText, AtEscape, InEscape, InControlSequence, InDeviceControl, InDeviceData, InSystemCommand, InIgnoredString, closing_events_at, escape, bell, pieces_of, kept_items, None, ◌≤◌, ◌+◌, open_data_count, left_at, breaks, open_at, sym, false≢true, ◌∙◌, [], ◌∷◌, ◌++◌, Execute, rules}
 use Rattle.vte_core.specs.Class.{Escape}
 use Rattle.vte_core.proofs.places.PlaceLeads.{bounded-head, executed_low, two_at_most, escape-key, escape-intermediate, escape-end, intermediate-more, intermediate-end, byte-dropped, byte-executed, control-head, control-dispatched, control-silent, device-dropped, device-head, device-well_shaped, device-ill_shaped, data-put, data-dropped, data-terminator, command-item, command-control, command-bell, ignored-more}
-use Rattle.vte_core.proofs.places.PartsToStream.{bytes_lead-byte, bytes_lead-escape, no_escape, cancel_is_no_escape}
+use Rattle.vte_core.proofs.places.BytesInStream.{bytes_lead-byte, bytes_lead-escape, no_escape, cancel_is_no_escape}
 use Rattle.vte_core.proofs.places.Steps.{AreOutsideRuns, FitsLeft, IsSilentOrSettles, IsOutsideRunsAtPlace, IsText, Steps}
 use Rattle.vte_core.proofs.places.TextSteps.{byte-cancels, closing_brief, closing_alone_brief, step-text}
 use Rattle.vte_core.proofs.bytes.Classes.{ends_not_cancel, Spans, spans, below_finals, is_dropped, is_dropped_in_head}
@@ -24,14 +24,14 @@ HoldsNothing _ = Unit {0}
 abbrev LeavesNothingOpen : Place → Place → Type 0
 LeavesNothingOpen place next = IsOutsideText place × HoldsNothing next
 
-no_text : (place : Place) → IsOutsideText place → IsText place → ⊥
-no_text (InText u) is text = is
-no_text _ is text = text
+outside_text_is_no_text : (place : Place) → IsOutsideText place → IsText place → ⊥
+outside_text_is_no_text (InText u) outside text = outside
+outside_text_is_no_text _ outside text = text
 
 nothing_open : (limit : Option ℕ) (place : Place) → HoldsNothing place
     → (open_at place ≡ []) × (open_data_count (left_at limit place) ≡ 0) × IsPlace place
 unfolding pieces_of kept_items
-nothing_open limit place j = search (rules, arith)
+nothing_open limit place holds_nothing = search (rules, arith)
 
 -- What a byte other than CAN, SUB and ESC is; most places drop a byte of the last case.
 data Ordinary (b : ℕ) : Type 0 where
@@ -42,18 +42,19 @@ data Ordinary (b : ℕ) : Type 0 where
   final : class_of b ≡ Final → Ordinary b
   dropped : is_dropped (class_of b) ≡ true → Ordinary b
 
-ordinary : (b : ℕ) {k : Class} → class_of b ≡ k → ends_body k ≡ false → Ordinary b
-ordinary b {k = Control} is no_end = control is
-ordinary b {k = Intermediate} is no_end = intermediate is
-ordinary b {k = Final} is no_end = final is
-ordinary b {k = Delete} is no_end = dropped (rw is refl)
-ordinary b {k = High} is no_end = dropped (rw is refl)
-ordinary b {k = Cancel} is no_end = cc
-ordinary b {k = Escape} is no_end = cc
-ordinary b is no_end = let range = spans b is in parameter (omega arith) (omega arith) (rw is refl) (rw is refl)
+ordinary-by_class : (b : ℕ) {class : Class} → class_of b ≡ class → ends_body class ≡ false → Ordinary b
+ordinary-by_class b {class = Control} is_class no_end = control is_class
+ordinary-by_class b {class = Intermediate} is_class no_end = intermediate is_class
+ordinary-by_class b {class = Final} is_class no_end = final is_class
+ordinary-by_class b {class = Delete} is_class no_end = dropped (rw is_class refl)
+ordinary-by_class b {class = High} is_class no_end = dropped (rw is_class refl)
+ordinary-by_class b {class = Cancel} is_class no_end = cc
+ordinary-by_class b {class = Escape} is_class no_end = cc
+ordinary-by_class b is_class no_end =
+    let range = spans b is_class in parameter (omega arith) (omega arith) (rw is_class refl) (rw is_class refl)
 
-dropped_in_head : (k : Class) → is_dropped k ≡ true → is_dropped_in_head k ≡ true
-dropped_in_head k is = search (rules, arith)
+dropped_in_head : (class : Class) → is_dropped class ≡ true → is_dropped_in_head class ≡ true
+dropped_in_head class is_dropped_class = search (rules, arith)
 
 module _ {limit : Option ℕ} {place next : Place} {b : ℕ} (other : eqb b escape ≡ false) where
   -- `Steps` holds for a byte other than ESC that leaves nothing open.
@@ -61,16 +62,16 @@ module _ {limit : Option ℕ} {place next : Place} {b : ℕ} (other : eqb b esca
       → ((size : Option ℕ) → FitsLeft size (left_at limit place) → AreFromOneByte size reported)
       → (IsOutsideRunsAtPlace place b → AreOutsideRuns reported) → Steps limit place b
   step-leaving_nothing {reported} known leads brief outside_runs =
-      let none = nothing_open limit next known.1 in
+      let nothing = nothing_open limit next known.1 in
       record {
         reported = reported;
         next = next;
-        is_place = none.2;
+        is_place = nothing.2;
         reads = bytes_lead-byte other leads;
         brief = brief;
-        grows = λ _. omega (arith, none.1);
-        leaves = inl none.0;
-        little = λ text _. absurd (no_text place known.0 text);
+        grows = λ _. omega (arith, nothing.1);
+        leaves = inl nothing.0;
+        little = λ text _. absurd (outside_text_is_no_text place known.0 text);
         outside_runs = outside_runs;
       }
 
@@ -80,26 +81,28 @@ module _ {limit : Option ℕ} {place next : Place} {b : ℕ} (other : eqb b esca
 
   step-executed : class_of b ≡ Control → LeavesNothingOpen place next → Leads limit place b (Execute b ∷ []) next
       → Steps limit place b
-  step-executed is known leads =
-      step-leaving_nothing known leads (λ _ _. executed_low b (spans b is)) (λ _. tt)
+  step-executed is_control known leads =
+      step-leaving_nothing known leads (λ _ _. executed_low b (spans b is_control)) (λ _. tt)
 
 -- ---- after ESC
 
-step-at_escape_final : {limit : Option ℕ} {b : ℕ} {k : SequenceKind} → eqb b escape ≡ false → class_of b ≡ Final
-    → sequence_kind b ≡ k → Steps limit AtEscape b
-step-at_escape_final {b} {k = EscapeSequence} other is kind =
-    let range = spans b is in
-    step-leaving_nothing other (tt, tt) (escape-end is refl kind) (λ _ _. (omega arith, range.1, omega arith)) (λ _. tt)
-step-at_escape_final {k = key} other is kind = step-silent other (tt, tt) (escape-key key is kind refl)
+step-at_escape_final : {limit : Option ℕ} {b : ℕ} {kind : SequenceKind} → eqb b escape ≡ false → class_of b ≡ Final
+    → sequence_kind b ≡ kind → Steps limit AtEscape b
+step-at_escape_final {b} {kind = EscapeSequence} other is_final is_kind =
+    let range = spans b is_final in
+    step-leaving_nothing other (tt, tt) (escape-end is_final refl is_kind) (λ _ _. (omega arith, range.1, omega arith))
+    (λ _. tt)
+step-at_escape_final {kind = key} other is_final is_kind =
+    step-silent other (tt, tt) (escape-key key is_final is_kind refl)
 
 step-at_escape : {limit : Option ℕ} {b : ℕ} → eqb b escape ≡ false → Ordinary b → Steps limit AtEscape b
-step-at_escape other (control is) = step-executed other is (tt, tt) (byte-executed refl is)
-step-at_escape other (intermediate is) = step-silent other (tt, tt) (escape-intermediate is)
+step-at_escape other (control is_control) = step-executed other is_control (tt, tt) (byte-executed refl is_control)
+step-at_escape other (intermediate is_intermediate) = step-silent other (tt, tt) (escape-intermediate is_intermediate)
 step-at_escape {b} other (parameter low high _ ends) =
     step-leaving_nothing other (tt, tt) (escape-end refl ends (below_finals b high))
     (λ _ _. (omega arith, omega arith, low)) (λ _. tt)
-step-at_escape other (final is) = step-at_escape_final other is refl
-step-at_escape other (dropped is) = step-silent other (tt, tt) (byte-dropped refl refl is)
+step-at_escape other (final is_final) = step-at_escape_final other is_final refl
+step-at_escape other (dropped is_dropped_class) = step-silent other (tt, tt) (byte-dropped refl refl is_dropped_class)
 
 -- ---- after ESC and intermediates
 
@@ -110,64 +113,69 @@ step-in_escape_end {ints} other low high ends =
 
 step-in_escape : {limit : Option ℕ} {ints : List ℕ} {b : ℕ} → eqb b escape ≡ false → Ordinary b
     → Steps limit (InEscape ints) b
-step-in_escape other (control is) = step-executed other is (tt, tt) (byte-executed refl is)
-step-in_escape other (intermediate is) = step-silent other (tt, tt) (intermediate-more is)
+step-in_escape other (control is_control) = step-executed other is_control (tt, tt) (byte-executed refl is_control)
+step-in_escape other (intermediate is_intermediate) = step-silent other (tt, tt) (intermediate-more is_intermediate)
 step-in_escape other (parameter low high _ ends) = step-in_escape_end other low (omega arith) ends
-step-in_escape {b} other (final is) =
-    let range = spans b is in step-in_escape_end other (omega arith) range.1 (rw is refl)
-step-in_escape other (dropped is) = step-silent other (tt, tt) (byte-dropped refl refl is)
+step-in_escape {b} other (final is_final) =
+    let range = spans b is_final in step-in_escape_end other (omega arith) range.1 (rw is_final refl)
+step-in_escape other (dropped is_dropped_class) = step-silent other (tt, tt) (byte-dropped refl refl is_dropped_class)
 
 -- ---- in the head of a control sequence
 
 step-in_control_sequence : {limit : Option ℕ} {head : List ℕ} {b : ℕ} → eqb b escape ≡ false → Ordinary b
     → Steps limit (InControlSequence head) b
 unfolding sequence_event
-step-in_control_sequence other (control is) = step-executed other is (tt, tt) (byte-executed refl is)
-step-in_control_sequence other (intermediate is) = step-silent other (tt, tt) (control-head (rw is refl))
-step-in_control_sequence other (parameter _ _ is _) = step-silent other (tt, tt) (control-head is)
-step-in_control_sequence {head} {b} other (final is) = elim (cases_Bool (is_well_shaped (head_of head))) [
+step-in_control_sequence other (control is_control) =
+    step-executed other is_control (tt, tt) (byte-executed refl is_control)
+step-in_control_sequence other (intermediate is_intermediate) =
+    step-silent other (tt, tt) (control-head (rw is_intermediate refl))
+step-in_control_sequence other (parameter _ _ is_head _) = step-silent other (tt, tt) (control-head is_head)
+step-in_control_sequence {head} {b} other (final is_final) = elim (cases_Bool (is_well_shaped (head_of head))) [
   | inl well ↦
-      step-leaving_nothing other (tt, tt) (control-dispatched is well)
-      (λ size _. (bounded-head size (head_of head) b (spans b is)).0) (λ _. tt)
-  | inr ill ↦ step-silent other (tt, tt) (control-silent is ill)
+      step-leaving_nothing other (tt, tt) (control-dispatched is_final well)
+      (λ size _. (bounded-head size (head_of head) b (spans b is_final)).0) (λ _. tt)
+  | inr ill ↦ step-silent other (tt, tt) (control-silent is_final ill)
 ]
-step-in_control_sequence other (dropped is) = step-silent other (tt, tt) (byte-dropped refl refl is)
+step-in_control_sequence other (dropped is_dropped_class) =
+    step-silent other (tt, tt) (byte-dropped refl refl is_dropped_class)
 
 -- ---- in a device control string
 
 step-in_device_control : {limit : Option ℕ} {head : List ℕ} {b : ℕ} → eqb b escape ≡ false → Ordinary b
     → Steps limit (InDeviceControl head) b
 unfolding sequence_event
-step-in_device_control other (control is) = step-silent other (tt, tt) (device-dropped is refl)
-step-in_device_control other (intermediate is) = step-silent other (tt, tt) (device-head (rw is refl))
-step-in_device_control other (parameter _ _ is _) = step-silent other (tt, tt) (device-head is)
-step-in_device_control {head} {b} other (final is) = elim (cases_Bool (is_well_shaped (head_of head))) [
+step-in_device_control other (control is_control) = step-silent other (tt, tt) (device-dropped is_control refl)
+step-in_device_control other (intermediate is_intermediate) =
+    step-silent other (tt, tt) (device-head (rw is_intermediate refl))
+step-in_device_control other (parameter _ _ is_head _) = step-silent other (tt, tt) (device-head is_head)
+step-in_device_control {head} {b} other (final is_final) = elim (cases_Bool (is_well_shaped (head_of head))) [
   | inl well ↦
-      step-leaving_nothing other (tt, tt) (device-well_shaped is well)
-      (λ size _. (bounded-head size (head_of head) b (spans b is)).1) (λ _. tt)
-  | inr ill ↦ step-silent other (tt, tt) (device-ill_shaped is ill)
+      step-leaving_nothing other (tt, tt) (device-well_shaped is_final well)
+      (λ size _. (bounded-head size (head_of head) b (spans b is_final)).1) (λ _. tt)
+  | inr ill ↦ step-silent other (tt, tt) (device-ill_shaped is_final ill)
 ]
-step-in_device_control {b} other (dropped is) =
-    step-silent other (tt, tt) (device-dropped refl (dropped_in_head (class_of b) is))
+step-in_device_control {b} other (dropped is_dropped_class) =
+    step-silent other (tt, tt) (device-dropped refl (dropped_in_head (class_of b) is_dropped_class))
 
 -- ---- in its data
 
 delete_is_no_terminator : (b : ℕ) → Spans Delete b → eqb b 0x9c ≡ false
-delete_is_no_terminator b s = grind (arith, nat_tests)
+delete_is_no_terminator b range = grind (arith, nat_tests)
 
-step-in_device_data : {limit : Option ℕ} {b : ℕ} {k : Class} → eqb b escape ≡ false → class_of b ≡ k
-    → ends_body k ≡ false → Steps limit InDeviceData b
-step-in_device_data {b} {k = Delete} other is no_end =
-    step-silent other (tt, tt) (data-dropped (rw is (delete_is_no_terminator b (spans b is))) (rw is refl))
-step-in_device_data {b} {k = High} other is no_end = elim (cases_Bool (eqb b 0x9c)) [
-  | inl ends ↦ step-leaving_nothing other (tt, tt) (data-terminator is ends) (λ _ _. tt) (λ _. tt)
-  | inr inside ↦ step-silent other (tt, tt) (data-dropped (rw is inside) (rw is refl))
+step-in_device_data : {limit : Option ℕ} {b : ℕ} {class : Class} → eqb b escape ≡ false → class_of b ≡ class
+    → ends_body class ≡ false → Steps limit InDeviceData b
+step-in_device_data {b} {class = Delete} other is_class no_end =
+    step-silent other (tt, tt) (data-dropped (rw is_class (delete_is_no_terminator b (spans b is_class)))
+    (rw is_class refl))
+step-in_device_data {b} {class = High} other is_class no_end = elim (cases_Bool (eqb b 0x9c)) [
+  | inl ends ↦ step-leaving_nothing other (tt, tt) (data-terminator is_class ends) (λ _ _. tt) (λ _. tt)
+  | inr inside ↦ step-silent other (tt, tt) (data-dropped (rw is_class inside) (rw is_class refl))
 ]
-step-in_device_data {k = Cancel} other is no_end = cc
-step-in_device_data {k = Escape} other is no_end = cc
-step-in_device_data other is no_end =
-    step-leaving_nothing other (tt, tt) (data-put (rw is refl)) (λ _ _. rw is refl)
-    (λ outside. absurd (false≢true (sym outside ∙ rw is refl)))
+step-in_device_data {class = Cancel} other is_class no_end = cc
+step-in_device_data {class = Escape} other is_class no_end = cc
+step-in_device_data other is_class no_end =
+    step-leaving_nothing other (tt, tt) (data-put (rw is_class refl)) (λ _ _. rw is_class refl)
+    (λ outside. absurd (false≢true (sym outside ∙ rw is_class refl)))
 
 -- ---- in an operating system command
 
@@ -188,40 +196,43 @@ step-joins_command {limit} {items} {later} {b} other leads grows = record {
   outside_runs = λ _. tt;
 }
 
-step-in_system_command : {limit : Option ℕ} {items : List ℕ} {b : ℕ} {k : Class} → eqb b escape ≡ false
-    → class_of b ≡ k → ends_body k ≡ false → Steps limit (InSystemCommand items) b
-step-in_system_command {limit} {items} {b} {k = Control} other is no_end = elim (cases_Bool (eqb b bell)) [
+step-in_system_command : {limit : Option ℕ} {items : List ℕ} {b : ℕ} {class : Class} → eqb b escape ≡ false
+    → class_of b ≡ class → ends_body class ≡ false → Steps limit (InSystemCommand items) b
+step-in_system_command {limit} {items} {b} {class = Control} other is_class no_end = elim (cases_Bool (eqb b bell)) [
   | inl ends ↦
-      step-leaving_nothing other (tt, tt) (command-bell is ends)
+      step-leaving_nothing other (tt, tt) (command-bell is_class ends)
       (λ _ fits. (few_pieces limit items, fits, some_pieces limit items)) (λ _. tt)
-  | inr inside ↦ step-joins_command other (command-control is inside) (λ _. omega arith)
+  | inr inside ↦ step-joins_command other (command-control is_class inside) (λ _. omega arith)
 ]
-step-in_system_command {k = Cancel} other is no_end = cc
-step-in_system_command {k = Escape} other is no_end = cc
-step-in_system_command {items} {b} other is no_end =
-    let range = spans b is in
-    step-joins_command other (command-item (omega arith)) (λ none. rw none (pieces_push items b))
+step-in_system_command {class = Cancel} other is_class no_end = cc
+step-in_system_command {class = Escape} other is_class no_end = cc
+step-in_system_command {items} {b} other is_class no_end =
+    let range = spans b is_class in
+    step-joins_command other (command-item (omega arith)) (λ no_limit. rw no_limit (pieces_push items b))
 
 -- ---- any place: by ESC, CAN and SUB, or the lemma of its shape
 
-step-ordinary : (limit : Option ℕ) (place : Place) (b : ℕ) (k : Class) → IsPlace place → eqb b escape ≡ false
-    → class_of b ≡ k → ends_body k ≡ false → Steps limit place b
-step-ordinary limit (InText u) b k placed other is no_end = step-text limit u b other placed
-step-ordinary limit AtEscape b k placed other is no_end = step-at_escape other (ordinary b is no_end)
-step-ordinary limit (InEscape ints) b k placed other is no_end = step-in_escape other (ordinary b is no_end)
-step-ordinary limit (InControlSequence head) b k placed other is no_end =
-    step-in_control_sequence other (ordinary b is no_end)
-step-ordinary limit (InDeviceControl head) b k placed other is no_end =
-    step-in_device_control other (ordinary b is no_end)
-step-ordinary limit InDeviceData b k placed other is no_end = step-in_device_data other is no_end
-step-ordinary limit (InSystemCommand items) b k placed other is no_end = step-in_system_command other is no_end
-step-ordinary limit InIgnoredString b k placed other is no_end =
-    step-silent other (tt, tt) (ignored-more (rw is (ends_not_cancel k no_end)))
+step-ordinary : (limit : Option ℕ) (place : Place) (b : ℕ) (class : Class) → IsPlace place → eqb b escape ≡ false
+    → class_of b ≡ class → ends_body class ≡ false → Steps limit place b
+step-ordinary limit (InText u) b class is_place other is_class no_end = step-text limit u b other is_place
+step-ordinary limit AtEscape b class is_place other is_class no_end =
+    step-at_escape other (ordinary-by_class b is_class no_end)
+step-ordinary limit (InEscape ints) b class is_place other is_class no_end =
+    step-in_escape other (ordinary-by_class b is_class no_end)
+step-ordinary limit (InControlSequence head) b class is_place other is_class no_end =
+    step-in_control_sequence other (ordinary-by_class b is_class no_end)
+step-ordinary limit (InDeviceControl head) b class is_place other is_class no_end =
+    step-in_device_control other (ordinary-by_class b is_class no_end)
+step-ordinary limit InDeviceData b class is_place other is_class no_end = step-in_device_data other is_class no_end
+step-ordinary limit (InSystemCommand items) b class is_place other is_class no_end =
+    step-in_system_command other is_class no_end
+step-ordinary limit InIgnoredString b class is_place other is_class no_end =
+    step-silent other (tt, tt) (ignored-more (rw is_class (ends_not_cancel class no_end)))
 
 -- As ESC breaks any open character, none is open here, so ESC reports nothing.
 silent_or_settles-escape : (limit : Option ℕ) (place : Place) → IsPlace place → IsText place
     → breaks (open_at place) (escape ∷ []) ≡ false → IsSilentOrSettles AtEscape (closing_events_at limit place)
-silent_or_settles-escape limit place is text unbroken = search (rules, arith)
+silent_or_settles-escape limit place is_place text unbroken = search (rules, arith)
 
 outside_runs-closing : (limit : Option ℕ) (place : Place) (b : ℕ) → IsOutsideRunsAtPlace place b
     → AreOutsideRuns (closing_events_at limit place)
@@ -231,27 +242,29 @@ outside_runs-cancel : (limit : Option ℕ) (place : Place) (b : ℕ) → IsOutsi
     → AreOutsideRuns (closing_events_at limit place ++ Execute b ∷ [])
 outside_runs-cancel limit place b outside = search (rules, arith)
 
-step-by_class : (limit : Option ℕ) (place : Place) (b : ℕ) (k : Class) → IsPlace place → class_of b ≡ k
+step-by_class : (limit : Option ℕ) (place : Place) (b : ℕ) (class : Class) → IsPlace place → class_of b ≡ class
     → Steps limit place b
-step-by_class limit place b Escape placed is =
-    let same : Spans Escape b = spans b is in
+step-by_class limit place b Escape is_place is_class =
+    let same : Spans Escape b = spans b is_class in
     rw same (record {
       reported = closing_events_at limit place;
       next = AtEscape;
       is_place = tt;
-      reads = bytes_lead-escape placed;
+      reads = bytes_lead-escape is_place;
       brief = λ size fits. closing_alone_brief limit size place fits;
       grows = λ _. omega arith;
       leaves = inl refl;
-      little = silent_or_settles-escape limit place placed;
+      little = silent_or_settles-escape limit place is_place;
       outside_runs = outside_runs-closing limit place _;
     })
-step-by_class limit (InText u) b Cancel placed is = step-text limit u b (cancel_is_no_escape b is) placed
-step-by_class limit place b Cancel placed is =
-    step-leaving_nothing (cancel_is_no_escape b is) (tt, tt) (byte-cancels placed is)
-    (λ size fits. closing_brief limit size place b fits (spans b is)) (outside_runs-cancel limit place b)
-step-by_class limit place b k placed is = step-ordinary limit place b k placed (no_escape b (rw is refl)) is refl
+step-by_class limit (InText u) b Cancel is_place is_class =
+    step-text limit u b (cancel_is_no_escape b is_class) is_place
+step-by_class limit place b Cancel is_place is_class =
+    step-leaving_nothing (cancel_is_no_escape b is_class) (tt, tt) (byte-cancels is_place is_class)
+    (λ size fits. closing_brief limit size place b fits (spans b is_class)) (outside_runs-cancel limit place b)
+step-by_class limit place b class is_place is_class =
+    step-ordinary limit place b class is_place (no_escape b (rw is_class refl)) is_class refl
 
 -- Each byte reports at most two events after each place, and leads to a next place.
 pub steps : {limit : Option ℕ} {place : Place} {b : ℕ} → IsPlace place → Steps limit place b
-steps {limit} {place} {b} placed = step-by_class limit place b (class_of b) placed refl
+steps {limit} {place} {b} is_place = step-by_class limit place b (class_of b) is_place refl

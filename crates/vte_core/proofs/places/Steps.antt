@@ -16,8 +16,8 @@ IsText (InText begun) = Unit {0}
 IsText _ = ⊥
 
 pub text_at : (place : Place) → (open_at place ≡ [] → ⊥) → IsText place
-text_at (InText begun) some = tt
-text_at _ some = absurd (some refl)
+text_at (InText begun) some_open = tt
+text_at _ some_open = absurd (some_open refl)
 
 -- The pieces of the open command, if any, fit into a buffer of this size.
 abbrev pub FitsLeft : Option ℕ → ToClose → Type 0

@@ -1,22 +1,23 @@
 -- A byte in a text, by whether it ends, continues or breaks the open character (`step-text`), and CAN and SUB at all
 -- places (`byte-cancels`).
-use Rattle.vte_core.proofs.Common.{◌≡◌, ℕ, false, eqb, Option, List, [], ◌∷◌, ◌++◌, refl, ap, sym, ◌∙◌, arith, nat_tests, Cancel, class_of, Event, Leads, report, Place, InText, closing_events_at, events, escape, inl, inr, true, cases_Bool, false≢true, AreFromOneByte, IsAtMostOneShort, Print, ◌+◌, open_data_count, left_at, replacement, breaks, may_continue, is_truncated, is_well_formed, ◌<◌, Execute, InSystemCommand, bell, text_outcome, character_event, is_control_character, append-nil, body_outcome, control_sequence_end, device_data_outcome, device_control_after_head, executed_events, rules}
-use Rattle.vte_core.proofs.Shapes.{text_outcome-broken, breaks-broken, text_outcome-well_formed}
+use Rattle.vte_core.proofs.Common.{◌≡◌, ℕ, false, eqb, Option, List, [], ◌∷◌, ◌++◌, refl, ap, sym, ◌∙◌, arith, nat_tests, Cancel, class_of, Event, Leads, report, Place, InText, closing_events_at, escape, inl, inr, true, cases_Bool, false≢true, AreFromOneByte, IsAtMostOneShort, Print, open_data_count, left_at, replacement, may_continue, is_truncated, is_well_formed, ◌<◌, Execute, InSystemCommand, bell, text_outcome, character_event, is_control_character, append-nil, body_outcome, control_sequence_end, device_data_outcome, device_control_after_head, executed_events, rules}
+use Rattle.vte_core.proofs.shapes.FirstSegment.{text_outcome-broken, text_outcome-well_formed}
+use Rattle.vte_core.proofs.shapes.BrokenCharacters.{breaks-broken}
 use Rattle.vte_core.proofs.fields.PlaceOfState.{IsPlace, may_continue-truncated}
-use Rattle.vte_core.proofs.places.PlaceLeads.{text-unfinished, text-whole, text-lone, short-character, short-malformed, one_short-from_one_byte, one_short-append, executed_low}
+use Rattle.vte_core.proofs.places.PlaceLeads.{text-unfinished, text-well_formed, text-lone, short-character, short-malformed, one_short-from_one_byte, one_short-append, executed_low}
 use Rattle.vte_core.specs.IgnoredString.{ignored_string_outcome}
 use Rattle.vte_core.specs.private.Place.{control_sequence_from, device_control_from, escape_from, system_command_from}
 use Rattle.vte_core.proofs.bytes.Classes.{spans}
 use Rattle.vte_core.proofs.bytes.Utf8.{Tests, ascii-alone, ascii-breaks}
 use Rattle.vte_core.proofs.fields.Pieces.{few_pieces, some_pieces}
-use Rattle.vte_core.proofs.places.PartsToStream.{bytes_lead-byte, waits-byte}
+use Rattle.vte_core.proofs.places.BytesInStream.{bytes_lead-byte, waits-byte}
 use Rattle.vte_core.proofs.places.Steps.{FitsLeft, IsSilentOrSettles, Steps}
 
 -- ---- a byte in a text
 
-text_left : (limit : Option ℕ) (begun : List ℕ) → open_data_count (left_at limit (InText begun)) ≡ 0
-text_left limit [] = refl
-text_left limit (a ∷ begun) = refl
+open_data_count-text : (limit : Option ℕ) (begun : List ℕ) → open_data_count (left_at limit (InText begun)) ≡ 0
+open_data_count-text limit [] = refl
+open_data_count-text limit (a ∷ begun) = refl
 
 silent_or_settles-is_short : (next : Place) (reported : List Event) → IsSilentOrSettles next reported
     → IsAtMostOneShort reported
@@ -26,13 +27,13 @@ step-silent_or_settles : {limit : Option ℕ} {begun later : List ℕ} {byte : �
     → IsSilentOrSettles (InText later) reported → eqb byte escape ≡ false
     → Leads limit (InText begun) byte reported (InText later)
     → IsPlace (InText later) → Steps limit (InText begun) byte
-step-silent_or_settles {limit} {begun} {later} {byte} {reported} little other leads is = record {
+step-silent_or_settles {limit} {begun} {later} {byte} {reported} little other leads is_place = record {
   reported = reported;
   next = InText later;
-  is_place = is;
+  is_place = is_place;
   reads = bytes_lead-byte other leads;
   brief = λ size _. one_short-from_one_byte size reported (silent_or_settles-is_short (InText later) reported little);
-  grows = λ _. omega (arith, text_left limit later);
+  grows = λ _. omega (arith, open_data_count-text limit later);
   leaves = elim little [ inl nothing ↦ inr (inl nothing) | inr closed ↦ inl closed.0 ];
   little = λ _ _. little;
   outside_runs = λ outside. absurd outside;
@@ -44,25 +45,26 @@ step-by_tests : {limit : Option ℕ} {begun : List ℕ} {byte : ℕ} → eqb byt
     → Steps limit (InText begun) byte)
     → Steps limit (InText begun) byte
 step-by_tests {begun} {byte} other neither = elim (cases_Bool (is_well_formed (begun ++ byte ∷ []))) [
-  | inl whole ↦ step-silent_or_settles (inr (refl, short-character (begun ++ byte ∷ []) whole)) other
-      (text-whole whole) refl
-  | inr part ↦ elim (cases_Bool (is_truncated (begun ++ byte ∷ []))) [
-    | inl still ↦ step-silent_or_settles (inl refl) other text-unfinished
-        (may_continue-truncated (begun ++ byte ∷ []) still)
-    | inr none ↦ neither part none
+  | inl well_formed ↦ step-silent_or_settles (inr (refl, short-character (begun ++ byte ∷ []) well_formed)) other
+      (text-well_formed well_formed) refl
+  | inr not_well_formed ↦ elim (cases_Bool (is_truncated (begun ++ byte ∷ []))) [
+    | inl truncated ↦ step-silent_or_settles (inl refl) other text-unfinished
+        (may_continue-truncated (begun ++ byte ∷ []) truncated)
+    | inr not_truncated ↦ neither not_well_formed not_truncated
   ]
 ]
 
 step-settled : {limit : Option ℕ} {byte : ℕ} → eqb byte escape ≡ false → Steps limit (InText []) byte
 step-settled {byte} other =
     step-by_tests other
-    (λ part none. step-silent_or_settles (inr (refl, short-malformed byte)) other (text-lone part none) refl)
+    (λ not_well_formed not_truncated.
+    step-silent_or_settles (inr (refl, short-malformed byte)) other (text-lone not_well_formed not_truncated) refl)
 
 -- `Steps` holds for a byte that belongs to no character with those before it.
 step-broken : (limit : Option ℕ) (begun : List ℕ) (byte : ℕ) → eqb byte escape ≡ false → is_truncated begun ≡ true
     → is_well_formed (begun ++ byte ∷ []) ≡ false → is_truncated (begun ++ byte ∷ []) ≡ false
     → Steps limit (InText begun) byte
-step-broken limit begun byte other more part none =
+step-broken limit begun byte other truncated not_well_formed_after not_truncated_after =
     let alone : Steps limit (InText []) byte = step-settled other in
     let little : IsSilentOrSettles alone.next alone.reported = alone.little tt refl in
     record {
@@ -72,33 +74,34 @@ step-broken limit begun byte other more part none =
       reads = record {
         reads = λ rest.
             waits-byte limit (InText begun) (InText []) byte (Print replacement ∷ []) rest other
-            (text_outcome-broken begun byte more part none)
+            (text_outcome-broken begun byte truncated not_well_formed_after not_truncated_after)
             ∙ ap (report (Print replacement ∷ [])) (alone.reads.reads rest);
       };
       brief =
           λ size _. one_short-append size (Print replacement ∷ []) alone.reported (refl, refl)
           (silent_or_settles-is_short alone.next alone.reported little);
-      grows = λ none. omega (arith, alone.grows none);
+      grows = λ no_limit. omega (arith, alone.grows no_limit);
       leaves =
           elim little [
             | inl nothing ↦ inr (inr (ap (λ events. Print replacement ∷ events) nothing))
             | inr closed ↦ inl closed.0
           ];
-      little = λ _ unbroken. absurd (false≢true (sym unbroken ∙ breaks-broken begun byte more part none));
+      little = λ _ unbroken. absurd (false≢true
+          (sym unbroken ∙ breaks-broken begun byte truncated not_well_formed_after not_truncated_after));
       outside_runs = λ outside. absurd outside;
     }
 
 pub step-text : (limit : Option ℕ) (begun : List ℕ) (byte : ℕ) → eqb byte escape ≡ false → may_continue begun ≡ true
     → Steps limit (InText begun) byte
-step-text limit begun byte other begun0 = search (rules, arith, step-settled, step-by_tests, step-broken)
+step-text limit begun byte other continues = search (rules, arith, step-settled, step-by_tests, step-broken)
 
 -- ---- CAN and SUB
 
 -- CAN and SUB end what is open, which is closed first, and then are executed, by cases of the place.
 
-no_bell : (b : ℕ) → class_of b ≡ Cancel → eqb b bell ≡ false
+cancel_is_no_bell : (b : ℕ) → class_of b ≡ Cancel → eqb b bell ≡ false
 unfolding class_of
-no_bell b e = grind (arith, nat_tests)
+cancel_is_no_bell b is_cancel = grind (arith, nat_tests)
 
 text_outcome-cancel : (rest : List ℕ) (b : ℕ) → b < 0x20
     → text_outcome (b ∷ rest) ≡ report (Execute b ∷ []) (text_outcome rest)
@@ -112,16 +115,18 @@ pub byte-cancels : {limit : Option ℕ} {place : Place} {b : ℕ} → IsPlace pl
     → Leads limit place b (closing_events_at limit place ++ Execute b ∷ []) (InText [])
 unfolding body_outcome executed_events escape_from control_sequence_from control_sequence_end device_control_from
     device_control_after_head device_data_outcome system_command_from ignored_string_outcome
-byte-cancels {place = InText []} {b} is e = record { leads = λ rest. text_outcome-cancel rest b (spans b e) }
-byte-cancels {place = InText (a ∷ u)} {b} is e =
-    let low : b < 0x20 = spans b e in
-    let tests : Tests (a ∷ u ++ b ∷ []) false false = ascii-breaks (a ∷ u) b is (omega arith) in
+byte-cancels {place = InText []} {b} is_place is_cancel =
+    record { leads = λ rest. text_outcome-cancel rest b (spans b is_cancel) }
+byte-cancels {place = InText (a ∷ u)} {b} is_place is_cancel =
+    let low : b < 0x20 = spans b is_cancel in
+    let tests : Tests (a ∷ u ++ b ∷ []) false false = ascii-breaks (a ∷ u) b is_place (omega arith) in
     record {
-      leads = λ rest. text_outcome-broken (a ∷ u) b is tests.is_whole tests.is_open rest
+      leads = λ rest. text_outcome-broken (a ∷ u) b is_place tests.is_whole tests.is_open rest
           ∙ ap (report (Print replacement ∷ [])) (text_outcome-cancel rest b low);
     }
-byte-cancels {place = InSystemCommand items} {b} is e = record { leads = λ rest. simp (e, no_bell b e, append-nil) }
-byte-cancels is e = record { leads = λ rest. simp e }
+byte-cancels {place = InSystemCommand items} {b} is_place is_cancel =
+    record { leads = λ rest. simp (is_cancel, cancel_is_no_bell b is_cancel, append-nil) }
+byte-cancels is_place is_cancel = record { leads = λ rest. simp is_cancel }
 
 -- ---- what ESC, CAN and SUB report is no more than one byte may
 

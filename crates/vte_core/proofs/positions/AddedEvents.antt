@@ -7,7 +7,7 @@ use Rattle.vte_core.proofs.positions.Progress.{stretch-added, starts-at}
 use Rattle.vte_core.proofs.fields.PlaceOfState.{IsPlace}
 use Rattle.vte_core.proofs.places.PlaceSteps.{steps}
 use Rattle.vte_core.proofs.places.Steps.{AreOutsideRuns, IsOutsideRunsAtPlace}
-use Rattle.vte_core.proofs.Shapes.{reported-settled, reported-broken}
+use Rattle.vte_core.proofs.shapes.BrokenCharacters.{reported-settled, reported-broken}
 use Rattle.vte_core.proofs.bytes.Runs.{one_byte}
 use Rattle.vte_core.proofs.streams.After.{added-reads, added-nothing}
 use Rattle.vte_core.proofs.streams.StreamSteps.{prints_no_ascii, prints_no_ascii-all, prints_no_ascii-character}

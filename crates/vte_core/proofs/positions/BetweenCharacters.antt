@@ -9,10 +9,10 @@ use Rattle.vte_core.proofs.fields.PlaceOfState.{is_at-by}
 use Rattle.vte_core.proofs.positions.Progress.{settled-same_state, place-settled_text}
 use Rattle.vte_core.proofs.positions.Stretches.{advances-byte, advances-reporting, advances-then, not_escape, takes_bytes-begun, reads-byte_at}
 use Rattle.vte_core.specs.private.Prelude.{MayReadByte, Completes}
-use Rattle.vte_core.proofs.places.PlaceLeads.{text-lone, text-unfinished, text-whole}
+use Rattle.vte_core.proofs.places.PlaceLeads.{text-lone, text-unfinished, text-well_formed}
 use Rattle.vte_core.proofs.streams.StreamSteps.{outside_runs-control}
 use Rattle.vte_core.proofs.positions.AddedEvents.{adds-reads, added-inside, adds-character, keep, recorded-at, keeping}
-use Rattle.vte_core.proofs.places.PartsToStream.{bytes_lead-byte}
+use Rattle.vte_core.proofs.places.BytesInStream.{bytes_lead-byte}
 use Rattle.vte_core.proofs.positions.Characters.{in_text}
 
 character_event-printed : (b : ℕ) → is_in (from_to 0x20 0x7f) b ≡ true → character_event b ≡ Print b
@@ -31,7 +31,7 @@ module _ {V B : Type 0} {step : V → Event → V} {old new : V} {limit : Option
         next = InText [];
         performed = performed;
         is_at = s;
-        leads = text-whole whole;
+        leads = text-well_formed whole;
       })
 
   -- A byte that begins no character is malformed.
@@ -110,7 +110,7 @@ byte-single limit b is_no_escape other no_lead = elim (cases_lt b 0x80) [
     reported = character_event b ∷ [];
     reads =
         bytes_lead-byte (not_escape b is_no_escape)
-        (text-whole (ascii-alone b low).is_whole);
+        (text-well_formed (ascii-alone b low).is_whole);
     events_are = outside_runs-control b (grind (arith, nat_tests));
   }
   | inr high ↦

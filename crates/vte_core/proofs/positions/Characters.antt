@@ -3,11 +3,11 @@
 use Rattle.vte_core.proofs.Common.{◌≡◌, ◌≢◌, ℕ, ◌+◌, ◌<◌, inl, inr, true, Option, List, [], ◌∷◌, ◌++◌, length, refl, ap, sym, subst, ◌∙◌, slice_index, Machine, Text, Nothing, Print, replacement, ProgressInside, IsAtPosition, IsInsidePosition, IsAtPlace, IsPlaceOfState, Place, InText, bytes_of, may_continue, Carries, character_event, is_truncated, scalar_of, Unfinished, HasReadWithLimit, open_character, ChunkCall, ◌≤◌, arith, One, Two, Three, Event, second_range, from_to, is_in, is_well_formed, added, All-cons, All-nil, IsOutsideRuns, append-nil, append_assoc, drop, drop_more, take, take-add, rules}
 use Rattle.vte_core.specs.declared.utf8.Carried.TheVariants.{Unfinished as StillUnfinished, Whole, Broken}
 use Rattle.vte_core.proofs.fields.PlaceOfState.{may_continue-truncated, is_at-by, is_at-in, is_at-place}
-use Rattle.vte_core.proofs.places.PlaceLeads.{text-unfinished, text-whole}
+use Rattle.vte_core.proofs.places.PlaceLeads.{text-unfinished, text-well_formed}
 use Rattle.vte_core.proofs.streams.After.{carried_is_no_escape, after-open_character}
-use Rattle.vte_core.proofs.Shapes.{breaks-broken, breaks-unfinished, breaks-whole}
+use Rattle.vte_core.proofs.shapes.BrokenCharacters.{breaks-broken, breaks-unfinished, breaks-well_formed}
 use Rattle.vte_core.proofs.positions.Progress.{progress-settled, progress-broken, progress-carried, inside-all, inside-moved}
-use Rattle.vte_core.proofs.places.PartsToStream.{bytes_lead-byte}
+use Rattle.vte_core.proofs.places.BytesInStream.{bytes_lead-byte}
 use Rattle.vte_core.proofs.bytes.Scalars.{second-open, third-open}
 use Rattle.vte_core.specs.private.Progress.{Completes}
 use Rattle.vte_core.proofs.streams.StreamSteps.{length-longer}
@@ -17,7 +17,7 @@ use Rattle.std.proofs.lemmas.List.{drop-drop}
 -- ---- a byte
 
 -- The character goes on with it, is whole, or is broken before it (`carried-more`, `carried-whole`, `carried-broken`).
--- The place is a text with these bytes open, so `places/PlaceLeads` and `Shapes` say what the byte reports.
+-- The place is a text with these bytes open, so `places/PlaceLeads` and `shapes` say what the byte reports.
 
 is_at-in_text : {B : Type 0} {limit : Option ℕ} {parser : Machine B} {longer : Unfinished} {opened : List ℕ}
     → parser.state ≡ Text longer → bytes_of longer ≡ opened
@@ -89,9 +89,9 @@ module _ {V B : Type 0} {call : ChunkCall V} {old mid : V} {stream : List ℕ} w
       progress-carried {new = new} {next = InText []}
       {these = character_event (scalar_of (bytes_of unfinished ++ b ∷ [])) ∷ []} at_text.begun within is
       (truncated-some (bytes_of unfinished) opened)
-      (breaks-whole (bytes_of unfinished) b carries.0)
+      (breaks-well_formed (bytes_of unfinished) b carries.0)
       (bytes_lead-byte
-      (carried_is_no_escape (bytes_of unfinished) b opened (inl carries.0)) (text-whole carries.0))
+      (carried_is_no_escape (bytes_of unfinished) b opened (inl carries.0)) (text-well_formed carries.0))
       (performed ∙ ap (λ n. call.step mid (character_event n)) carries.1) refl
       (subst (ProgressInside call old mid stream i) at_text.same inside.progress) in
       subst (λ n. IsAtPosition call old new stream n next) (sym later)

@@ -14,7 +14,7 @@ use Rattle.vte_core.proofs.fields.PlaceOfState.{IsPlace, is_at-in}
 use Rattle.vte_core.proofs.places.PlaceLeads.{control-head, device-head}
 use Rattle.vte_core.proofs.positions.AddedEvents.{adds-same, recorded-at, reported-at}
 use Rattle.vte_core.proofs.bytes.Runs.{one_byte}
-use Rattle.vte_core.proofs.places.PartsToStream.{no_escape, bytes_lead-byte}
+use Rattle.vte_core.proofs.places.BytesInStream.{no_escape, bytes_lead-byte}
 
 -- ---- `ReadsHead` of no bytes, of two stretches, of a byte
 

@@ -4,9 +4,9 @@ use Rattle.vte_core.proofs.Common.{◌≡◌, ◌≢◌, ℕ, Option, List, [], 
 use Rattle.vte_core.proofs.bytes.Utf8.{ascii-breaks}
 use Rattle.vte_core.proofs.fields.PlaceOfState.{IsPlace, is_at-place, in_command, is_at-by}
 use Rattle.vte_core.proofs.places.PlaceLeads.{escape-end, intermediate-end, control-head, device-head, data-put, command-item, ignored-more}
-use Rattle.vte_core.proofs.Shapes.{text_outcome-broken}
+use Rattle.vte_core.proofs.shapes.FirstSegment.{text_outcome-broken}
 use Rattle.vte_core.proofs.streams.After.{added-after, added-reads, after-events, after-left, after-nothing, events-empty, open_at_end-any, after-reads}
-use Rattle.vte_core.proofs.places.PartsToStream.{bytes_lead-byte, waits-byte, bytes_lead-item}
+use Rattle.vte_core.proofs.places.BytesInStream.{bytes_lead-byte, waits-byte, bytes_lead-item}
 use Rattle.vte_core.proofs.positions.Progress.{place-settled_text, progress-command}
 use Rattle.vte_core.proofs.positions.ToRun.{reads-anew}
 use Rattle.vte_core.specs.Open.{kind_to_close, open_at_end}

@@ -11,9 +11,9 @@
 -- `starts-X`, `call_ends-X`, `settles`: where a call starts, where it stops or ends, and where no character is open
 use Rattle.vte_core.proofs.Common.{◌≡◌, ℕ, ◌<◌, ◌≤◌, inl, inr, true, false, not, eqb, Option, List, [], ◌∷◌, ◌++◌, ap, sym, arith, cases_lt, nat_tests, Machine, Text, Nothing, IsAtPlace, IsPlaceOfState, Place, InText, InSystemCommand, BytesLead, zero, suc, ◌+◌, ◌-◌, length, take, drop, refl, subst, ◌∙◌, append_assoc, slice_index, cases_Bool, append-nil, drop_more, take-add, breaks, breaks_at, IsStart, reported_before, resumed_stream, Event, Print, replacement, after, added, open_character, ProgressAt, ProgressInside, MayGoOn, ChunkCall, IsAfter, IsSettledPlace, open_at, ComesTo, State, StopsExactly, IsSettled, ReadsUpTo, IsAtPosition, IsInsidePosition, HasReadWithLimit, bytes_of, Unfinished, rules}
 use Rattle.vte_core.proofs.fields.PlaceOfState.{is_at-in, IsPlace, open_at-settled, is_at-place}
-use Rattle.vte_core.proofs.places.PartsToStream.{bytes_lead-item}
+use Rattle.vte_core.proofs.places.BytesInStream.{bytes_lead-item}
 use Rattle.vte_core.proofs.streams.After.{after-left, after-nothing, after-open_character, after-reads, added-reads, added-nothing, after_events-append}
-use Rattle.vte_core.proofs.Shapes.{breaks_at-all, breaks_at-settled, breaks_at-byte, no_start, starts-settled, starts-broken, resumed_stream-settled, resumed_stream-broken, reported-all, reported-settled, reported-broken, resumed_stream-all}
+use Rattle.vte_core.proofs.shapes.BrokenCharacters.{breaks_at-all, breaks_at-settled, breaks_at-byte, no_start, starts-settled, starts-broken, resumed_stream-settled, resumed_stream-broken, reported-all, reported-settled, reported-broken, resumed_stream-all}
 use Rattle.vte_core.proofs.bytes.Runs.{one_byte}
 use Rattle.vte_core.proofs.EarlyStops.{added_from, after_from, breaks_there, goes_on_from}
 

@@ -7,7 +7,8 @@ use Rattle.vte_core.proofs.bytes.Runs.{each-one, chars-one, layout-is_control_ch
 use Rattle.vte_core.proofs.dividing.Utf8Agrees.{cut-text, text_outcome-encodes}
 use Rattle.vte_core.proofs.positions.Progress.{progress-further, stretch-added, place-settled_text, settled-same_state, settles}
 use Rattle.vte_core.proofs.streams.After.{added-reads, after_events-append}
-use Rattle.vte_core.proofs.Shapes.{reported-settled, reported-broken, with_bodies-report}
+use Rattle.vte_core.proofs.shapes.Outcomes.{with_bodies-report}
+use Rattle.vte_core.proofs.shapes.BrokenCharacters.{reported-settled, reported-broken}
 use Rattle.vte_core.proofs.EarlyStops.{added-append}
 use Rattle.vte_core.proofs.streams.StreamSteps.{reported_by_stream}
 

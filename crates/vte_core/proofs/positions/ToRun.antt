@@ -15,7 +15,7 @@ use Rattle.vte_core.proofs.positions.TextRuns.{bytes_lead-text}
 use Rattle.vte_core.proofs.fields.PlaceOfState.{IsPlace, is_at-in}
 use Rattle.vte_core.proofs.places.PlaceLeads.{data-put}
 use Rattle.vte_core.proofs.streams.After.{added-nothing, added-reads, after-nothing, after-reads}
-use Rattle.vte_core.proofs.places.PartsToStream.{no_escape, bytes_lead-append, bytes_lead-byte, bytes_lead-nothing}
+use Rattle.vte_core.proofs.places.BytesInStream.{no_escape, bytes_lead-append, bytes_lead-byte, bytes_lead-nothing}
 
 -- ---- no run
 

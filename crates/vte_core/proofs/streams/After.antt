@@ -5,9 +5,10 @@
 use Rattle.vte_core.proofs.Common.{◌≡◌, ℕ, ◌⊎◌, inl, inr, cases_Bool, true, false, eqb, Option, List, [], ◌∷◌, ◌++◌, refl, ap, sym, ◌∙◌, arith, Machine, Event, Print, replacement, report, after, Place, InText, AtEscape, closing_events_at, outcome_from, events, escape, TakesByte, TakesBytes, is_truncated, is_well_formed, Bool, None, SequenceKind, sequence_kind, body_rest, body_outcome, sequence_outcome, class_of, is_cancel, is_key, Outcome, ToClose, CommandToClose, open_bytes, from_first, cut_at_escape, with_bodies, outcome, open_character, system_command_outcome, text_outcome, append_assoc, append-nil, drop_all, drop-append_seam, IsAtPlace, HasReadWithLimit, added, IsAfter, open_at, left_at, events_from, BytesLead, rules}
 use Rattle.std.proofs.Common.{eqb-true}
 use Rattle.vte_core.proofs.bytes.Utf8.{Tests, ascii-breaks}
-use Rattle.vte_core.proofs.Shapes.{text_outcome-broken, report-append}
+use Rattle.vte_core.proofs.shapes.Outcomes.{report-append}
+use Rattle.vte_core.proofs.shapes.FirstSegment.{text_outcome-broken}
 use Rattle.vte_core.proofs.fields.PlaceOfState.{may_continue-truncated, events_from-nothing, IsPlace, outcome_from-nothing, open_bytes-at}
-use Rattle.vte_core.proofs.places.PartsToStream.{events-after_nothing, bytes_lead-byte, waits-byte, outcome_from-escape}
+use Rattle.vte_core.proofs.places.BytesInStream.{events-after_nothing, bytes_lead-byte, waits-byte, outcome_from-escape}
 use Rattle.vte_core.specs.Open.{kind_to_close, open_at_end}
 
 -- ---- from a byte to bytes, and from a place to what a parser has read
@@ -36,39 +37,43 @@ takes_bytes-one is_no_escape takes = record {
 -- A byte that belongs to an open character is no ESC.
 pub carried_is_no_escape : (opened : List ℕ) (b : ℕ) → is_truncated opened ≡ true
     → (is_well_formed (opened ++ b ∷ []) ≡ true) ⊎ (is_truncated (opened ++ b ∷ []) ≡ true) → eqb b escape ≡ false
-carried_is_no_escape opened b more carried = elim (cases_Bool (eqb b escape)) [
-  | inl is ↦
-      let same : b ≡ escape = eqb-true b escape is in
-      let tests : Tests (opened ++ b ∷ []) false false = ascii-breaks opened b more (omega arith) in
-      elim carried [ inl h ↦ cc (h, tests.is_whole) | inr h ↦ cc (h, tests.is_open) ]
+carried_is_no_escape opened b truncated carried = elim (cases_Bool (eqb b escape)) [
+  | inl is_escape ↦
+      let same : b ≡ escape = eqb-true b escape is_escape in
+      let tests : Tests (opened ++ b ∷ []) false false = ascii-breaks opened b truncated (omega arith) in
+      elim carried [
+        | inl well_formed ↦ cc (well_formed, tests.is_whole)
+        | inr unfinished ↦ cc (unfinished, tests.is_open)
+      ]
   | inr other ↦ other
 ]
 
 closing-unfinished : (limit : Option ℕ) (opened : List ℕ) → is_truncated opened ≡ true
     → closing_events_at limit (InText opened) ≡ Print replacement ∷ []
 unfolding is_truncated
-closing-unfinished limit [] more = cc
-closing-unfinished limit (a ∷ opened) more = refl
+closing-unfinished limit [] truncated = cc
+closing-unfinished limit (a ∷ opened) truncated = refl
 
 -- A byte that breaks a character is still to be read, even ESC.
 pub waits-broken : (limit : Option ℕ) (opened : List ℕ) (b : ℕ) (more : List ℕ) → is_truncated opened ≡ true
     → is_well_formed (opened ++ b ∷ []) ≡ false → is_truncated (opened ++ b ∷ []) ≡ false
     → outcome_from limit (InText opened) (b ∷ more)
     ≡ report (Print replacement ∷ []) (outcome_from limit (InText []) (b ∷ more))
-waits-broken limit opened b more begun whole next = elim (cases_Bool (eqb b escape)) [
-  | inr other ↦
-      waits-byte limit (InText opened) (InText []) b (Print replacement ∷ []) more other
-      (text_outcome-broken opened b begun whole next)
-  | inl same ↦
-      let is : b ≡ escape = eqb-true b escape same in
-      let there : outcome_from limit (InText []) (escape ∷ more) ≡ outcome_from limit AtEscape more =
-      outcome_from-escape limit (InText []) more refl in
-      rw is (
-      outcome_from-escape limit (InText opened) more (may_continue-truncated opened begun)
-      ∙ ap (λ events. report events (outcome_from limit AtEscape more)) (closing-unfinished limit opened begun)
-      ∙ ap (report (Print replacement ∷ [])) (sym there)
-      )
-]
+waits-broken limit opened b more truncated not_well_formed_after not_truncated_after =
+    elim (cases_Bool (eqb b escape)) [
+      | inr other ↦
+          waits-byte limit (InText opened) (InText []) b (Print replacement ∷ []) more other
+          (text_outcome-broken opened b truncated not_well_formed_after not_truncated_after)
+      | inl same ↦
+          let is_escape : b ≡ escape = eqb-true b escape same in
+          let there : outcome_from limit (InText []) (escape ∷ more) ≡ outcome_from limit AtEscape more =
+          outcome_from-escape limit (InText []) more refl in
+          rw is_escape (
+          outcome_from-escape limit (InText opened) more (may_continue-truncated opened truncated)
+          ∙ ap (λ events. report events (outcome_from limit AtEscape more)) (closing-unfinished limit opened truncated)
+          ∙ ap (report (Print replacement ∷ [])) (sym there)
+          )
+    ]
 
 pub events-empty : (limit : Option ℕ) → events limit [] ≡ []
 events-empty limit = events-after_nothing limit [] ∙ events_from-nothing limit (InText []) refl
@@ -145,39 +150,39 @@ after-events {limit} {stream} more is_after = search (rules, arith)
 -- What the stream leaves open is open at the place.
 pub after-left : {limit : Option ℕ} {stream : List ℕ} {place : Place} → IsAfter limit stream place → IsPlace place
     → (outcome limit stream).left ≡ left_at limit place
-after-left {limit} {stream} {place} is_after is =
+after-left {limit} {stream} {place} is_after is_place =
     ap (λ s. (outcome limit s).left) (sym (append-nil stream)) ∙ ap (λ o. o.left) (is_after.goes_on [])
-    ∙ ap (λ o. o.left) (outcome_from-nothing limit place is)
+    ∙ ap (λ o. o.left) (outcome_from-nothing limit place is_place)
 
 pub after-open_character : {limit : Option ℕ} {stream : List ℕ} {place : Place} → IsAfter limit stream place
     → IsPlace place
     → open_character stream ≡ open_at place
-after-open_character {limit} {stream} {place} is_after is =
-    sym (open_bytes-any limit stream) ∙ ap open_bytes (after-left is_after is) ∙ open_bytes-at limit place
+after-open_character {limit} {stream} {place} is_after is_place =
+    sym (open_bytes-any limit stream) ∙ ap open_bytes (after-left is_after is_place) ∙ open_bytes-at limit place
 
 -- If the bytes after a stream lead from its place to a next one, the longer stream leads to that place.
 pub after-reads : {limit : Option ℕ} {stream bytes : List ℕ} {place next : Place} {these : List Event}
     → IsAfter limit stream place → BytesLead limit place bytes these next → IsPlace next
     → IsAfter limit (stream ++ bytes) next
-after-reads {limit} {stream} {bytes} {next} {these} is_after reads is = record {
-  goes_on = λ more. go more ∙ ap (λ events. report events (outcome_from limit next more)) (sym all);
+after-reads {limit} {stream} {bytes} {next} {these} is_after reads is_place = record {
+  goes_on = λ more. outcome_reads more ∙ ap (λ events. report events (outcome_from limit next more)) (sym events_read);
 }
   where
-    go : (more : List ℕ)
+    outcome_reads : (more : List ℕ)
         → outcome limit ((stream ++ bytes) ++ more)
         ≡ report (events limit stream ++ these) (outcome_from limit next more)
-    go more =
+    outcome_reads more =
         ap (outcome limit) (append_assoc stream bytes more)
         ∙ is_after.goes_on (bytes ++ more)
         ∙ ap (report (events limit stream)) (reads.reads more)
         ∙ sym (report-append (events limit stream) these (outcome_from limit next more))
 
-    all : events limit (stream ++ bytes) ≡ events limit stream ++ these
-    all =
+    events_read : events limit (stream ++ bytes) ≡ events limit stream ++ these
+    events_read =
         ap (events limit) (sym (append-nil (stream ++ bytes)))
         ∙ events-reported limit ((stream ++ bytes) ++ [])
-        ∙ ap (λ o. o.reported) (go [])
-        ∙ ap (λ es. (events limit stream ++ these) ++ es) (events_from-nothing limit next is)
+        ∙ ap (λ o. o.reported) (outcome_reads [])
+        ∙ ap (λ es. (events limit stream ++ these) ++ es) (events_from-nothing limit next is_place)
         ∙ append-nil (events limit stream ++ these)
 
 -- What is added to a stream is what follows its place.
@@ -189,10 +194,10 @@ added-after {limit} {stream} bytes {place} is_after = search (rules, arith, afte
 pub added-reads : {limit : Option ℕ} {stream bytes : List ℕ} {place next : Place} {these : List Event}
     → IsAfter limit stream place → BytesLead limit place bytes these next → IsPlace next
     → added limit stream bytes ≡ these
-added-reads {limit} {bytes} {place} {next} {these} is_after reads is =
+added-reads {limit} {bytes} {place} {next} {these} is_after reads is_place =
     added-after bytes is_after
     ∙ ap (events_from limit place) (sym (append-nil bytes)) ∙ ap (λ o. o.reported) (reads.reads [])
-    ∙ ap (λ events. these ++ events) (events_from-nothing limit next is) ∙ append-nil these
+    ∙ ap (λ events. these ++ events) (events_from-nothing limit next is_place) ∙ append-nil these
 
 -- A parser between characters of a text has read what gives no events.
 pub has_read-nothing : {B : Type 0} {limit : Option ℕ} {parser : Machine B} → IsAtPlace limit parser (InText [])

@@ -65,35 +65,35 @@ ends-text text =
 
 ends-escape : (bytes : List ℕ) → EndsOpen bytes (escape_outcome bytes)
 unfolding escape_outcome
-ends-escape bytes = ends-then (ends-from_first (λ b. ends_escape (class_of b)) bytes) (rest _ _)
+ends-escape bytes = ends-then (ends-from_first (λ b. ends_escape (class_of b)) bytes) (ends-rest _ _)
   where
-    rest : (intermediates bytes : List ℕ) → EndsOpen bytes (escape_rest intermediates bytes)
-    rest intermediates [] = ends-all []
-    rest intermediates (end ∷ text) = ends-after (end ∷ []) (ends-text text)
+    ends-rest : (intermediates bytes : List ℕ) → EndsOpen bytes (escape_rest intermediates bytes)
+    ends-rest intermediates [] = ends-all []
+    ends-rest intermediates (end ∷ text) = ends-after (end ∷ []) (ends-text text)
 
 ends-control : (bytes : List ℕ) → EndsOpen bytes (control_sequence_outcome bytes)
 unfolding control_sequence_outcome
-ends-control bytes = ends-then (ends-from_first (λ b. ends_head (class_of b)) bytes) (rest _ _)
+ends-control bytes = ends-then (ends-from_first (λ b. ends_head (class_of b)) bytes) (ends-rest _ _)
   where
-    rest : (head bytes : List ℕ) → EndsOpen bytes (control_sequence_rest head bytes)
-    rest head [] = ends-all []
-    rest head (end ∷ text) = ends-after (end ∷ []) (ends-text text)
+    ends-rest : (head bytes : List ℕ) → EndsOpen bytes (control_sequence_rest head bytes)
+    ends-rest head [] = ends-all []
+    ends-rest head (end ∷ text) = ends-after (end ∷ []) (ends-text text)
 
 ends-ignored : (bytes : List ℕ) → EndsOpen bytes (ignored_string_outcome bytes)
 unfolding ignored_string_outcome
-ends-ignored bytes = ends-then (ends-from_first (λ b. is_cancel (class_of b)) bytes) (rest _)
+ends-ignored bytes = ends-then (ends-from_first (λ b. is_cancel (class_of b)) bytes) (ends-rest _)
   where
-    rest : (bytes : List ℕ) → EndsOpen bytes (ignored_string_rest bytes)
-    rest [] = ends-all []
-    rest (end ∷ text) = ends-after (end ∷ []) (ends-text text)
+    ends-rest : (bytes : List ℕ) → EndsOpen bytes (ignored_string_rest bytes)
+    ends-rest [] = ends-all []
+    ends-rest (end ∷ text) = ends-after (end ∷ []) (ends-text text)
 
 ends-data : (bytes : List ℕ) → EndsOpen bytes (device_data_outcome bytes)
 unfolding device_data_outcome
-ends-data bytes = ends-then (ends-from_first ends_device_data bytes) (rest _)
+ends-data bytes = ends-then (ends-from_first ends_device_data bytes) (ends-rest _)
   where
-    rest : (bytes : List ℕ) → EndsOpen bytes (device_data_rest bytes)
-    rest [] = ends-nothing []
-    rest (end ∷ text) = ends-after (end ∷ []) (ends-text text)
+    ends-rest : (bytes : List ℕ) → EndsOpen bytes (device_data_rest bytes)
+    ends-rest [] = ends-nothing []
+    ends-rest (end ∷ text) = ends-after (end ∷ []) (ends-text text)
 
 ends-after_head : (head : List ℕ) (end : ℕ) (bytes : List ℕ)
     → EndsOpen bytes (device_control_after_head head end bytes)
@@ -102,20 +102,20 @@ ends-after_head head end bytes = search (rules, arith, ends-text, ends-data, end
 
 ends-device : (bytes : List ℕ) → EndsOpen bytes (device_control_outcome bytes)
 unfolding device_control_outcome
-ends-device bytes = ends-then (ends-from_first (λ b. ends_head (class_of b)) bytes) (rest _ _)
+ends-device bytes = ends-then (ends-from_first (λ b. ends_head (class_of b)) bytes) (ends-rest _ _)
   where
-    rest : (head bytes : List ℕ) → EndsOpen bytes (device_control_rest head bytes)
-    rest head [] = ends-all []
-    rest head (end ∷ bytes) = ends-after (end ∷ []) (ends-after_head head end bytes)
+    ends-rest : (head bytes : List ℕ) → EndsOpen bytes (device_control_rest head bytes)
+    ends-rest head [] = ends-all []
+    ends-rest head (end ∷ bytes) = ends-after (end ∷ []) (ends-after_head head end bytes)
 
 ends-command : (limit : Option ℕ) (bytes : List ℕ) → EndsOpen bytes (system_command_outcome limit bytes)
 unfolding system_command_outcome
-ends-command limit bytes = ends-then (ends-from_first ends_command bytes) (rest _ _ _)
+ends-command limit bytes = ends-then (ends-from_first ends_command bytes) (ends-rest _ _ _)
   where
-    rest : (pieces : List (List ℕ)) (lost : Bool) (bytes : List ℕ)
+    ends-rest : (pieces : List (List ℕ)) (lost : Bool) (bytes : List ℕ)
         → EndsOpen bytes (system_command_rest pieces lost bytes)
-    rest pieces lost [] = ends-nothing []
-    rest pieces lost (end ∷ text) = ends-after (end ∷ []) (ends-text text)
+    ends-rest pieces lost [] = ends-nothing []
+    ends-rest pieces lost (end ∷ text) = ends-after (end ∷ []) (ends-text text)
 
 ends-sequence : (limit : Option ℕ) (kind : SequenceKind) (key : ℕ) (bytes : List ℕ)
     → EndsOpen (key ∷ bytes) (sequence_outcome limit kind key bytes)
@@ -195,16 +195,16 @@ kind-segments (part ∷ next ∷ parts) = kind-segments (next ∷ parts)
 opens-text : (text : List ℕ) → All (λ b. b ≢ escape) text
     → (open_at_end text ≡ kind.Nothing) ⊎ (open_at_end text ≡ kind.Character)
 unfolding open_at_end outcome text_outcome
-opens-text text none =
+opens-text text no_escapes =
     let cut : cut_at_escape text ≡ record { text = text; bodies = [] } =
-    ap cut_at_escape (sym (append-nil text)) ∙ cut-text text [] none
+    ap cut_at_escape (sym (append-nil text)) ∙ cut-text text [] no_escapes
     ∙ ap (λ u. record { text = u; bodies = [] }) (append-nil text) in
     rw cut (kind-segments (segments text))
 
 -- ---- an open character has at most three bytes, and the law
 
 at_most-at : (place : Place) → IsPlace place → length (open_at place) ≤ 3
-at_most-at place is = search (rules, arith, truncated-long)
+at_most-at place is_place = search (rules, arith, truncated-long)
 
 open-at_most : (stream : List ℕ) → length (open_character stream) ≤ 3
 open-at_most stream =

@@ -2,7 +2,7 @@
 -- stays as it is whatever follows, and it begins again when all places lead to the same.
 use Rattle.vte_core.specs.Laws.{Resyncs, ResyncsAfter, Grows, OpensSilently}
 use Rattle.vte_core.proofs.Common.{◌≡◌, ℕ, ◌+◌, ◌≤◌, inl, inr, Option, None, List, [], ◌∷◌, ◌++◌, arith, open_data_count, drop, length, refl, ap, sym, ◌∙◌, append_assoc, All, All-append, All-nil, Cancel, class_of, IsBounded, AreFromOneByte, Event, Place, InText, AtEscape, open_at, events_from, IsAfter, added, events, open_character, escape, BytesLead, InSystemCommand, left_at, Some, CountsData, ToClose, CommandToClose, ◌≢◌, ◌<◌, true, length-append, cases_lt, nat_tests, character_event, is_control_character, is_well_formed, scalar_of, IsOutsideRuns, PrintsNoAscii, rules}
-use Rattle.vte_core.proofs.places.PartsToStream.{events-after_nothing, outcome_from-escape, bytes_lead-byte, bytes_lead-escape, bytes_lead-nothing, bytes_lead-append, cancel_is_no_escape}
+use Rattle.vte_core.proofs.places.BytesInStream.{events-after_nothing, outcome_from-escape, bytes_lead-byte, bytes_lead-escape, bytes_lead-nothing, bytes_lead-append, cancel_is_no_escape}
 use Rattle.vte_core.proofs.places.Steps.{FitsLeft, Steps}
 use Rattle.vte_core.proofs.places.TextSteps.{byte-cancels}
 use Rattle.vte_core.proofs.streams.After.{added-after, added-reads, after-events, after-nothing, after-open_character, after-reads, events-empty, after-left}
@@ -38,19 +38,19 @@ brief_bounded limit reported brief = search (rules, arith)
 arrives : (limit size : Option ℕ) (place : Place) (bytes : List ℕ) → IsPlace place
     → ((on_way : Place) → (limit ≡ None → size_at limit on_way ≤ size_at limit place + length bytes)
     → FitsLeft size (left_at limit on_way)) → Arrives limit size place bytes
-arrives limit size place [] is fits =
+arrives limit size place [] is_place fits =
     record {
       reported = [];
       next = place;
-      is_place = is;
+      is_place = is_place;
       reads = bytes_lead-nothing;
       bounded = All-nil (IsBounded size);
       grows = λ _. omega arith;
     }
-arrives limit size place (b ∷ bytes) is fits =
-    let first = steps is in
+arrives limit size place (b ∷ bytes) is_place fits =
+    let first = steps is_place in
     let rest = arrives limit size first.next bytes first.is_place
-    (λ on_way at_most. fits on_way (λ none. omega (arith, at_most none, first.grows none))) in
+    (λ on_way at_most. fits on_way (λ no_limit. omega (arith, at_most no_limit, first.grows no_limit))) in
     record {
       reported = first.reported ++ rest.reported;
       next = rest.next;
@@ -59,16 +59,16 @@ arrives limit size place (b ∷ bytes) is fits =
       bounded =
           All-append (IsBounded size) first.reported rest.reported
           (brief_bounded size first.reported (first.brief size (fits place (λ _. omega arith)))) rest.bounded;
-      grows = λ none. omega (arith, first.grows none, rest.grows none);
+      grows = λ no_limit. omega (arith, first.grows no_limit, rest.grows no_limit);
     }
 
 -- ---- the events of a stream from the events that it reports
 
 pub reported_by_stream : {limit : Option ℕ} {next : Place} {stream : List ℕ} {reported : List Event} → IsPlace next
     → BytesLead limit (InText []) stream reported next → events limit stream ≡ reported
-reported_by_stream {limit} {stream} is reads =
+reported_by_stream {limit} {stream} is_place reads =
     ap (λ es. drop (length es) (events limit stream)) (sym (events-empty limit))
-    ∙ added-reads after-nothing reads is
+    ∙ added-reads after-nothing reads is_place
 
 -- The stream leads to a place, with events of bounded size.
 pub record LeadsTo (limit : Option ℕ) (stream : List ℕ) : Type 0 where
@@ -101,7 +101,8 @@ grows_after : {limit : Option ℕ} (stream : List ℕ) {bytes : List ℕ} (more 
     {reported : List Event} → IsPlace next
     → BytesLead limit leads.place bytes reported next
     → events limit (stream ++ (bytes ++ more)) ≡ events limit (stream ++ bytes) ++ events_from limit next more
-grows_after {limit} stream {bytes} more leads is reads = search (rules, arith, append_assoc, after-events, after-reads)
+grows_after {limit} stream {bytes} more leads is_place reads =
+    search (rules, arith, append_assoc, after-events, after-reads)
 
 -- After CAN or SUB, what follows is read as a new stream.
 resyncs_after : (limit : Option ℕ) (end : ℕ) → class_of end ≡ Cancel → ResyncsAfter limit end
@@ -159,7 +160,7 @@ pub opens_silently : (limit : Option ℕ) → OpensSilently limit
 opens_silently limit stream b =
     let adds = added-byte limit stream b in
     elim adds.step.leaves [
-      | inl none ↦ inl (adds.ends ∙ none)
+      | inl none_open ↦ inl (adds.ends ∙ none_open)
       | inr little ↦
           elim little [ inl nothing ↦ inr (inl (adds.reported ∙ nothing)) | inr one ↦ inr (inr (adds.reported ∙ one)) ]
     ]
@@ -171,15 +172,15 @@ events_are_bounded limit stream = leads_to.bounded
 
 -- ---- how much data a command has that bytes dispatch or leave open, without a limit
 
-fits_by : (n : ℕ) (left : ToClose) → open_data_count left ≤ n → FitsLeft (Some n) left
-fits_by n (CommandToClose pieces lost) within = within
-fits_by n _ within = tt
+FitsLeft-by : (n : ℕ) (left : ToClose) → open_data_count left ≤ n → FitsLeft (Some n) left
+FitsLeft-by n (CommandToClose pieces lost) within = within
+FitsLeft-by n _ within = tt
 
 pub counts_data : (stream bytes : List ℕ) → CountsData stream bytes
 counts_data stream bytes =
     let leads = leads_to {limit = None} {stream = stream} in
     let c = arrives None (Some (size_at None leads.place + length bytes)) leads.place bytes leads.is_place
-    (λ place at_most. fits_by _ (left_at None place) (at_most refl)) in
+    (λ place at_most. FitsLeft-by _ (left_at None place) (at_most refl)) in
     let before = ap open_data_count (after-left leads.is_after leads.is_place) in
     let later = ap open_data_count (after-left (after-reads leads.is_after c.reads c.is_place) c.is_place) in
     record {
@@ -193,16 +194,16 @@ counts_data stream bytes =
 
 -- A sequence of two bytes or more is no character of ASCII.
 pub prints_no_ascii : (bytes : List ℕ) → is_well_formed bytes ≡ true → 1 < length bytes → 0x80 ≤ scalar_of bytes
-prints_no_ascii bytes well long = elim (cases_lt (scalar_of bytes) 0x80) [
+prints_no_ascii bytes well_formed long = elim (cases_lt (scalar_of bytes) 0x80) [
   | inl low ↦
-      let size = sym (length-encode (scalar_of bytes)) ∙ ap length (well_formed_is_encoded bytes well) in
+      let size = sym (length-encode (scalar_of bytes)) ∙ ap length (well_formed_is_encoded bytes well_formed) in
       absurd (grind (arith, nat_tests))
   | inr high ↦ omega (arith, high)
 ]
 
 pub length-longer : (bytes : List ℕ) (b : ℕ) → bytes ≢ [] → 1 < length (bytes ++ b ∷ [])
-length-longer [] b some = absurd (some refl)
-length-longer (a ∷ bytes) b some = omega (arith, length-append bytes (b ∷ []))
+length-longer [] b some_bytes = absurd (some_bytes refl)
+length-longer (a ∷ bytes) b some_bytes = omega (arith, length-append bytes (b ∷ []))
 
 pub prints_no_ascii-character : (scalar : ℕ) → 0x80 ≤ scalar → All PrintsNoAscii (character_event scalar ∷ [])
 unfolding character_event
@@ -211,7 +212,7 @@ prints_no_ascii-character scalar high = search (rules, arith)
 pub outside_runs-control : (scalar : ℕ) → is_control_character scalar ≡ true
     → All IsOutsideRuns (character_event scalar ∷ [])
 unfolding character_event
-outside_runs-control scalar is = search (rules, arith)
+outside_runs-control scalar is_control = search (rules, arith)
 
 pub prints_no_ascii-all : (events : List Event) → All IsOutsideRuns events → All PrintsNoAscii events
-prints_no_ascii-all events are = search (rules, arith)
+prints_no_ascii-all events are_outside_runs = search (rules, arith)

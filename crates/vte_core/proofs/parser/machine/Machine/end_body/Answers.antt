@@ -4,7 +4,7 @@ use Rattle.vte_core.proofs.bytes.Classes.{ends_by_cancel}
 use Rattle.vte_core.proofs.positions.Stretches.{takes_bytes-escape, takes-byte}
 use Rattle.vte_core.proofs.fields.PlaceOfState.{is_at-place}
 use Rattle.vte_core.proofs.streams.After.{after_events-append, takes_bytes-one}
-use Rattle.vte_core.proofs.places.PartsToStream.{cancel_is_no_escape}
+use Rattle.vte_core.proofs.places.BytesInStream.{cancel_is_no_escape}
 use Rattle.vte_core.proofs.places.TextSteps.{byte-cancels}
 use Rattle.vte_core.proofs.parser.machine.Machine.end_body.Goals as goal
 

@@ -1,0 +1,13 @@
+-- Events that are reported first pass unchanged through what follows: by the definition of `report`, body by body.
+use Rattle.vte_core.proofs.Common.{◌≡◌, ℕ, Option, List, [], ◌∷◌, ◌++◌, refl, ap, append_assoc, Event, Outcome, report, with_bodies, arith, rules}
+
+pub report-append : (events others : List Event) (outcome : Outcome)
+    → report (events ++ others) outcome ≡ report events (report others outcome)
+report-append events others outcome =
+    ap (λ (all : List Event). record { reported = all; left = outcome.left })
+    (append_assoc events others outcome.reported)
+
+pub with_bodies-report : (limit : Option ℕ) (events : List Event) (part : Outcome) (bodies : List (List ℕ))
+    → with_bodies limit (report events part) bodies ≡ report events (with_bodies limit part bodies)
+with_bodies-report limit events part [] = refl
+with_bodies-report limit events part (body ∷ bodies) = search (rules, arith, append_assoc, report-append)

@@ -119,24 +119,24 @@ whole_is_segment : (b : ℕ) (bytes : List ℕ) → IsDividedRight b bytes → (
     → prefix ++ rest ≡ b ∷ bytes → is_well_formed prefix ≡ true → prefix ≡ b ∷ take (trailing_count b bytes) bytes
 whole_is_segment b bytes divided [] rest same well_formed =
     absurd (false≢true (sym not_well_formed-nothing ∙ well_formed))
-whole_is_segment b bytes divided (a ∷ u) rest same well_formed =
+whole_is_segment b bytes divided (a ∷ tail) rest same well_formed =
     let first : a ≡ b = cc in
-    let later : u ++ rest ≡ bytes = cc in
-    let prefix = prefix_of u rest bytes later in
-    let is_kept : is_well_formed (b ∷ take (length u) bytes) ≡ true = rw (← prefix.0, ← first) well_formed in
-    let counts : trailing_count b bytes ≡ length u = divided.whole (length u) prefix.1 is_kept in
+    let later : tail ++ rest ≡ bytes = cc in
+    let prefix = prefix_of tail rest bytes later in
+    let is_kept : is_well_formed (b ∷ take (length tail) bytes) ≡ true = rw (← prefix.0, ← first) well_formed in
+    let counts : trailing_count b bytes ≡ length tail = divided.whole (length tail) prefix.1 is_kept in
     rw (counts, ← prefix.0, first) refl
 
 truncated_is_shorter : (b : ℕ) (bytes : List ℕ) → IsDividedRight b bytes → (prefix rest : List ℕ)
     → prefix ++ rest ≡ b ∷ bytes
     → is_truncated prefix ≡ true → length prefix ≤ length (b ∷ take (trailing_count b bytes) bytes)
 truncated_is_shorter b bytes divided [] rest same truncated = omega arith
-truncated_is_shorter b bytes divided (a ∷ u) rest same truncated =
+truncated_is_shorter b bytes divided (a ∷ tail) rest same truncated =
     let first : a ≡ b = cc in
-    let later : u ++ rest ≡ bytes = cc in
-    let prefix = prefix_of u rest bytes later in
-    let is_kept : is_truncated (b ∷ take (length u) bytes) ≡ true = rw (← prefix.0, ← first) truncated in
-    let at_least : length u ≤ trailing_count b bytes = divided.longest (length u) prefix.1 is_kept in
+    let later : tail ++ rest ≡ bytes = cc in
+    let prefix = prefix_of tail rest bytes later in
+    let is_kept : is_truncated (b ∷ take (length tail) bytes) ≡ true = rw (← prefix.0, ← first) truncated in
+    let at_least : length tail ≤ trailing_count b bytes = divided.longest (length tail) prefix.1 is_kept in
     omega (arith, length-take (trailing_count b bytes) bytes)
 
 right_segment : (b : ℕ) (bytes : List ℕ)

@@ -174,8 +174,8 @@ utf8_run-character {b} {rest} low plain well_formed =
 -- The bytes of the list are those at `from`, past k others.
 abbrev AreBytesFrom : List ℕ → ℕ → ℕ → List ℕ → Type 0
 AreBytesFrom bytes from k [] = Unit {0}
-AreBytesFrom bytes from k (b ∷ u) =
-    (from + k < length bytes) × (b ≡ slice_index bytes (from + k)) × AreBytesFrom bytes from (suc k) u
+AreBytesFrom bytes from k (b ∷ rest) =
+    (from + k < length bytes) × (b ≡ slice_index bytes (from + k)) × AreBytesFrom bytes from (suc k) rest
 
 bytes_from-take : (bytes : List ℕ) (from k : ℕ) (opened : List ℕ) → AreBytesFrom bytes from k opened
     → take (length opened) (drop (from + k) bytes) ≡ opened

@@ -103,16 +103,18 @@ CountsNumbers-kept : {old new : Collected} {text : List ℕ} → SameNumbers old
     → CountsNumbers new text
 CountsNumbers-kept same_numbers counts = search (rules, arith)
 
-HoldsIntermediates-kept : {old new : Collected} {ints : List ℕ} → SameIntermediates old new
-    → HoldsIntermediates old ints
-    → HoldsIntermediates new ints
+HoldsIntermediates-kept : {old new : Collected} {intermediates : List ℕ} → SameIntermediates old new
+    → HoldsIntermediates old intermediates
+    → HoldsIntermediates new intermediates
 HoldsIntermediates-kept same_intermediates holds = search (rules, arith)
 
 -- A head can go on with an intermediate, however far it has come.
 pub holds-intermediate : {old new : Collected} {progress : HeadProgress} {head : List ℕ} (b : ℕ)
     → HoldsHead old progress head
     → class_of b ≡ Intermediate
-    → SameNumbers old new → ((ints : List ℕ) → HoldsIntermediates old ints → HoldsIntermediates new (ints ++ b ∷ []))
+    → SameNumbers old new
+    → ((intermediates : List ℕ) → HoldsIntermediates old intermediates
+    → HoldsIntermediates new (intermediates ++ b ∷ []))
     → HoldsHead new Intermediates (head ++ b ∷ [])
 holds-intermediate b holds is_class same_numbers holds_more = record {
   marker = holds.marker;
@@ -131,7 +133,8 @@ holds-intermediate b holds is_class same_numbers holds_more = record {
 -- A head can begin with a marker.
 pub holds-marker : (old new : Collected) (head : List ℕ) (b : ℕ) → HoldsHead old Entry head → class_of b ≡ Marker
     → SameNumbers old new
-    → ((ints : List ℕ) → HoldsIntermediates old ints → HoldsIntermediates new (ints ++ b ∷ []))
+    → ((intermediates : List ℕ) → HoldsIntermediates old intermediates
+    → HoldsIntermediates new (intermediates ++ b ∷ []))
     → HoldsHead new Parameters (head ++ b ∷ [])
 holds-marker old new head b holds is_class same_numbers holds_more =
     let nothing : head ≡ [] = holds.shape ∙ rw (holds.reaches.0, holds.reaches.1, holds.reaches.2) refl in

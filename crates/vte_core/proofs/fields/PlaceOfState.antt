@@ -13,13 +13,13 @@ use Rattle.vte_core.specs.Saved.{HasReadSaved}
 pub is_at-in : {B : Type 0} {limit : Option ℕ} {state : State} {parser : Machine B} {place : Place}
     → parser.state ≡ state → IsAtPlace limit parser place
     → IsPlaceOfState limit state parser place
-is_at-in {limit} {parser} {place} begun is_at = search (rules, arith)
+is_at-in {limit} {parser} {place} in_state is_at = search (rules, arith)
 
 -- A parser in a state is at the place that the state says.
 pub is_at-by : {B : Type 0} {limit : Option ℕ} {state : State} {parser : Machine B} {place : Place}
     → parser.state ≡ state → IsPlaceOfState limit state parser place
     → IsAtPlace limit parser place
-is_at-by {limit} {parser} {place} begun by = search (rules, arith)
+is_at-by {limit} {parser} {place} in_state fields = search (rules, arith)
 
 escape-by_state : {B : Type 0} (limit : Option ℕ) (state : State) (parser : Machine B)
     → IsPlaceOfState limit state parser AtEscape
@@ -43,7 +43,7 @@ command-by_place fields = search (rules, arith)
 
 pub in_command : {B : Type 0} {limit : Option ℕ} {parser : Machine B} {place : Place} → parser.state ≡ SystemCommand
     → IsAtPlace limit parser place → InCommandAt limit parser place
-in_command {limit} begun is_at = command-by_place (is_at-in begun is_at)
+in_command {limit} in_state is_at = command-by_place (is_at-in in_state is_at)
 
 -- `IsPlace` is true of each place at which some parser is.
 abbrev pub IsPlace : Place → Type 0
@@ -95,7 +95,7 @@ open_at-settled _ none_open = refl
 -- A parser between characters is at the place of a text with nothing open.
 pub is_at-text_begun : {B : Type 0} {limit : Option ℕ} {parser : Machine B} → parser.state ≡ Text Nothing
     → IsAtPlace limit parser (InText [])
-is_at-text_begun begun = is_at-by begun (refl, refl)
+is_at-text_begun in_state = is_at-by in_state (refl, refl)
 
 pub keeps-same : {limit : Option ℕ} {old new : Stored} {items : List ℕ} → SameItems old new → HoldsItems limit old items
     → HoldsItems limit new items
@@ -108,23 +108,29 @@ keeps-same same keeps = search (rules, arith)
 -- If the parser stays in a state, only what counts in this state must be the same.
 place_of_state-same : {B C : Type 0} (limit : Option ℕ) (state : State) (old : Machine B) (new : Machine C)
     (place : Place)
-    → (HasIntermediates state → (ints : List ℕ) → HoldsIntermediates old.collected ints
-    → HoldsIntermediates new.collected ints)
+    → (HasIntermediates state → (intermediates : List ℕ) → HoldsIntermediates old.collected intermediates
+    → HoldsIntermediates new.collected intermediates)
     → (IsInHead state → HasIntermediates state → old.collected ≡ new.collected)
     → (state ≡ SystemCommand → SameItems old.command new.command)
     → IsPlaceOfState limit state old place → IsPlaceOfState limit state new place
-place_of_state-same limit (Text unfinished) old new (InText opened) ints head items fields = fields
-place_of_state-same limit Escape old new AtEscape ints head items fields = ints tt [] fields
-place_of_state-same limit EscapeIntermediate old new (InEscape bytes) ints head items fields = ints tt bytes fields
-place_of_state-same limit (ControlSequence progress) old new (InControlSequence read) ints head items fields =
-    subst (λ collected. HasReadHead collected progress read) (head tt tt) fields
-place_of_state-same limit (DeviceControl progress) old new (InDeviceControl read) ints head items fields =
-    subst (λ collected. HasReadHead collected progress read) (head tt tt) fields
-place_of_state-same limit DeviceData old new InDeviceData ints head items fields = tt
-place_of_state-same limit SystemCommand old new (InSystemCommand command) ints head items fields =
-    keeps-same (items refl) fields
-place_of_state-same limit IgnoredString old new InIgnoredString ints head items fields = tt
-place_of_state-same limit _ old new _ ints head items fields = absurd fields
+place_of_state-same limit (Text unfinished) old new (InText opened) same_intermediates same_head same_items fields =
+    fields
+place_of_state-same limit Escape old new AtEscape same_intermediates same_head same_items fields =
+    same_intermediates tt [] fields
+place_of_state-same limit EscapeIntermediate old new (InEscape bytes) same_intermediates same_head same_items fields =
+    same_intermediates tt bytes fields
+place_of_state-same limit (ControlSequence progress) old new (InControlSequence read)
+    same_intermediates same_head same_items fields =
+    subst (λ collected. HasReadHead collected progress read) (same_head tt tt) fields
+place_of_state-same limit (DeviceControl progress) old new (InDeviceControl read)
+    same_intermediates same_head same_items fields =
+    subst (λ collected. HasReadHead collected progress read) (same_head tt tt) fields
+place_of_state-same limit DeviceData old new InDeviceData same_intermediates same_head same_items fields = tt
+place_of_state-same limit SystemCommand old new (InSystemCommand command)
+    same_intermediates same_head same_items fields =
+    keeps-same (same_items refl) fields
+place_of_state-same limit IgnoredString old new InIgnoredString same_intermediates same_head same_items fields = tt
+place_of_state-same limit _ old new _ same_intermediates same_head same_items fields = absurd fields
 
 pub reads_cloned : {B C : Type 0} (limit : Option ℕ) (old : Machine B) (new : Machine C) → new.state ≡ old.state
     → new.collected ≡ old.collected → SameItems old.command new.command
@@ -152,9 +158,10 @@ pub record HasSaved {B : Type 0} (saved : Saved) (machine : Machine B) : Type 0 
   pub are_ends : machine.state ≡ SystemCommand
       → ArePieceEnds machine.command.bytes machine.command.ends
 
-holds-saved : {B C : Type 0} {saved : Saved} {old : Machine B} {new : Machine C} {ints : List ℕ} → HasSaved saved old
+holds-saved : {B C : Type 0} {saved : Saved} {old : Machine B} {new : Machine C} {intermediates : List ℕ}
+    → HasSaved saved old
     → IsRestored saved new → HasIntermediates old.state → HasIntermediates new.state
-    → HoldsIntermediates old.collected ints → HoldsIntermediates new.collected ints
+    → HoldsIntermediates old.collected intermediates → HoldsIntermediates new.collected intermediates
 holds-saved has_saved restored has_old has_new holds = search (rules, arith)
 
 collected-saved : {B C : Type 0} {saved : Saved} {old : Machine B} {new : Machine C} → HasSaved saved old

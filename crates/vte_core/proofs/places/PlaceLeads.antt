@@ -16,7 +16,7 @@ use Rattle.vte_core.proofs.bytes.Scalars.{well_formed_is_scalar}
 
 -- The places at which DEL and 80..FF are dropped.
 abbrev pub drops : Place → Bool
-drops (InText u) = false
+drops (InText opened) = false
 drops InDeviceData = false
 drops (InSystemCommand items) = false
 drops _ = true
@@ -70,14 +70,15 @@ escape-key kind is_final is_kind begins = search (rules, arith)
 
 -- ---- after ESC and intermediates
 
-pub intermediate-more : {limit : Option ℕ} {ints : List ℕ} {b : ℕ} → class_of b ≡ Intermediate
-    → Leads limit (InEscape ints) b [] (InEscape (ints ++ b ∷ []))
+pub intermediate-more : {limit : Option ℕ} {intermediates : List ℕ} {b : ℕ} → class_of b ≡ Intermediate
+    → Leads limit (InEscape intermediates) b [] (InEscape (intermediates ++ b ∷ []))
 unfolding escape_from executed_events
 intermediate-more is_intermediate = record { leads = λ rest. simp (is_intermediate, append_assoc) }
 
-pub intermediate-end : {limit : Option ℕ} {ints : List ℕ} {b : ℕ} {class : Class} → class_of b ≡ class
+pub intermediate-end : {limit : Option ℕ} {intermediates : List ℕ} {b : ℕ} {class : Class} → class_of b ≡ class
     → dispatches_escape class ≡ true
-    → Leads limit (InEscape ints) b (EscDispatch (first_two ints) (are_too_many ints) b ∷ []) (InText [])
+    → Leads limit (InEscape intermediates) b (EscDispatch (first_two intermediates) (are_too_many intermediates) b ∷ [])
+    (InText [])
 unfolding escape_from executed_events
 intermediate-end is_class dispatches = search (rules, arith)
 

@@ -11,11 +11,11 @@ use Rattle.vte_core.proofs.fields.PlaceOfState.{IsPlace}
 use Rattle.vte_core.proofs.fields.Pieces.{few_pieces, pieces_push, some_pieces}
 
 abbrev IsOutsideText : Place → Type 0
-IsOutsideText (InText u) = ⊥
+IsOutsideText (InText opened) = ⊥
 IsOutsideText _ = Unit {0}
 
 abbrev HoldsNothing : Place → Type 0
-HoldsNothing (InText (a ∷ u)) = ⊥
+HoldsNothing (InText (a ∷ opened)) = ⊥
 HoldsNothing (InSystemCommand (item ∷ items)) = ⊥
 HoldsNothing _ = Unit {0}
 
@@ -25,7 +25,7 @@ abbrev LeavesNothingOpen : Place → Place → Type 0
 LeavesNothingOpen place next = IsOutsideText place × HoldsNothing next
 
 outside_text_is_no_text : (place : Place) → IsOutsideText place → IsText place → ⊥
-outside_text_is_no_text (InText u) outside text = outside
+outside_text_is_no_text (InText opened) outside text = outside
 outside_text_is_no_text _ outside text = text
 
 nothing_open : (limit : Option ℕ) (place : Place) → HoldsNothing place
@@ -56,7 +56,7 @@ ordinary-by_class b is_class no_end =
 dropped_in_head : (class : Class) → is_dropped class ≡ true → is_dropped_in_head class ≡ true
 dropped_in_head class is_dropped_class = search (rules, arith)
 
-module _ {limit : Option ℕ} {place next : Place} {b : ℕ} (other : eqb b escape ≡ false) where
+module _ {limit : Option ℕ} {place next : Place} {b : ℕ} (is_no_escape : eqb b escape ≡ false) where
   -- `Steps` holds for a byte other than ESC that leaves nothing open.
   step-leaving_nothing : {reported : List Event} → LeavesNothingOpen place next → Leads limit place b reported next
       → ((size : Option ℕ) → FitsLeft size (left_at limit place) → AreFromOneByte size reported)
@@ -67,7 +67,7 @@ module _ {limit : Option ℕ} {place next : Place} {b : ℕ} (other : eqb b esca
         reported = reported;
         next = next;
         is_place = nothing.2;
-        reads = bytes_lead-byte other leads;
+        reads = bytes_lead-byte is_no_escape leads;
         brief = brief;
         grows = λ _. omega (arith, nothing.1);
         leaves = inl nothing.0;
@@ -88,74 +88,84 @@ module _ {limit : Option ℕ} {place next : Place} {b : ℕ} (other : eqb b esca
 
 step-at_escape_final : {limit : Option ℕ} {b : ℕ} {kind : SequenceKind} → eqb b escape ≡ false → class_of b ≡ Final
     → sequence_kind b ≡ kind → Steps limit AtEscape b
-step-at_escape_final {b} {kind = EscapeSequence} other is_final is_kind =
+step-at_escape_final {b} {kind = EscapeSequence} is_no_escape is_final is_kind =
     let range = spans b is_final in
-    step-leaving_nothing other (tt, tt) (escape-end is_final refl is_kind) (λ _ _. (omega arith, range.1, omega arith))
+    step-leaving_nothing is_no_escape (tt, tt) (escape-end is_final refl is_kind)
+    (λ _ _. (omega arith, range.1, omega arith))
     (λ _. tt)
-step-at_escape_final {kind = key} other is_final is_kind =
-    step-silent other (tt, tt) (escape-key key is_final is_kind refl)
+step-at_escape_final {kind = key} is_no_escape is_final is_kind =
+    step-silent is_no_escape (tt, tt) (escape-key key is_final is_kind refl)
 
 step-at_escape : {limit : Option ℕ} {b : ℕ} → eqb b escape ≡ false → Ordinary b → Steps limit AtEscape b
-step-at_escape other (control is_control) = step-executed other is_control (tt, tt) (byte-executed refl is_control)
-step-at_escape other (intermediate is_intermediate) = step-silent other (tt, tt) (escape-intermediate is_intermediate)
-step-at_escape {b} other (parameter low high _ ends) =
-    step-leaving_nothing other (tt, tt) (escape-end refl ends (below_finals b high))
+step-at_escape is_no_escape (control is_control) =
+    step-executed is_no_escape is_control (tt, tt) (byte-executed refl is_control)
+step-at_escape is_no_escape (intermediate is_intermediate) =
+    step-silent is_no_escape (tt, tt) (escape-intermediate is_intermediate)
+step-at_escape {b} is_no_escape (parameter low high _ ends) =
+    step-leaving_nothing is_no_escape (tt, tt) (escape-end refl ends (below_finals b high))
     (λ _ _. (omega arith, omega arith, low)) (λ _. tt)
-step-at_escape other (final is_final) = step-at_escape_final other is_final refl
-step-at_escape other (dropped is_dropped_class) = step-silent other (tt, tt) (byte-dropped refl refl is_dropped_class)
+step-at_escape is_no_escape (final is_final) = step-at_escape_final is_no_escape is_final refl
+step-at_escape is_no_escape (dropped is_dropped_class) =
+    step-silent is_no_escape (tt, tt) (byte-dropped refl refl is_dropped_class)
 
 -- ---- after ESC and intermediates
 
-step-in_escape_end : {limit : Option ℕ} {ints : List ℕ} {b : ℕ} → eqb b escape ≡ false → 0x30 ≤ b → b < 0x7f
-    → dispatches_escape (class_of b) ≡ true → Steps limit (InEscape ints) b
-step-in_escape_end {ints} other low high ends =
-    step-leaving_nothing other (tt, tt) (intermediate-end refl ends) (λ _ _. (two_at_most ints, high, low)) (λ _. tt)
+step-in_escape_end : {limit : Option ℕ} {intermediates : List ℕ} {b : ℕ} → eqb b escape ≡ false → 0x30 ≤ b → b < 0x7f
+    → dispatches_escape (class_of b) ≡ true → Steps limit (InEscape intermediates) b
+step-in_escape_end {intermediates} is_no_escape low high ends =
+    step-leaving_nothing is_no_escape (tt, tt) (intermediate-end refl ends)
+    (λ _ _. (two_at_most intermediates, high, low)) (λ _. tt)
 
-step-in_escape : {limit : Option ℕ} {ints : List ℕ} {b : ℕ} → eqb b escape ≡ false → Ordinary b
-    → Steps limit (InEscape ints) b
-step-in_escape other (control is_control) = step-executed other is_control (tt, tt) (byte-executed refl is_control)
-step-in_escape other (intermediate is_intermediate) = step-silent other (tt, tt) (intermediate-more is_intermediate)
-step-in_escape other (parameter low high _ ends) = step-in_escape_end other low (omega arith) ends
-step-in_escape {b} other (final is_final) =
-    let range = spans b is_final in step-in_escape_end other (omega arith) range.1 (rw is_final refl)
-step-in_escape other (dropped is_dropped_class) = step-silent other (tt, tt) (byte-dropped refl refl is_dropped_class)
+step-in_escape : {limit : Option ℕ} {intermediates : List ℕ} {b : ℕ} → eqb b escape ≡ false → Ordinary b
+    → Steps limit (InEscape intermediates) b
+step-in_escape is_no_escape (control is_control) =
+    step-executed is_no_escape is_control (tt, tt) (byte-executed refl is_control)
+step-in_escape is_no_escape (intermediate is_intermediate) =
+    step-silent is_no_escape (tt, tt) (intermediate-more is_intermediate)
+step-in_escape is_no_escape (parameter low high _ ends) = step-in_escape_end is_no_escape low (omega arith) ends
+step-in_escape {b} is_no_escape (final is_final) =
+    let range = spans b is_final in step-in_escape_end is_no_escape (omega arith) range.1 (rw is_final refl)
+step-in_escape is_no_escape (dropped is_dropped_class) =
+    step-silent is_no_escape (tt, tt) (byte-dropped refl refl is_dropped_class)
 
 -- ---- in the head of a control sequence
 
 step-in_control_sequence : {limit : Option ℕ} {head : List ℕ} {b : ℕ} → eqb b escape ≡ false → Ordinary b
     → Steps limit (InControlSequence head) b
 unfolding sequence_event
-step-in_control_sequence other (control is_control) =
-    step-executed other is_control (tt, tt) (byte-executed refl is_control)
-step-in_control_sequence other (intermediate is_intermediate) =
-    step-silent other (tt, tt) (control-head (rw is_intermediate refl))
-step-in_control_sequence other (parameter _ _ is_head _) = step-silent other (tt, tt) (control-head is_head)
-step-in_control_sequence {head} {b} other (final is_final) = elim (cases_Bool (is_well_shaped (head_of head))) [
-  | inl well ↦
-      step-leaving_nothing other (tt, tt) (control-dispatched is_final well)
+step-in_control_sequence is_no_escape (control is_control) =
+    step-executed is_no_escape is_control (tt, tt) (byte-executed refl is_control)
+step-in_control_sequence is_no_escape (intermediate is_intermediate) =
+    step-silent is_no_escape (tt, tt) (control-head (rw is_intermediate refl))
+step-in_control_sequence is_no_escape (parameter _ _ is_head _) =
+    step-silent is_no_escape (tt, tt) (control-head is_head)
+step-in_control_sequence {head} {b} is_no_escape (final is_final) = elim (cases_Bool (is_well_shaped (head_of head))) [
+  | inl well_shaped ↦
+      step-leaving_nothing is_no_escape (tt, tt) (control-dispatched is_final well_shaped)
       (λ size _. (bounded-head size (head_of head) b (spans b is_final)).0) (λ _. tt)
-  | inr ill ↦ step-silent other (tt, tt) (control-silent is_final ill)
+  | inr ill_shaped ↦ step-silent is_no_escape (tt, tt) (control-silent is_final ill_shaped)
 ]
-step-in_control_sequence other (dropped is_dropped_class) =
-    step-silent other (tt, tt) (byte-dropped refl refl is_dropped_class)
+step-in_control_sequence is_no_escape (dropped is_dropped_class) =
+    step-silent is_no_escape (tt, tt) (byte-dropped refl refl is_dropped_class)
 
 -- ---- in a device control string
 
 step-in_device_control : {limit : Option ℕ} {head : List ℕ} {b : ℕ} → eqb b escape ≡ false → Ordinary b
     → Steps limit (InDeviceControl head) b
 unfolding sequence_event
-step-in_device_control other (control is_control) = step-silent other (tt, tt) (device-dropped is_control refl)
-step-in_device_control other (intermediate is_intermediate) =
-    step-silent other (tt, tt) (device-head (rw is_intermediate refl))
-step-in_device_control other (parameter _ _ is_head _) = step-silent other (tt, tt) (device-head is_head)
-step-in_device_control {head} {b} other (final is_final) = elim (cases_Bool (is_well_shaped (head_of head))) [
-  | inl well ↦
-      step-leaving_nothing other (tt, tt) (device-well_shaped is_final well)
+step-in_device_control is_no_escape (control is_control) =
+    step-silent is_no_escape (tt, tt) (device-dropped is_control refl)
+step-in_device_control is_no_escape (intermediate is_intermediate) =
+    step-silent is_no_escape (tt, tt) (device-head (rw is_intermediate refl))
+step-in_device_control is_no_escape (parameter _ _ is_head _) = step-silent is_no_escape (tt, tt) (device-head is_head)
+step-in_device_control {head} {b} is_no_escape (final is_final) = elim (cases_Bool (is_well_shaped (head_of head))) [
+  | inl well_shaped ↦
+      step-leaving_nothing is_no_escape (tt, tt) (device-well_shaped is_final well_shaped)
       (λ size _. (bounded-head size (head_of head) b (spans b is_final)).1) (λ _. tt)
-  | inr ill ↦ step-silent other (tt, tt) (device-ill_shaped is_final ill)
+  | inr ill_shaped ↦ step-silent is_no_escape (tt, tt) (device-ill_shaped is_final ill_shaped)
 ]
-step-in_device_control {b} other (dropped is_dropped_class) =
-    step-silent other (tt, tt) (device-dropped refl (dropped_in_head (class_of b) is_dropped_class))
+step-in_device_control {b} is_no_escape (dropped is_dropped_class) =
+    step-silent is_no_escape (tt, tt) (device-dropped refl (dropped_in_head (class_of b) is_dropped_class))
 
 -- ---- in its data
 
@@ -164,17 +174,17 @@ delete_is_no_terminator b range = grind (arith, nat_tests)
 
 step-in_device_data : {limit : Option ℕ} {b : ℕ} {class : Class} → eqb b escape ≡ false → class_of b ≡ class
     → ends_body class ≡ false → Steps limit InDeviceData b
-step-in_device_data {b} {class = Delete} other is_class no_end =
-    step-silent other (tt, tt) (data-dropped (rw is_class (delete_is_no_terminator b (spans b is_class)))
+step-in_device_data {b} {class = Delete} is_no_escape is_class no_end =
+    step-silent is_no_escape (tt, tt) (data-dropped (rw is_class (delete_is_no_terminator b (spans b is_class)))
     (rw is_class refl))
-step-in_device_data {b} {class = High} other is_class no_end = elim (cases_Bool (eqb b 0x9c)) [
-  | inl ends ↦ step-leaving_nothing other (tt, tt) (data-terminator is_class ends) (λ _ _. tt) (λ _. tt)
-  | inr inside ↦ step-silent other (tt, tt) (data-dropped (rw is_class inside) (rw is_class refl))
+step-in_device_data {b} {class = High} is_no_escape is_class no_end = elim (cases_Bool (eqb b 0x9c)) [
+  | inl ends ↦ step-leaving_nothing is_no_escape (tt, tt) (data-terminator is_class ends) (λ _ _. tt) (λ _. tt)
+  | inr inside ↦ step-silent is_no_escape (tt, tt) (data-dropped (rw is_class inside) (rw is_class refl))
 ]
-step-in_device_data {class = Cancel} other is_class no_end = cc
-step-in_device_data {class = Escape} other is_class no_end = cc
-step-in_device_data other is_class no_end =
-    step-leaving_nothing other (tt, tt) (data-put (rw is_class refl)) (λ _ _. rw is_class refl)
+step-in_device_data {class = Cancel} is_no_escape is_class no_end = cc
+step-in_device_data {class = Escape} is_no_escape is_class no_end = cc
+step-in_device_data is_no_escape is_class no_end =
+    step-leaving_nothing is_no_escape (tt, tt) (data-put (rw is_class refl)) (λ _ _. rw is_class refl)
     (λ outside. absurd (false≢true (sym outside ∙ rw is_class refl)))
 
 -- ---- in an operating system command
@@ -184,11 +194,11 @@ step-joins_command : {limit : Option ℕ} {items later : List ℕ} {b : ℕ} →
     → Leads limit (InSystemCommand items) b [] (InSystemCommand later)
     → (limit ≡ None → open_data_count (left_at limit (InSystemCommand later))
     ≤ open_data_count (left_at limit (InSystemCommand items)) + 1) → Steps limit (InSystemCommand items) b
-step-joins_command {limit} {items} {later} {b} other leads grows = record {
+step-joins_command {limit} {items} {later} {b} is_no_escape leads grows = record {
   reported = [];
   next = InSystemCommand later;
   is_place = tt;
-  reads = bytes_lead-byte other leads;
+  reads = bytes_lead-byte is_no_escape leads;
   brief = λ _ _. tt;
   grows = grows;
   leaves = inl refl;
@@ -198,36 +208,39 @@ step-joins_command {limit} {items} {later} {b} other leads grows = record {
 
 step-in_system_command : {limit : Option ℕ} {items : List ℕ} {b : ℕ} {class : Class} → eqb b escape ≡ false
     → class_of b ≡ class → ends_body class ≡ false → Steps limit (InSystemCommand items) b
-step-in_system_command {limit} {items} {b} {class = Control} other is_class no_end = elim (cases_Bool (eqb b bell)) [
-  | inl ends ↦
-      step-leaving_nothing other (tt, tt) (command-bell is_class ends)
-      (λ _ fits. (few_pieces limit items, fits, some_pieces limit items)) (λ _. tt)
-  | inr inside ↦ step-joins_command other (command-control is_class inside) (λ _. omega arith)
-]
-step-in_system_command {class = Cancel} other is_class no_end = cc
-step-in_system_command {class = Escape} other is_class no_end = cc
-step-in_system_command {items} {b} other is_class no_end =
+step-in_system_command {limit} {items} {b} {class = Control} is_no_escape is_class no_end =
+    elim (cases_Bool (eqb b bell)) [
+      | inl ends ↦
+          step-leaving_nothing is_no_escape (tt, tt) (command-bell is_class ends)
+          (λ _ fits. (few_pieces limit items, fits, some_pieces limit items)) (λ _. tt)
+      | inr inside ↦ step-joins_command is_no_escape (command-control is_class inside) (λ _. omega arith)
+    ]
+step-in_system_command {class = Cancel} is_no_escape is_class no_end = cc
+step-in_system_command {class = Escape} is_no_escape is_class no_end = cc
+step-in_system_command {items} {b} is_no_escape is_class no_end =
     let range = spans b is_class in
-    step-joins_command other (command-item (omega arith)) (λ no_limit. rw no_limit (pieces_push items b))
+    step-joins_command is_no_escape (command-item (omega arith)) (λ no_limit. rw no_limit (pieces_push items b))
 
 -- ---- any place: by ESC, CAN and SUB, or the lemma of its shape
 
 step-ordinary : (limit : Option ℕ) (place : Place) (b : ℕ) (class : Class) → IsPlace place → eqb b escape ≡ false
     → class_of b ≡ class → ends_body class ≡ false → Steps limit place b
-step-ordinary limit (InText u) b class is_place other is_class no_end = step-text limit u b other is_place
-step-ordinary limit AtEscape b class is_place other is_class no_end =
-    step-at_escape other (ordinary-by_class b is_class no_end)
-step-ordinary limit (InEscape ints) b class is_place other is_class no_end =
-    step-in_escape other (ordinary-by_class b is_class no_end)
-step-ordinary limit (InControlSequence head) b class is_place other is_class no_end =
-    step-in_control_sequence other (ordinary-by_class b is_class no_end)
-step-ordinary limit (InDeviceControl head) b class is_place other is_class no_end =
-    step-in_device_control other (ordinary-by_class b is_class no_end)
-step-ordinary limit InDeviceData b class is_place other is_class no_end = step-in_device_data other is_class no_end
-step-ordinary limit (InSystemCommand items) b class is_place other is_class no_end =
-    step-in_system_command other is_class no_end
-step-ordinary limit InIgnoredString b class is_place other is_class no_end =
-    step-silent other (tt, tt) (ignored-more (rw is_class (ends_not_cancel class no_end)))
+step-ordinary limit (InText opened) b class is_place is_no_escape is_class no_end =
+    step-text limit opened b is_no_escape is_place
+step-ordinary limit AtEscape b class is_place is_no_escape is_class no_end =
+    step-at_escape is_no_escape (ordinary-by_class b is_class no_end)
+step-ordinary limit (InEscape intermediates) b class is_place is_no_escape is_class no_end =
+    step-in_escape is_no_escape (ordinary-by_class b is_class no_end)
+step-ordinary limit (InControlSequence head) b class is_place is_no_escape is_class no_end =
+    step-in_control_sequence is_no_escape (ordinary-by_class b is_class no_end)
+step-ordinary limit (InDeviceControl head) b class is_place is_no_escape is_class no_end =
+    step-in_device_control is_no_escape (ordinary-by_class b is_class no_end)
+step-ordinary limit InDeviceData b class is_place is_no_escape is_class no_end =
+    step-in_device_data is_no_escape is_class no_end
+step-ordinary limit (InSystemCommand items) b class is_place is_no_escape is_class no_end =
+    step-in_system_command is_no_escape is_class no_end
+step-ordinary limit InIgnoredString b class is_place is_no_escape is_class no_end =
+    step-silent is_no_escape (tt, tt) (ignored-more (rw is_class (ends_not_cancel class no_end)))
 
 -- As ESC breaks any open character, none is open here, so ESC reports nothing.
 silent_or_settles-escape : (limit : Option ℕ) (place : Place) → IsPlace place → IsText place
@@ -257,8 +270,8 @@ step-by_class limit place b Escape is_place is_class =
       little = silent_or_settles-escape limit place is_place;
       outside_runs = outside_runs-closing limit place _;
     })
-step-by_class limit (InText u) b Cancel is_place is_class =
-    step-text limit u b (cancel_is_no_escape b is_class) is_place
+step-by_class limit (InText opened) b Cancel is_place is_class =
+    step-text limit opened b (cancel_is_no_escape b is_class) is_place
 step-by_class limit place b Cancel is_place is_class =
     step-leaving_nothing (cancel_is_no_escape b is_class) (tt, tt) (byte-cancels is_place is_class)
     (λ size fits. closing_brief limit size place b fits (spans b is_class)) (outside_runs-cancel limit place b)

@@ -27,11 +27,11 @@ step-silent_or_settles : {limit : Option ℕ} {begun later : List ℕ} {byte : �
     → IsSilentOrSettles (InText later) reported → eqb byte escape ≡ false
     → Leads limit (InText begun) byte reported (InText later)
     → IsPlace (InText later) → Steps limit (InText begun) byte
-step-silent_or_settles {limit} {begun} {later} {byte} {reported} little other leads is_place = record {
+step-silent_or_settles {limit} {begun} {later} {byte} {reported} little is_no_escape leads is_place = record {
   reported = reported;
   next = InText later;
   is_place = is_place;
-  reads = bytes_lead-byte other leads;
+  reads = bytes_lead-byte is_no_escape leads;
   brief = λ size _. one_short-from_one_byte size reported (silent_or_settles-is_short (InText later) reported little);
   grows = λ _. omega (arith, open_data_count-text limit later);
   leaves = elim little [ inl nothing ↦ inr (inl nothing) | inr closed ↦ inl closed.0 ];
@@ -44,28 +44,29 @@ step-by_tests : {limit : Option ℕ} {begun : List ℕ} {byte : ℕ} → eqb byt
     → (is_well_formed (begun ++ byte ∷ []) ≡ false → is_truncated (begun ++ byte ∷ []) ≡ false
     → Steps limit (InText begun) byte)
     → Steps limit (InText begun) byte
-step-by_tests {begun} {byte} other neither = elim (cases_Bool (is_well_formed (begun ++ byte ∷ []))) [
-  | inl well_formed ↦ step-silent_or_settles (inr (refl, short-character (begun ++ byte ∷ []) well_formed)) other
+step-by_tests {begun} {byte} is_no_escape neither = elim (cases_Bool (is_well_formed (begun ++ byte ∷ []))) [
+  | inl well_formed ↦ step-silent_or_settles (inr (refl, short-character (begun ++ byte ∷ []) well_formed)) is_no_escape
       (text-well_formed well_formed) refl
   | inr not_well_formed ↦ elim (cases_Bool (is_truncated (begun ++ byte ∷ []))) [
-    | inl truncated ↦ step-silent_or_settles (inl refl) other text-unfinished
+    | inl truncated ↦ step-silent_or_settles (inl refl) is_no_escape text-unfinished
         (may_continue-truncated (begun ++ byte ∷ []) truncated)
     | inr not_truncated ↦ neither not_well_formed not_truncated
   ]
 ]
 
 step-settled : {limit : Option ℕ} {byte : ℕ} → eqb byte escape ≡ false → Steps limit (InText []) byte
-step-settled {byte} other =
-    step-by_tests other
+step-settled {byte} is_no_escape =
+    step-by_tests is_no_escape
     (λ not_well_formed not_truncated.
-    step-silent_or_settles (inr (refl, short-malformed byte)) other (text-lone not_well_formed not_truncated) refl)
+    step-silent_or_settles (inr (refl, short-malformed byte)) is_no_escape
+    (text-lone not_well_formed not_truncated) refl)
 
 -- `Steps` holds for a byte that belongs to no character with those before it.
 step-broken : (limit : Option ℕ) (begun : List ℕ) (byte : ℕ) → eqb byte escape ≡ false → is_truncated begun ≡ true
     → is_well_formed (begun ++ byte ∷ []) ≡ false → is_truncated (begun ++ byte ∷ []) ≡ false
     → Steps limit (InText begun) byte
-step-broken limit begun byte other truncated not_well_formed_after not_truncated_after =
-    let alone : Steps limit (InText []) byte = step-settled other in
+step-broken limit begun byte is_no_escape truncated not_well_formed_after not_truncated_after =
+    let alone : Steps limit (InText []) byte = step-settled is_no_escape in
     let little : IsSilentOrSettles alone.next alone.reported = alone.little tt refl in
     record {
       reported = Print replacement ∷ alone.reported;
@@ -73,7 +74,7 @@ step-broken limit begun byte other truncated not_well_formed_after not_truncated
       is_place = alone.is_place;
       reads = record {
         reads = λ rest.
-            waits-byte limit (InText begun) (InText []) byte (Print replacement ∷ []) rest other
+            waits-byte limit (InText begun) (InText []) byte (Print replacement ∷ []) rest is_no_escape
             (text_outcome-broken begun byte truncated not_well_formed_after not_truncated_after)
             ∙ ap (report (Print replacement ∷ [])) (alone.reads.reads rest);
       };
@@ -93,7 +94,7 @@ step-broken limit begun byte other truncated not_well_formed_after not_truncated
 
 pub step-text : (limit : Option ℕ) (begun : List ℕ) (byte : ℕ) → eqb byte escape ≡ false → may_continue begun ≡ true
     → Steps limit (InText begun) byte
-step-text limit begun byte other continues = search (rules, arith, step-settled, step-by_tests, step-broken)
+step-text limit begun byte is_no_escape continues = search (rules, arith, step-settled, step-by_tests, step-broken)
 
 -- ---- CAN and SUB
 
@@ -117,11 +118,11 @@ unfolding body_outcome executed_events escape_from control_sequence_from control
     device_control_after_head device_data_outcome system_command_from ignored_string_outcome
 byte-cancels {place = InText []} {b} is_place is_cancel =
     record { leads = λ rest. text_outcome-cancel rest b (spans b is_cancel) }
-byte-cancels {place = InText (a ∷ u)} {b} is_place is_cancel =
+byte-cancels {place = InText (a ∷ opened)} {b} is_place is_cancel =
     let low : b < 0x20 = spans b is_cancel in
-    let tests : Tests (a ∷ u ++ b ∷ []) false false = ascii-breaks (a ∷ u) b is_place (omega arith) in
+    let tests : Tests (a ∷ opened ++ b ∷ []) false false = ascii-breaks (a ∷ opened) b is_place (omega arith) in
     record {
-      leads = λ rest. text_outcome-broken (a ∷ u) b is_place tests.is_whole tests.is_open rest
+      leads = λ rest. text_outcome-broken (a ∷ opened) b is_place tests.is_whole tests.is_open rest
           ∙ ap (report (Print replacement ∷ [])) (text_outcome-cancel rest b low);
     }
 byte-cancels {place = InSystemCommand items} {b} is_place is_cancel =

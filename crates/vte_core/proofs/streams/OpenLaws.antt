@@ -140,16 +140,16 @@ ends-body limit body =
 
 -- ---- so it is of a stream, whose parts are joined by ESC
 
-abbrev joined : List (List ℕ) → List ℕ
-joined [] = []
-joined (body ∷ bodies) = escape ∷ body ++ joined bodies
+abbrev joined_bodies : List (List ℕ) → List ℕ
+joined_bodies [] = []
+joined_bodies (body ∷ bodies) = escape ∷ body ++ joined_bodies bodies
 
-cut-joined : (stream : List ℕ) → (cut_at_escape stream).text ++ joined (cut_at_escape stream).bodies ≡ stream
+cut-joined : (stream : List ℕ) → (cut_at_escape stream).text ++ joined_bodies (cut_at_escape stream).bodies ≡ stream
 cut-joined [] = refl
 cut-joined (b ∷ stream) = search (rules, arith, (cut-joined stream), eqb-true)
 
 ends-bodies : (limit : Option ℕ) (text : List ℕ) (part : Outcome) (bodies : List (List ℕ)) → EndsOpen text part
-    → EndsOpen (text ++ joined bodies) (with_bodies limit part bodies)
+    → EndsOpen (text ++ joined_bodies bodies) (with_bodies limit part bodies)
 ends-bodies limit text part [] ends_open = rw (append-nil text) ends_open
 ends-bodies limit text part (body ∷ bodies) ends_open =
     ends-after text (ends-after (escape ∷ [])
@@ -203,13 +203,13 @@ opens-text text no_escapes =
 
 -- ---- an open character has at most three bytes, and the law
 
-at_most-at : (place : Place) → IsPlace place → length (open_at place) ≤ 3
-at_most-at place is_place = search (rules, arith, truncated-long)
+open_at-at_most : (place : Place) → IsPlace place → length (open_at place) ≤ 3
+open_at-at_most place is_place = search (rules, arith, truncated-long)
 
-open-at_most : (stream : List ℕ) → length (open_character stream) ≤ 3
-open-at_most stream =
+open_character-at_most : (stream : List ℕ) → length (open_character stream) ≤ 3
+open_character-at_most stream =
     let leads = leads_to {limit = None} {stream = stream} in
-    rw (after-open_character leads.is_after leads.is_place) (at_most-at leads.place leads.is_place)
+    rw (after-open_character leads.is_after leads.is_place) (open_at-at_most leads.place leads.is_place)
 
 pub opens_late : OpensLate
 unfolding open_character
@@ -218,5 +218,5 @@ opens_late = record {
   without_escape = opens-text;
   character = λ stream.
       let ends = ends-stream None stream in
-      record { prefix = ends.prefix; joins = ends.joins; at_most = open-at_most stream };
+      record { prefix = ends.prefix; joins = ends.joins; at_most = open_character-at_most stream };
 }

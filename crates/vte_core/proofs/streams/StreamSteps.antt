@@ -14,7 +14,7 @@ use Rattle.vte_core.proofs.dividing.Utf8Agrees.{well_formed_is_encoded}
 
 left-fits : (limit : Option ℕ) (place : Place) → FitsLeft limit (left_at limit place)
 left-fits limit (InText []) = tt
-left-fits limit (InText (a ∷ u)) = tt
+left-fits limit (InText (a ∷ opened)) = tt
 left-fits limit (InSystemCommand items) = pieces_fit limit items
 left-fits limit _ = tt
 

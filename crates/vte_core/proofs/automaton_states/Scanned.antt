@@ -50,14 +50,14 @@ pub data Phase (s : AutomatonState) : Type 0 where
 pub phase : (s : AutomatonState) → Phase s
 unfolding next_state
 phase Between = phase-between refl
-phase NeedsOne = phase-waiting Between continuation (λ e. cc) (omega arith) refl (λ b. refl)
-phase NeedsTwo = phase-waiting NeedsOne continuation (λ e. cc) (omega arith) refl (λ b. refl)
-phase NeedsThree = phase-waiting NeedsTwo continuation (λ e. cc) (omega arith) refl (λ b. refl)
-phase AfterE0 = phase-waiting NeedsOne (from_to 0xa0 0xbf) (λ e. cc) (omega arith) refl (λ b. refl)
-phase AfterED = phase-waiting NeedsOne (from_to 0x80 0x9f) (λ e. cc) (omega arith) refl (λ b. refl)
-phase AfterF0 = phase-waiting NeedsTwo (from_to 0x90 0xbf) (λ e. cc) (omega arith) refl (λ b. refl)
-phase AfterF4 = phase-waiting NeedsTwo (from_to 0x80 0x8f) (λ e. cc) (omega arith) refl (λ b. refl)
-phase AfterC2 = phase-waiting Between (from_to 0xa0 0xbf) (λ e. cc) (omega arith) refl (λ b. refl)
+phase NeedsOne = phase-waiting Between continuation (λ between. cc) (omega arith) refl (λ b. refl)
+phase NeedsTwo = phase-waiting NeedsOne continuation (λ between. cc) (omega arith) refl (λ b. refl)
+phase NeedsThree = phase-waiting NeedsTwo continuation (λ between. cc) (omega arith) refl (λ b. refl)
+phase AfterE0 = phase-waiting NeedsOne (from_to 0xa0 0xbf) (λ between. cc) (omega arith) refl (λ b. refl)
+phase AfterED = phase-waiting NeedsOne (from_to 0x80 0x9f) (λ between. cc) (omega arith) refl (λ b. refl)
+phase AfterF0 = phase-waiting NeedsTwo (from_to 0x90 0xbf) (λ between. cc) (omega arith) refl (λ b. refl)
+phase AfterF4 = phase-waiting NeedsTwo (from_to 0x80 0x8f) (λ between. cc) (omega arith) refl (λ b. refl)
+phase AfterC2 = phase-waiting Between (from_to 0xa0 0xbf) (λ between. cc) (omega arith) refl (λ b. refl)
 phase Failed = phase-failed refl
 
 -- ---- what a first byte begins
@@ -72,7 +72,7 @@ EndsCharacter b ranges = (u : List ℕ) → fits ranges u ≡ true → IsUtf8Run
 ends_character-row : (b : ℕ) {ranges : List Range} → 0xc3 ≤ b → rows_after_byte b utf8_rows ≡ ranges ∷ []
     → EndsCharacter b ranges
 ends_character-row b {ranges} low same u fit =
-    utf8_run-character (omega (arith, low)) (λ e. absurd (omega (arith, e, low)))
+    utf8_run-character (omega (arith, low)) (λ is_c2. absurd (omega (arith, is_c2, low)))
     ((tests-row b ranges same u).is_whole ∙ fit)
 
 -- ---- a first byte is printed, fails, or opens a character
@@ -84,7 +84,7 @@ pub data Begins (b : ℕ) : Type 0 where
 
 begins-opened : (b : ℕ) (t : AutomatonState) → next_between b ≡ t → t ≢ Between → 0xc3 ≤ b
     → rows_after_byte b utf8_rows ≡ wanted_ranges t ∷ [] → Begins b
-begins-opened b t is not low same = opens t is not (ends_character-row b low same)
+begins-opened b t next_is inside low same = opens t next_is inside (ends_character-row b low same)
 
 -- After C2, only A0..BF end a character, though the table also has controls.
 ends_character-after_c2 : EndsCharacter 0xc2 (from_to 0xa0 0xbf ∷ [])
@@ -111,31 +111,31 @@ begins b =
       | inr from_80 ↦ elim (cases_lt b 0xc2) [
         | inl lone ↦ fails (grind (arith, nat_tests))
         | inr from_c2 ↦ elim (cases_eq b 0xc2) [
-          | inl c2 ↦ subst Begins (sym c2) (opens AfterC2 refl (λ e. cc) ends_character-after_c2)
+          | inl c2 ↦ subst Begins (sym c2) (opens AfterC2 refl (λ between. cc) ends_character-after_c2)
           | inr past_c2 ↦ elim (cases_lt b 0xe0) [
             | inl short ↦
-                begins-opened b NeedsOne (grind (arith, nat_tests)) (λ e. cc) (omega (arith, from_c2, past_c2))
+                begins-opened b NeedsOne (grind (arith, nat_tests)) (λ between. cc) (omega (arith, from_c2, past_c2))
                 (grind (arith, nat_tests))
             | inr from_e0 ↦ elim (cases_eq b 0xe0) [
-              | inl e0 ↦ subst Begins (sym e0) (begins-opened 0xe0 AfterE0 refl (λ e. cc) (omega arith) refl)
+              | inl e0 ↦ subst Begins (sym e0) (begins-opened 0xe0 AfterE0 refl (λ between. cc) (omega arith) refl)
               | inr past_e0 ↦ elim (cases_lt b 0xf0) [
                 | inl middle ↦ elim (cases_eq b 0xed) [
                   | inl ed ↦
-                      subst Begins (sym ed) (begins-opened 0xed AfterED refl (λ e. cc) (omega arith) refl)
+                      subst Begins (sym ed) (begins-opened 0xed AfterED refl (λ between. cc) (omega arith) refl)
                   | inr other ↦
-                      begins-opened b NeedsTwo (grind (arith, nat_tests)) (λ e. cc) (omega (arith, from_e0))
+                      begins-opened b NeedsTwo (grind (arith, nat_tests)) (λ between. cc) (omega (arith, from_e0))
                       (grind (arith, nat_tests))
                 ]
                 | inr from_f0 ↦ elim (cases_eq b 0xf0) [
                   | inl f0 ↦
-                      subst Begins (sym f0) (begins-opened 0xf0 AfterF0 refl (λ e. cc) (omega arith) refl)
+                      subst Begins (sym f0) (begins-opened 0xf0 AfterF0 refl (λ between. cc) (omega arith) refl)
                   | inr past_f0 ↦ elim (cases_lt b 0xf4) [
                     | inl long ↦
-                        begins-opened b NeedsThree (grind (arith, nat_tests)) (λ e. cc) (omega (arith, from_f0))
+                        begins-opened b NeedsThree (grind (arith, nat_tests)) (λ between. cc) (omega (arith, from_f0))
                         (grind (arith, nat_tests))
                     | inr from_f4 ↦ elim (cases_eq b 0xf4) [
                       | inl f4 ↦
-                          subst Begins (sym f4) (begins-opened 0xf4 AfterF4 refl (λ e. cc) (omega arith) refl)
+                          subst Begins (sym f4) (begins-opened 0xf4 AfterF4 refl (λ between. cc) (omega arith) refl)
                       | inr past_f4 ↦ fails (grind (arith, nat_tests))
                     ]
                   ]
@@ -149,26 +149,26 @@ begins b =
 
 -- ---- what has been read
 
--- The bytes up to `end` are characters; those from there up to `at` belong to one that has begun.
-pub record ReadSoFar (text : List ℕ) (at : ℕ) (s : AutomatonState) : Type 0 where
+-- The bytes up to `end` are characters; those from there up to the position belong to one that has begun.
+pub record ReadSoFar (text : List ℕ) (i : ℕ) (s : AutomatonState) : Type 0 where
   pub end : ℕ
-  pub before : end ≤ at
+  pub before : end ≤ i
   pub utf8_run : IsUtf8Run true (take end text)
-  pub completes : (u : List ℕ) → fits (wanted_ranges s) u ≡ true → IsUtf8Run true (take (at - end) (drop end text) ++ u)
-  pub settled : s ≡ Between → end ≡ at
+  pub completes : (u : List ℕ) → fits (wanted_ranges s) u ≡ true → IsUtf8Run true (take (i - end) (drop end text) ++ u)
+  pub settled : s ≡ Between → end ≡ i
 
-none-taken : (text : List ℕ) (at end : ℕ) → end ≡ at → take (at - end) (drop end text) ≡ []
-none-taken text at end same = search (rules, arith)
+none-taken : (text : List ℕ) (i end : ℕ) → end ≡ i → take (i - end) (drop end text) ≡ []
+none-taken text i end same = search (rules, arith)
 
 -- Between two characters, all of the text so far is printed.
-so_far-printed : {text : List ℕ} {at : ℕ} → IsUtf8Run true (take at text) → ReadSoFar text at Between
-so_far-printed {text} {at} printed = record {
-  end = at;
+so_far-printed : {text : List ℕ} {i : ℕ} → IsUtf8Run true (take i text) → ReadSoFar text i Between
+so_far-printed {text} {i} printed = record {
+  end = i;
   before = omega arith;
   utf8_run = printed;
   completes =
       λ u fit.
-      rw (none-taken text at at refl)
+      rw (none-taken text i i refl)
       (elim u as (λ v. fits [] v ≡ true → IsUtf8Run true v) [
         | [] ↦ λ _. utf8_run-nil true
         | c ∷ v ↦ λ f. absurd (false≢true f)
@@ -176,28 +176,28 @@ so_far-printed {text} {at} printed = record {
   settled = λ _. refl;
 }
 
-module _ (text : List ℕ) (at : ℕ) (within : at < length text) (s : AutomatonState) (old : ReadSoFar text at s) where
+module _ (text : List ℕ) (i : ℕ) (within : i < length text) (s : AutomatonState) (old : ReadSoFar text i s) where
   abbrev b : ℕ
-  b = slice_index text at
+  b = slice_index text i
 
   abbrev taken : List ℕ
-  taken = take (at - old.end) (drop old.end text)
+  taken = take (i - old.end) (drop old.end text)
 
-  taken-more : take (at + 1 - old.end) (drop old.end text) ≡ taken ++ b ∷ []
+  taken-more : take (i + 1 - old.end) (drop old.end text) ≡ taken ++ b ∷ []
   taken-more =
-      let size : at + 1 - old.end ≡ at - old.end + 1 = omega (arith, old.before) in
-      let place : old.end + (at - old.end) ≡ at = omega (arith, old.before) in
+      let size : i + 1 - old.end ≡ i - old.end + 1 = omega (arith, old.before) in
+      let place : old.end + (i - old.end) ≡ i = omega (arith, old.before) in
       ap (λ n. take n (drop old.end text)) size
-      ∙ take_more (drop old.end text) (at - old.end) 0 (omega (arith, length-drop old.end text, old.before, within))
-      ∙ ap (λ x. taken ++ x ∷ []) (get_or-drop old.end text (at - old.end) 0 ∙ ap (slice_index text) place)
+      ∙ take_more (drop old.end text) (i - old.end) 0 (omega (arith, length-drop old.end text, old.before, within))
+      ∙ ap (λ byte. taken ++ byte ∷ []) (get_or-drop old.end text (i - old.end) 0 ∙ ap (slice_index text) place)
 
   -- A character ends.
-  so_far-settles : IsUtf8Run true (taken ++ b ∷ []) → ReadSoFar text (at + 1) Between
+  so_far-settles : IsUtf8Run true (taken ++ b ∷ []) → ReadSoFar text (i + 1) Between
   so_far-settles whole =
-      let place : at + 1 ≡ old.end + (at + 1 - old.end) = omega (arith, old.before) in
-      let joined : take (at + 1) text ≡ take old.end text ++ (taken ++ b ∷ []) =
-      ap (λ n. take n text) place ∙ take-add old.end (at + 1 - old.end) text
-      ∙ ap (λ x. take old.end text ++ x) taken-more in
+      let place : i + 1 ≡ old.end + (i + 1 - old.end) = omega (arith, old.before) in
+      let joined : take (i + 1) text ≡ take old.end text ++ (taken ++ b ∷ []) =
+      ap (λ n. take n text) place ∙ take-add old.end (i + 1 - old.end) text
+      ∙ ap (λ bytes. take old.end text ++ bytes) taken-more in
       so_far-printed
       (subst (IsUtf8Run true) (sym joined)
       (utf8_run-append old.utf8_run whole))
@@ -205,88 +205,89 @@ module _ (text : List ℕ) (at : ℕ) (within : at < length text) (s : Automaton
   -- A character begins or goes on.
   so_far-goes_on : (t : AutomatonState) → t ≢ Between
       → ((u : List ℕ) → fits (wanted_ranges t) u ≡ true → IsUtf8Run true ((taken ++ b ∷ []) ++ u))
-      → ReadSoFar text (at + 1) t
-  so_far-goes_on t not completes = record {
+      → ReadSoFar text (i + 1) t
+  so_far-goes_on t inside completes = record {
     end = old.end;
     before = omega (arith, old.before);
     utf8_run = old.utf8_run;
-    completes = λ u fit. subst (λ x. IsUtf8Run true (x ++ u)) (sym taken-more) (completes u fit);
-    settled = λ same. absurd (not same);
+    completes = λ u fit. subst (λ bytes. IsUtf8Run true (bytes ++ u)) (sym taken-more) (completes u fit);
+    settled = λ same. absurd (inside same);
   }
 
   -- The first byte of a character continues what was read so far.
-  so_far-first : s ≡ Between → next_state s b ≢ Failed → ReadSoFar text (at + 1) (next_state s b)
+  so_far-first : s ≡ Between → next_state s b ≢ Failed → ReadSoFar text (i + 1) (next_state s b)
   unfolding next_state
   so_far-first same ok =
-      let e : next_state s b ≡ next_between b = ap (λ v. next_state v b) same in
-      let here : old.end ≡ at = old.settled same in
-      let none : taken ≡ [] = none-taken text at old.end here in
+      let step : next_state s b ≡ next_between b = ap (λ v. next_state v b) same in
+      let here : old.end ≡ i = old.settled same in
+      let nothing : taken ≡ [] = none-taken text i old.end here in
       elim (begins b) [
-        | prints printed is ↦
-            subst (ReadSoFar text (at + 1)) (sym (e ∙ is))
-            (so_far-settles (subst (λ x. IsUtf8Run true (x ++ b ∷ [])) (sym none) printed))
-        | fails is ↦ absurd (ok (e ∙ is))
-        | opens t is not completes ↦ subst (ReadSoFar text (at + 1)) (sym (e ∙ is))
-            (so_far-goes_on t not
-            (λ u fit. subst (λ x. IsUtf8Run true ((x ++ b ∷ []) ++ u)) (sym none) (completes u fit)))
+        | prints printed next_is ↦
+            subst (ReadSoFar text (i + 1)) (sym (step ∙ next_is))
+            (so_far-settles (subst (λ bytes. IsUtf8Run true (bytes ++ b ∷ [])) (sym nothing) printed))
+        | fails next_is ↦ absurd (ok (step ∙ next_is))
+        | opens t next_is inside completes ↦ subst (ReadSoFar text (i + 1)) (sym (step ∙ next_is))
+            (so_far-goes_on t inside
+            (λ u fit. subst (λ bytes. IsUtf8Run true ((bytes ++ b ∷ []) ++ u)) (sym nothing) (completes u fit)))
       ]
 
   -- A further byte of a character continues what was read so far.
   so_far-later : (t : AutomatonState) (range : Range) → s ≢ Between → range.last ≤ 0xbf
       → wanted_ranges s ≡ range ∷ wanted_ranges t
-      → next_state s b ≡ next_if_in range t b → next_state s b ≢ Failed → ReadSoFar text (at + 1) (next_state s b)
-  so_far-later t range not last is steps ok = elim (cases_Bool (is_in range b)) [
+      → next_state s b ≡ next_if_in range t b → next_state s b ≢ Failed → ReadSoFar text (i + 1) (next_state s b)
+  so_far-later t range inside last ranges_are steps ok = elim (cases_Bool (is_in range b)) [
     | inr misfits ↦ absurd (ok (steps ∙ ap (λ v. cond v t Failed) misfits))
     | inl fit ↦
-        let e : next_state s b ≡ t = steps ∙ ap (λ v. cond v t Failed) fit in
+        let step : next_state s b ≡ t = steps ∙ ap (λ v. cond v t Failed) fit in
         let completes : (u : List ℕ) → fits (wanted_ranges t) u ≡ true → IsUtf8Run true ((taken ++ b ∷ []) ++ u) =
         λ u more. subst (IsUtf8Run true) (sym (append_assoc taken (b ∷ []) u)) (old.completes (b ∷ u)
-        (ap (λ ranges. fits ranges (b ∷ u)) is ∙ ap (λ v. v && fits (wanted_ranges t) u) fit ∙ more)) in
-        subst (ReadSoFar text (at + 1)) (sym e) (elim (phase t) [
+        (ap (λ ranges. fits ranges (b ∷ u)) ranges_are ∙ ap (λ v. v && fits (wanted_ranges t) u) fit ∙ more)) in
+        subst (ReadSoFar text (i + 1)) (sym step) (elim (phase t) [
           | phase-between same ↦
               let whole : IsUtf8Run true (taken ++ b ∷ []) =
               subst (IsUtf8Run true) (append-nil (taken
               ++ b ∷ [])) (completes [] (ap (λ v. fits (wanted_ranges v) []) same)) in
-              subst (ReadSoFar text (at + 1)) (sym same) (so_far-settles whole)
-          | phase-failed same ↦ absurd (ok (e ∙ same))
+              subst (ReadSoFar text (i + 1)) (sym same) (so_far-settles whole)
+          | phase-failed same ↦ absurd (ok (step ∙ same))
           | phase-waiting v r other _ _ _ ↦
               so_far-goes_on t other completes
         ])
   ]
 
-  so_far-next : next_state s b ≢ Failed → ReadSoFar text (at + 1) (next_state s b)
+  so_far-next : next_state s b ≢ Failed → ReadSoFar text (i + 1) (next_state s b)
   unfolding next_state
   so_far-next ok = elim (phase s) [
     | phase-between same ↦ so_far-first same ok
     | phase-failed same ↦ absurd (ok (ap (λ v. next_state v b) same))
-    | phase-waiting t range not last is steps ↦ so_far-later t range not last is (steps b) ok
+    | phase-waiting t range inside last ranges_are steps ↦
+        so_far-later t range inside last ranges_are (steps b) ok
   ]
 
-pub state_after-next : (text : List ℕ) (at : ℕ) → at < length text
-    → state_after Between (take (at + 1) text) ≡ next_state (state_after Between (take at text)) (slice_index text at)
-state_after-next text at within =
-    ap (state_after Between) (take_more text at 0 within)
-    ∙ state_after-append Between (take at text) (slice_index text at ∷ [])
+pub state_after-next : (text : List ℕ) (i : ℕ) → i < length text
+    → state_after Between (take (i + 1) text) ≡ next_state (state_after Between (take i text)) (slice_index text i)
+state_after-next text i within =
+    ap (state_after Between) (take_more text i 0 within)
+    ∙ state_after-append Between (take i text) (slice_index text i ∷ [])
 
-so_far-further : (text : List ℕ) (at : ℕ) (within : at < length text)
-    → ReadSoFar text at (state_after Between (take at text))
-    → state_after Between (take (at + 1) text) ≢ Failed
-    → ReadSoFar text (at + 1) (state_after Between (take (at + 1) text))
-so_far-further text at within old ok =
-    subst (ReadSoFar text (at + 1)) (sym (state_after-next text at within))
-    (so_far-next text at within _ old (λ e. ok (state_after-next text at within ∙ e)))
+so_far-further : (text : List ℕ) (i : ℕ) (within : i < length text)
+    → ReadSoFar text i (state_after Between (take i text))
+    → state_after Between (take (i + 1) text) ≢ Failed
+    → ReadSoFar text (i + 1) (state_after Between (take (i + 1) text))
+so_far-further text i within old ok =
+    subst (ReadSoFar text (i + 1)) (sym (state_after-next text i within))
+    (so_far-next text i within _ old (λ failed. ok (state_after-next text i within ∙ failed)))
 
-pub so_far-all : (text : List ℕ) (at : ℕ) → at ≤ length text → state_after Between (take at text) ≢ Failed
-    → ReadSoFar text at (state_after Between (take at text))
+pub so_far-all : (text : List ℕ) (i : ℕ) → i ≤ length text → state_after Between (take i text) ≢ Failed
+    → ReadSoFar text i (state_after Between (take i text))
 so_far-all text zero within ok = so_far-printed (utf8_run-nil true)
-so_far-all text (suc at) within ok =
-    let fine : state_after Between (take (at + 1) text) ≢ Failed = rw add-one ok in
+so_far-all text (suc i) within ok =
+    let fine : state_after Between (take (i + 1) text) ≢ Failed = rw add-one ok in
     let old =
-    so_far-all text at (omega arith)
-    (λ e.
-    fine (state_after-next text at (omega arith) ∙ ap (λ s. next_state s (slice_index text at)) e
-    ∙ next_state-failed (slice_index text at))) in
-    rw add-one at (so_far-further text at (omega arith) old fine)
+    so_far-all text i (omega arith)
+    (λ failed.
+    fine (state_after-next text i (omega arith) ∙ ap (λ s. next_state s (slice_index text i)) failed
+    ∙ next_state-failed (slice_index text i))) in
+    rw add-one at (so_far-further text i (omega arith) old fine)
 
 -- ---- a text without HT, LF and CR
 
@@ -296,25 +297,25 @@ abbrev AreAbove : List ℕ → Type 0
 AreAbove bytes = (k : ℕ) → k < length bytes → 0x20 ≤ get_or bytes k 0
 
 stays-above : (c : ℕ) → 0x20 ≤ c → StaysInRun true c → StaysInRun false c
-stays-above c low e = grind (arith, nat_tests)
+stays-above c low stays = grind (arith, nat_tests)
 
 -- A character whose bytes are all from 20 on is itself from 20 on.
 first-above : (c : ℕ) (rest : List ℕ) → AreAbove (encode c ++ rest) → 0x20 ≤ c
-first-above c rest are = search (rules, arith, encode_ascii)
+first-above c rest above = search (rules, arith, encode_ascii)
 
 stays-all_above : (cs : List ℕ) → AreAbove (encodes cs) → All (StaysInRun true) cs → All (StaysInRun false) cs
-stays-all_above [] are all = All-nil (StaysInRun false)
-stays-all_above (c ∷ cs) are all =
+stays-all_above [] above all = All-nil (StaysInRun false)
+stays-all_above (c ∷ cs) above all =
     let rest : AreAbove (encodes cs) = λ k l.
     subst (λ b. 0x20 ≤ b) (get_or-append-add (encode c) (encodes cs) k 0)
-    (are (length (encode c) + k) (omega (arith, l, length-append (encode c) (encodes cs)))) in
+    (above (length (encode c) + k) (omega (arith, l, length-append (encode c) (encodes cs)))) in
     All-cons (StaysInRun false) c cs
-    (stays-above c (first-above c (encodes cs) are) (All-head (StaysInRun true) c cs all))
+    (stays-above c (first-above c (encodes cs) above) (All-head (StaysInRun true) c cs all))
     (stays-all_above cs rest (All-tail (StaysInRun true) c cs all))
 
 -- A run without bytes below 20 is also one if layout isn't kept.
-pub run-kept : (layout : Bool) (text : List ℕ) (at end : ℕ) → (layout ≡ false → Each (λ b. 0x20 ≤ b) text 0 at)
-    → end ≤ at
+pub run-kept : (layout : Bool) (text : List ℕ) (i end : ℕ) → (layout ≡ false → Each (λ b. 0x20 ≤ b) text 0 i)
+    → end ≤ i
     → IsUtf8Run true (take end text) → IsUtf8Run layout (take end text)
-run-kept layout text at end low within run =
+run-kept layout text i end low within run =
     search (rules, arith, length-take, get_or-take, stays-all_above, encodes-chars)

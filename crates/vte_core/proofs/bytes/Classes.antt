@@ -65,8 +65,9 @@ below_finals b below = search (rules, arith)
 
 pub AreInClass-append : (has : Class → Bool) (prefix rest : List ℕ) → AreInClass has prefix → AreInClass has rest
     → AreInClass has (prefix ++ rest)
-AreInClass-append has [] rest are more = more
-AreInClass-append has (b ∷ prefix) rest are more = (are.0, AreInClass-append has prefix rest are.1 more)
+AreInClass-append has [] rest prefix_in rest_in = rest_in
+AreInClass-append has (b ∷ prefix) rest prefix_in rest_in =
+    (prefix_in.0, AreInClass-append has prefix rest prefix_in.1 rest_in)
 
 -- ---- tests that only one class passes
 
@@ -120,12 +121,12 @@ parameter_is_head class parameter = search (rules, arith)
 
 -- ---- the class that is left if others are excluded
 
--- After ESC, a byte 30..3F ends an escape sequence.
+-- After ESC, a byte of a head that is no intermediate (30..3F) ends an escape sequence.
 pub other_dispatches : (class : Class) → is_head_byte class ≡ true → is_intermediate class ≡ false
     → dispatches_escape class ≡ true
 other_dispatches class is_head no_intermediate = search (rules, arith)
 
--- A class other than those of 20..7E, CAN, SUB, ESC and C0 is that of DEL or of 80..FF.
+-- Past the bytes of a head, final bytes, CAN, SUB, ESC and other controls, only DEL and 80..FF are left: dropped.
 pub other_is_dropped : (class : Class) → is_head_byte class ≡ false → is_final class ≡ false → ends_body class ≡ false
     → is_plain_control class ≡ false
     → is_dropped class ≡ true
@@ -147,7 +148,7 @@ ends_no_data b no_end no_terminator = search (rules, arith)
 
 pub terminator_is_high : {b : ℕ} → b ≡ 0x9c → class_of b ≡ High
 unfolding class_of
-terminator_is_high is = rw is refl
+terminator_is_high is_terminator = rw is_terminator refl
 
 -- In an operating system command, a byte that ends nothing and is neither data nor `;` is a control.
 pub other_is_control : (b : ℕ) → ends_body (class_of b) ≡ false → (IsCommandData b → ⊥) → (b ≡ 0x3b → ⊥)

@@ -25,18 +25,24 @@ mask_at k low = eqb-true _ _ (agree_below_at (λ k. nat_eq (bit_at mask (8 * k +
 -- A byte is printed ASCII if neither number has a 1 at its bit 7.
 byte-unmarked : (word k : ℕ) → word < 2 ^ 64 → k < 8 → bit_at (less word) (8 * k + 7) ≡ 0
     → bit_at word (8 * k + 7) ≡ 0 → IsPrintedAscii (get_or (to_le_bytes w64 word) k 0)
-byte-unmarked word zero fits low x y = (omega (arith, fits, x, y), omega (arith, fits, x, y))
-byte-unmarked word (suc zero) fits low x y = (omega (arith, fits, x, y), omega (arith, fits, x, y))
-byte-unmarked word (suc (suc zero)) fits low x y = (omega (arith, fits, x, y), omega (arith, fits, x, y))
-byte-unmarked word (suc (suc (suc zero))) fits low x y = (omega (arith, fits, x, y), omega (arith, fits, x, y))
-byte-unmarked word (suc (suc (suc (suc zero)))) fits low x y = (omega (arith, fits, x, y), omega (arith, fits, x, y))
-byte-unmarked word (suc (suc (suc (suc (suc zero))))) fits low x y =
-    (omega (arith, fits, x, y), omega (arith, fits, x, y))
-byte-unmarked word (suc (suc (suc (suc (suc (suc zero)))))) fits low x y =
-    (omega (arith, fits, x, y), omega (arith, fits, x, y))
-byte-unmarked word (suc (suc (suc (suc (suc (suc (suc zero))))))) fits low x y =
-    (omega (arith, fits, x, y), omega (arith, fits, x, y))
-byte-unmarked word (suc (suc (suc (suc (suc (suc (suc (suc k)))))))) fits low x y = absurd (omega (arith, low))
+byte-unmarked word zero fits low less_clear word_clear =
+    (omega (arith, fits, less_clear, word_clear), omega (arith, fits, less_clear, word_clear))
+byte-unmarked word (suc zero) fits low less_clear word_clear =
+    (omega (arith, fits, less_clear, word_clear), omega (arith, fits, less_clear, word_clear))
+byte-unmarked word (suc (suc zero)) fits low less_clear word_clear =
+    (omega (arith, fits, less_clear, word_clear), omega (arith, fits, less_clear, word_clear))
+byte-unmarked word (suc (suc (suc zero))) fits low less_clear word_clear =
+    (omega (arith, fits, less_clear, word_clear), omega (arith, fits, less_clear, word_clear))
+byte-unmarked word (suc (suc (suc (suc zero)))) fits low less_clear word_clear =
+    (omega (arith, fits, less_clear, word_clear), omega (arith, fits, less_clear, word_clear))
+byte-unmarked word (suc (suc (suc (suc (suc zero))))) fits low less_clear word_clear =
+    (omega (arith, fits, less_clear, word_clear), omega (arith, fits, less_clear, word_clear))
+byte-unmarked word (suc (suc (suc (suc (suc (suc zero)))))) fits low less_clear word_clear =
+    (omega (arith, fits, less_clear, word_clear), omega (arith, fits, less_clear, word_clear))
+byte-unmarked word (suc (suc (suc (suc (suc (suc (suc zero))))))) fits low less_clear word_clear =
+    (omega (arith, fits, less_clear, word_clear), omega (arith, fits, less_clear, word_clear))
+byte-unmarked word (suc (suc (suc (suc (suc (suc (suc (suc k)))))))) fits low less_clear word_clear =
+    absurd (omega (arith, low))
 
 pub marks-fit : (word : ℕ) → marks_of word < 2 ^ 64
 marks-fit word = omega (arith, and_le_r (bit_or (less word) word) mask)
@@ -46,12 +52,12 @@ pub prefix-printed : (bytes : List ℕ) {word : ℕ} (n : ℕ) → ((i : ℕ) �
     → word < 2 ^ 64
     → word ≡ from_le_bytes w64 bytes → n ≤ 8 → ((i : ℕ) → i < 8 * n → bit_at (marks_of word) i ≡ 0)
     → ArePrintedAscii bytes 0 n
-prefix-printed bytes {word} n are long fits is most zeros k _ at_most =
+prefix-printed bytes {word} n are_bytes long fits is_word most zeros k _ at_most =
     let low : k < 8 = omega (arith, at_most, most) in
-    let e = zeros (8 * k + 7) (omega (arith, at_most)) in
+    let clear = zeros (8 * k + 7) (omega (arith, at_most)) in
     let either = bit_at_or (less word) word (8 * k + 7) in
     let both = bit_at_and (bit_or (less word) word) mask (8 * k + 7) in
     let small = bit_at-lt (bit_or (less word) word) (8 * k + 7) in
-    subst IsPrintedAscii (ap (λ x. get_or x k 0) (le_bytes_8 bytes word long are is))
-    (byte-unmarked word k fits low (omega (arith, e, both, either, small, mask_at k low))
-    (omega (arith, e, both, either, small, mask_at k low)))
+    subst IsPrintedAscii (ap (λ x. get_or x k 0) (le_bytes_8 bytes word long are_bytes is_word))
+    (byte-unmarked word k fits low (omega (arith, clear, both, either, small, mask_at k low))
+    (omega (arith, clear, both, either, small, mask_at k low)))

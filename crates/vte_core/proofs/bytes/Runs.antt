@@ -23,8 +23,8 @@ use Rattle.vte_core.proofs.bytes.Utf8.{rows-lone, rows-none, continuation, fits,
 
 pub one_byte : (bytes : List ℕ) (from b : ℕ) → from < length bytes → b ≡ slice_index bytes from
     → take (from + 1 - from) (drop from bytes) ≡ b ∷ []
-one_byte bytes from b within is =
-    let same : from + 1 - from ≡ 1 = omega arith in rw (same, drop_more bytes from 0 within, is) refl
+one_byte bytes from b within byte_is =
+    let same : from + 1 - from ≡ 1 = omega arith in rw (same, drop_more bytes from 0 within, byte_is) refl
 
 pub each-one : (holds : ℕ → Type 0) (bytes : List ℕ) (from : ℕ) → holds (slice_index bytes from)
     → Each holds bytes from (from + 1)
@@ -37,7 +37,7 @@ each-both holds bytes i j k prefix back m low high = search (rules, arith)
 -- What holds of each byte of a stretch, and of the byte after it, holds of each byte of both.
 pub each-next : (holds : ℕ → Type 0) (bytes : List ℕ) (from end b : ℕ) → Each holds bytes from end
     → b ≡ slice_index bytes end → holds b → Each holds bytes from (end + 1)
-each-next holds bytes from end b all is one = search (rules, arith)
+each-next holds bytes from end b all byte_is one = search (rules, arith)
 
 -- The first chunk from a position on consists of the next n bytes.
 pub prefix-block : (bytes block : List ℕ) (from n : ℕ) → from ≤ length bytes
@@ -48,14 +48,14 @@ prefix-block bytes block from n within first = search (rules, arith, length-take
 -- Byte k of a block is the byte k places after the block's start.
 pub block-byte : (bytes block : List ℕ) (from n k : ℕ) → block ≡ take n (drop from bytes) → k < n
     → get_or block k 0 ≡ get_or bytes (from + k) 0
-block-byte bytes block from n k is below = ap (λ x. get_or x k 0) is ∙ get_or-chunk from n bytes k 0 below
+block-byte bytes block from n k block_is below = ap (λ x. get_or x k 0) block_is ∙ get_or-chunk from n bytes k 0 below
 
 -- What holds of the first bytes of a block holds of the same bytes of the input.
 pub each-block : (holds : ℕ → Type 0) (bytes block : List ℕ) (from n m : ℕ) → block ≡ take n (drop from bytes) → m ≤ n
     → Each holds block 0 m → Each holds bytes from (from + m)
-each-block holds bytes block from n m is at_most all k low high =
+each-block holds bytes block from n m block_is at_most all k low high =
     let same : get_or block (k - from) 0 ≡ get_or bytes k 0 =
-    block-byte bytes block from n (k - from) is (omega (arith, low, high, at_most)) ∙ ap (λ i. get_or bytes i 0)
+    block-byte bytes block from n (k - from) block_is (omega (arith, low, high, at_most)) ∙ ap (λ i. get_or bytes i 0)
     (let p : from + (k - from) ≡ k = omega (arith, low) in p) in
     subst holds same (all (k - from) (omega arith) (omega (arith, low, high)))
 
@@ -97,10 +97,10 @@ utf8_run-ascii {layout} {bytes} ascii stay =
 
 utf8_run-printed : (layout : Bool) (bytes : List ℕ) (n : ℕ) → ArePrintedAscii bytes 0 n
     → IsUtf8Run layout (take n bytes)
-utf8_run-printed layout bytes n are =
+utf8_run-printed layout bytes n are_printed =
     let printed : (k : ℕ) → k < length (take n bytes) → IsPrintedAscii (get_or (take n bytes) k 0) = λ k l.
     let below : k < n = omega (arith, l, length-take n bytes) in
-    subst IsPrintedAscii (sym (get_or-take n bytes k 0 below)) (are k (omega arith) below) in
+    subst IsPrintedAscii (sym (get_or-take n bytes k 0 below)) (are_printed k (omega arith) below) in
     utf8_run-ascii
     (IsAscii-from_reads (take n bytes) (length (take n bytes)) (omega arith) (λ k l. (printed k l).1))
     (All-from_get_or (StaysInRun layout) (take n bytes) 0 (λ k l. plain-stays layout _ (printed k l)))
@@ -114,29 +114,29 @@ utf8_run-nil layout =
 
 pub utf8_run-append : {layout : Bool} {xs ys : List ℕ} → IsUtf8Run layout xs → IsUtf8Run layout ys
     → IsUtf8Run layout (xs ++ ys)
-utf8_run-append {layout} {xs} {ys} are are_more = record {
-  utf8 = IsUtf8-append xs ys are.utf8 are_more.utf8;
+utf8_run-append {layout} {xs} {ys} run run_more = record {
+  utf8 = IsUtf8-append xs ys run.utf8 run_more.utf8;
   plain =
-      subst (All (StaysInRun layout)) (sym (chars-append xs ys are.utf8))
-      (All-append (StaysInRun layout) (chars xs) (chars ys) are.plain are_more.plain);
+      subst (All (StaysInRun layout)) (sym (chars-append xs ys run.utf8))
+      (All-append (StaysInRun layout) (chars xs) (chars ys) run.plain run_more.plain);
 }
 
 -- ---- one character: its bytes decode to it alone, and a run of it is its event
 
 pub chars-encode : (scalar : ℕ) → IsScalar scalar → chars (encode scalar) ≡ scalar ∷ []
-chars-encode scalar is =
-    chars_past_char (encode scalar) [] scalar (IsUtf8-encode scalar is) (sym (append-nil (encode scalar)))
+chars-encode scalar is_scalar =
+    chars_past_char (encode scalar) [] scalar (IsUtf8-encode scalar is_scalar) (sym (append-nil (encode scalar)))
     ∙ ap (λ cs. scalar ∷ cs) chars-nil
 
 pub run_one : (layout : Bool) (scalar : ℕ) → IsScalar scalar → StaysInRun layout scalar
     → All (StaysInRun layout) (chars (encode scalar))
-run_one layout scalar is stays = subst (All (StaysInRun layout)) (sym (chars-encode scalar is))
+run_one layout scalar is_scalar stays = subst (All (StaysInRun layout)) (sym (chars-encode scalar is_scalar))
     (All-cons (StaysInRun layout) scalar [] stays (All-nil (StaysInRun layout)))
 
 pub after-character : {V : Type 0} (layout : Bool) (step : V → Event → V) (old : V) (scalar : ℕ) → IsScalar scalar
     → after step old (map (run_event layout) (chars (encode scalar))) ≡ step old (run_event layout scalar)
-after-character layout step old scalar is =
-    ap (λ cs. after step old (map (run_event layout) cs)) (chars-encode scalar is)
+after-character layout step old scalar is_scalar =
+    ap (λ cs. after step old (map (run_event layout) cs)) (chars-encode scalar is_scalar)
 
 pub run_event-no_control : (layout : Bool) {scalar : ℕ} → is_control_character scalar ≡ false
     → run_event layout scalar ≡ Print scalar
@@ -149,14 +149,14 @@ printed-in_range b in_range = grind (arith, nat_tests)
 
 pub chars-one : (bytes : List ℕ) (from b : ℕ) → from < length bytes → b ≡ slice_index bytes from → IsPrintedAscii b
     → chars (take (from + 1 - from) (drop from bytes)) ≡ b ∷ []
-chars-one bytes from b within is printed =
-    ap chars (one_byte bytes from b within is) ∙ chars-IsAscii (b ∷ []) (IsAscii-cons b [] printed.1 IsAscii-nil)
+chars-one bytes from b within byte_is printed =
+    ap chars (one_byte bytes from b within byte_is) ∙ chars-IsAscii (b ∷ []) (IsAscii-cons b [] printed.1 IsAscii-nil)
 
 -- HT, LF and CR are each a run, if runs keep them.
 pub run-layout : (bytes : List ℕ) (from b : ℕ) → from < length bytes → b ≡ slice_index bytes from → is_layout b ≡ true
     → IsRun true bytes from (from + 1)
-run-layout bytes from b within is layout =
-    subst (IsUtf8Run true) (sym (one_byte bytes from b within is))
+run-layout bytes from b within byte_is layout =
+    subst (IsUtf8Run true) (sym (one_byte bytes from b within byte_is))
     (utf8_run-ascii (IsAscii-cons b [] (layout-is_ascii b layout) IsAscii-nil)
     (All-cons (StaysInRun true) b [] (layout-stays b layout)
     (All-nil (StaysInRun true))))
@@ -168,18 +168,18 @@ run-none layout bytes from =
 
 pub run-ascii : (layout : Bool) (bytes : List ℕ) (from to : ℕ) → ArePrintedAscii bytes from to
     → IsRun layout bytes from to
-run-ascii layout bytes from to are = utf8_run-printed layout (drop from bytes) (to - from) (λ k low high.
-    subst IsPrintedAscii (sym (get_or-drop from bytes k 0)) (are (from + k) (omega arith) (omega (arith, high))))
+run-ascii layout bytes from to printed = utf8_run-printed layout (drop from bytes) (to - from) (λ k low high.
+    subst IsPrintedAscii (sym (get_or-drop from bytes k 0)) (printed (from + k) (omega arith) (omega (arith, high))))
 
 pub run-append : (layout : Bool) (bytes : List ℕ) (i j k : ℕ) → i ≤ j → j ≤ k → IsRun layout bytes i j
     → IsRun layout bytes j k → IsRun layout bytes i k
-run-append layout bytes i j k first second are more =
+run-append layout bytes i j k first second run run_more =
     let same : drop (j - i) (drop i bytes) ≡ drop j bytes =
     drop-drop (j - i) i bytes ∙ ap (λ n. drop n bytes) (let equal : i + (j - i) ≡ j = omega (arith, first) in equal) in
     let whole : take (k - i) (drop i bytes) ≡ take (j - i) (drop i bytes) ++ take (k - j) (drop j bytes) =
     ap (λ n. take n (drop i bytes)) (let equal : k - i ≡ j - i + (k - j) = omega (arith, first, second) in equal)
     ∙ take-add (j - i) (k - j) (drop i bytes) ∙ ap (λ x. take (j - i) (drop i bytes) ++ take (k - j) x) same in
-    subst (IsUtf8Run layout) (sym whole) (utf8_run-append are more)
+    subst (IsUtf8Run layout) (sym whole) (utf8_run-append run run_more)
 
 -- ---- a search goes on where another ended
 
@@ -195,8 +195,8 @@ pub scans-ascii : {layout : Bool} {bytes : List ℕ} {i j k byte : ℕ} {earlier
     → Scans (IsRun layout) bytes i j earlier middle → byte ≡ slice_index bytes j → looked later ≡ looked middle + 1
     → is_in (from_to 0x20 0x7f) byte ≡ true → Scans ArePrintedAscii bytes (j + 1) k later last
     → Scans (IsRun layout) bytes i k earlier last
-scans-ascii {bytes} {j} {byte} scans is count printed more =
-    let first : IsPrintedAscii (slice_index bytes j) = subst IsPrintedAscii is (printed-in_range byte printed) in
+scans-ascii {bytes} {j} {byte} scans byte_is count printed more =
+    let first : IsPrintedAscii (slice_index bytes j) = subst IsPrintedAscii byte_is (printed-in_range byte printed) in
     scans-run scans (record {
       low = omega (arith, more.low);
       high = more.high;
@@ -247,14 +247,14 @@ fits-none (b ∷ bytes) fit = cc
 -- There is one byte, in its range.
 record OneIn (range : Range) (bytes : List ℕ) (i m : ℕ) : Type 0 where
   within : i < length bytes
-  is : is_in range (slice_index bytes i) ≡ true
+  is_in_range : is_in range (slice_index bytes i) ≡ true
   same : take m (drop i bytes) ≡ slice_index bytes i ∷ []
 
 fits-one : (range : Range) (bytes : List ℕ) (i m : ℕ) → fits (range ∷ []) (take m (drop i bytes)) ≡ true
     → OneIn range bytes i m
 fits-one range bytes i m fit =
     let in_range = fits-in (range ∷ []) bytes i m fit in
-    record { within = in_range.0; is = in_range.1; same = one range bytes i m in_range.0 fit }
+    record { within = in_range.0; is_in_range = in_range.1; same = one range bytes i m in_range.0 fit }
   where
     one : (range : Range) (bytes : List ℕ) (i m : ℕ) → i < length bytes
         → fits (range ∷ []) (take m (drop i bytes)) ≡ true → take m (drop i bytes) ≡ slice_index bytes i ∷ []
@@ -264,7 +264,7 @@ fits-one range bytes i m fit =
         ap (take (suc m)) cut ∙ ap (λ x. slice_index bytes i ∷ x) (fits-none _ (and_parts _ _ (rw cut at fit)).1)
 
 module _ (layout : Bool) (bytes : List ℕ) (from a : ℕ) (within : from < length bytes)
-    (is : a ≡ slice_index bytes from) where
+    (byte_is : a ≡ slice_index bytes from) where
   abbrev later : ℕ → List ℕ
   later m = take m (drop (from + 1) bytes)
 
@@ -279,7 +279,7 @@ module _ (layout : Bool) (bytes : List ℕ) (from a : ℕ) (within : from < leng
   begins zero whole = absurd (false≢true whole)
   begins (suc m) whole =
       let parts : take (suc m) (drop from bytes) ≡ a ∷ later m =
-      ap (take (suc m)) (drop_more bytes from 0 within) ∙ ap (λ x. x ∷ later m) (sym is) in
+      ap (take (suc m)) (drop_more bytes from 0 within) ∙ ap (λ x. x ∷ later m) (sym byte_is) in
       record { m = m; parts = parts; well = subst (λ (x : List ℕ). is_well_formed x ≡ true) parts whole }
 
   control-ends : (scalar : ℕ) → is_control_character scalar ≡ true → (layout ≡ true → is_layout scalar ≡ false)
@@ -293,11 +293,11 @@ module _ (layout : Bool) (bytes : List ℕ) (from a : ℕ) (within : from < leng
       let none_begins = begins n whole in
       elim (cases_lt a 0x80) [
         | inl low ↦
-            let none =
+            let no_more =
             fits-none (later none_begins.m)
             (sym (tests-ascii a low (later none_begins.m)).is_whole ∙ none_begins.well) in
             let control : is_control_character a ≡ true = grind (arith, nat_tests) in
-            rw (none_begins.parts, none) (control-ends a control plain)
+            rw (none_begins.parts, no_more) (control-ends a control plain)
         | inr high ↦ elim (cases_lt a 0xc2) [
           | inl below ↦
               absurd
@@ -315,7 +315,7 @@ module _ (layout : Bool) (bytes : List ℕ) (from a : ℕ) (within : from < leng
   pub no_run-two : 0xc2 ≤ a → a < 0xe0
       → (from + 1 < length bytes → is_in continuation (slice_index bytes (from + 1)) ≡ true
       → (a ≡ 0xc2 → 0xa0 ≤ slice_index bytes (from + 1)) → ⊥) → HasNoRunAt layout bytes from
-  no_run-two low high none n far whole =
+  no_run-two low high no_sequence n far whole =
       let none_begins = begins n whole in
       -- A sequence that began here would have two bytes, of which the second is a continuation.
       let one =
@@ -324,12 +324,12 @@ module _ (layout : Bool) (bytes : List ℕ) (from a : ℕ) (within : from < leng
       let b : ℕ = slice_index bytes (from + 1) in
       let second : is_in continuation b ≡ true =
       subst (λ range. is_in range b ≡ true)
-      (second_plain a (omega arith) (omega arith) (omega arith) (omega arith)) one.is in
-      -- By `none`, the sequence isn't that of a printed character, so it is C2 and a byte below A0.
+      (second_plain a (omega arith) (omega arith) (omega arith) (omega arith)) one.is_in_range in
+      -- By `no_sequence`, the sequence isn't that of a printed character, so it is C2 and a byte below A0.
       let control : (a ≡ 0xc2) × (b < 0xa0) = elim (cases_lt b 0xa0) [
-        | inr up ↦ absurd (none one.within second (λ _. omega (arith, up)))
+        | inr up ↦ absurd (no_sequence one.within second (λ _. omega (arith, up)))
         | inl down ↦ elim (cases_lt 0xc2 a) [
-          | inl past ↦ absurd (none one.within second (λ same. absurd (omega (arith, same, past))))
+          | inl past ↦ absurd (no_sequence one.within second (λ same. absurd (omega (arith, same, past))))
           | inr first ↦ (omega (arith, first, low), down)
         ]
       ] in
@@ -343,20 +343,20 @@ module _ (layout : Bool) (bytes : List ℕ) (from a : ℕ) (within : from < leng
   pub no_run-three : 0xe0 ≤ a → a < 0xf0
       → (from + 2 < length bytes → is_in (second_range a) (slice_index bytes (from + 1)) ≡ true
       → is_in continuation (slice_index bytes (from + 2)) ≡ true → ⊥) → HasNoRunAt layout bytes from
-  no_run-three low high none n far whole =
+  no_run-three low high no_sequence n far whole =
       let none_begins = begins n whole in
       let those =
       fits-in (second_range a ∷ continuation ∷ []) bytes (from + 1) none_begins.m
       (sym (tests-three a low high (later none_begins.m)).is_whole ∙ none_begins.well) in
       let same : from + 1 + 1 ≡ from + 2 = omega arith in
-      absurd (none (rw same at those.2.0) those.1 (rw same at those.2.1))
+      absurd (no_sequence (rw same at those.2.0) those.1 (rw same at those.2.1))
 
   -- A run ends at a byte F0..F4 without a sequence of four.
   pub no_run-four : 0xf0 ≤ a → is_in (from_to 0xc2 0xf4) a ≡ true
       → (from + 3 < length bytes → is_in (second_range a) (slice_index bytes (from + 1)) ≡ true
       → is_in continuation (slice_index bytes (from + 2)) ≡ true
       → is_in continuation (slice_index bytes (from + 3)) ≡ true → ⊥) → HasNoRunAt layout bytes from
-  no_run-four low lead none n far whole =
+  no_run-four low lead no_sequence n far whole =
       let none_begins = begins n whole in
       let high : a < 0xf5 = omega (arith, (in_range-bounds (from_to 0xc2 0xf4) a lead).1) in
       let those =
@@ -364,18 +364,18 @@ module _ (layout : Bool) (bytes : List ℕ) (from a : ℕ) (within : from < leng
       (sym (tests-four a low high (later none_begins.m)).is_whole ∙ none_begins.well) in
       let same : from + 1 + 1 ≡ from + 2 = omega arith in
       let f : from + 2 + 1 ≡ from + 3 = omega arith in
-      absurd (none (rw (same, f) at those.2.2.0) those.1 (rw same at those.2.1) (rw (same, f) at those.2.2.1))
+      absurd (no_sequence (rw (same, f) at those.2.2.0) those.1 (rw same at those.2.1) (rw (same, f) at those.2.2.1))
 
   -- A run ends at a first byte that no byte follows.
   pub no_run-long : is_in (from_to 0xc2 0xf4) a ≡ true → (from + 1 < length bytes → ⊥) → HasNoRunAt layout bytes from
-  no_run-long lead none =
+  no_run-long lead no_next =
       let bounds = in_range-bounds (from_to 0xc2 0xf4) a lead in
       elim (cases_lt a 0xe0) [
-        | inl two ↦ no_run-two bounds.0 two (λ more continues plain. none more)
+        | inl two ↦ no_run-two bounds.0 two (λ more continues plain. no_next more)
         | inr rest ↦ elim (cases_lt a 0xf0) [
-          | inl three ↦ no_run-three (omega (arith, rest)) three (λ more second third. none (omega (arith, more)))
+          | inl three ↦ no_run-three (omega (arith, rest)) three (λ more second third. no_next (omega (arith, more)))
           | inr four ↦
-              no_run-four (omega (arith, four)) lead (λ more second third fourth. none (omega (arith, more)))
+              no_run-four (omega (arith, four)) lead (λ more second third fourth. no_next (omega (arith, more)))
         ]
       ]
 

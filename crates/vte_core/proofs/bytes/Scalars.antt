@@ -88,7 +88,7 @@ by_first : (first : ℕ) (rest : List ℕ) → FirstByte first → is_well_forme
 by_first first [] (ascii high) whole = whole_one first refl high
 by_first first (b ∷ rest) (ascii high) whole =
     absurd (false≢true (sym (tests-ascii first high (b ∷ rest)).is_whole ∙ whole))
-by_first first rest (lone none) whole = absurd (false≢true (sym (tests-none first none rest).is_whole ∙ whole))
+by_first first rest (lone no_row) whole = absurd (false≢true (sym (tests-none first no_row rest).is_whole ∙ whole))
 by_first first rest (of_two low high) whole =
     fit-two first rest low high (sym (tests-two first low high rest).is_whole ∙ whole)
 by_first first rest (of_three low high) whole =

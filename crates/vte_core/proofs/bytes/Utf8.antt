@@ -113,11 +113,11 @@ allowed rows b bytes = search (rules, arith)
 -- If such a test holds after bytes, a row was left before them.
 some_left : (test : List (List Range) → Bool) → test [] ≡ false → (bytes : List ℕ) (rows : List (List Range))
     → test (rows_after_bytes bytes rows) ≡ true → rows ≢ []
-some_left test nothing bytes rows is none = search (rules, arith, rows_after_bytes-none)
+some_left test nothing bytes rows holds no_row = search (rules, arith, rows_after_bytes-none)
 
 allowed_length-more : (rows : List (List Range)) (b : ℕ) (bytes : List ℕ) → rows_after_byte b rows ≢ []
     → allowed_length rows (b ∷ bytes) ≡ suc (allowed_length (rows_after_byte b rows) bytes)
-allowed_length-more rows b bytes some = search (rules, arith)
+allowed_length-more rows b bytes has_row = search (rules, arith)
 
 -- A sequence is allowed whole, and nothing after it.
 pub allowed_length-whole : (rows : List (List Range)) (bytes following : List ℕ) → AtMostOne rows
@@ -136,10 +136,10 @@ allowed_length-whole rows (b ∷ bytes) following one whole =
 pub allowed_length-broken : (rows : List (List Range)) (bytes : List ℕ) (b : ℕ) (following : List ℕ)
     → some_open (rows_after_bytes bytes rows) ≡ true
     → rows_after_byte b (rows_after_bytes bytes rows) ≡ [] → allowed_length rows (bytes ++ b ∷ following) ≡ length bytes
-allowed_length-broken rows [] b following more none = rw (none, allowed_length)
-allowed_length-broken rows (c ∷ bytes) b following more none =
+allowed_length-broken rows [] b following more no_row = rw (no_row, allowed_length)
+allowed_length-broken rows (c ∷ bytes) b following more no_row =
     allowed_length-more rows c (bytes ++ b ∷ following) (some_left some_open refl bytes _ more)
-    ∙ ap suc (allowed_length-broken (rows_after_byte c rows) bytes b following more none)
+    ∙ ap suc (allowed_length-broken (rows_after_byte c rows) bytes b following more no_row)
 
 -- A truncated sequence at the end is allowed whole.
 pub allowed_length-end : (rows : List (List Range)) (bytes : List ℕ) → some_open (rows_after_bytes bytes rows) ≡ true
@@ -238,7 +238,7 @@ tests-row first ranges same rest = search (rules, arith, some_whole-row, some_op
 
 pub tests-none : (first : ℕ) → rows_after_byte first utf8_rows ≡ [] → (rest : List ℕ) → Tests (first ∷ rest) false false
 unfolding is_well_formed is_truncated
-tests-none first none rest = search (rules, arith, rows_after_bytes-none)
+tests-none first no_row rest = search (rules, arith, rows_after_bytes-none)
 
 pub tests-ascii : (first : ℕ) → first < 0x80 → (rest : List ℕ) → Tests (first ∷ rest) (fits [] rest) false
 unfolding utf8_rows
@@ -268,7 +268,7 @@ tests-four first low high rest =
 pub truncated-first : (first : ℕ) (rest : List ℕ) → is_truncated (first ∷ rest) ≡ true → (0xc2 ≤ first) × (first < 0xf5)
 truncated-first first rest more = elim (first_byte first) [
   | ascii high ↦ absurd (false≢true (sym (tests-ascii first high rest).is_open ∙ more))
-  | lone none ↦ absurd (false≢true (sym (tests-none first none rest).is_open ∙ more))
+  | lone no_row ↦ absurd (false≢true (sym (tests-none first no_row rest).is_open ∙ more))
   | of_two low high ↦ (low, omega arith)
   | of_three low high ↦ (omega arith, omega arith)
   | of_four low high ↦ (omega arith, high)
@@ -316,7 +316,7 @@ fits_prefix-long (range ∷ ranges) (b ∷ bytes) long = and_right _ _ (fits_pre
 pub truncated-long : (first : ℕ) (rest : List ℕ) → 3 ≤ length rest → is_truncated (first ∷ rest) ≡ false
 truncated-long first rest long = elim (first_byte first) [
   | ascii high ↦ (tests-ascii first high rest).is_open
-  | lone none ↦ (tests-none first none rest).is_open
+  | lone no_row ↦ (tests-none first no_row rest).is_open
   | of_two low high ↦
       (tests-two first low high rest).is_open ∙ fits_prefix-long (second_range first ∷ []) rest (omega (arith, long))
   | of_three low high ↦

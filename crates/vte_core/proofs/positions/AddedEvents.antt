@@ -74,10 +74,10 @@ added-inside inside = recorded-is inside.progress
 -- ---- what a state reads outside of text and data, it reads so at its place
 
 outside_runs-all : (events : List Event) → AreOutsideRuns events → All IsOutsideRuns events
-outside_runs-all [] are = All-nil IsOutsideRuns
-outside_runs-all (event ∷ []) are = All-cons IsOutsideRuns event [] are (All-nil IsOutsideRuns)
-outside_runs-all (event ∷ next ∷ events) are = All-cons IsOutsideRuns event (next ∷ events) are.0
-    (outside_runs-all (next ∷ events) are.1)
+outside_runs-all [] are_outside = All-nil IsOutsideRuns
+outside_runs-all (event ∷ []) are_outside = All-cons IsOutsideRuns event [] are_outside (All-nil IsOutsideRuns)
+outside_runs-all (event ∷ next ∷ events) are_outside = All-cons IsOutsideRuns event (next ∷ events) are_outside.0
+    (outside_runs-all (next ∷ events) are_outside.1)
 
 pub outside_runs-place : {B : Type 0} (limit : Option ℕ) (state : State) (parser : Machine B) (place : Place) (b : ℕ)
     → IsOutsideRunsInState state b → IsPlaceOfState limit state parser place → IsOutsideRunsAtPlace place b
@@ -106,8 +106,8 @@ module _ {limit : Option ℕ} {stream bytes : List ℕ} {i : ℕ} where
       → i < length bytes → b ≡ slice_index bytes i
       → IsAfter limit (resumed_stream stream bytes i) place → BytesLead limit place (b ∷ []) these next → IsPlace next
       → All IsOutsideRuns these → AddsOutsideRuns limit stream bytes i (i + 1)
-  adds-reads {b} {place} {next} {these} within is is_after reads is_place are =
-      let one = one_byte bytes i b within is in
+  adds-reads {b} {place} {next} {these} within byte_is is_after reads is_place are_outside =
+      let one = one_byte bytes i b within byte_is in
       let before : List Event = reported_before limit stream bytes i in
       let all : added limit stream (take (i + 1) bytes) ≡ before ++ these =
       stretch-added limit stream bytes i (i + 1) (omega arith)
@@ -118,7 +118,7 @@ module _ {limit : Option ℕ} {stream bytes : List ℕ} {i : ℕ} where
         | inl broken ↦ record {
           events = these ++ Print replacement ∷ [];
           events_are =
-              All-append IsOutsideRuns these (Print replacement ∷ []) are
+              All-append IsOutsideRuns these (Print replacement ∷ []) are_outside
               (All-cons IsOutsideRuns (Print replacement) [] refl (All-nil IsOutsideRuns));
           parts =
               reported-broken limit stream bytes (i + 1) broken
@@ -127,7 +127,7 @@ module _ {limit : Option ℕ} {stream bytes : List ℕ} {i : ℕ} where
         }
         | inr whole ↦ record {
           events = these;
-          events_are = are;
+          events_are = are_outside;
           parts = reported-settled limit stream bytes (i + 1) whole
               ∙ all;
         }
@@ -136,16 +136,16 @@ module _ {limit : Option ℕ} {stream bytes : List ℕ} {i : ℕ} where
   pub adds-outside_runs : {b : ℕ} {place : Place} → i < length bytes
       → b ≡ slice_index bytes i → IsAfter limit (resumed_stream stream bytes i) place
       → IsPlace place → IsOutsideRunsAtPlace place b → AddsOutsideRuns limit stream bytes i (i + 1)
-  adds-outside_runs {b} {place} within is is_after is_place outside =
+  adds-outside_runs {b} {place} within byte_is is_after is_place outside =
       let step = steps is_place in
-      adds-reads within is is_after step.reads step.is_place
+      adds-reads within byte_is is_after step.reads step.is_place
       (outside_runs-all step.reported (step.outside_runs outside))
 
   -- If the first byte of a character reported nothing, what is added from it on are the events of the character.
   pub adds-character : {begun : List ℕ} {j : ℕ} (adds : AddsCharacter limit stream begun bytes (i + 1) j)
       → reported_before limit stream bytes i ≡ added limit stream (take (i + 1) bytes) → All IsOutsideRuns adds.events
       → AddsOutsideRuns limit stream bytes i j
-  adds-character adds silent are = search (rules, arith)
+  adds-character adds silent are_outside = search (rules, arith)
 
 -- ---- before a run
 
@@ -156,19 +156,20 @@ AllAfterFirst events = All IsOutsideRuns (drop 1 events)
 
 after_first-append : (reported events : List Event) → AllAfterFirst reported → All IsOutsideRuns events
     → AllAfterFirst (reported ++ events)
-after_first-append [] events first are = All-drop IsOutsideRuns 1 events are
-after_first-append (event ∷ reported) events first are = All-append IsOutsideRuns reported events first are
+after_first-append [] events first are_outside = All-drop IsOutsideRuns 1 events are_outside
+after_first-append (event ∷ reported) events first are_outside =
+    All-append IsOutsideRuns reported events first are_outside
 
 -- At the start of a call, nothing is reported.
 pub reports-nothing : {B : Type 0} {limit : Option ℕ} {stream bytes : List ℕ} {parser : Machine B}
     → IsSettled parser.state → HasReadWithLimit limit parser stream → ReportsOutsideRuns limit stream bytes 0
 reports-nothing {limit} {stream} {bytes} settled has_read =
-    let none : [] ≡ reported_before limit stream bytes 0 =
+    let nothing : [] ≡ reported_before limit stream bytes 0 =
     reported-at (starts-at {call = keeping limit bytes} settled has_read) in
     record {
-      outside_runs = λ _. subst (All IsOutsideRuns) none (All-nil IsOutsideRuns);
-      after_first = subst AllAfterFirst none (All-nil IsOutsideRuns);
-      no_ascii = subst (All PrintsNoAscii) none (All-nil PrintsNoAscii);
+      outside_runs = λ _. subst (All IsOutsideRuns) nothing (All-nil IsOutsideRuns);
+      after_first = subst AllAfterFirst nothing (All-nil IsOutsideRuns);
+      no_ascii = subst (All PrintsNoAscii) nothing (All-nil PrintsNoAscii);
     }
 
 -- Of a character that was open before the call, all events but the first are outside runs, and none prints ASCII.
@@ -178,7 +179,7 @@ reports-open {limit} {stream} {bytes} {j} adds opened =
     let all : reported_before limit stream bytes j ≡ adds.events =
     adds.parts ∙ ap (λ (events : List Event). events ++ adds.events) (added-nothing limit stream) in
     record {
-      outside_runs = λ none. absurd (opened none);
+      outside_runs = λ closed. absurd (opened closed);
       after_first = subst AllAfterFirst (sym all) (elim adds.events_are [
         | inl others ↦ All-drop IsOutsideRuns 1 adds.events others
         | inr whole ↦ subst AllAfterFirst (sym whole.event_is) (All-nil IsOutsideRuns)
@@ -196,9 +197,9 @@ pub reports-more : {limit : Option ℕ} {stream bytes : List ℕ} {i j : ℕ} �
     → AddsOutsideRuns limit stream bytes i j → ReportsOutsideRuns limit stream bytes j
 reports-more {limit} {stream} {bytes} {i} reports adds = record {
   outside_runs =
-      λ none.
+      λ closed.
       subst (All IsOutsideRuns) (sym adds.parts)
-      (All-append IsOutsideRuns (reported_before limit stream bytes i) adds.events (reports.outside_runs none)
+      (All-append IsOutsideRuns (reported_before limit stream bytes i) adds.events (reports.outside_runs closed)
       adds.events_are);
   after_first =
       subst AllAfterFirst (sym adds.parts)

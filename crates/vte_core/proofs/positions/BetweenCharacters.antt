@@ -130,9 +130,10 @@ adds-single : {B : Type 0} {limit : Option ℕ} {stream bytes : List ℕ} {i b :
     → b ≡ slice_index bytes i
     → IsAtPlace limit parser place
     → IsAfter limit (resumed_stream stream bytes i) place → AddsOutsideRuns limit stream bytes i (i + 1)
-adds-single {limit} {stream} {bytes} {i} {b} {place} parser begun is_no_escape other no_lead within is is_at after =
+adds-single {limit} {stream} {bytes} {i} {b} {place}
+    parser begun is_no_escape other no_lead within byte_is is_at after =
     let one = byte-single limit b is_no_escape other no_lead in
-    adds-reads within is
+    adds-reads within byte_is
     (subst (IsAfter limit (resumed_stream stream bytes i)) (place-settled_text begun is_at) after)
     one.reads refl one.events_are
 

@@ -38,12 +38,12 @@ text-by_place limit parser fields = search (rules, arith)
 
 -- An unfinished character isn't empty.
 pub unfinished-some : (first : ℕ) (rest : List ℕ) → first ∷ rest ≢ []
-unfinished-some first rest none = cc
+unfinished-some first rest empty = cc
 
 truncated-some : (opened : List ℕ) → is_truncated opened ≡ true → opened ≢ []
 unfolding is_truncated
-truncated-some [] more none = cc
-truncated-some (x ∷ opened) more none = cc
+truncated-some [] more empty = cc
+truncated-some (b ∷ opened) more empty = cc
 
 module _ {V B : Type 0} {call : ChunkCall V} {old mid : V} {stream : List ℕ} where
   inside-open : {i : ℕ} {unfinished : Unfinished} {parser : Machine B} → parser.state ≡ Text unfinished
@@ -56,7 +56,7 @@ module _ {V B : Type 0} {call : ChunkCall V} {old mid : V} {stream : List ℕ} w
       → next.state ≡ Text longer
       → IsInsidePosition call old mid stream i parser → i < length call.bytes → b ≡ slice_index call.bytes i
       → IsInsidePosition call old mid stream (i + 1) next
-  carried-more {i} {b} {unfinished} {longer} {parser} {next} begun opened carries state inside within is =
+  carried-more {i} {b} {unfinished} {longer} {parser} {next} begun opened carries state inside within byte_is =
       let at_text = text-by_place call.limit parser (is_at-in begun inside.is_at) in
       let more : is_truncated (bytes_of unfinished ++ b ∷ []) ≡ true =
       subst (λ x. is_truncated x ≡ true) carries.0 carries.1 in
@@ -66,7 +66,7 @@ module _ {V B : Type 0} {call : ChunkCall V} {old mid : V} {stream : List ℕ} w
             is_at-in_text state carries.0
             (may_continue-truncated (bytes_of unfinished ++ b ∷ []) more);
         progress =
-            progress-carried {these = []} at_text.begun within is (truncated-some (bytes_of unfinished) opened)
+            progress-carried {these = []} at_text.begun within byte_is (truncated-some (bytes_of unfinished) opened)
             (breaks-unfinished (bytes_of unfinished) b more)
             (bytes_lead-byte
             (carried_is_no_escape (bytes_of unfinished) b opened (inr more))
@@ -83,11 +83,11 @@ module _ {V B : Type 0} {call : ChunkCall V} {old mid : V} {stream : List ℕ} w
       → i < length call.bytes
       → b ≡ slice_index call.bytes i → j ≡ i + 1 → IsAtPosition call old new stream j next
   carried-whole {new} {i} {b} {unfinished} {parser}
-      {next} begun opened carries state performed inside within is later =
+      {next} begun opened carries state performed inside within byte_is later =
       let at_text = text-by_place call.limit parser (is_at-in begun inside.is_at) in
       let come =
       progress-carried {new = new} {next = InText []}
-      {these = character_event (scalar_of (bytes_of unfinished ++ b ∷ [])) ∷ []} at_text.begun within is
+      {these = character_event (scalar_of (bytes_of unfinished ++ b ∷ [])) ∷ []} at_text.begun within byte_is
       (truncated-some (bytes_of unfinished) opened)
       (breaks-well_formed (bytes_of unfinished) b carries.0)
       (bytes_lead-byte
@@ -108,14 +108,14 @@ module _ {V B : Type 0} {call : ChunkCall V} {old mid : V} {stream : List ℕ} w
       → is_truncated (bytes_of unfinished) ≡ true → Carries (bytes_of unfinished) b Broken → next.state ≡ Text Nothing
       → new ≡ call.step mid (Print replacement) → IsInsidePosition call old mid stream i parser → i < length call.bytes
       → b ≡ slice_index call.bytes i → IsAtPosition call old new stream i next
-  carried-broken {i} {b} {unfinished} {parser} {next} begun opened carries state performed inside within is =
+  carried-broken {i} {b} {unfinished} {parser} {next} begun opened carries state performed inside within byte_is =
       let at_text = text-by_place call.limit parser (is_at-in begun inside.is_at) in
       record {
         place = InText [];
         is_at = is_at-in_text state refl refl;
         settled = λ _. refl;
         progress =
-            progress-broken at_text.begun within is
+            progress-broken at_text.begun within byte_is
             (breaks-broken (bytes_of unfinished) b opened carries.0 carries.1) performed
             (subst (ProgressInside call old mid stream i) at_text.same inside.progress);
       }
@@ -124,7 +124,7 @@ module _ {V B : Type 0} {call : ChunkCall V} {old mid : V} {stream : List ℕ} w
 pub opens-text : {B : Type 0} {limit : Option ℕ} {stream : List ℕ} {unfinished : Unfinished} (parser : Machine B)
     → parser.state ≡ Text unfinished → bytes_of unfinished ≢ [] → HasReadWithLimit limit parser stream
     → open_character stream ≡ [] → ⊥
-opens-text {limit} {stream} {unfinished} parser begun some has_read none =
+opens-text {limit} {stream} {unfinished} parser begun has_begun has_read closed =
     search (rules, arith, text-by_place, is_at-in, after-open_character, is_at-place)
 
 -- ---- any number of bytes
@@ -133,14 +133,14 @@ opens-text {limit} {stream} {unfinished} parser begun some has_read none =
 character-bytes : (bytes : List ℕ) (i j n m : ℕ) (begun : List ℕ) {opened : List ℕ} → j ≡ i + n
     → opened ≡ begun ++ take n (drop i bytes)
     → opened ++ take m (drop j bytes) ≡ begun ++ take (n + m) (drop i bytes)
-character-bytes bytes i j n m begun far are = search (rules, arith, append_assoc, drop-drop, take-add)
+character-bytes bytes i j n m begun far bytes_are = search (rules, arith, append_assoc, drop-drop, take-add)
 
 character-byte : (bytes : List ℕ) (i n : ℕ) (begun : List ℕ) {j b : ℕ} {opened : List ℕ} → j < length bytes → j ≡ i + n
     → b ≡ slice_index bytes j → opened ≡ begun ++ take n (drop i bytes)
     → opened ++ b ∷ [] ≡ begun ++ take (n + 1) (drop i bytes)
-character-byte bytes i n begun {j} {opened} within far is are =
-    ap (λ (x : List ℕ). opened ++ x) (ap (λ (x : ℕ). x ∷ []) is ∙ sym (ap (take 1) (drop_more bytes j 0 within)))
-    ∙ character-bytes bytes i j n 1 begun far are
+character-byte bytes i n begun {j} {opened} within far byte_is bytes_are =
+    ap (λ (x : List ℕ). opened ++ x) (ap (λ (x : ℕ). x ∷ []) byte_is ∙ sym (ap (take 1) (drop_more bytes j 0 within)))
+    ∙ character-bytes bytes i j n 1 begun far bytes_are
 
 -- From position i, inside a character of the bytes `begun`, a call has come to position j, inside a character of the
 -- bytes `unfinished`, and reported nothing.
@@ -163,24 +163,24 @@ pub record GoesOn {V B : Type 0} (call : ChunkCall V) (value : V) (i j : ℕ) (b
 
 module _ {V B : Type 0} {call : ChunkCall V} {value : V} {i : ℕ} {begun : Unfinished} where
   pub goes-nowhere : (next : Machine B) → bytes_of begun ≢ [] → GoesOn call value i i begun begun next
-  goes-nowhere next some = search (rules, arith)
+  goes-nowhere next has_begun = search (rules, arith)
 
   pub goes-more : {j b : ℕ} {unfinished longer : Unfinished} {parser next : Machine B}
       → GoesOn call value i j begun unfinished parser
       → (is_truncated (bytes_of unfinished) ≡ true → Carries (bytes_of unfinished) b (StillUnfinished longer))
       → j < length call.bytes
       → b ≡ slice_index call.bytes j → GoesOn call value i (j + 1) begun longer next
-  goes-more goes carries within is = record {
+  goes-more goes carries within byte_is = record {
     inside = λ old stream parser is_text inside. let more = goes.more (inside-open is_text inside) in
-        carried-more refl more (carries more) refl (goes.inside old stream parser is_text inside) within is;
+        carried-more refl more (carries more) refl (goes.inside old stream parser is_text inside) within byte_is;
     kept = λ stream parser is_text inside. let more = goes.more (inside-open is_text inside) in
-        carried-more refl more (carries more) refl (goes.kept stream parser is_text inside) within is;
+        carried-more refl more (carries more) refl (goes.kept stream parser is_text inside) within byte_is;
     more = λ opened. (carries (goes.more opened)).1;
     n = goes.n + 1;
     far = omega (arith, goes.far);
     bytes_are =
         λ opened. (carries (goes.more opened)).0
-        ∙ character-byte call.bytes i goes.n (bytes_of begun) within goes.far is (goes.bytes_are opened);
+        ∙ character-byte call.bytes i goes.n (bytes_of begun) within goes.far byte_is (goes.bytes_are opened);
   }
 
   -- If all bytes are read, the character stays open.
@@ -208,22 +208,23 @@ module _ {V B : Type 0} {call : ChunkCall V} {value : V} {i : ℕ} {begun : Unfi
       → (is_truncated (bytes_of unfinished) ≡ true → Carries (bytes_of unfinished) b (Whole scalar))
       → next.state ≡ Text Nothing → new ≡ call.step value (character_event scalar) → j < length call.bytes
       → b ≡ slice_index call.bytes j → k ≡ j + 1 → Completes call value new i k begun next
-  completes-whole {scalar} {unfinished} {next} goes carries state performed within is later = record {
+  completes-whole {scalar} {unfinished} {next} goes carries state performed within byte_is later = record {
     is_at_position = λ old stream parser is_text inside. let more = goes.more (inside-open is_text inside) in
         carried-whole refl more (carries more) state performed
-        (goes.inside old stream parser is_text inside) within is later;
+        (goes.inside old stream parser is_text inside) within byte_is later;
     text = λ _. state;
     adds = λ old stream parser is_text inside.
         let opened = inside-open is_text inside in
         let more = goes.more opened in
         let whole = carries more in
-        let same = character-byte call.bytes i goes.n (bytes_of begun) within goes.far is (goes.bytes_are opened) in
+        let same =
+        character-byte call.bytes i goes.n (bytes_of begun) within goes.far byte_is (goes.bytes_are opened) in
         record {
           events = character_event scalar ∷ [];
           parts =
               sym (reported-at
               (carried-whole {next = next} refl more whole state refl
-              (goes.kept stream parser is_text (recorded-inside inside)) within is later));
+              (goes.kept stream parser is_text (recorded-inside inside)) within byte_is later));
           events_are = inr (record {
             n = goes.n + 1;
             in_bytes = omega (arith, goes.far, within);
@@ -242,10 +243,10 @@ module _ {V B : Type 0} {call : ChunkCall V} {value : V} {i : ℕ} {begun : Unfi
       → (is_truncated (bytes_of unfinished) ≡ true → Carries (bytes_of unfinished) b Broken)
       → next.state ≡ Text Nothing → new ≡ call.step value (Print replacement) → j < length call.bytes
       → b ≡ slice_index call.bytes j → Completes call value new i j begun next
-  completes-broken {next} goes carries state performed within is = record {
+  completes-broken {next} goes carries state performed within byte_is = record {
     is_at_position = λ old stream parser is_text inside. let more = goes.more (inside-open is_text inside) in
         carried-broken refl more (carries more) state performed
-        (goes.inside old stream parser is_text inside) within is;
+        (goes.inside old stream parser is_text inside) within byte_is;
     text = λ _. state;
     adds = λ old stream parser is_text inside.
         let more = goes.more (inside-open is_text inside) in
@@ -254,7 +255,7 @@ module _ {V B : Type 0} {call : ChunkCall V} {value : V} {i : ℕ} {begun : Unfi
           parts =
               sym (reported-at
               (carried-broken {next = next} refl more (carries more) state refl
-              (goes.kept stream parser is_text (recorded-inside inside)) within is));
+              (goes.kept stream parser is_text (recorded-inside inside)) within byte_is));
           events_are = inl (All-cons IsOutsideRuns (Print replacement) [] refl (All-nil IsOutsideRuns));
         };
   }
@@ -294,21 +295,23 @@ module _ {V B : Type 0} {call : ChunkCall V} {value : V} {i : ℕ} {begun : Unfi
         };
   }
 
-module _ {V B : Type 0} {call : ChunkCall V} {value : V} {i x y : ℕ} where
+module _ {V B : Type 0} {call : ChunkCall V} {value : V} {i first second : ℕ} where
   -- A character of three or four bytes goes on with its second byte.
-  pub goes-second : (next : Machine B) → 0xe0 ≤ x → is_in (second_range x) y ≡ true → i < length call.bytes
-      → y ≡ slice_index call.bytes i → GoesOn call value i (i + 1) (One x) (Two x y) next
-  goes-second next low second within is =
-      goes-more (goes-nowhere next (unfinished-some x [])) (λ more. second-open x y more second low) within is
+  pub goes-second : (next : Machine B) → 0xe0 ≤ first → is_in (second_range first) second ≡ true → i < length call.bytes
+      → second ≡ slice_index call.bytes i → GoesOn call value i (i + 1) (One first) (Two first second) next
+  goes-second next low fits within second_is =
+      goes-more (goes-nowhere next (unfinished-some first [])) (λ more. second-open first second more fits low) within
+      second_is
 
   -- A character of four bytes goes on with its second and its third byte.
-  pub goes-third : {z : ℕ} (next : Machine B) → 0xf0 ≤ x → is_in (second_range x) y ≡ true
-      → is_in (from_to 0x80 0xbf) z ≡ true → i + 2 < length call.bytes → y ≡ slice_index call.bytes i
-      → z ≡ slice_index call.bytes (i + 1) → GoesOn call value i (i + 2) (One x) (Three x y z) next
-  goes-third {z} next low second third within is is_third =
+  pub goes-third : {third : ℕ} (next : Machine B) → 0xf0 ≤ first → is_in (second_range first) second ≡ true
+      → is_in (from_to 0x80 0xbf) third ≡ true → i + 2 < length call.bytes → second ≡ slice_index call.bytes i
+      → third ≡ slice_index call.bytes (i + 1)
+      → GoesOn call value i (i + 2) (One first) (Three first second third) next
+  goes-third {third} next low second_fits third_fits within second_is third_is =
       let goes =
-      goes-more {next = next} (goes-second next (omega arith) second (omega arith) is)
-      (λ more. third-open x y z more third low) (omega arith) is_third in
+      goes-more {next = next} (goes-second next (omega arith) second_fits (omega arith) second_is)
+      (λ more. third-open first second third more third_fits low) (omega arith) third_is in
       record {
         inside =
             λ old stream parser is_text inside. inside-moved (omega arith)

@@ -23,7 +23,7 @@ use Rattle.vte_core.proofs.positions.Progress.{call_ends-performs, call_ends-rea
 pub costs-added : {rate n : ℕ} {Answer B : Type 0} {bytes : List ℕ} {result : Result Answer Refused}
     {parser next : Machine B} {before after earlier later : ℕ} → before ≡ 0 → later ≡ earlier + after
     → Costs rate bytes result n parser next before after → Costs rate bytes result n parser next earlier later
-costs-added {result} {earlier} none sum costs = search (rules, arith)
+costs-added {result} {earlier} no_looks sum costs = search (rules, arith)
 
 -- ---- with any limit, if no memory is refused
 
@@ -96,7 +96,7 @@ module _ {A V : Type 0} {step : V → Event → V} {is_terminated : V → Bool} 
       → ReadsLong 5 step (λ _. false) old new bytes parser next (Err refused) (λ (_ : Unit {0}). ReadsBytes step)
   advance-refused refused refuses costs = record {
     reads = tt;
-    refuses = is_refused (λ _. false) refuses costs (λ stream h start before starts. refl) refl;
+    refuses = is_refused (λ _. false) refuses costs (λ stream has_read start before starts. refl) refl;
     memory = costs.memory;
     stores = stores_pieces next.machine;
   }

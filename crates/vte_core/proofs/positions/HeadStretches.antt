@@ -47,18 +47,18 @@ pub reads_head-byte : {bytes : List ℕ} {i b : ℕ} {progress next : HeadProgre
     → b ≡ slice_index bytes i → is_head_byte (class_of b) ≡ true
     → ((head : List ℕ) → HasReadHead old progress head → HasReadHead new next (head ++ b ∷ []))
     → ReadsHead bytes i (i + 1) progress next old new
-reads_head-byte {bytes} {i} {b} within at is leads = search (rules, arith, one_byte)
+reads_head-byte {bytes} {i} {b} within byte_is is_head leads = search (rules, arith, one_byte)
 
 -- If no byte follows, the case for `None` holds.
 pub match-none : {A : Type 0} (B : ℕ → Type 0) (next : Option ℕ) → ((b : ℕ) → next ≡ Some b → ⊥) → MatchOption next A B
     → A
-match-none B None none all = all
-match-none B (Some b) none all = absurd (none b refl)
+match-none B None no_byte all = all
+match-none B (Some b) no_byte all = absurd (no_byte b refl)
 
 -- ---- a parameter byte, and the part of the head that it leads to
 
 pub progress_after-none : (reached : HeadProgress) {from to : ℕ} → from ≡ to → progress_after reached from to ≡ reached
-progress_after-none reached {from} {to} is = search (rules, arith)
+progress_after-none reached {from} {to} same = search (rules, arith)
 
 pub progress_after-more : (reached : HeadProgress) (from to : ℕ) → from < to
     → progress_after reached from to ≡ Parameters
@@ -75,11 +75,11 @@ pub reads_head-parameter : {bytes : List ℕ} {from i b : ℕ} {reached : HeadPr
     → ((text : List ℕ) → CountsNumbers old text → CountsNumbers new (text ++ b ∷ []))
     → ReadsHead bytes from i reached (progress_after reached from i) first old
     → ReadsHead bytes from (i + 1) reached (progress_after reached from (i + 1)) first new
-reads_head-parameter {from} {i} {b} {reached} {old} {new} may within at is keeps counts before =
+reads_head-parameter {from} {i} {b} {reached} {old} {new} may within byte_is is_parameter keeps counts before =
     rw (progress_after-more reached from (i + 1) (omega (arith, before.low)))
-    (reads_head-then before (reads_head-byte within at (parameter_is_head (class_of b) is)
+    (reads_head-then before (reads_head-byte within byte_is (parameter_is_head (class_of b) is_parameter)
     (λ head has_read.
-    holds-parameter head b (progress_after-may reached from i may) has_read is keeps counts)))
+    holds-parameter head b (progress_after-may reached from i may) has_read is_parameter keeps counts)))
 
 -- ---- the shapes that have a head
 
@@ -117,8 +117,8 @@ head-is_at shape progress head begun has_read = search (rules, arith)
 
 head-leads : (shape : Shape) {limit : Option ℕ} (head : List ℕ) {b : ℕ} → is_head_byte (class_of b) ≡ true
     → Leads limit (in_head shape head) b [] (in_head shape (head ++ b ∷ []))
-head-leads ControlHead head is = control-head is
-head-leads DeviceHead head is = device-head is
+head-leads ControlHead head is_head = control-head is_head
+head-leads DeviceHead head is_head = device-head is_head
 
 head-is_place : (shape : Shape) (head : List ℕ) → IsPlace (in_head shape head)
 head-is_place ControlHead head = tt
@@ -206,10 +206,11 @@ module _ {V : Type 0} {call : ChunkCall V} where
       → IsSettledPlace place
       → TakesBytes call.step old new call.limit place (b ∷ []) next) → IsSettled next.state
       → Advances outside call old new i (j + 1) parser next
-  advances-past_head {B} {progress} {parser} {held} shape begun reads at may_go_on performs settled =
+  advances-past_head {B} {progress} {parser} {held} shape begun reads next_byte may_go_on performs settled =
       let head : Machine B = record { state = state_of shape progress; collected = held; command = parser.command } in
       advances-then (advances-head {next = head} shape begun reads may_go_on refl)
-      (advances-given (head-outside_runs shape progress _) (advances-byte at.0 at.1 may_go_on performs settled))
+      (advances-given (head-outside_runs shape progress _)
+      (advances-byte next_byte.0 next_byte.1 may_go_on performs settled))
 
 -- For a byte of a head other than CAN, SUB and ESC, it is enough to say what it does after each such head.
 pub takes_bytes-head : {V B : Type 0} {step : V → Event → V} {old new : V} {limit : Option ℕ} {b : ℕ}
@@ -233,9 +234,9 @@ pub advances-control_sequence : {V B outside : Type 0} {call : ChunkCall V} {old
     → ((head : List ℕ) → HasReadHead held progress head
     → TakesByte call.step old new call.limit (InControlSequence head) b next)
     → IsSettled next.state → k ≡ j + 1 → Advances outside call old new i k parser next
-advances-control_sequence {progress} begun reads at may_go_on final takes settled end =
+advances-control_sequence {progress} begun reads next_byte may_go_on final takes settled end =
     advances-to_same (sym end)
-    (advances-past_head ControlHead begun reads at may_go_on
+    (advances-past_head ControlHead begun reads next_byte may_go_on
     (takes_bytes-head ControlHead progress refl (final_ends_nothing _ final) takes) settled)
 
 -- The same holds if the head is read up to its end (`ReadsHeadUpTo`), and the final byte is there.
@@ -246,5 +247,5 @@ pub advances-final_byte : {V B outside : Type 0} {call : ChunkCall V} {old new :
     → ((head : List ℕ) → HasReadHead held end.progress head
     → TakesByte call.step old new call.limit (InControlSequence head) b next)
     → IsSettled next.state → k ≡ end.position + 1 → Advances outside call old new i k parser next
-advances-final_byte may_read reads is =
-    advances-control_sequence may_read.begun reads.head (rw is at reads.next) may_read.may_go_on
+advances-final_byte may_read reads next_is =
+    advances-control_sequence may_read.begun reads.head (rw next_is at reads.next) may_read.may_go_on

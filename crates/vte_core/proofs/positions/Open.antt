@@ -45,9 +45,9 @@ probe-gives {limit} {stream} {place} {next} {b} {reported} probe is_after leads 
 probe-in_character : {limit : Option ℕ} {stream opened : List ℕ} {b : ℕ}
     → IsProbe b → is_truncated opened ≡ true → IsAfter limit stream (InText opened)
     → added limit stream (b ∷ []) ≡ Print replacement ∷ events_from limit (InText []) (b ∷ [])
-probe-in_character {limit} {opened} {b} probe is is_after =
-    let tests = ascii-breaks opened b is probe.high in
-    let broken = text_outcome-broken opened b is tests.is_whole tests.is_open in
+probe-in_character {limit} {opened} {b} probe truncated is_after =
+    let tests = ascii-breaks opened b truncated probe.high in
+    let broken = text_outcome-broken opened b truncated tests.is_whole tests.is_open in
     added-after (b ∷ []) is_after
     ∙ ap (λ o. o.reported)
     (waits-byte limit (InText opened) (InText []) b (Print replacement ∷ []) [] probe.other broken)
@@ -56,21 +56,21 @@ probe-in_character {limit} {opened} {b} probe is is_after =
 probe-not_alone : {limit : Option ℕ} {stream : List ℕ} {place : Place} {b : ℕ}
     → IsProbe b → IsPlace place → IsAfter limit stream place → place ≢ InText []
     → added limit stream (b ∷ []) ≢ Print b ∷ []
-probe-not_alone {place = InText []} probe is is_after other = absurd (other refl)
-probe-not_alone {place = InText (c ∷ u)} {b} probe is is_after other = search (rules, arith, probe-in_character)
-probe-not_alone {place = AtEscape} probe is is_after other = λ alone.
+probe-not_alone {place = InText []} probe is_place is_after other = absurd (other refl)
+probe-not_alone {place = InText (c ∷ u)} {b} probe is_place is_after other = search (rules, arith, probe-in_character)
+probe-not_alone {place = AtEscape} probe is_place is_after other = λ alone.
     let same = sym alone ∙ probe-gives probe is_after (escape-end probe.class refl probe.key) refl in cc
-probe-not_alone {place = InEscape ints} probe is is_after other = λ alone.
+probe-not_alone {place = InEscape ints} probe is_place is_after other = λ alone.
     let same = sym alone ∙ probe-gives probe is_after (intermediate-end probe.class refl) refl in cc
-probe-not_alone {place = InControlSequence head} probe is is_after other = λ alone.
+probe-not_alone {place = InControlSequence head} probe is_place is_after other = λ alone.
     let same = sym alone ∙ probe-gives probe is_after (control-head (rw probe.class refl)) tt in cc
-probe-not_alone {place = InDeviceControl head} probe is is_after other = λ alone.
+probe-not_alone {place = InDeviceControl head} probe is_place is_after other = λ alone.
     let same = sym alone ∙ probe-gives probe is_after (device-head (rw probe.class refl)) tt in cc
-probe-not_alone {place = InDeviceData} probe is is_after other = λ alone.
+probe-not_alone {place = InDeviceData} probe is_place is_after other = λ alone.
     let same = sym alone ∙ probe-gives probe is_after (data-put (rw probe.class refl)) tt in cc
-probe-not_alone {place = InSystemCommand items} probe is is_after other = λ alone.
+probe-not_alone {place = InSystemCommand items} probe is_place is_after other = λ alone.
     let same = sym alone ∙ probe-gives probe is_after (command-item probe.low) tt in cc
-probe-not_alone {place = InIgnoredString} probe is is_after other = λ alone.
+probe-not_alone {place = InIgnoredString} probe is_place is_after other = λ alone.
     let same = sym alone ∙ probe-gives probe is_after (ignored-more (rw probe.class refl)) tt in cc
 
 -- ---- what is open in the state is open at the place, and at the end of the stream
@@ -109,7 +109,7 @@ closed_is_finished {limit} {stream} parser nothing has_read =
 
 pub open_is_unfinished : {B : Type 0} {limit : Option ℕ} {stream : List ℕ} {parser : Machine B}
     → open_in parser.state ≢ kind.Nothing → HasReadWithLimit limit parser stream → IsUnfinished limit stream
-open_is_unfinished {limit} {parser} some has_read =
+open_is_unfinished {limit} {parser} opened has_read =
     search (rules, arith, probe-not_alone, probe-zero, is_at-place, state-settled)
 
 -- ---- memory is refused only at a data byte of an open command

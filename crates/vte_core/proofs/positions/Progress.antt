@@ -52,10 +52,10 @@ settled-outside _ no_text = tt
 
 -- A const parameter that is a `bool` is a number in proofs.
 pub may_stop-some : (n : ℕ) → (n ≡ 0 → ⊥) → not (eqb n 0) ≡ true
-may_stop-some n some = grind (arith, nat_tests)
+may_stop-some n nonzero = grind (arith, nat_tests)
 
 pub may_stop-none : {n : ℕ} → n ≡ 0 → not (eqb n 0) ≡ true → ⊥
-may_stop-none none is = let same : not (eqb 0 0) ≡ true = rw none at is in cc
+may_stop-none is_zero stops = let same : not (eqb 0 0) ≡ true = rw is_zero at stops in cc
 
 -- A call that may not stop reads all bytes.
 pub all_read-unless_asked : (n size : ℕ) → n ≤ size → (n < size → false ≡ true) → n ≡ size
@@ -72,7 +72,7 @@ stretch-ends bytes i j further =
 -- If unread bytes break a character, so does each of their prefixes that isn't empty.
 breaks-prefix : (opened unread : List ℕ) (n : ℕ) → 0 < n → breaks opened unread ≡ true
     → breaks opened (take n unread) ≡ true
-breaks-prefix opened unread n some broken = search (rules, arith)
+breaks-prefix opened unread n nonempty broken = search (rules, arith)
 
 module _ (limit : Option ℕ) (stream bytes : List ℕ) (i j : ℕ) (further : i < j) where
   abbrev here : List ℕ
@@ -114,10 +114,10 @@ module _ {V : Type 0} {call : ChunkCall V} {old : V} {stream : List ℕ} where
 
   pub progress-settled : {value : V} {i : ℕ} {place : Place} → IsPlace place → IsSettledPlace place
       → ProgressInside call old value stream i place → ProgressAt call old value stream i place
-  progress-settled {i} {place} is between progress =
+  progress-settled {i} {place} is_place between progress =
       progress-whole
       (breaks_at-settled stream call.bytes i
-      (after-open_character progress.is_after is
+      (after-open_character progress.is_after is_place
       ∙ open_at-settled place between)) progress
 
   progress-all : {value : V} {i : ℕ} {place : Place} → length call.bytes ≤ i
@@ -129,7 +129,7 @@ module _ {V : Type 0} {call : ChunkCall V} {old : V} {stream : List ℕ} where
       → b ≡ slice_index call.bytes i → breaks (open_at place) (b ∷ []) ≡ true
       → new ≡ call.step value (Print replacement) → ProgressInside call old value stream i place
       → ProgressAt call old new stream i (InText [])
-  progress-broken {i} {b} {place} is_place within is broken performed progress =
+  progress-broken {i} {b} {place} is_place within byte_is broken performed progress =
       search (
         rules,
         arith,
@@ -180,9 +180,9 @@ module _ {V : Type 0} {call : ChunkCall V} {old : V} {stream : List ℕ} where
       → (call.may_stop ≡ true → IsStart stream call.bytes i → call.is_terminated value ≡ false)
       → BytesLead call.limit place (b ∷ []) these next → new ≡ after call.step value these → IsPlace next
       → ProgressAt call old value stream i place → ProgressInside call old new stream (i + 1) next
-  progress-one {i} {b} {place} {next} {these} within is here reads =
-      let one = one_byte call.bytes i b within is in
-      progress-further (omega arith) (omega (arith, within)) here
+  progress-one {i} {b} {place} {next} {these} within byte_is goes_on reads =
+      let one = one_byte call.bytes i b within byte_is in
+      progress-further (omega arith) (omega (arith, within)) goes_on
       (λ does k past below. absurd (omega (arith, past, below)))
       (subst (λ x. BytesLead call.limit place x these next) (sym one) reads)
 
@@ -191,8 +191,8 @@ module _ {V : Type 0} {call : ChunkCall V} {old : V} {stream : List ℕ} where
       → b ≡ slice_index call.bytes i → MayGoOn call value → BytesLead call.limit place (b ∷ []) these next
       → new ≡ after call.step value these → IsPlace next → ProgressAt call old value stream i place
       → ProgressInside call old new stream (i + 1) next
-  progress-byte within is may_go_on reads performed is_place progress =
-      progress-one within is (λ does _. may_go_on does) reads performed is_place progress
+  progress-byte within byte_is may_go_on reads performed is_place progress =
+      progress-one within byte_is (λ does _. may_go_on does) reads performed is_place progress
 
   -- A byte of an open character makes progress inside it.
   pub progress-carried : {value new : V} {i b : ℕ} {place next : Place} {these : List Event} → IsPlace place
@@ -200,13 +200,13 @@ module _ {V : Type 0} {call : ChunkCall V} {old : V} {stream : List ℕ} where
       → breaks (open_at place) (b ∷ []) ≡ false → BytesLead call.limit place (b ∷ []) these next
       → new ≡ after call.step value these → IsPlace next → ProgressInside call old value stream i place
       → ProgressInside call old new stream (i + 1) next
-  progress-carried {i} {b} {place} is_here within is some whole reads performed is_place progress =
+  progress-carried {i} {b} {place} is_here within byte_is has_begun whole reads performed is_place progress =
       let ends : open_character (stream ++ take i call.bytes) ≡ open_at place =
       after-open_character progress.is_after is_here in
-      progress-one within is
-      (λ _ start. absurd (no_start within is ends some whole start)) reads
+      progress-one within byte_is
+      (λ _ start. absurd (no_start within byte_is ends has_begun whole start)) reads
       performed is_place
-      (progress-whole (breaks_at-byte stream call.bytes i within is ends ∙ whole) progress)
+      (progress-whole (breaks_at-byte stream call.bytes i within byte_is ends ∙ whole) progress)
 
   -- Data bytes of a command make progress if the performer may go on before the first.
   pub progress-items : {value : V} {i : ℕ} (n : ℕ) (items : List ℕ) → i + n ≤ length call.bytes
@@ -258,7 +258,7 @@ module _ {V : Type 0} {call : ChunkCall V} {old : V} {stream : List ℕ} where
 
   progress-starts : {value : V} {i : ℕ} {place : Place} → IsPlace place → IsSettledPlace place → i < length call.bytes
       → ProgressAt call old value stream i place → IsStart stream call.bytes i
-  progress-starts {i} {place} is between within progress =
+  progress-starts {i} {place} is_place between within progress =
       search (
         rules,
         arith,

@@ -19,20 +19,20 @@ use Rattle.vte_core.proofs.streams.StreamSteps.{reported_by_stream}
 bytes_lead-characters : {limit : Option ℕ} {text : List ℕ} → IsUtf8 text → All (λ b. b ≢ escape) text
     → BytesLead limit (InText []) text (map character_event (chars text)) (InText [])
 unfolding outcome_from
-bytes_lead-characters {limit} {text} is none = record {
+bytes_lead-characters {limit} {text} is_utf8 no_escapes = record {
   reads = λ more.
       let cut = cut_at_escape more in
-      ap (λ c. with_bodies limit (text_outcome c.text) c.bodies) (cut-text text more none)
-      ∙ ap (λ x. with_bodies limit (text_outcome (x ++ cut.text)) cut.bodies) (sym (encodes-chars text is))
+      ap (λ c. with_bodies limit (text_outcome c.text) c.bodies) (cut-text text more no_escapes)
+      ∙ ap (λ x. with_bodies limit (text_outcome (x ++ cut.text)) cut.bodies) (sym (encodes-chars text is_utf8))
       ∙ ap (λ part. with_bodies limit part cut.bodies)
-      (text_outcome-encodes (chars text) cut.text (scalars-chars text is))
+      (text_outcome-encodes (chars text) cut.text (scalars-chars text is_utf8))
       ∙ with_bodies-report limit (map character_event (chars text)) (text_outcome cut.text) cut.bodies;
 }
 
 pub reported_as_characters : (limit : Option ℕ) (text : List ℕ) → IsUtf8 text → All (λ b. b ≢ escape) text
     → events limit text ≡ map character_event (chars text)
-reported_as_characters limit text is none =
-    reported_by_stream refl (bytes_lead-characters is none)
+reported_as_characters limit text is_utf8 no_escapes =
+    reported_by_stream refl (bytes_lead-characters is_utf8 no_escapes)
 
 plain-event : (layout : Bool) (scalar : ℕ) → StaysInRun layout scalar → character_event scalar ≡ run_event layout scalar
 unfolding character_event
@@ -62,14 +62,14 @@ no_escape-encodes layout (c ∷ characters) plain =
     (no_escape-encodes layout characters (All-tail (StaysInRun layout) c characters plain))
 
 no_escape-run : (layout : Bool) (run : List ℕ) → IsUtf8Run layout run → All (λ b. b ≢ escape) run
-no_escape-run layout run are =
-    subst (All (λ b. b ≢ escape)) (encodes-chars run are.utf8) (no_escape-encodes layout (chars run) are.plain)
+no_escape-run layout run is_run =
+    subst (All (λ b. b ≢ escape)) (encodes-chars run is_run.utf8) (no_escape-encodes layout (chars run) is_run.plain)
 
 pub bytes_lead-text : {limit : Option ℕ} {layout : Bool} {run : List ℕ} → IsUtf8Run layout run
     → BytesLead limit (InText []) run (map (run_event layout) (chars run)) (InText [])
-bytes_lead-text {limit} {layout} {run} are =
-    subst (λ events. BytesLead limit (InText []) run events (InText [])) (plain-events layout (chars run) are.plain)
-    (bytes_lead-characters are.utf8 (no_escape-run layout run are))
+bytes_lead-text {limit} {layout} {run} is_run =
+    subst (λ events. BytesLead limit (InText []) run events (InText [])) (plain-events layout (chars run) is_run.plain)
+    (bytes_lead-characters is_run.utf8 (no_escape-run layout run is_run))
 
 -- ---- a run of one byte of ASCII
 
@@ -77,12 +77,12 @@ pub prints-one : {V : Type 0} {layout : Bool} {step : V → Event → V} {old ne
     → from < length bytes → b ≡ slice_index bytes from → IsPrintedAscii b → scalar ≡ b
     → new ≡ step old (Print scalar) → PrintsRun layout step old new bytes from (from + 1)
 prints-one {layout} {step} {old} {bytes} {from}
-    {b} within is printed same performed = record {
+    {b} within byte_is printed same performed = record {
       run = run-ascii layout bytes from (from + 1)
-          (each-one IsPrintedAscii bytes from (subst IsPrintedAscii is printed));
+          (each-one IsPrintedAscii bytes from (subst IsPrintedAscii byte_is printed));
       printed = performed ∙ ap (λ x. step old (Print x)) same
           ∙ ap (λ event. step old event) (sym (run_event-printed layout b printed))
-          ∙ ap (λ cs. after step old (map (run_event layout) cs)) (sym (chars-one bytes from b within is printed));
+          ∙ ap (λ cs. after step old (map (run_event layout) cs)) (sym (chars-one bytes from b within byte_is printed));
     }
 
 -- ---- a performer that no character stops
@@ -96,10 +96,10 @@ module _ {V : Type 0} (layout : Bool) (call : ChunkCall V)
       → call.is_terminated value ≡ false → call.is_terminated (after call.step value given) ≡ false
   not_stopped value [] rest characters same goes = goes
   not_stopped value (event ∷ given) rest [] same goes = cc
-  not_stopped value (x ∷ given) rest (c ∷ characters) same goes =
-      let first : x ≡ run_event layout c = cc in
+  not_stopped value (event ∷ given) rest (c ∷ characters) same goes =
+      let first : event ≡ run_event layout c = cc in
       let others : given ++ rest ≡ map (run_event layout) characters = cc in
-      not_stopped (call.step value x) given rest characters others
+      not_stopped (call.step value event) given rest characters others
       (ap (λ event. call.is_terminated (call.step value event)) first ∙ never value c goes)
 
   -- The U+FFFD of a broken character doesn't stop the performer either.

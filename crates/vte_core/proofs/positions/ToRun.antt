@@ -40,11 +40,11 @@ settled-text {unfinished} is_text settled = search (rules, arith)
 -- A run has bytes that lead from the parser's place to the same place.
 has-run : {B : Type 0} {limit : Option ℕ} {bytes : List ℕ} {range : RunRange} {parser : Machine B} {here : Place}
     → IsPlace here
-    → ((at : Place) → IsAtPlace limit parser at → at ≡ here)
+    → ((place : Place) → IsAtPlace limit parser place → place ≡ here)
     → BytesLead limit here (bytes_at bytes range) (kind_events range.kind (bytes_at bytes range)) here
     → IsRange bytes range.start range.end → AreOfKind range.kind (bytes_at bytes range)
     → IsWholeAt bytes range range.kind → HasRun limit bytes range parser
-has-run {limit} {bytes} {range} {parser} {here} is only reads is_range kind whole =
+has-run {limit} {bytes} {range} {parser} {here} is_place only reads is_range kind whole =
     search (rules, arith, added-reads, after-reads)
 
 -- The text from one position to another is a run.
@@ -52,10 +52,10 @@ pub has-text : {B : Type 0} {limit : Option ℕ} {bytes : List ℕ} {from end : 
     → parser.state ≡ Text Nothing → from < end → end ≤ length bytes
     → IsRun false bytes from end → HasNoRunAt false bytes end
     → HasRun limit bytes (record { start = from; end = end; kind = TextKind }) parser
-has-text {limit} {bytes} {from} {end} {parser} between low high are ended =
+has-text {limit} {bytes} {from} {end} {parser} between low high is_run ended =
     has-run refl (λ place is_at. place-settled_text between is_at)
-    (bytes_lead-text are)
-    (record { in_order = omega (arith, low); within = high }) are (low, ended)
+    (bytes_lead-text is_run)
+    (record { in_order = omega (arith, low); within = high }) is_run (low, ended)
 
 -- ---- a run of data leads from the data of a hooked string back there
 
@@ -67,27 +67,27 @@ data-by_place limit parser _ fields = absurd fields
 
 bytes_lead-data : {limit : Option ℕ} (bytes : List ℕ) (n i : ℕ) → i + n ≤ length bytes → ArePut bytes i (i + n)
     → BytesLead limit InDeviceData (take n (drop i bytes)) (map Put (take n (drop i bytes))) InDeviceData
-bytes_lead-data bytes zero i within are = bytes_lead-nothing
-bytes_lead-data {limit} bytes (suc n) i within are =
+bytes_lead-data bytes zero i within are_put = bytes_lead-nothing
+bytes_lead-data {limit} bytes (suc n) i within are_put =
     let b : ℕ = slice_index bytes i in
     let here : i < length bytes = omega (arith, within) in
-    let put = are i (omega arith) (omega arith) in
+    let put = are_put i (omega arith) (omega arith) in
     let rest : List ℕ = take n (drop (i + 1) bytes) in
     rw (drop_more bytes i 0 here)
     (bytes_lead-append
     (bytes_lead-byte (no_escape b (data_ends_nothing (class_of b) put))
     (data-put put))
     (bytes_lead-data bytes n (i + 1) (omega (arith, within))
-    (λ k low high. are k (omega (arith, low)) (omega (arith, high)))))
+    (λ k low high. are_put k (omega (arith, low)) (omega (arith, high)))))
 
 pub has-data : {B : Type 0} {limit : Option ℕ} {bytes : List ℕ} {from end : ℕ} {parser : Machine B}
     → parser.state ≡ DeviceData → from < end → end ≤ length bytes
     → ArePut bytes from end → (end < length bytes → IsDeviceData (slice_index bytes end) → ⊥)
     → HasRun limit bytes (record { start = from; end = end; kind = DataKind }) parser
-has-data {limit} {bytes} {from} {end} {parser} begun low high are ended =
+has-data {limit} {bytes} {from} {end} {parser} begun low high are_put ended =
     has-run tt (λ place is_at. data-by_place limit parser place (is_at-in begun is_at))
     (bytes_lead-data bytes (end - from) from (omega (arith, low, high))
-    (λ k above below. are k above (omega (arith, low, below))))
+    (λ k above below. are_put k above (omega (arith, low, below))))
     (record { in_order = omega (arith, low); within = high }) tt (low, ended)
 
 -- ---- nothing open
@@ -106,7 +106,7 @@ module _ {V B : Type 0} {call : ChunkCall V} {old new : V} {range : RunRange} {b
       → ((stream : List ℕ) → HasReadWithLimit call.limit before stream
       → IsAtPosition call old new stream range.start parser)
       → ComesToRun call old new range before parser
-  comes-to_run has some goes is_at = search (rules, arith)
+  comes-to_run has nonempty goes is_at = search (rules, arith)
 
   -- A call that finds no run ends at its position.
   pub comes-nowhere : {from : ℕ} → from ≤ length call.bytes → range.start ≡ from → range.end ≡ from
@@ -118,7 +118,7 @@ module _ {V B : Type 0} {call : ChunkCall V} {old new : V} {range : RunRange} {b
     is_at_position =
         λ stream has_read. subst (λ n. IsAtPosition call old new stream n parser) (sym starts)
         (is_at stream has_read);
-    may_go_on = λ some. absurd (omega (arith, some, starts, ends));
+    may_go_on = λ nonempty. absurd (omega (arith, nonempty, starts, ends));
     stops = λ _ left. stops (omega (arith, starts, left));
   }
 
@@ -126,7 +126,7 @@ module _ {V B : Type 0} {call : ChunkCall V} {old new : V} {range : RunRange} {b
 
 -- What is taken is what is there.
 record TakesRun (bytes : List ℕ) (end : ℕ) (these : List ℕ) (kind : RunKind) (taken : Taken) : Type 0 where
-  are : taken_bytes taken ≡ these
+  bytes_are : taken_bytes taken ≡ these
   events : taken_events taken ≡ kind_events kind these
   whole : IsLongestRun bytes end taken
 
@@ -135,7 +135,7 @@ takes-by_kind : (bytes : List ℕ) (range : RunRange) (kind : RunKind) (taken : 
     → AreOfKind kind (bytes_at bytes range)
     → length (bytes_at bytes range) ≡ range.end - range.start → IsWholeAt bytes range kind
     → TakesRun bytes range.end (bytes_at bytes range) kind taken
-takes-by_kind bytes range kind taken same are size whole = search (rules, arith)
+takes-by_kind bytes range kind taken same of_kind size whole = search (rules, arith)
 
 run-size : (bytes : List ℕ) (range : RunRange) → IsRange bytes range.start range.end
     → length (bytes_at bytes range) ≡ range.end - range.start
@@ -144,8 +144,8 @@ run-size bytes range is_range = search (rules, arith, length-take, length-drop)
 takes-run : {B : Type 0} {limit : Option ℕ} {bytes : List ℕ} {range : RunRange} {parser : Machine B} (taken : Taken)
     → HasRun limit bytes range parser
     → IsTaken range.kind (bytes_at bytes range) taken → TakesRun bytes range.end (bytes_at bytes range) range.kind taken
-takes-run {bytes} {range} taken has is =
-    takes-by_kind bytes range range.kind taken is has.kind (run-size bytes range has.is_range) has.whole
+takes-run {bytes} {range} taken has is_taken =
+    takes-by_kind bytes range range.kind taken is_taken has.kind (run-size bytes range has.is_range) has.whole
 
 is_run-in : {B : Type 0} {limit : Option ℕ} {bytes : List ℕ} {run : Run} {range : RunRange} {parser : Machine B}
     → HasRun limit bytes range parser → run.start ≡ range.start
@@ -169,14 +169,14 @@ module _ {V B : Type 0} {call : ChunkCall V} {old new : V} (run : Run) {range : 
             (come.is_at_position stream has_read));
         adds =
             λ stream has_read.
-            rw (starts, these.are, these.events)
+            rw (starts, these.bytes_are, these.events)
             (come.has.adds _ (call_ends-reads (come.is_at_position stream has_read)));
-        may_go_on = λ some. come.may_go_on (omega (arith, some, starts, ends));
-        stops = λ none left. come.stops (omega (arith, none, starts, ends)) (omega (arith, left, starts));
+        may_go_on = λ nonempty. come.may_go_on (omega (arith, nonempty, starts, ends));
+        stops = λ empty left. come.stops (omega (arith, empty, starts, ends)) (omega (arith, left, starts));
       }
 
   pub reads-run : (stream : List ℕ) → HasReadWithLimit call.limit before stream
       → HasReadWithLimit call.limit parser (resumed_stream stream call.bytes run.start ++ run_bytes run)
   reads-run stream has_read =
-      rw (starts, (takes-run run.taken come.has taken).are)
+      rw (starts, (takes-run run.taken come.has taken).bytes_are)
       (come.has.reads _ (call_ends-reads (come.is_at_position stream has_read)))

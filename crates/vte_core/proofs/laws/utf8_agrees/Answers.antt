@@ -4,4 +4,8 @@ use Rattle.vte_core.proofs.laws.utf8_agrees.Goals as goal
 
 pub returns-clause-character : goal.returns-clause-character
 returns-clause-character c =
-    λ character is. record { well_formed = encoded_is_well_formed character is; same = scalar_of-encoded character is }
+    λ character is_scalar.
+    record {
+      well_formed = encoded_is_well_formed character is_scalar;
+      same = scalar_of-encoded character is_scalar;
+    }

@@ -6,12 +6,12 @@ use Rattle.vte_core.proofs.store.are_piece_ends.Goals as goal
 pub returns-then-is_sorted : goal.returns-then-is_sorted
 returns-then-is_sorted c =
     let sorted = rw c.if-is_sorted.true at (non_decreasing_from_is_sorted _ _ c.is_sorted.ensures.cases) in
-    (λ is. (sorted, search rules), λ h. search rules)
+    (λ passes. (sorted, search rules), λ are_ends. search rules)
 
 pub returns-else-is_sorted : goal.returns-else-is_sorted
 returns-else-is_sorted c =
     let unsorted = rw c.if-is_sorted.false at (non_decreasing_from_is_sorted _ _ c.is_sorted.ensures.cases) in (
-      λ is. absurd (search rules),
-      λ h.
-          absurd (omega (arith, h.0 unsorted.0 (unsorted.0 + 1) 0 (omega arith) unsorted.1, unsorted.2 0)),
+      λ passes. absurd (search rules),
+      λ are_ends.
+          absurd (omega (arith, are_ends.0 unsorted.0 (unsorted.0 + 1) 0 (omega arith) unsorted.1, unsorted.2 0)),
     )

@@ -9,8 +9,8 @@ returns-in-Some-clause-counts c = search (rules, arith, counts-digit)
 -- A byte of the parameters that is no digit is a separator.
 left_is_separator : (separator parameter : Bool) → (separator ≡ false → parameter ≡ false) → parameter ≡ true
     → separator ≡ true
-left_is_separator true parameter other is = refl
-left_is_separator false parameter other is = let not = other refl in cc
+left_is_separator true parameter other is_parameter = refl
+left_is_separator false parameter other is_parameter = let unmet = other refl in cc
 
 pub returns-in_default-clause-counts : goal.returns-in_default-clause-counts
 returns-in_default-clause-counts c = λ text k.

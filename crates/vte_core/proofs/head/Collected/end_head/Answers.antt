@@ -5,12 +5,12 @@ use Rattle.vte_core.proofs.head.Collected.end_head.Goals as goal
 
 pub returns-then-self : goal.returns-then-self
 returns-then-self c =
-    λ progress head h.
+    λ progress head has_read.
     head-ready _ c.settle_number-too_many_numbers.ensures.settles
-    c.settle_number-too_many_numbers.ensures.same h (rw c.if-self.true refl)
+    c.settle_number-too_many_numbers.ensures.same has_read (rw c.if-self.true refl)
 
 pub returns-else-self : goal.returns-else-self
 returns-else-self c =
-    λ progress head h.
+    λ progress head has_read.
     head-ready _ c.settle_number-too_many_numbers.ensures.settles
-    c.settle_number-too_many_numbers.ensures.same h (rw c.if-self.false refl)
+    c.settle_number-too_many_numbers.ensures.same has_read (rw c.if-self.false refl)

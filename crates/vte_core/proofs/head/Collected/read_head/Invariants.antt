@@ -6,7 +6,7 @@ abbrev pub invariant-loop-position : goal.invariant-loop-position
 invariant-loop-position l = record {
   reads : ReadsHead l.input.bytes.now l.from l.position l.fn.reached l.progress l.initial.self l.self;
   count : looked l.reader + l.from ≡ looked l.initial.reader + l.position;
-  none : l.next ≡ None;
+  no_next : l.next ≡ None;
 }
 
 abbrev pub decreases-loop-position : goal.decreases-loop-position

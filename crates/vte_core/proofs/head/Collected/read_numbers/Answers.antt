@@ -20,30 +20,31 @@ loop-position-preserved c =
       reads = elim c.match-digit_of.branch [
         -- The byte is a digit.
         | in-Some w ↦
-            let is = rw w.in-Some.is at c.digit_of.ensures in
+            let digit = rw w.in-Some.is at c.digit_of.ensures in
             rw (w.self-is, w.number-is)
-            (reads_head-parameter c.requires.may_have_parameters (omega arith) c.byte_at-byte.ensures.value is.3
+            (reads_head-parameter c.requires.may_have_parameters (omega arith) c.byte_at-byte.ensures.value digit.3
             (record { intermediates = refl; too_many_intermediates = refl })
             (λ text k.
-            counts-digit c.byte_at-byte.result k is.0 is.1 refl refl
-            (omega (arith, w.min-number.ensures, is.2))) v.reads)
+            counts-digit c.byte_at-byte.result k digit.0 digit.1 refl refl
+            (omega (arith, w.min-number.ensures, digit.2))) v.reads)
         -- The byte is a separator.
         | in_default+then-several+then-byte-eq59 w ↦
             let settled = w.settle_number.ensures in
-            let is : c.byte_at-byte.result ≡ 59 = w.if-byte-eq59.true in
+            let is_semicolon : c.byte_at-byte.result ≡ 59 = w.if-byte-eq59.true in
             let alone = settled.joined ∙ v.joined ∙ c.requires.alone w.if-several.true in
             rw (w.self-is, w.number-is)
-            (reads_head-parameter c.requires.may_have_parameters (omega arith) c.byte_at-byte.ensures.value (rw is refl)
+            (reads_head-parameter c.requires.may_have_parameters (omega arith) c.byte_at-byte.ensures.value
+            (rw is_semicolon refl)
             (record {
               intermediates = settled.same.intermediates;
               too_many_intermediates =
                   settled.same.too_many_intermediates;
             })
             (λ text k. counts-separator c.byte_at-byte.result k (settled.settles text k)
-            (rw is refl) refl (alone ∙ rw is refl) refl) v.reads)
+            (rw is_semicolon refl) refl (alone ∙ rw is_semicolon refl) refl) v.reads)
       ];
       count = omega arith;
-      none = v.none;
+      no_next = v.no_next;
       small = search rules;
       joined = elim c.match-digit_of.branch [
         | in-Some w ↦ rw w.self-is v.joined

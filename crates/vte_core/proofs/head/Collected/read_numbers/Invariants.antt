@@ -9,7 +9,7 @@ invariant-loop-position l = record {
   reads : ReadsHead l.input.bytes.now l.from l.position l.reached
       (progress_after l.reached l.from l.position) l.initial.self (with_open_number l.self l.number);
   count : looked l.reader + l.from ≡ looked l.initial.reader + l.position;
-  none : l.next ≡ None;
+  no_next : l.next ≡ None;
   small : l.number ≤ greatest_number;
   joined : l.self.joined ≡ l.initial.self.joined;
 }

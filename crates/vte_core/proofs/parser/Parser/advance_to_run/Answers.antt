@@ -11,7 +11,7 @@ returns g c =
     record {
       returns = returns-run _ comes t.start t.end t.taken refl;
       reads = reads-run c.take_run.result comes t.start t.end t.taken;
-      outside_runs = λ stream h. rw t.start (rw c.new.ensures at d.outside_runs stream h);
+      outside_runs = λ stream has_read. rw t.start (rw c.new.ensures at d.outside_runs stream has_read);
       count = search rules;
       at_least = search rules;
     }

@@ -8,7 +8,7 @@ returns-in-Ok g c =
     let costs = costs-added c.into_reader-reader.ensures.looks c.add.ensures (rw c.in-Ok.is at d.costs) in
     rw (← c.into_reader-reader.ensures.bytes) (record {
       comes = rw c.in-Ok.is at d.comes;
-      outside_runs = λ stream h. rw c.in-Ok.is at d.outside_runs stream h;
+      outside_runs = λ stream has_read. rw c.in-Ok.is at d.outside_runs stream has_read;
       count = costs.count_if_ok;
       at_least = costs.at_least;
     })

@@ -8,7 +8,7 @@ abbrev pub invariant-loop-end : goal.invariant-loop-end
 invariant-loop-end l = record {
   low : l.from ≤ l.end;
   high : l.end ≤ length l.input.bytes.now;
-  are : Each IsCommandData l.input.bytes.now l.from l.end;
+  are_data : Each IsCommandData l.input.bytes.now l.from l.end;
 }
 
 abbrev pub decreases-loop-end : goal.decreases-loop-end

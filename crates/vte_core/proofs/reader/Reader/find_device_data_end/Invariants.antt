@@ -6,7 +6,7 @@ abbrev pub invariant-loop-end : goal.invariant-loop-end
 invariant-loop-end l = record {
   low : l.from ≤ l.end;
   high : l.end ≤ length l.input.bytes.now;
-  are : ArePut l.input.bytes.now l.from l.end;
+  are_put : ArePut l.input.bytes.now l.from l.end;
 }
 
 abbrev pub decreases-loop-end : goal.decreases-loop-end

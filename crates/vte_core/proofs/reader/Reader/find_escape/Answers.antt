@@ -4,8 +4,8 @@ use Rattle.vte_core.proofs.reader.Reader.find_escape.Goals as goal
 
 rest-byte : (bytes : List ℕ) (from i k : ℕ) → from + i ≡ k
     → get_or (take (length bytes - from) (drop from bytes)) i 0 ≡ get_or bytes k 0
-rest-byte bytes from i k is =
-    ap (λ rest. get_or rest i 0) (take_rest bytes from) ∙ get_or-drop from bytes i 0 ∙ ap (λ k. get_or bytes k 0) is
+rest-byte bytes from i k place =
+    ap (λ rest. get_or rest i 0) (take_rest bytes from) ∙ get_or-drop from bytes i 0 ∙ ap (λ k. get_or bytes k 0) place
 
 pub returns-in-Some : goal.returns-in-Some
 returns-in-Some c =
@@ -13,9 +13,10 @@ returns-in-Some c =
     record {
       low = omega arith;
       high = search rules;
-      passed = λ k low high is.
+      passed = λ k low high is_escape.
           let no = first.0.before (k - c.args.from) (omega arith) (omega (arith, low, high)) in
-          let there = rest-byte c.args.input.bytes.now c.args.from (k - c.args.from) k (omega (arith, low)) ∙ is in
+          let is_there =
+          rest-byte c.args.input.bytes.now c.args.from (k - c.args.from) k (omega (arith, low)) ∙ is_escape in
           grind (arith, nat_tests);
       ended =
           λ within no.
@@ -27,9 +28,10 @@ pub returns-in-None : goal.returns-in-None
 returns-in-None c = record {
   low = omega (arith, c.requires);
   high = search rules;
-  passed = λ k low high is.
+  passed = λ k low high is_escape.
       let no = c.in-None.ensures (k - c.args.from) (omega arith) (omega (arith, low, high)) in
-      let there = rest-byte c.args.input.bytes.now c.args.from (k - c.args.from) k (omega (arith, low)) ∙ is in
+      let is_there =
+      rest-byte c.args.input.bytes.now c.args.from (k - c.args.from) k (omega (arith, low)) ∙ is_escape in
       grind (arith, nat_tests);
   ended = λ within no. omega (arith, within);
   count = search rules;

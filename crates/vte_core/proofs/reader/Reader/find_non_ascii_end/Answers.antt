@@ -45,24 +45,24 @@ returns-then-is_continuation-3-clause-run c =
 
 -- A byte that begins no longer character and is not kept: it is no run.
 pub returns-then-not-is_lead-clause-ended : goal.returns-then-not-is_lead-clause-ended
-returns-then-not-is_lead-clause-ended c none = search (rules, arith, no_run-single)
+returns-then-not-is_lead-clause-ended c no_run = search (rules, arith, no_run-single)
 
 -- The bytes end after the first one, the second or the third: too few for the character.
 pub returns-in_err-second-clause-ended : goal.returns-in_err-second-clause-ended
-returns-in_err-second-clause-ended c none = search (rules, arith, no_run-long)
+returns-in_err-second-clause-ended c no_run = search (rules, arith, no_run-long)
 
 pub returns-in_err-get_byte-clause-ended : goal.returns-in_err-get_byte-clause-ended
-returns-in_err-get_byte-clause-ended c none = search (rules, arith, no_run-three)
+returns-in_err-get_byte-clause-ended c no_run = search (rules, arith, no_run-three)
 
 pub returns-in_err-get_byte-2-clause-ended : goal.returns-in_err-get_byte-2-clause-ended
-returns-in_err-get_byte-2-clause-ended c none = search (rules, arith, no_run-four)
+returns-in_err-get_byte-2-clause-ended c no_run = search (rules, arith, no_run-four)
 
 pub returns-in_err-get_byte-3-clause-ended : goal.returns-in_err-get_byte-3-clause-ended
-returns-in_err-get_byte-3-clause-ended c none = search (rules, arith, no_run-four)
+returns-in_err-get_byte-3-clause-ended c no_run = search (rules, arith, no_run-four)
 
 -- A second byte that does not continue the first one, or gives a control of C1.
 pub returns-else-is_printed_pair-clause-ended : goal.returns-else-is_printed_pair-clause-ended
-returns-else-is_printed_pair-clause-ended c none =
+returns-else-is_printed_pair-clause-ended c no_run =
     let lead = in_range-bounds (from_to 0xc2 0xf4) c.args.first (sym c.is_lead.ensures ∙ c.if-not-is_lead.false) in
     let second = c.in_ok-second.ensures.1 in
     no_run-two c.args.layout _ c.args.from c.args.first c.requires.within c.requires.looked_at lead.0
@@ -75,8 +75,8 @@ returns-else-is_printed_pair-clause-ended c none =
 
 -- Of three bytes, the third doesn't continue the character, or the second doesn't fit the first.
 pub returns-else-may_begin_three-clause-ended : goal.returns-else-may_begin_three-clause-ended
-returns-else-may_begin_three-clause-ended c none = search (rules, arith, no_run-three)
+returns-else-may_begin_three-clause-ended c no_run = search (rules, arith, no_run-three)
 
 -- Of four bytes, the fourth or third doesn't continue the character, or the second doesn't fit the first.
 pub returns-else-may_begin_four-clause-ended : goal.returns-else-may_begin_four-clause-ended
-returns-else-may_begin_four-clause-ended c none = search (rules, arith, no_run-four, fourth-misfits)
+returns-else-may_begin_four-clause-ended c no_run = search (rules, arith, no_run-four, fourth-misfits)

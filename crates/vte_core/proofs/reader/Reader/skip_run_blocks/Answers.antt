@@ -26,21 +26,21 @@ loop-window-preserved c =
       leads =
           trails-block c.args.layout c.args.input.bytes.now c.in-Some.window c.args.from c.loop-window.at early v.low
           window fits v.leads 16 (omega arith);
-      kept = λ none.
+      kept = λ no_layout.
           above-block c.args.layout c.args.input.bytes.now c.in-Some.window c.args.from c.loop-window.at early v.low
-          window fits none (v.kept none);
+          window fits no_layout (v.kept no_layout);
       whole = λ _. omega (arith, v.low);
       at_least = omega (arith, v.at_least, count);
-      none = λ e. absurd (omega (arith, e, v.low));
+      no_looks = λ unmoved. absurd (omega (arith, unmoved, v.low));
       spare = λ _. elim (cases_lt c.args.from c.loop-window.at) [
         | inl past ↦ omega (arith, v.spare past, count)
-        | inr here ↦ omega (arith, here, v.none (omega (arith, here, v.low)), v.low, count)
+        | inr here ↦ omega (arith, here, v.no_looks (omega (arith, here, v.low)), v.low, count)
       ];
       at_most = elim c.if-is_ascii.branch [
         | then-is_ascii w ↦ omega (arith, w.plain-is, v.at_most)
         | else-is_ascii w ↦ omega (arith, w.plain-is)
       ];
-      early = λ e. absurd (omega (arith, e, v.low));
+      early = λ unmoved. absurd (omega (arith, unmoved, v.low));
     }
 
 pub loop-window-preserved-then-plain-most : goal.loop-window-preserved-then-plain-most
@@ -72,8 +72,8 @@ loop-window-preserved-then-plain-most c =
           (trails-block c.args.layout c.args.input.bytes.now c.in-Some.window c.args.from c.loop-window.at early v.low
           window fits v.leads 16 (omega arith)) ascii.closed ascii.plain;
       -- Without layout, larger blocks are never tried, as `most` is then out of reach.
-      kept = λ none. elim c.if-layout.branch [
-        | then-layout w ↦ absurd (false≢true (sym none ∙ w.if-layout.true))
+      kept = λ no_layout. elim c.if-layout.branch [
+        | then-layout w ↦ absurd (false≢true (sym no_layout ∙ w.if-layout.true))
         | else-layout w ↦ elim c.if-is_ascii.branch [
           | then-is_ascii a ↦
               absurd
@@ -91,7 +91,7 @@ loop-window-preserved-then-plain-most c =
       ];
       whole = λ _. omega (arith, v.low, ascii.low);
       at_least = omega (arith, v.at_least, count, ascii.at_least);
-      none = λ e. absurd (omega (arith, e, v.low, ascii.low));
+      no_looks = λ unmoved. absurd (omega (arith, unmoved, v.low, ascii.low));
       spare = λ _. omega (arith, v.spare past, count, ascii.count, ascii.low);
       at_most = omega arith;
       early = λ _. omega arith;
@@ -120,25 +120,25 @@ returns-clause-scans c =
     let v = c.loop-window.invariant in
     let bytes = c.args.input.bytes.now in
     let text = drop c.args.from bytes in
-    let at = c.loop-window.at in
+    let end = c.loop-window.at in
     -- At least one block was read.
-    let whole : c.args.from + 16 ≤ at = v.whole (omega (arith, v.low, c.if-at-from.false)) in
+    let whole : c.args.from + 16 ≤ end = v.whole (omega (arith, v.low, c.if-at-from.false)) in
     -- The bytes before those that are still open are a run that may have layout.
     let last =
-    run-before-open bytes c.args.from at (omega (arith, whole)) v.high v.leads c.count_open_bytes-2.result
+    run-before-open bytes c.args.from end (omega (arith, whole)) v.high v.leads c.count_open_bytes-2.result
     c.count_open_bytes-2.ensures.value in
     -- If layout isn't kept, no byte of the blocks is below 20.
-    let kept : c.args.layout ≡ false → Each (λ byte. 0x20 ≤ byte) text 0 (at - c.args.from) =
-    λ none k _ low.
+    let kept : c.args.layout ≡ false → Each (λ byte. 0x20 ≤ byte) text 0 (end - c.args.from) =
+    λ no_layout k _ low.
     subst (λ byte. 0x20 ≤ byte) (sym (get_or-drop c.args.from bytes k 0))
-    (v.kept none (c.args.from + k) (omega arith) (omega (arith, low))) in
+    (v.kept no_layout (c.args.from + k) (omega arith) (omega (arith, low))) in
     let at_least : looked c.loop-window.self ≤ looked c.get_window.new.self = search rules in
     -- So the bytes before those that are open are a run, whether layout is kept or not (`run-kept`).
     record {
       low = omega (arith, whole, last.0);
       high = omega (arith, v.high);
       passed =
-          run-kept c.args.layout text (at - c.args.from) (at - c.count_open_bytes-2.result - c.args.from) kept
+          run-kept c.args.layout text (end - c.args.from) (end - c.count_open_bytes-2.result - c.args.from) kept
           (omega (arith, whole, last.0)) last.1;
       at_least = omega (
         arith,

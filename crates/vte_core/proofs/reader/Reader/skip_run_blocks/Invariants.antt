@@ -1,6 +1,6 @@
 -- The bytes so far lead to a state that the last three of them say (`leads`), and have no control that is left out
 -- (`kept`). Blocks have 16 bytes or more (`whole`), each of which was looked at (`at_least`), none before the first
--- block (`none`), and what they save pays for a wasted one (`spare`). Blocks of ASCII are counted without overflow
+-- block (`no_looks`), and what they save pays for a wasted one (`spare`). Blocks of ASCII are counted without overflow
 -- (`at_most`), and the larger ones aren't the first (`early`).
 use Rattle.vte_core.proofs.Common.{false, length, ◌*◌, ◌+◌, ◌-◌, ◌≡◌, ◌≤◌, ◌<◌, looked}
 use Rattle.vte_core.specs.private.Scans.{Each}
@@ -15,7 +15,7 @@ invariant-loop-window l = record {
   kept : l.layout ≡ false → Each (λ byte. 0x20 ≤ byte) l.input.bytes.now l.from l.at;
   whole : l.from < l.at → l.from + 16 ≤ l.at;
   at_least : looked l.initial.self + l.at ≤ looked l.self + l.from;
-  none : l.at ≡ l.from → looked l.self ≡ looked l.initial.self;
+  no_looks : l.at ≡ l.from → looked l.self ≡ looked l.initial.self;
   spare : l.from < l.at → 3 * looked l.self + 11 * l.from + 110 ≤ 3 * looked l.initial.self + 11 * l.at;
   at_most : l.ascii_blocks ≤ l.at;
   early : l.at ≡ l.from → l.ascii_blocks ≤ 2;

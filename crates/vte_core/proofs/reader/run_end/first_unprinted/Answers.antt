@@ -11,9 +11,9 @@ returns-then-marks-eq0 c = search (rules, arith, prefix-printed, bit_at-zero)
 pub returns : goal.returns
 returns c =
     let digits = c.from_le_bytes-digits in
-    let h =
+    let lowest =
     bit_at-trailing_zeros w64 _ (omega (arith, c.if-marks-eq0.false)) (omega (arith, marks-fit digits.result)) in (
-      omega (arith, h.0),
+      omega (arith, lowest.0),
       prefix-printed _ _ c.fits-word c.told-word digits.type_inv digits.ensures
-          (omega (arith, h.0)) (λ i low. h.2 i (omega (arith, low))),
+          (omega (arith, lowest.0)) (λ i low. lowest.2 i (omega (arith, low))),
     )

@@ -8,9 +8,9 @@ use Rattle.vte_core.proofs.store.Store.end_piece.Goals.{else-not-is_full-via-the
 pub returns-then-not-is_full-2-clause-holds : goal.returns-then-not-is_full-2-clause-holds
 returns-then-not-is_full-2-clause-holds g c = λ items keeps.
     let before = subst (λ held. HoldsItems g.B.Buffer.limit held items) (sym c.self.view_is) keeps in
-    let some = eqb-false _ _ (sym c.is_full.ensures.value ∙ c.if-not-is_full.true) in
+    let not_full = eqb-false _ _ (sym c.is_full.ensures.value ∙ c.if-not-is_full.true) in
     let room = not-false _ (sym c.is_full-then-not-is_full.ensures ∙ c.if-not-is_full-2.true) in
-    keeps-end _ _ _ items (omega (arith, c.is_full.ensures.fits, some)) room refl
+    keeps-end _ _ _ items (omega (arith, c.is_full.ensures.fits, not_full)) room refl
     (rw c.bytes.ensures at c.push.ensures.items) refl before
 
 pub returns-else-not-is_full-clause-holds : goal.returns-else-not-is_full-clause-holds

@@ -14,10 +14,10 @@ returns-clause-holds g c = λ items keeps.
     elim c.if-not-is_full.branch [
       -- There are fewer than 16 ends.
       | then-not-is_full w ↦
-          let some = eqb-false _ _ (sym c.is_full.ensures.value ∙ w.if-not-is_full.true) in
+          let not_full = eqb-false _ _ (sym c.is_full.ensures.value ∙ w.if-not-is_full.true) in
           rw w.self-inside-is
           (keeps-run _ _ _ items run
-          (omega (arith, c.is_full.ensures.fits, some)) c.requires.data w.append.ensures.appended refl
+          (omega (arith, c.is_full.ensures.fits, not_full)) c.requires.data w.append.ensures.appended refl
           (rw (c.bytes.ensures, c.bytes-before.ensures, w.self-inside-is, size) refl) before)
       -- There are 16.
       | else-not-is_full w ↦

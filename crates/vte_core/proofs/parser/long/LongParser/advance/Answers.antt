@@ -5,8 +5,8 @@ use Rattle.vte_core.proofs.parser.long.LongParser.advance.Goals as goal
 
 pub returns-in_err-drive : goal.returns-in_err-drive
 returns-in_err-drive g c =
-    let e = err_from_is_err_and c.from_residual.result c.from_residual.ensures.1 in
-    rw (e.1 ∙ ap Err e.2, ← c.new.ensures)
+    let error = err_from_is_err_and c.from_residual.result c.from_residual.ensures.1 in
+    rw (error.1 ∙ ap Err error.2, ← c.new.ensures)
     (advance-refused _ c.in_err-drive.ensures.refuses c.in_err-drive.ensures.costs)
 
 pub returns : goal.returns

@@ -5,9 +5,9 @@ use Rattle.vte_core.proofs.parser.long.LongParser.advance_to_run.Goals as goal
 
 pub returns-in_err-range : goal.returns-in_err-range
 returns-in_err-range g c =
-    let e = err_from_is_err_and c.from_residual.result c.from_residual.ensures.1 in
+    let error = err_from_is_err_and c.from_residual.result c.from_residual.ensures.1 in
     let d = c.in_err-range.ensures in
-    rw (e.1 ∙ ap Err e.2, ← c.new.ensures) (record {
+    rw (error.1 ∙ ap Err error.2, ← c.new.ensures) (record {
       reads = to_run-refused _ d.refuses d.costs;
       outside_runs = d.outside_runs;
     })
@@ -19,6 +19,6 @@ returns g c =
     record {
       reads =
           to_run-read _ (rw c.new.ensures at d.comes) t.start t.end t.taken (rw c.new.ensures at d.costs)
-          (λ stream h. rw c.new.ensures at d.outside_runs stream h);
+          (λ stream has_read. rw c.new.ensures at d.outside_runs stream has_read);
       outside_runs = tt;
     }

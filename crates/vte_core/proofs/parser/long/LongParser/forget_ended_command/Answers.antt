@@ -5,10 +5,10 @@ use Rattle.vte_core.proofs.parser.long.LongParser.forget_ended_command.Goals as 
 use Rattle.vte_core.proofs.parser.long.LongParser.forget_ended_command.Goals.{in-SystemCommand, in_default}
 
 pub returns-then-not-matches-clause-stored : goal.returns-then-not-matches-clause-stored
-returns-then-not-matches-clause-stored g c = λ stream h. elim c.match-matches.branch [
+returns-then-not-matches-clause-stored g c = λ stream has_read. elim c.match-matches.branch [
   | in-SystemCommand v ↦ absurd (false≢true (sym c.if-not-matches.true ∙ v.matches-is))
   | in_default v ↦
-      ap length c.remove_items.ensures.none ∙ sym (none_is_open _ stream v.in_default.not-SystemCommand h)
+      ap length c.remove_items.ensures.none ∙ sym (none_is_open _ stream v.in_default.not-SystemCommand has_read)
 ]
 
 pub returns-else-not-matches-clause-stored : goal.returns-else-not-matches-clause-stored

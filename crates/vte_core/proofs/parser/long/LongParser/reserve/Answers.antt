@@ -6,7 +6,7 @@ use Rattle.vte_core.proofs.parser.long.LongParser.reserve.Goals as goal
 
 pub returns-clause-room : goal.returns-clause-room
 returns-clause-room g c =
-    λ there stream h. omega (arith, open_is_stored _ stream h, c.reserve.ensures.reserves.suffices there)
+    λ there stream has_read. omega (arith, open_is_stored _ stream has_read, c.reserve.ensures.reserves.suffices there)
 
 pub returns-clause-lacks_open : goal.returns-clause-lacks_open
 returns-clause-lacks_open g c = search (rules, arith, reads_cloned)

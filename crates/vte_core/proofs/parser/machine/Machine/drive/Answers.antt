@@ -25,11 +25,12 @@ returns-clause-reads g c = call_ends-with_all (omega arith) c.loop-position.inva
 -- Memory was refused: what was read before adds up, and the refused byte is at that position.
 pub returns-in_err-position-clause-refuses : goal.returns-in_err-position-clause-refuses
 returns-in_err-position-clause-refuses g c =
-    let e = err_from_is_err_and c.from_residual.result c.from_residual.ensures.1 in
+    let error = err_from_is_err_and c.from_residual.result c.from_residual.ensures.1 in
     let r = c.in_err-position.ensures in
-    rw (e.1 ∙ ap Err e.2) (record {
+    rw (error.1 ∙ ap Err error.2) (record {
       within = omega (arith, c.loop-position-test.true, c.len.ensures, r.refuses.stays);
-      is_at_position = λ stream h. r.advances.goes_on _ stream (c.loop-position.invariant.is_at_position stream h);
+      is_at_position = λ stream has_read.
+          r.advances.goes_on _ stream (c.loop-position.invariant.is_at_position stream has_read);
       may_go_on = r.refuses.may_go_on;
       refused = r.refuses.refused;
     })

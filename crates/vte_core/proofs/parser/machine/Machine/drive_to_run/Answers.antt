@@ -33,10 +33,10 @@ loop-position-preserved-else-end-position g c =
     let v = c.loop-position.invariant in
     let read = c.read_unprinted-position.ensures.advances in
     record {
-      is_at_position = λ stream h. read.goes_on _ stream (v.is_at_position stream h);
+      is_at_position = λ stream has_read. read.goes_on _ stream (v.is_at_position stream has_read);
       settled = read.settled;
-      outside_runs = λ stream h. reports-more (v.outside_runs stream h)
-          (read.outside_runs tt _ stream (v.is_at_position stream h));
+      outside_runs = λ stream has_read. reports-more (v.outside_runs stream has_read)
+          (read.outside_runs tt _ stream (v.is_at_position stream has_read));
       spends = search rules;
     }
 
@@ -46,10 +46,10 @@ loop-position-preserved-else-end-position-2 g c =
     let v = c.loop-position.invariant in
     let read = c.read_other_in_data-position.ensures.advances in
     record {
-      is_at_position = λ stream h. read.goes_on _ stream (v.is_at_position stream h);
+      is_at_position = λ stream has_read. read.goes_on _ stream (v.is_at_position stream has_read);
       settled = read.settled;
-      outside_runs = λ stream h. reports-more (v.outside_runs stream h)
-          (read.outside_runs tt _ stream (v.is_at_position stream h));
+      outside_runs = λ stream has_read. reports-more (v.outside_runs stream has_read)
+          (read.outside_runs tt _ stream (v.is_at_position stream has_read));
       spends = search rules;
     }
 
@@ -59,13 +59,13 @@ loop-position-preserved g c =
     let v = c.loop-position.invariant in
     let read = c.in_ok-position-in_default.ensures.advances in
     record {
-      is_at_position = λ stream h. read.goes_on _ stream (v.is_at_position stream h);
+      is_at_position = λ stream has_read. read.goes_on _ stream (v.is_at_position stream has_read);
       settled = read.settled;
       outside_runs =
-          λ stream h.
-          reports-more (v.outside_runs stream h)
+          λ stream has_read.
+          reports-more (v.outside_runs stream has_read)
           (read.outside_runs (outside-text_and_data _ c.in_default.not-Text c.in_default.not-DeviceData) _ stream
-          (v.is_at_position stream h));
+          (v.is_at_position stream has_read));
       spends = search rules;
     }
 
@@ -73,23 +73,23 @@ loop-position-preserved g c =
 pub returns-in_err-position-in_default : goal.returns-in_err-position-in_default
 returns-in_err-position-in_default g c =
     let v = c.loop-position.invariant in
-    let e = err_from_is_err_and c.from_residual.result c.from_residual.ensures.1 in
+    let error = err_from_is_err_and c.from_residual.result c.from_residual.ensures.1 in
     let r = c.in_err-position-in_default.ensures in
     record {
       comes = search rules;
-      refuses = rw (e.1 ∙ ap Err e.2) (record {
+      refuses = rw (error.1 ∙ ap Err error.2) (record {
         within = omega (arith, c.loop-position-test.true, c.len.ensures, r.refuses.stays);
-        is_at_position = λ stream h. r.advances.goes_on _ stream (v.is_at_position stream h);
+        is_at_position = λ stream has_read. r.advances.goes_on _ stream (v.is_at_position stream has_read);
         may_go_on = r.refuses.may_go_on;
         refused = r.refuses.refused;
       });
       costs = search rules;
       outside_runs =
-          λ stream h.
-          rw (e.1 ∙ ap Err e.2)
-          (reports-more (v.outside_runs stream h)
+          λ stream has_read.
+          rw (error.1 ∙ ap Err error.2)
+          (reports-more (v.outside_runs stream has_read)
           (r.advances.outside_runs (outside-text_and_data _ c.in_default.not-Text c.in_default.not-DeviceData) _ stream
-          (v.is_at_position stream h)));
+          (v.is_at_position stream has_read)));
     }
 
 -- Without a run, either the performer was terminated or all bytes are read.
@@ -104,4 +104,5 @@ returns-clause-comes g c =
     ])
 
 pub returns-clause-outside_runs : goal.returns-clause-outside_runs
-returns-clause-outside_runs g c stream h = rw c.empty.ensures.start (c.loop-position.invariant.outside_runs stream h)
+returns-clause-outside_runs g c stream has_read =
+    rw c.empty.ensures.start (c.loop-position.invariant.outside_runs stream has_read)

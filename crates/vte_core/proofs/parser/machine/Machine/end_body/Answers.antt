@@ -15,15 +15,15 @@ pub returns-clause-takes : goal.returns-clause-takes
 returns-clause-takes g c = λ place s b.
     let step = g.P.CountedPerform.step in
     let limit = g.B.Buffer.limit in
-    let e = ends_by_cancel c.args.byte c.requires c.if-byte-eq-ESCAPE.false in
-    takes_bytes-one (cancel_is_no_escape c.args.byte e)
+    let is_cancel = ends_by_cancel c.args.byte c.requires c.if-byte-eq-ESCAPE.false in
+    takes_bytes-one (cancel_is_no_escape c.args.byte is_cancel)
     (takes-byte
     (c.execute_control.ensures.value ∙ ap (λ v. step v (Execute c.args.byte)) (c.report_end.ensures.reported place s b)
     ∙ sym
     (after_events-append step (g.P.CountedPerform.value_of c.args.performer.now) (closing_events_at limit place)
     (Execute c.args.byte ∷ [])))
     (record { fields = (refl, refl) })
-    (byte-cancels (is_at-place s) e))
+    (byte-cancels (is_at-place s) is_cancel))
 
 pub returns-clause-handles : goal.returns-clause-handles
 returns-clause-handles g c = search rules

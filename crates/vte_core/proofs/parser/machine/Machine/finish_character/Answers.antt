@@ -13,27 +13,30 @@ returns-then-is_nothing-clause-is_at_position g c =
 -- An open character: what completes it begins inside it.
 pub returns-else-is_nothing-clause-is_at_position : goal.returns-else-is_nothing-clause-is_at_position
 returns-else-is_nothing-clause-is_at_position g c =
-    λ stream h.
-    c.continue_character.ensures.completes.is_at_position _ stream c.args.self.now c.in-Text.is (starts-inside h)
+    λ stream has_read.
+    c.continue_character.ensures.completes.is_at_position _ stream c.args.self.now c.in-Text.is (starts-inside has_read)
 
 -- Outside a text no character is open, so the call is at its start.
 pub returns-in_default-clause-is_at_position : goal.returns-in_default-clause-is_at_position
-returns-in_default-clause-is_at_position g c = λ stream h. starts-at (settled-outside _ c.in_default.not-Text) h
+returns-in_default-clause-is_at_position g c = λ stream has_read.
+    starts-at (settled-outside _ c.in_default.not-Text) has_read
 
 -- The same three, of what is reported by no run.
 pub returns-then-is_nothing-clause-outside_runs : goal.returns-then-is_nothing-clause-outside_runs
-returns-then-is_nothing-clause-outside_runs g c stream h =
+returns-then-is_nothing-clause-outside_runs g c stream has_read =
     reports-nothing
-    (settled-same_state c.in-Text.is (settled-nothing c.in-Text.begun (c.is_nothing.ensures.0 c.if-is_nothing.true))) h
+    (settled-same_state c.in-Text.is (settled-nothing c.in-Text.begun (c.is_nothing.ensures.0 c.if-is_nothing.true)))
+    has_read
 
 pub returns-in_default-clause-outside_runs : goal.returns-in_default-clause-outside_runs
-returns-in_default-clause-outside_runs g c stream h = reports-nothing (settled-outside _ c.in_default.not-Text) h
+returns-in_default-clause-outside_runs g c stream has_read =
+    reports-nothing (settled-outside _ c.in_default.not-Text) has_read
 
 pub returns-else-is_nothing-clause-outside_runs : goal.returns-else-is_nothing-clause-outside_runs
-returns-else-is_nothing-clause-outside_runs g c stream h =
+returns-else-is_nothing-clause-outside_runs g c stream has_read =
     let reported =
-    c.continue_character.ensures.completes.adds _ stream c.args.self.now c.in-Text.is (starts-inside h) in
+    c.continue_character.ensures.completes.adds _ stream c.args.self.now c.in-Text.is (starts-inside has_read) in
     reports-open reported
-    (λ none.
+    (λ closed.
     opens-text c.args.self.now c.in-Text.is
-    (λ e. false≢true (sym c.if-is_nothing.false ∙ c.is_nothing.ensures.1 e)) h none)
+    (λ empty. false≢true (sym c.if-is_nothing.false ∙ c.is_nothing.ensures.1 empty)) has_read closed)

@@ -11,17 +11,17 @@ use Rattle.vte_core.proofs.parser.machine.Machine.read_after_escape.Goals as goa
 -- A final byte is a key: what it begins is `begin_or_dispatch`'s.
 pub returns-then-is_final-clause-takes : goal.returns-then-is_final-clause-takes
 returns-then-is_final-clause-takes g c =
-    let is = sym c.is_final.ensures ∙ c.if-is_final.true in
-    takes_bytes-in c.requires.begun (final_ends_nothing (class_of c.args.byte) is)
+    let is_final = sym c.is_final.ensures ∙ c.if-is_final.true in
+    takes_bytes-in c.requires.begun (final_ends_nothing (class_of c.args.byte) is_final)
     (takes-at_escape c.args.self.now (λ holds. c.begin_or_dispatch.ensures.takes (is_at-by c.requires.begun holds)))
 
 -- An intermediate is the first of the sequence.
 pub returns-then-is_intermediate-clause-takes : goal.returns-then-is_intermediate-clause-takes
 returns-then-is_intermediate-clause-takes g c =
-    let is = class-intermediate _ (sym c.is_intermediate.ensures ∙ c.if-is_intermediate.true) in
-    takes_bytes-in c.requires.begun (rw is refl)
+    let is_intermediate = class-intermediate _ (sym c.is_intermediate.ensures ∙ c.if-is_intermediate.true) in
+    takes_bytes-in c.requires.begun (rw is_intermediate refl)
     (takes-at_escape c.args.self.now (λ holds. takes-byte refl
-    (record { fields = c.collect.ensures.holds [] holds }) (escape-intermediate is)))
+    (record { fields = c.collect.ensures.holds [] holds }) (escape-intermediate is_intermediate)))
 
 -- Digits, `:`, `;` and markers dispatch: keys begin at `@`, which is later.
 pub returns-then-is_head_byte-clause-takes : goal.returns-then-is_head_byte-clause-takes
@@ -41,11 +41,11 @@ returns-then-is_head_byte-clause-takes g c =
 pub returns-then-is_plain_control-clause-takes : goal.returns-then-is_plain_control-clause-takes
 returns-then-is_plain_control-clause-takes g c =
     let b = c.args.byte in
-    let is = class-control _ (sym c.is_plain_control.ensures ∙ c.if-is_plain_control.true) in
-    takes_bytes-in c.requires.begun (rw is refl)
+    let is_control = class-control _ (sym c.is_plain_control.ensures ∙ c.if-is_plain_control.true) in
+    takes_bytes-in c.requires.begun (rw is_control refl)
     (takes-at_escape c.args.self.now
     (λ holds. takes-byte c.execute_control.ensures.value (is_at-by c.requires.begun holds)
-    (byte-executed refl is)))
+    (byte-executed refl is_control)))
 
 -- The bytes that are left are DEL and 80..FF, which are dropped.
 pub returns-else-is_plain_control-clause-takes : goal.returns-else-is_plain_control-clause-takes

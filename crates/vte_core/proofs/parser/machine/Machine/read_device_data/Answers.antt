@@ -12,10 +12,11 @@ loop-position-init g c = search (rules, arith, advances-nothing, settled-same_st
 pub loop-position-preserved : goal.loop-position-preserved
 loop-position-preserved g c =
     let v = c.loop-position.invariant in
-    let is = sym c.is_device_data.ensures ∙ c.if-not-is_device_data.false in
+    let is_data = sym c.is_device_data.ensures ∙ c.if-not-is_device_data.false in
     record {
       advances = advances-then v.advances
-          (advances-put v.begun (omega arith) c.byte_at-byte.ensures.value v.may_go_on is c.put_byte.ensures.value);
+          (advances-put v.begun (omega arith) c.byte_at-byte.ensures.value v.may_go_on is_data
+          c.put_byte.ensures.value);
       may_go_on = (λ does. elim c.else-this-ne0.branch [
         | else-this-ne0-via-then-this-ne0+else-terminated w ↦ sym w.terminated.ensures ∙ w.if-terminated.false
         | else-this-ne0-via-else-this-ne0 w ↦ absurd (may_stop-none w.if-this-ne0.false does)
@@ -28,20 +29,20 @@ loop-position-preserved g c =
 pub returns-then-terminated-clause-advances : goal.returns-then-terminated-clause-advances
 returns-then-terminated-clause-advances g c =
     let v = c.loop-position.invariant in
-    let is = sym c.is_device_data.ensures ∙ c.if-not-is_device_data.false in
+    let is_data = sym c.is_device_data.ensures ∙ c.if-not-is_device_data.false in
     advances-then v.advances
-    (advances-put v.begun (omega arith) c.byte_at-byte.ensures.value v.may_go_on is c.put_byte.ensures.value)
+    (advances-put v.begun (omega arith) c.byte_at-byte.ensures.value v.may_go_on is_data c.put_byte.ensures.value)
 
 -- A call that does not ask: all data up to the byte that is not put.
 pub returns-then-not-this-clause-advances : goal.returns-then-not-this-clause-advances
 returns-then-not-this-clause-advances g c =
     let v = c.loop-position.invariant in
     let found = c.find_device_data_end-end.ensures in
-    let are =
+    let are_put =
     first-put c.args.input.bytes.now c.byte_at-byte.ensures.value
     (sym c.is_device_data.ensures ∙ c.if-not-is_device_data.false) found.passed in
     advances-then v.advances
-    (advances-data v.begun (omega (arith, found.low)) found.high are
+    (advances-data v.begun (omega (arith, found.low)) found.high are_put
     (rw c.if-not-this.true refl) c.report_data.ensures.put)
 
 -- A byte that is no data ends them or is dropped.

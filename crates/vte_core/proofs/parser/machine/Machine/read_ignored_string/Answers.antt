@@ -11,25 +11,25 @@ use Rattle.vte_core.proofs.parser.machine.Machine.read_ignored_string.Goals as g
 advances-by : {outside V B : Type 0} {call : ChunkCall V} {value : V} {parser : Machine B} (n i : ℕ)
     → parser.state ≡ IgnoredString → i + n ≤ length call.bytes → AreIgnored call.bytes i (i + n) → MayGoOn call value
     → Advances outside call value value i (i + n) parser parser
-advances-by zero i begun within are may_go_on =
+advances-by zero i begun within are_ignored may_go_on =
     advances-to_same (omega arith) (advances-nothing (λ _. settled-same_state begun tt))
-advances-by {call} {parser} (suc n) i begun within are may_go_on =
-    let ordinary = are i (omega arith) (omega arith) in
+advances-by {call} {parser} (suc n) i begun within are_ignored may_go_on =
+    let ordinary = are_ignored i (omega arith) (omega arith) in
     advances-to_same (omega arith) (advances-then
     (advances-given tt (advances-in begun (omega (arith, within)) refl may_go_on ordinary
     (takes-in_ignored parser
     (takes-byte refl (is_at-by begun tt)
     (ignored-more (ends_not_cancel _ ordinary)))) (settled-same_state begun tt)))
     (advances-by n (i + 1) begun (omega (arith, within))
-    (λ k low high. are k (omega (arith, low)) (omega (arith, high))) may_go_on))
+    (λ k low high. are_ignored k (omega (arith, low)) (omega (arith, high))) may_go_on))
 
 advances-ignored : {outside V B : Type 0} {call : ChunkCall V} {value : V} {i j : ℕ} {parser : Machine B}
     → parser.state ≡ IgnoredString → i ≤ j → j ≤ length call.bytes → AreIgnored call.bytes i j → MayGoOn call value
     → Advances outside call value value i j parser parser
-advances-ignored {i} {j} begun low high are may_go_on =
+advances-ignored {i} {j} begun low high are_ignored may_go_on =
     advances-to_same (omega (arith, low))
     (advances-by (j - i) i begun (omega (arith, low, high))
-    (λ k from to. are k from (omega (arith, low, to))) may_go_on)
+    (λ k from to. are_ignored k from (omega (arith, low, to))) may_go_on)
 
 pub returns-in-None-clause-advances : goal.returns-in-None-clause-advances
 returns-in-None-clause-advances g c = search (rules, arith, advances-ignored)

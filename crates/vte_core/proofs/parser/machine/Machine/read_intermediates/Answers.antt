@@ -23,11 +23,12 @@ loop-position-preserved g c =
       advances = advances-then v.advances (elim c.if-is_intermediate.branch [
         -- The byte is an intermediate.
         | then-is_intermediate w ↦
-            let is = class-intermediate _ (sym c.is_intermediate.ensures ∙ w.if-is_intermediate.true) in
+            let is_intermediate = class-intermediate _ (sym c.is_intermediate.ensures ∙ w.if-is_intermediate.true) in
             rw w.self-is
-            (advances-given tt (advances-in v.begun (omega arith) c.byte_at-byte.ensures.value v.may_go_on (rw is refl)
+            (advances-given tt (advances-in v.begun (omega arith) c.byte_at-byte.ensures.value v.may_go_on
+            (rw is_intermediate refl)
             (takes-in_escape parser (λ ints holds. takes-byte refl
-            (is_at-by v.begun (w.collect.ensures.holds ints holds)) (intermediate-more is)))
+            (is_at-by v.begun (w.collect.ensures.holds ints holds)) (intermediate-more is_intermediate)))
             (settled-same_state v.begun tt)))
         -- A byte that is dropped.
         | else-is_intermediate+else-dispatches_escape+else-ends_body+else-is_plain_control w ↦
@@ -81,9 +82,9 @@ pub returns-then-is_plain_control-clause-advances : goal.returns-then-is_plain_c
 returns-then-is_plain_control-clause-advances g c =
     let v = c.loop-position.invariant in
     let b = c.byte_at-byte.result in
-    let is = class-control _ (sym c.is_plain_control.ensures ∙ c.if-is_plain_control.true) in
+    let is_control = class-control _ (sym c.is_plain_control.ensures ∙ c.if-is_plain_control.true) in
     advances-then v.advances
-    (advances-given tt (advances-in v.begun (omega arith) c.byte_at-byte.ensures.value v.may_go_on (rw is refl)
+    (advances-given tt (advances-in v.begun (omega arith) c.byte_at-byte.ensures.value v.may_go_on (rw is_control refl)
     (takes-in_escape c.loop-position.self
     (λ ints holds. takes-byte c.execute_control.ensures.value (is_at-by v.begun holds)
-    (byte-executed refl is))) (settled-same_state v.begun tt)))
+    (byte-executed refl is_control))) (settled-same_state v.begun tt)))

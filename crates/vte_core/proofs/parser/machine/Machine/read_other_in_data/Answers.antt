@@ -16,12 +16,12 @@ returns-clause-advances g c =
     elim c.if-byte-eq-STRING_TERMINATOR.branch [
       -- The byte is ST.
       | then-byte-eq-STRING_TERMINATOR w ↦
-          let is = w.if-byte-eq-STRING_TERMINATOR.true in
+          let is_terminator = w.if-byte-eq-STRING_TERMINATOR.true in
           rw (w.self-is, w.performer-is)
           (advances-given c.requires.other (advances-in r.begun r.within r.looked_at r.may_go_on ordinary
           (takes-in_data parser
           (takes-byte w.unhook.ensures.value (record { fields = (refl, refl) })
-          (data-terminator (terminator_is_high is) (rw is refl)))) tt))
+          (data-terminator (terminator_is_high is_terminator) (rw is_terminator refl)))) tt))
       -- A byte that is dropped.
       | else-byte-eq-STRING_TERMINATOR w ↦
           let dropped =

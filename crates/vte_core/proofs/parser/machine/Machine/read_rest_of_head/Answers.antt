@@ -35,12 +35,12 @@ returns-in-Some-clause-advances g c =
           w.end_body.ensures.takes w.end_body.ensures.handles.settled)
       -- The byte is a control.
       | else-ends_body+then-is_plain_control w ↦
-          let is = class-control _ (sym w.is_plain_control.ensures ∙ w.if-is_plain_control.true) in
+          let is_control = class-control _ (sym w.is_plain_control.ensures ∙ w.if-is_plain_control.true) in
           rw (w.self-is, w.performer-is)
           (advances-past_head ControlHead c.requires.begun read.reads.head next c.requires.may_go_on
-          (takes_bytes-head ControlHead progress refl (rw is refl) (λ bytes is_at.
+          (takes_bytes-head ControlHead progress refl (rw is_control refl) (λ bytes is_at.
           takes-byte w.execute_control.ensures.value (is_at-by refl is_at)
-          (byte-executed refl is))) tt)
+          (byte-executed refl is_control))) tt)
       -- A byte that is dropped.
       | else-ends_body+else-is_plain_control w ↦
           let ordinary = sym c.ends_body.ensures ∙ w.if-ends_body.false in

@@ -1,5 +1,5 @@
--- In a round the call may first print a run of ASCII (`reached`), and then is before a byte (`at`), which it reads
--- by one of three branches, of which two join (`read`).
+-- In a round the call may first print a run of ASCII (`advances-ascii`). Then it is before a byte (`may_read-next`),
+-- which it reads by one of three branches, of which two join (`advances-next`).
 use Rattle.vte_core.proofs.Common.{◌<◌, length, sym, ◌∙◌, arith, rules, Advances, Text, Nothing}
 use Rattle.vte_core.specs.private.Prelude.{MayReadByte}
 use Rattle.vte_core.proofs.positions.Progress.{settled-same_state}
@@ -12,11 +12,11 @@ use Rattle.vte_core.proofs.parser.machine.Machine.read_runs.Goals.{Joined-is_pri
 use Rattle.vte_core.proofs.parser.machine.Machine.read_runs.Goals as goal
 
 -- The call has come past the run of ASCII, if there was one.
-reached : (g : Over) (c : Joined-is_printed_ascii g)
+advances-ascii : (g : Over) (c : Joined-is_printed_ascii g)
     → Advances ⊥ (call_at g c.args.input.bytes.now) (g.P.CountedPerform.value_of c.args.performer.now)
     (g.P.CountedPerform.value_of c.if-is_printed_ascii.performer) c.args.from c.if-is_printed_ascii.position
     c.args.self.now c.loop-position.self
-reached g c =
+advances-ascii g c =
     let v = c.loop-position.invariant in
     elim c.if-is_printed_ascii.branch [
       | then-is_printed_ascii+in-Some w ↦
@@ -28,10 +28,10 @@ reached g c =
     ]
 
 -- The call may read the byte after the run of ASCII.
-at : (g : Over) (c : Joined-is_printed_ascii g) → MayReadByte (call_at g c.args.input.bytes.now)
+may_read-next : (g : Over) (c : Joined-is_printed_ascii g) → MayReadByte (call_at g c.args.input.bytes.now)
     (g.P.CountedPerform.value_of c.if-is_printed_ascii.performer) (Text Nothing) c.loop-position.self
     c.if-is_printed_ascii.position c.if-is_printed_ascii.byte
-at g c =
+may_read-next g c =
     let v = c.loop-position.invariant in
     let within : c.loop-position.position < length c.args.input.bytes.now =
     omega (arith, c.loop-position-test.true) in
@@ -71,28 +71,28 @@ loop-position-preserved-in-None g c =
 
 -- The two functions that read on begin where the call is.
 pub read_run_at_lead-position-requires-clause-may_read : goal.read_run_at_lead-position-requires-clause-may_read
-read_run_at_lead-position-requires-clause-may_read g c = at g
+read_run_at_lead-position-requires-clause-may_read g c = may_read-next g
     (goal.at.read_run_at_lead-position-requires-clause-may_read g c).Joined-is_printed_ascii
 
 pub read_sequence-requires-clause-may_read : goal.read_sequence-requires-clause-may_read
 read_sequence-requires-clause-may_read g c =
-    let here = at g (goal.at.read_sequence-requires-clause-may_read g c).Joined-is_printed_ascii in
+    let here = may_read-next g (goal.at.read_sequence-requires-clause-may_read g c).Joined-is_printed_ascii in
     record { begun = here.begun; may_go_on = here.may_go_on; within = here.within }
 
 -- At an ESC, the run, if any, comes first, and then the escape sequence.
 pub returns-then-byte-eq-ESCAPE-clause-advances : goal.returns-then-byte-eq-ESCAPE-clause-advances
 returns-then-byte-eq-ESCAPE-clause-advances g c =
-    advances-then (reached g (goal.at.returns-then-byte-eq-ESCAPE-clause-advances g c).Joined-is_printed_ascii)
+    advances-then (advances-ascii g (goal.at.returns-then-byte-eq-ESCAPE-clause-advances g c).Joined-is_printed_ascii)
     (advances-without_promise c.read_sequence.ensures.advances)
 
 -- A control or malformed byte alone below A0, and what a lead byte begins.
-read : (g : Over) (c : Joined-byte-lt160 g)
+advances-next : (g : Over) (c : Joined-byte-lt160 g)
     → MayReadByte (call_at g c.args.input.bytes.now) (g.P.CountedPerform.value_of c.if-is_printed_ascii.performer)
     (Text Nothing) c.loop-position.self c.if-is_printed_ascii.position c.if-is_printed_ascii.byte
     → Advances ⊥ (call_at g c.args.input.bytes.now) (g.P.CountedPerform.value_of c.if-is_printed_ascii.performer)
     (g.P.CountedPerform.value_of c.if-byte-lt160.performer) c.if-is_printed_ascii.position c.if-byte-lt160.position
     c.loop-position.self c.if-byte-lt160.self
-read g c here = elim c.if-byte-lt160.branch [
+advances-next g c here = elim c.if-byte-lt160.branch [
   | then-byte-lt160+else-byte-eq-ESCAPE w ↦
       let reported = w.report_lone_byte.ensures in
       rw (w.self-is, w.performer-is, w.position-is) (advances-without_promise
@@ -109,17 +109,18 @@ read g c here = elim c.if-byte-lt160.branch [
 pub returns-then-terminated-clause-advances : goal.returns-then-terminated-clause-advances
 returns-then-terminated-clause-advances g c =
     let joins = goal.at.returns-then-terminated-clause-advances g c in
-    advances-then (reached g joins.Joined-is_printed_ascii)
-    (read g joins.Joined-byte-lt160 (at g joins.Joined-is_printed_ascii))
+    advances-then (advances-ascii g joins.Joined-is_printed_ascii)
+    (advances-next g joins.Joined-byte-lt160 (may_read-next g joins.Joined-is_printed_ascii))
 
 -- The loop goes on after such a round. Only a longer character can change the state, and does so only with the last
 -- bytes of the call.
 pub loop-position-preserved : goal.loop-position-preserved
 loop-position-preserved g c =
     let joins = goal.at.loop-position-preserved g c in
-    let here = at g joins.Joined-is_printed_ascii in
+    let here = may_read-next g joins.Joined-is_printed_ascii in
     record {
-      advances = advances-then (reached g joins.Joined-is_printed_ascii) (read g joins.Joined-byte-lt160 here);
+      advances = advances-then (advances-ascii g joins.Joined-is_printed_ascii)
+          (advances-next g joins.Joined-byte-lt160 here);
       may_go_on = search rules;
       settled = elim c.if-byte-lt160.branch [
         | then-byte-lt160+else-byte-eq-ESCAPE w ↦ rw w.self-is (λ _. here.begun)
@@ -133,10 +134,10 @@ loop-position-preserved g c =
 pub loop-position-preserved-else-is_lead : goal.loop-position-preserved-else-is_lead
 loop-position-preserved-else-is_lead g c =
     let joins = goal.at.loop-position-preserved-else-is_lead g c in
-    let here = at g joins.Joined-is_printed_ascii in
+    let here = may_read-next g joins.Joined-is_printed_ascii in
     let reported = c.report_lone_byte-else-is_lead.ensures in
     record {
-      advances = advances-then (reached g joins.Joined-is_printed_ascii) (advances-without_promise
+      advances = advances-then (advances-ascii g joins.Joined-is_printed_ascii) (advances-without_promise
           (advances-byte here.within here.looked_at here.may_go_on
           (takes_bytes-single here.begun (grind (arith, c.if-byte-lt160.false))
           (sym c.is_lead.ensures ∙ c.if-is_lead.false) reported.control reported.malformed)

@@ -22,11 +22,11 @@ unfolding class_of
 returns-then-byte-eq59-clause-advances g c =
     let numbers = c.read_numbers-head.ensures in
     let next = rw c.in-Some.is at numbers.reads.next in
-    let is : c.in-Some.byte ≡ 59 = c.if-byte-eq59.true in
+    let is_semicolon : c.in-Some.byte ≡ 59 = c.if-byte-eq59.true in
     advances-then
     (advances-head ControlHead c.requires.may_read.begun
-    (reads_head-then numbers.reads.head (reads_head-byte next.0 next.1 (rw is refl) (λ head s.
-    rw is
+    (reads_head-then numbers.reads.head (reads_head-byte next.0 next.1 (rw is_semicolon refl) (λ head s.
+    rw is_semicolon
     (holds-parameter head 59 numbers.may_have_parameters s refl c.end_number.ensures.same
     c.end_number.ensures.counts))))
     c.requires.may_read.may_go_on refl)

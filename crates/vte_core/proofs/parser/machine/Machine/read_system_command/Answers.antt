@@ -31,20 +31,20 @@ returns-clause-advances g c =
     record { state = c.args.self.now.state; collected = c.args.self.now.collected; command = c.push_data.new.self } in
     let within : c.find_command_data_end-end.result < length c.args.input.bytes.now = here.0 in
     let ordinary = sym c.ends_body.ensures ∙ c.if-ends_body.false in
-    let no_data : IsCommandData byte → ⊥ = λ d. found.ended within (rw here.1 at d) in
+    let no_data : IsCommandData byte → ⊥ = λ is_data. found.ended within (rw here.1 at is_data) in
     advances-then
     (advances-items {next = after_data} r found begun c.take_memory.ensures.same c.push_data.ensures.holds)
     (elim c.if-byte-eq59.branch [
       -- `;`: the next piece begins.
       | then-byte-eq59 w ↦
-          let is : byte ≡ 0x3b = w.if-byte-eq59.true in
+          let is_semicolon : byte ≡ 0x3b = w.if-byte-eq59.true in
           rw (w.self-is, w.performer-is)
           (advances-given tt (advances-in begun within here.1 r.may_go_on ordinary
           (takes-in_system_command after_data (λ items keeps. takes-byte refl
           (is_at-by begun
-          (subst (λ b. HoldsItems limit w.end_piece.new.self (items ++ b ∷ [])) (sym is)
+          (subst (λ b. HoldsItems limit w.end_piece.new.self (items ++ b ∷ [])) (sym is_semicolon)
           (w.end_piece.ensures.holds items keeps)))
-          (command-item (omega (arith, is))))) (settled-same_state begun tt)))
+          (command-item (omega (arith, is_semicolon))))) (settled-same_state begun tt)))
       -- BEL: the command is reported.
       | else-byte-eq59+then-byte-eq-BELL w ↦
           rw (w.self-is, w.performer-is)

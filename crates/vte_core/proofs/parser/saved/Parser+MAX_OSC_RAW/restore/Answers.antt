@@ -3,7 +3,7 @@ use Rattle.vte_core.proofs.Common.{rules}
 use Rattle.vte_core.proofs.parser.saved.Parser+MAX_OSC_RAW.restore.Goals as goal
 
 pub returns-then-saved-eq0 : goal.returns-then-saved-eq0
-returns-then-saved-eq0 c = λ stream h. h.reads (record c.args.self.now { machine = _ }) (record {
+returns-then-saved-eq0 c = λ stream has_read. has_read.reads (record c.args.self.now { machine = _ }) (record {
   state = search rules;
   intermediates = λ has. absurd has;
   too_many_intermediates = λ has. absurd has;

@@ -3,7 +3,7 @@ use Rattle.vte_core.proofs.Common.{refl, rules}
 use Rattle.vte_core.proofs.parser.saved.Parser+MAX_OSC_RAW.restore_open.Goals as goal
 
 pub returns : goal.returns
-returns c = λ stream h. h.reads (record c.args.self.now { machine = _ }) (record {
+returns c = λ stream has_read. has_read.reads (record c.args.self.now { machine = _ }) (record {
   state = search rules;
   intermediates = search rules;
   too_many_intermediates = λ has. refl;

@@ -4,7 +4,7 @@ use Rattle.vte_core.proofs.fields.PlaceOfState.{reads_saved}
 use Rattle.vte_core.proofs.parser.saved.Parser+MAX_OSC_RAW.save_open.Goals as goal
 
 pub returns : goal.returns
-returns c = λ stream h. reads_saved (record {
+returns c = λ stream has_read. reads_saved (record {
   state = c.saved_state-saved.ensures;
   intermediates = search rules;
   too_many_intermediates = search rules;
@@ -15,4 +15,4 @@ returns c = λ stream h. reads_saved (record {
   ends = search rules;
   lost = search rules;
   are_ends = search rules;
-}) stream h
+}) stream has_read

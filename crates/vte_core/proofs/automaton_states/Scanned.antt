@@ -82,9 +82,13 @@ pub data Begins (b : ℕ) : Type 0 where
   fails : next_between b ≡ Failed → Begins b
   opens : (t : AutomatonState) → next_between b ≡ t → t ≢ Between → EndsCharacter b (wanted_ranges t) → Begins b
 
-begins-opened : (b : ℕ) (t : AutomatonState) → next_between b ≡ t → t ≢ Between → 0xc3 ≤ b
-    → rows_after_byte b utf8_rows ≡ wanted_ranges t ∷ [] → Begins b
-begins-opened b t next_is inside low same = opens t next_is inside (ends_character-row b low same)
+-- A byte C3..F4 opens a character, which wants the ranges of its row.
+lead-opens : (b : ℕ) → 0xc3 ≤ b → b < 0xf5 → next_between b ≢ Between
+lead-opens b low high between = grind (arith, nat_tests, between)
+
+lead-rows : (b : ℕ) → 0xc3 ≤ b → b < 0xf5 → rows_after_byte b utf8_rows ≡ wanted_ranges (next_between b) ∷ []
+unfolding utf8_rows
+lead-rows b low high = grind (arith, nat_tests)
 
 -- After C2, only A0..BF end a character, though the table also has controls.
 ends_character-after_c2 : EndsCharacter 0xc2 (from_to 0xa0 0xbf ∷ [])
@@ -112,36 +116,11 @@ begins b =
         | inl lone ↦ fails (grind (arith, nat_tests))
         | inr from_c2 ↦ elim (cases_eq b 0xc2) [
           | inl c2 ↦ subst Begins (sym c2) (opens AfterC2 refl (λ between. cc) ends_character-after_c2)
-          | inr past_c2 ↦ elim (cases_lt b 0xe0) [
-            | inl short ↦
-                begins-opened b NeedsOne (grind (arith, nat_tests)) (λ between. cc) (omega (arith, from_c2, past_c2))
-                (grind (arith, nat_tests))
-            | inr from_e0 ↦ elim (cases_eq b 0xe0) [
-              | inl e0 ↦ subst Begins (sym e0) (begins-opened 0xe0 AfterE0 refl (λ between. cc) (omega arith) refl)
-              | inr past_e0 ↦ elim (cases_lt b 0xf0) [
-                | inl middle ↦ elim (cases_eq b 0xed) [
-                  | inl ed ↦
-                      subst Begins (sym ed) (begins-opened 0xed AfterED refl (λ between. cc) (omega arith) refl)
-                  | inr other ↦
-                      begins-opened b NeedsTwo (grind (arith, nat_tests)) (λ between. cc) (omega (arith, from_e0))
-                      (grind (arith, nat_tests))
-                ]
-                | inr from_f0 ↦ elim (cases_eq b 0xf0) [
-                  | inl f0 ↦
-                      subst Begins (sym f0) (begins-opened 0xf0 AfterF0 refl (λ between. cc) (omega arith) refl)
-                  | inr past_f0 ↦ elim (cases_lt b 0xf4) [
-                    | inl long ↦
-                        begins-opened b NeedsThree (grind (arith, nat_tests)) (λ between. cc) (omega (arith, from_f0))
-                        (grind (arith, nat_tests))
-                    | inr from_f4 ↦ elim (cases_eq b 0xf4) [
-                      | inl f4 ↦
-                          subst Begins (sym f4) (begins-opened 0xf4 AfterF4 refl (λ between. cc) (omega arith) refl)
-                      | inr past_f4 ↦ fails (grind (arith, nat_tests))
-                    ]
-                  ]
-                ]
-              ]
-            ]
+          | inr past_c2 ↦ elim (cases_lt b 0xf5) [
+            | inl lead ↦
+                let low : 0xc3 ≤ b = omega (arith, from_c2, past_c2) in
+                opens (next_between b) refl (lead-opens b low lead) (ends_character-row b low (lead-rows b low lead))
+            | inr past_leads ↦ fails (grind (arith, nat_tests))
           ]
         ]
       ]

@@ -100,7 +100,7 @@ trails-next : (layout : Bool) (bytes : List ℕ) (from i : ℕ) → from ≤ i �
     → TrailsAt bytes from (i + 1)
 trails-next layout bytes from i low within old fit = search (rules, arith, state-next)
 
-module _ (layout : Bool) (bytes : List ℕ) (window : Window) (from i : ℕ) (early : 3 ≤ i) (low : from ≤ i)
+module _ {layout : Bool} {bytes : List ℕ} {window : Window} (from i : ℕ) (early : 3 ≤ i) (low : from ≤ i)
     (is_window : IsWindow bytes (i - 3) window) (fit : (k : ℕ) → k < 16 → FollowsAt layout window k) where
   byte-of_block : (block : List ℕ) (start k m : ℕ) → block ≡ take 16 (drop start bytes) → k < 16 → start + k ≡ m
       → slice_index block k ≡ slice_index bytes m

@@ -23,12 +23,10 @@ loop-window-preserved c =
     record {
       low = omega (arith, v.low);
       high = omega (arith, early, window.within);
-      leads =
-          trails-block c.args.layout c.args.input.bytes.now c.in-Some.window c.args.from c.loop-window.at early v.low
-          window fits v.leads 16 (omega arith);
-      kept = λ no_layout.
-          above-block c.args.layout c.args.input.bytes.now c.in-Some.window c.args.from c.loop-window.at early v.low
-          window fits no_layout (v.kept no_layout);
+      leads = trails-block c.args.from c.loop-window.at early v.low window fits v.leads 16 (omega arith);
+      kept =
+          λ no_layout.
+          above-block c.args.from c.loop-window.at early v.low window fits no_layout (v.kept no_layout);
       whole = λ _. omega (arith, v.low);
       at_least = omega (arith, v.at_least, count);
       no_looks = λ unmoved. absurd (omega (arith, unmoved, v.low));
@@ -69,8 +67,8 @@ loop-window-preserved-then-plain-most c =
       leads =
           trails-ascii c.args.input.bytes.now c.args.from (c.loop-window.at + 16)
           c.skip_ascii_blocks-at.result (omega (arith, v.low)) ascii.low ascii.high
-          (trails-block c.args.layout c.args.input.bytes.now c.in-Some.window c.args.from c.loop-window.at early v.low
-          window fits v.leads 16 (omega arith)) ascii.closed ascii.plain;
+          (trails-block c.args.from c.loop-window.at early v.low window fits v.leads 16 (omega arith)) ascii.closed
+          ascii.plain;
       -- Without layout, larger blocks are never tried, as `most` is then out of reach.
       kept = λ no_layout. elim c.if-layout.branch [
         | then-layout w ↦ absurd (false≢true (sym no_layout ∙ w.if-layout.true))

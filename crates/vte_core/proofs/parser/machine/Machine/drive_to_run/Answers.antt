@@ -1,10 +1,21 @@
 -- As for `drive`, a stretch at a time. A run is found in a text or in data, and is returned unread: the bytes before it
 -- have reported nothing of a run (`reports-more`).
-use Rattle.vte_core.proofs.Common.{Err, ap, sym, ◌∙◌, arith, rules, err_from_is_err_and}
+use Rattle.vte_core.proofs.Common.{ℕ, Err, ap, sym, ◌∙◌, arith, rules, err_from_is_err_and, Advances, ChunkCall, Machine}
 use Rattle.vte_core.proofs.positions.ToRun.{comes-nowhere, comes-to_run, has-data, has-text, outside-text_and_data, settled-text}
 use Rattle.vte_core.proofs.positions.AddedEvents.{reports-more}
+use Rattle.vte_core.proofs.parser.machine.Machine.drive_to_run.Invariants.{IsBeforeRun}
 use Rattle.vte_core.proofs.parser.machine.Machine.drive_to_run.Goals.{then-loop-position-test+else-not-terminated, else-loop-position-test}
 use Rattle.vte_core.proofs.parser.machine.Machine.drive_to_run.Goals as goal
+
+-- A stretch that reports no run leads from one position before a run to another.
+before_run-then : {V B known : Type 0} {call : ChunkCall V} {old value new : V} {i j : ℕ}
+    {before parser next : Machine B} → IsBeforeRun call old value i before parser → known
+    → Advances known call value new i j parser next → IsBeforeRun call old new j before next
+before_run-then is_before given advances = record {
+  is_at_position = λ stream has_read. advances.goes_on _ stream (is_before.is_at_position stream has_read);
+  outside_runs = λ stream has_read. reports-more (is_before.outside_runs stream has_read)
+      (advances.outside_runs given _ stream (is_before.is_at_position stream has_read));
+}
 
 -- The loop begins where the open character was completed.
 pub loop-position-init : goal.loop-position-init
@@ -17,7 +28,7 @@ returns-then-end-position-clause-comes g c =
     let found = c.find_run_end-end.ensures in
     let settled = settled-text c.in-Text.is (v.settled (omega arith)) in
     comes-to_run (has-text settled (omega arith) found.scans.high found.scans.passed found.ended) (omega arith)
-    (sym c.terminated.ensures ∙ c.if-not-terminated.true) v.is_at_position
+    (sym c.terminated.ensures ∙ c.if-not-terminated.true) v.before_run.is_at_position
 
 -- In data, the search has found data that are put.
 pub returns-then-end-position-2-clause-comes : goal.returns-then-end-position-2-clause-comes
@@ -25,71 +36,56 @@ returns-then-end-position-2-clause-comes g c =
     let v = c.loop-position.invariant in
     let found = c.find_device_data_end-end.ensures in
     comes-to_run (has-data c.in-DeviceData.is (omega arith) found.high found.passed found.ended) (omega arith)
-    (sym c.terminated.ensures ∙ c.if-not-terminated.true) v.is_at_position
+    (sym c.terminated.ensures ∙ c.if-not-terminated.true) v.before_run.is_at_position
 
 -- In a text that begins with no run, what is read belongs to no run.
 pub loop-position-preserved-else-end-position : goal.loop-position-preserved-else-end-position
 loop-position-preserved-else-end-position g c =
-    let v = c.loop-position.invariant in
     let read = c.read_unprinted-position.ensures.advances in
     record {
-      is_at_position = λ stream has_read. read.goes_on _ stream (v.is_at_position stream has_read);
+      before_run = before_run-then c.loop-position.invariant.before_run tt read;
       settled = read.settled;
-      outside_runs = λ stream has_read. reports-more (v.outside_runs stream has_read)
-          (read.outside_runs tt _ stream (v.is_at_position stream has_read));
       spends = search rules;
     }
 
 -- In data, before a byte that isn't put, what is read belongs to no run either.
 pub loop-position-preserved-else-end-position-2 : goal.loop-position-preserved-else-end-position-2
 loop-position-preserved-else-end-position-2 g c =
-    let v = c.loop-position.invariant in
     let read = c.read_other_in_data-position.ensures.advances in
     record {
-      is_at_position = λ stream has_read. read.goes_on _ stream (v.is_at_position stream has_read);
+      before_run = before_run-then c.loop-position.invariant.before_run tt read;
       settled = read.settled;
-      outside_runs = λ stream has_read. reports-more (v.outside_runs stream has_read)
-          (read.outside_runs tt _ stream (v.is_at_position stream has_read));
       spends = search rules;
     }
 
 -- In any other state there can't be a run.
 pub loop-position-preserved : goal.loop-position-preserved
 loop-position-preserved g c =
-    let v = c.loop-position.invariant in
     let read = c.in_ok-position-in_default.ensures.advances in
+    let outside = outside-text_and_data _ c.in_default.not-Text c.in_default.not-DeviceData in
     record {
-      is_at_position = λ stream has_read. read.goes_on _ stream (v.is_at_position stream has_read);
+      before_run = before_run-then c.loop-position.invariant.before_run outside read;
       settled = read.settled;
-      outside_runs =
-          λ stream has_read.
-          reports-more (v.outside_runs stream has_read)
-          (read.outside_runs (outside-text_and_data _ c.in_default.not-Text c.in_default.not-DeviceData) _ stream
-          (v.is_at_position stream has_read));
       spends = search rules;
     }
 
 -- Memory was refused: the call is where the refused byte is.
 pub returns-in_err-position-in_default : goal.returns-in_err-position-in_default
 returns-in_err-position-in_default g c =
-    let v = c.loop-position.invariant in
     let error = err_from_is_err_and c.from_residual.result c.from_residual.ensures.1 in
     let r = c.in_err-position-in_default.ensures in
+    let outside = outside-text_and_data _ c.in_default.not-Text c.in_default.not-DeviceData in
+    let refused = before_run-then c.loop-position.invariant.before_run outside r.advances in
     record {
       comes = search rules;
       refuses = rw (error.1 ∙ ap Err error.2) (record {
         within = omega (arith, c.loop-position-test.true, c.len.ensures, r.refuses.stays);
-        is_at_position = λ stream has_read. r.advances.goes_on _ stream (v.is_at_position stream has_read);
+        is_at_position = refused.is_at_position;
         may_go_on = r.refuses.may_go_on;
         refused = r.refuses.refused;
       });
       costs = search rules;
-      outside_runs =
-          λ stream has_read.
-          rw (error.1 ∙ ap Err error.2)
-          (reports-more (v.outside_runs stream has_read)
-          (r.advances.outside_runs (outside-text_and_data _ c.in_default.not-Text c.in_default.not-DeviceData) _ stream
-          (v.is_at_position stream has_read)));
+      outside_runs = λ stream has_read. rw (error.1 ∙ ap Err error.2) (refused.outside_runs stream has_read);
     }
 
 -- Without a run, either the performer was terminated or all bytes are read.
@@ -97,7 +93,7 @@ pub returns-clause-comes : goal.returns-clause-comes
 returns-clause-comes g c =
     let v = c.loop-position.invariant in
     let empty = c.empty.ensures in
-    comes-nowhere v.spends.high empty.start empty.end empty.kind v.is_at_position
+    comes-nowhere v.spends.high empty.start empty.end empty.kind v.before_run.is_at_position
     (λ left. elim c.loop-position-test.branch [
       | then-loop-position-test+else-not-terminated w ↦ sym w.terminated.ensures ∙ w.if-not-terminated.false
       | else-loop-position-test w ↦ absurd (omega (arith, left, w.loop-position-test.false, c.len.ensures))
@@ -105,4 +101,4 @@ returns-clause-comes g c =
 
 pub returns-clause-outside_runs : goal.returns-clause-outside_runs
 returns-clause-outside_runs g c stream has_read =
-    rw c.empty.ensures.start (c.loop-position.invariant.outside_runs stream has_read)
+    rw c.empty.ensures.start (c.loop-position.invariant.before_run.outside_runs stream has_read)

@@ -1,16 +1,22 @@
 -- As for `drive`; and what is reported so far is reported by no run.
-use Rattle.vte_core.proofs.Common.{ℕ, ◌-◌, ◌<◌, true, List, length, SpendsWithin, HasReadWithLimit, IsSettled, IsAtPosition, ReportsOutsideRuns, chunk_call}
+use Rattle.vte_core.proofs.Common.{ℕ, ◌-◌, ◌<◌, true, List, Machine, length, SpendsWithin, HasReadWithLimit, IsSettled, IsAtPosition, ReportsOutsideRuns, ChunkCall, chunk_call}
 use Rattle.vte_core.proofs.parser.machine.Machine.drive_to_run.Given as goal
+
+-- The call is at this position, and what it has reported belongs to no run.
+pub record IsBeforeRun {V B : Type 0} (call : ChunkCall V) (old value : V) (position : ℕ) (before parser : Machine B)
+    : Type 0 where
+  pub is_at_position : (stream : List ℕ) → HasReadWithLimit call.limit before stream
+      → IsAtPosition call old value stream position parser
+  pub outside_runs : (stream : List ℕ) → HasReadWithLimit call.limit before stream
+      → ReportsOutsideRuns call.limit stream call.bytes position
 
 abbrev pub invariant-loop-position : goal.invariant-loop-position
 invariant-loop-position g l = record {
-  is_at_position : (stream : List ℕ) → HasReadWithLimit g.B.Buffer.limit l.fn.self stream
-      → IsAtPosition
+  before_run : IsBeforeRun
       (chunk_call true g.P.CountedPerform.step g.P.CountedPerform.is_terminated g.B.Buffer.limit l.input.bytes.now)
-      (g.P.CountedPerform.value_of l.fn.performer) (g.P.CountedPerform.value_of l.performer) stream l.position l.self;
+      (g.P.CountedPerform.value_of l.fn.performer) (g.P.CountedPerform.value_of l.performer) l.position l.fn.self
+      l.self;
   settled : l.position < length l.input.bytes.now → IsSettled l.self.state;
-  outside_runs : (stream : List ℕ) → HasReadWithLimit g.B.Buffer.limit l.fn.self stream
-      → ReportsOutsideRuns g.B.Buffer.limit stream l.input.bytes.now l.position;
   spends : SpendsWithin 7 0 2 l.input.bytes.now 0 l.position l.fn.self l.self l.fn.reader l.reader;
 }
 

@@ -9,11 +9,11 @@ use Rattle.vte_core.proofs.parser.machine.Machine.read_until_stop.Invariants.{ca
 use Rattle.vte_core.proofs.parser.machine.Machine.read_until_stop.Goals.{Joined-is_printed_ascii, then-is_printed_ascii, else-is_printed_ascii+else-is_lead+else-byte-eq-ESCAPE}
 use Rattle.vte_core.proofs.parser.machine.Machine.read_until_stop.Goals as goal
 
-read_alone : (g : Over) (c : Joined-is_printed_ascii g)
+advances-single : (g : Over) (c : Joined-is_printed_ascii g)
     → Advances ⊥ (call_at g c.args.input.bytes.now) (g.P.CountedPerform.value_of c.args.performer.now)
     (g.P.CountedPerform.value_of c.if-is_printed_ascii.performer) c.args.from (c.loop-position-2.position + 1)
     c.args.self.now c.loop-position-2.self
-read_alone g c =
+advances-single g c =
     let v = c.loop-position-2.invariant.is_at in
     let within : c.loop-position-2.position < length c.args.input.bytes.now =
     omega (arith, c.loop-position.invariant.prefix, c.loop-position-2-test.true) in
@@ -41,7 +41,7 @@ returns-then-terminated-clause-advances g c =
 
 pub returns-then-terminated-2-clause-advances : goal.returns-then-terminated-2-clause-advances
 returns-then-terminated-2-clause-advances g c =
-    read_alone g (goal.at.returns-then-terminated-2-clause-advances g c).Joined-is_printed_ascii
+    advances-single g (goal.at.returns-then-terminated-2-clause-advances g c).Joined-is_printed_ascii
 
 -- The next round. Only a longer character can change the state, and does so only with the last bytes of the call.
 pub loop-position-2-preserved-then-is_lead : goal.loop-position-2-preserved-then-is_lead
@@ -52,12 +52,8 @@ loop-position-2-preserved-then-is_lead g c =
         advances = advances-then c.loop-position-2.invariant.is_at.advances (advances-without_promise read.advances);
         may_go_on = search rules;
         settled = λ inside. read.text inside;
-        low = search rules;
-        high = search rules;
         count = search rules;
-        near = search rules;
-        at_least = search rules;
-        memory = search rules;
+        spends = search rules;
       };
       moves = search rules;
       progress = search rules;
@@ -70,15 +66,11 @@ loop-position-2-preserved g c =
     omega (arith, c.loop-position.invariant.prefix, c.loop-position-2-test.true) in
     record {
       is_at = record {
-        advances = read_alone g (goal.at.loop-position-2-preserved g c).Joined-is_printed_ascii;
+        advances = advances-single g (goal.at.loop-position-2-preserved g c).Joined-is_printed_ascii;
         may_go_on = search rules;
         settled = λ _. v.settled within;
-        low = search rules;
-        high = search rules;
         count = search rules;
-        near = search rules;
-        at_least = search rules;
-        memory = search rules;
+        spends = search rules;
       };
       moves = search rules;
       progress = search rules;

@@ -1,6 +1,7 @@
 -- The call is at this position, between characters if bytes are left. A byte of the text has three looks at most,
 -- and one more if it is searched: a call that may stop searches no further than it has read. Both loops keep that.
-use Rattle.vte_core.proofs.Common.{◌≡◌, ◌+◌, ◌-◌, ◌*◌, ◌<◌, ◌≤◌, ℕ, true, List, Machine, length, slice_index, Text, Nothing, looked, Advances, MayGoOn, ChunkCall, chunk_call}
+use Rattle.vte_core.proofs.Common.{◌≡◌, ◌+◌, ◌-◌, ◌*◌, ◌<◌, ◌≤◌, ℕ, true, List, Machine, length, slice_index, Text, Nothing, looked, SpendsWithin, Advances, MayGoOn, ChunkCall, chunk_call}
+use Rattle.vte_core.specs.declared.reader.Reader.{Reader}
 use Rattle.vte_core.proofs.parser.machine.Machine.read_until_stop.Given as goal
 
 -- The call that reads these bytes.
@@ -10,22 +11,18 @@ call_at g bytes =
 
 -- The position of the call, and what it has cost: `prefix` is what may be read before the next search.
 pub record IsInText {B : Type 0} (g : goal.Over) (bytes prefix : List ℕ) (old value : g.P.CountedPerform.Value)
-    (from position : ℕ) (before parser : Machine B) (start looks : ℕ) : Type 0 where
+    (from position : ℕ) (before parser : Machine B) (earlier later : Reader) : Type 0 where
   pub advances : Advances ⊥ (call_at g bytes) old value from position before parser
   pub may_go_on : MayGoOn (call_at g bytes) value
   pub settled : position < length bytes → parser.state ≡ Text Nothing
-  pub low : from ≤ position
-  pub high : position ≤ length bytes
-  pub count : looks + 4 * from ≤ start + 3 * position + length prefix
-  pub near : looks + 5 * from ≤ start + 5 * position
-  pub at_least : start + position ≤ looks + from
-  pub memory : before.command.capacity ≤ parser.command.capacity
+  pub count : looked later + 4 * from ≤ looked earlier + 3 * position + length prefix
+  pub spends : SpendsWithin 5 0 0 bytes from position before parser earlier later
 
 abbrev pub invariant-loop-position-2 : goal.invariant-loop-position-2
 invariant-loop-position-2 g l = record {
   is_at : IsInText g l.input.bytes.now l.prefix.bytes.now (g.P.CountedPerform.value_of l.fn.performer)
-      (g.P.CountedPerform.value_of l.performer) l.from l.position l.fn.self l.self (looked l.fn.reader)
-      (looked l.reader);
+      (g.P.CountedPerform.value_of l.performer) l.from l.position l.fn.self l.self l.fn.reader
+      l.reader;
   moves : l.initial.position ≤ l.position;
   progress : l.initial.position ≡ l.position → l.position < length l.prefix.bytes.now;
 }
@@ -36,8 +33,8 @@ decreases-loop-position-2 g l = length l.prefix.bytes.now - l.position
 abbrev pub invariant-loop-position : goal.invariant-loop-position
 invariant-loop-position g l = record {
   is_at : IsInText g l.input.bytes.now l.prefix.bytes.now (g.P.CountedPerform.value_of l.fn.performer)
-      (g.P.CountedPerform.value_of l.performer) l.from l.position l.fn.self l.self (looked l.fn.reader)
-      (looked l.reader);
+      (g.P.CountedPerform.value_of l.performer) l.from l.position l.fn.self l.self l.fn.reader
+      l.reader;
   prefix : length l.prefix.bytes.now ≤ length l.input.bytes.now;
   same : (k : ℕ) → k < length l.prefix.bytes.now → slice_index l.prefix.bytes.now k ≡ slice_index l.input.bytes.now k;
   before : l.position < length l.input.bytes.now → l.position < length l.prefix.bytes.now;

@@ -1,4 +1,4 @@
--- A block more.
+-- A block of plain bytes joins those before it (`each-both`).
 use Rattle.vte_core.proofs.Common.{arith}
 use Rattle.vte_core.proofs.bytes.Runs.{each-both, each-block}
 use Rattle.vte_core.specs.private.Automaton.{StaysBetween}

@@ -1,4 +1,4 @@
--- One byte more that passes.
+-- A byte that passes joins those before it (`each-next`).
 use Rattle.vte_core.proofs.Common.{ℕ, arith, nat_tests, and_parts, refl, slice_index, ◌||◌}
 use Rattle.vte_core.specs.private.Automaton.{StaysBetween}
 use Rattle.vte_core.proofs.bytes.Runs.{each-next}

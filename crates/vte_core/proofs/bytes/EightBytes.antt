@@ -58,6 +58,6 @@ prefix-printed bytes {word} n are_bytes long fits is_word most zeros k _ at_most
     let either = bit_at_or (less word) word (8 * k + 7) in
     let both = bit_at_and (bit_or (less word) word) mask (8 * k + 7) in
     let small = bit_at-lt (bit_or (less word) word) (8 * k + 7) in
-    subst IsPrintedAscii (ap (λ x. get_or x k 0) (le_bytes_8 bytes word long are_bytes is_word))
+    subst IsPrintedAscii (ap (λ xs. get_or xs k 0) (le_bytes_8 bytes word long are_bytes is_word))
     (byte-unmarked word k fits low (omega (arith, clear, both, either, small, mask_at k low))
     (omega (arith, clear, both, either, small, mask_at k low)))

@@ -48,7 +48,7 @@ prefix-block bytes block from n within first = search (rules, arith, length-take
 -- Byte k of a block is the byte k places after the block's start.
 pub block-byte : (bytes block : List ℕ) (from n k : ℕ) → block ≡ take n (drop from bytes) → k < n
     → get_or block k 0 ≡ get_or bytes (from + k) 0
-block-byte bytes block from n k block_is below = ap (λ x. get_or x k 0) block_is ∙ get_or-chunk from n bytes k 0 below
+block-byte bytes block from n k block_is below = ap (λ xs. get_or xs k 0) block_is ∙ get_or-chunk from n bytes k 0 below
 
 -- What holds of the first bytes of a block holds of the same bytes of the input.
 pub each-block : (holds : ℕ → Type 0) (bytes block : List ℕ) (from n m : ℕ) → block ≡ take n (drop from bytes) → m ≤ n
@@ -178,7 +178,7 @@ run-append layout bytes i j k first second run run_more =
     drop-drop (j - i) i bytes ∙ ap (λ n. drop n bytes) (let equal : i + (j - i) ≡ j = omega (arith, first) in equal) in
     let whole : take (k - i) (drop i bytes) ≡ take (j - i) (drop i bytes) ++ take (k - j) (drop j bytes) =
     ap (λ n. take n (drop i bytes)) (let equal : k - i ≡ j - i + (k - j) = omega (arith, first, second) in equal)
-    ∙ take-add (j - i) (k - j) (drop i bytes) ∙ ap (λ x. take (j - i) (drop i bytes) ++ take (k - j) x) same in
+    ∙ take-add (j - i) (k - j) (drop i bytes) ∙ ap (λ rest. take (j - i) (drop i bytes) ++ take (k - j) rest) same in
     subst (IsUtf8Run layout) (sym whole) (utf8_run-append run run_more)
 
 -- ---- a search goes on where another ended
@@ -261,7 +261,7 @@ fits-one range bytes i m fit =
     one range bytes i zero within fit = absurd (false≢true fit)
     one range bytes i (suc m) within fit =
         let cut = drop_more bytes i 0 within in
-        ap (take (suc m)) cut ∙ ap (λ x. slice_index bytes i ∷ x) (fits-none _ (and_parts _ _ (rw cut at fit)).1)
+        ap (take (suc m)) cut ∙ ap (λ rest. slice_index bytes i ∷ rest) (fits-none _ (and_parts _ _ (rw cut at fit)).1)
 
 module _ (layout : Bool) (bytes : List ℕ) (from a : ℕ) (within : from < length bytes)
     (byte_is : a ≡ slice_index bytes from) where
@@ -279,8 +279,8 @@ module _ (layout : Bool) (bytes : List ℕ) (from a : ℕ) (within : from < leng
   begins zero whole = absurd (false≢true whole)
   begins (suc m) whole =
       let parts : take (suc m) (drop from bytes) ≡ a ∷ later m =
-      ap (take (suc m)) (drop_more bytes from 0 within) ∙ ap (λ x. x ∷ later m) (sym byte_is) in
-      record { m = m; parts = parts; well = subst (λ (x : List ℕ). is_well_formed x ≡ true) parts whole }
+      ap (take (suc m)) (drop_more bytes from 0 within) ∙ ap (λ byte. byte ∷ later m) (sym byte_is) in
+      record { m = m; parts = parts; well = subst (λ (taken : List ℕ). is_well_formed taken ≡ true) parts whole }
 
   control-ends : (scalar : ℕ) → is_control_character scalar ≡ true → (layout ≡ true → is_layout scalar ≡ false)
       → ends_run layout scalar ≡ true

@@ -57,7 +57,7 @@ module _ {V B : Type 0} {step : V → Event → V} {old new : V} {limit : Option
       let low : 0x20 ≤ b = grind (arith, nat_tests) in
       let high : b < 0x80 = grind (arith, nat_tests) in
       takes_bytes-whole begun (λ escape. omega (arith, escape, low)) (ascii-alone b high).is_whole
-      (reported ∙ ap (λ x. step old (Print x)) same ∙ ap (step old) (sym (character_event-printed b printed)))
+      (reported ∙ ap (λ scalar. step old (Print scalar)) same ∙ ap (step old) (sym (character_event-printed b printed)))
 
   -- A byte that is neither printed nor begins a longer character is a control or malformed.
   pub takes_bytes-single : parser.state ≡ Text Nothing → b ≢ escape
@@ -192,7 +192,7 @@ advances-first {call} {i} {first} {parser} may_read lead fits completes = record
             let cut : take (whole.n + 1) (drop i call.bytes) ≡ first ∷ take whole.n (drop (i + 1) call.bytes) =
             ap (λ n. take n (drop i call.bytes)) (let same : whole.n + 1 ≡ suc whole.n = omega arith in same)
             ∙ ap (take (suc whole.n)) (drop_more call.bytes i 0 may_read.within)
-            ∙ ap (λ x. x ∷ take whole.n (drop (i + 1) call.bytes)) (sym may_read.looked_at) in
+            ∙ ap (λ byte. byte ∷ take whole.n (drop (i + 1) call.bytes)) (sym may_read.looked_at) in
             -- As no run begins here, a well-formed sequence that begins here spells a control.
             let control =
             rw cut at (given.1 (whole.n + 1) (omega (arith, whole.in_bytes)) (rw cut whole.well_formed)) in

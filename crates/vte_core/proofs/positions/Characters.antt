@@ -59,7 +59,7 @@ module _ {V B : Type 0} {call : ChunkCall V} {old mid : V} {stream : List ℕ} w
   carried-more {i} {b} {unfinished} {longer} {parser} {next} begun opened carries state inside within byte_is =
       let at_text = text-by_place call.limit parser (is_at-in begun inside.is_at) in
       let more : is_truncated (bytes_of unfinished ++ b ∷ []) ≡ true =
-      subst (λ x. is_truncated x ≡ true) carries.0 carries.1 in
+      subst (λ bytes. is_truncated bytes ≡ true) carries.0 carries.1 in
       record {
         place = InText (bytes_of unfinished ++ b ∷ []);
         is_at =
@@ -139,7 +139,7 @@ character-byte : (bytes : List ℕ) (i n : ℕ) (begun : List ℕ) {j b : ℕ} {
     → b ≡ slice_index bytes j → opened ≡ begun ++ take n (drop i bytes)
     → opened ++ b ∷ [] ≡ begun ++ take (n + 1) (drop i bytes)
 character-byte bytes i n begun {j} {opened} within far byte_is bytes_are =
-    ap (λ (x : List ℕ). opened ++ x) (ap (λ (x : ℕ). x ∷ []) byte_is ∙ sym (ap (take 1) (drop_more bytes j 0 within)))
+    ap (λ (xs : List ℕ). opened ++ xs) (ap (λ (b : ℕ). b ∷ []) byte_is ∙ sym (ap (take 1) (drop_more bytes j 0 within)))
     ∙ character-bytes bytes i j n 1 begun far bytes_are
 
 -- From position i, inside a character of the bytes `begun`, a call has come to position j, inside a character of the
@@ -228,9 +228,9 @@ module _ {V B : Type 0} {call : ChunkCall V} {value : V} {i : ℕ} {begun : Unfi
           events_are = inr (record {
             n = goes.n + 1;
             in_bytes = omega (arith, goes.far, within);
-            well_formed = subst (λ (x : List ℕ). is_well_formed x ≡ true) same whole.0;
+            well_formed = subst (λ (bytes : List ℕ). is_well_formed bytes ≡ true) same whole.0;
             several_bytes =
-                subst (λ (x : List ℕ). 1 < length x) same
+                subst (λ (bytes : List ℕ). 1 < length bytes) same
                 (length-longer _ _ (truncated-some (bytes_of unfinished) more));
             event_is = ap (λ n. character_event n ∷ []) (whole.1 ∙ ap scalar_of same);
           });
@@ -287,9 +287,9 @@ module _ {V B : Type 0} {call : ChunkCall V} {value : V} {i : ℕ} {begun : Unfi
                 inr (record {
                   n = goes.n + whole.n;
                   in_bytes = omega (arith, goes.far, whole.in_bytes);
-                  well_formed = subst (λ (x : List ℕ). is_well_formed x ≡ true) same whole.well_formed;
-                  several_bytes = subst (λ (x : List ℕ). 1 < length x) same whole.several_bytes;
-                  event_is = whole.event_is ∙ ap (λ (x : List ℕ). character_event (scalar_of x) ∷ []) same;
+                  well_formed = subst (λ (bytes : List ℕ). is_well_formed bytes ≡ true) same whole.well_formed;
+                  several_bytes = subst (λ (bytes : List ℕ). 1 < length bytes) same whole.several_bytes;
+                  event_is = whole.event_is ∙ ap (λ (bytes : List ℕ). character_event (scalar_of bytes) ∷ []) same;
                 })
           ];
         };

@@ -91,7 +91,7 @@ module _ (limit : Option ℕ) (stream bytes : List ℕ) (i j : ℕ) (further : i
   unfolding resumed_stream
   stretch-after next is_after =
       let all : here ++ stretch ≡ stream ++ take j bytes =
-      append_assoc stream (take i bytes) stretch ∙ ap (λ x. stream ++ x) (sym (stretch-ends bytes i j further)) in
+      append_assoc stream (take i bytes) stretch ∙ ap (λ rest. stream ++ rest) (sym (stretch-ends bytes i j further)) in
       subst (λ s. IsAfter limit s next) all
       (after_from here stretch (breaks_at stream bytes i) stretch-breaks is_after)
 
@@ -184,7 +184,7 @@ module _ {V : Type 0} {call : ChunkCall V} {old : V} {stream : List ℕ} where
       let one = one_byte call.bytes i b within byte_is in
       progress-further (omega arith) (omega (arith, within)) goes_on
       (λ does k past below. absurd (omega (arith, past, below)))
-      (subst (λ x. BytesLead call.limit place x these next) (sym one) reads)
+      (subst (λ bytes. BytesLead call.limit place bytes these next) (sym one) reads)
 
   -- If the performer may go on, a byte makes progress whatever it starts, even if it breaks a character.
   pub progress-byte : {value new : V} {i b : ℕ} {place next : Place} {these : List Event} → i < length call.bytes
@@ -247,7 +247,7 @@ module _ {V : Type 0} {call : ChunkCall V} {old : V} {stream : List ℕ} where
         let is_after : IsAfter call.limit [] (InSystemCommand items) =
         subst (λ s. IsAfter call.limit s (InSystemCommand items)) (resumed_stream-broken stream call.bytes i broken)
         progress.is_after in
-        let none =
+        let nothing_left =
         sym (after-left after-nothing refl)
         ∙ after-left is_after tt in
         let never : ⊥ = cc in absurd never
@@ -288,8 +288,8 @@ module _ {V : Type 0} {call : ChunkCall V} {old : V} {stream : List ℕ} where
             ∙ sym (after_events-append call.step old (reported_before call.limit stream call.bytes n)
             (added call.limit (resumed_stream stream call.bytes n) unread))
             ∙ ap (after call.step old)
-            (ap (λ x. reported_before call.limit stream call.bytes n
-            ++ added call.limit (resumed_stream stream call.bytes n) x)
+            (ap (λ bytes. reported_before call.limit stream call.bytes n
+            ++ added call.limit (resumed_stream stream call.bytes n) bytes)
             (sym (append-nil unread)) ∙ sym (goes_on_from call.limit stream call.bytes [] n)
             ∙ ap (added call.limit stream) (append-nil call.bytes));
       }

@@ -23,7 +23,7 @@ bytes_lead-characters {limit} {text} is_utf8 no_escapes = record {
   reads = λ more.
       let cut = cut_at_escape more in
       ap (λ c. with_bodies limit (text_outcome c.text) c.bodies) (cut-text text more no_escapes)
-      ∙ ap (λ x. with_bodies limit (text_outcome (x ++ cut.text)) cut.bodies) (sym (encodes-chars text is_utf8))
+      ∙ ap (λ bytes. with_bodies limit (text_outcome (bytes ++ cut.text)) cut.bodies) (sym (encodes-chars text is_utf8))
       ∙ ap (λ part. with_bodies limit part cut.bodies)
       (text_outcome-encodes (chars text) cut.text (scalars-chars text is_utf8))
       ∙ with_bodies-report limit (map character_event (chars text)) (text_outcome cut.text) cut.bodies;
@@ -80,7 +80,7 @@ prints-one {layout} {step} {old} {bytes} {from}
     {b} within byte_is printed same performed = record {
       run = run-ascii layout bytes from (from + 1)
           (each-one IsPrintedAscii bytes from (subst IsPrintedAscii byte_is printed));
-      printed = performed ∙ ap (λ x. step old (Print x)) same
+      printed = performed ∙ ap (λ number. step old (Print number)) same
           ∙ ap (λ event. step old event) (sym (run_event-printed layout b printed))
           ∙ ap (λ cs. after step old (map (run_event layout) cs)) (sym (chars-one bytes from b within byte_is printed));
     }
@@ -162,7 +162,7 @@ advances-text {V} {call} {layout} {old} {new} {i} {j} {parser}
         let rest : List ℕ = drop (k - i) run in
         let parts : run ≡ prefix ++ rest =
         sym (take-append-drop (k - i) run)
-        ∙ ap (λ x. x ++ rest) (take-take (k - i) (j - i) (drop i call.bytes) (omega (arith, below))) in
+        ∙ ap (λ bytes. bytes ++ rest) (take-take (k - i) (j - i) (drop i call.bytes) (omega (arith, below))) in
         let all : added call.limit from prefix ++ added call.limit (from ++ prefix) rest
         ≡ map (run_event layout) (chars run) =
         sym (added-append call.limit from prefix rest) ∙ ap (added call.limit from) (sym parts)

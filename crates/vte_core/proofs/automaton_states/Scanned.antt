@@ -196,7 +196,7 @@ module _ (text : List ℕ) (i : ℕ) (within : i < length text) (s : AutomatonSt
   -- The first byte of a character continues what was read so far.
   so_far-first : s ≡ Between → next_state s b ≢ Failed → ReadSoFar text (i + 1) (next_state s b)
   unfolding next_state
-  so_far-first same ok =
+  so_far-first same going =
       let step : next_state s b ≡ next_between b = ap (λ v. next_state v b) same in
       let here : old.end ≡ i = old.settled same in
       let nothing : taken ≡ [] = none-taken text i old.end here in
@@ -204,7 +204,7 @@ module _ (text : List ℕ) (i : ℕ) (within : i < length text) (s : AutomatonSt
         | prints printed next_is ↦
             subst (ReadSoFar text (i + 1)) (sym (step ∙ next_is))
             (so_far-settles (subst (λ bytes. IsUtf8Run true (bytes ++ b ∷ [])) (sym nothing) printed))
-        | fails next_is ↦ absurd (ok (step ∙ next_is))
+        | fails next_is ↦ absurd (going (step ∙ next_is))
         | opens t next_is inside completes ↦ subst (ReadSoFar text (i + 1)) (sym (step ∙ next_is))
             (so_far-goes_on t inside
             (λ u fit. subst (λ bytes. IsUtf8Run true ((bytes ++ b ∷ []) ++ u)) (sym nothing) (completes u fit)))
@@ -214,8 +214,8 @@ module _ (text : List ℕ) (i : ℕ) (within : i < length text) (s : AutomatonSt
   so_far-later : (t : AutomatonState) (range : Range) → s ≢ Between → range.last ≤ 0xbf
       → wanted_ranges s ≡ range ∷ wanted_ranges t
       → next_state s b ≡ next_if_in range t b → next_state s b ≢ Failed → ReadSoFar text (i + 1) (next_state s b)
-  so_far-later t range inside last ranges_are steps ok = elim (cases_Bool (is_in range b)) [
-    | inr misfits ↦ absurd (ok (steps ∙ ap (λ v. cond v t Failed) misfits))
+  so_far-later t range inside last ranges_are steps going = elim (cases_Bool (is_in range b)) [
+    | inr misfits ↦ absurd (going (steps ∙ ap (λ v. cond v t Failed) misfits))
     | inl fit ↦
         let step : next_state s b ≡ t = steps ∙ ap (λ v. cond v t Failed) fit in
         let completes : (u : List ℕ) → fits (wanted_ranges t) u ≡ true → IsUtf8Run true ((taken ++ b ∷ []) ++ u) =
@@ -227,7 +227,7 @@ module _ (text : List ℕ) (i : ℕ) (within : i < length text) (s : AutomatonSt
               subst (IsUtf8Run true) (append-nil (taken
               ++ b ∷ [])) (completes [] (ap (λ v. fits (wanted_ranges v) []) same)) in
               subst (ReadSoFar text (i + 1)) (sym same) (so_far-settles whole)
-          | phase-failed same ↦ absurd (ok (step ∙ same))
+          | phase-failed same ↦ absurd (going (step ∙ same))
           | phase-waiting v r other _ _ _ ↦
               so_far-goes_on t other completes
         ])
@@ -235,11 +235,11 @@ module _ (text : List ℕ) (i : ℕ) (within : i < length text) (s : AutomatonSt
 
   so_far-next : next_state s b ≢ Failed → ReadSoFar text (i + 1) (next_state s b)
   unfolding next_state
-  so_far-next ok = elim (phase s) [
-    | phase-between same ↦ so_far-first same ok
-    | phase-failed same ↦ absurd (ok (ap (λ v. next_state v b) same))
+  so_far-next going = elim (phase s) [
+    | phase-between same ↦ so_far-first same going
+    | phase-failed same ↦ absurd (going (ap (λ v. next_state v b) same))
     | phase-waiting t range inside last ranges_are steps ↦
-        so_far-later t range inside last ranges_are (steps b) ok
+        so_far-later t range inside last ranges_are (steps b) going
   ]
 
 pub state_after-next : (text : List ℕ) (i : ℕ) → i < length text
@@ -252,15 +252,15 @@ so_far-further : (text : List ℕ) (i : ℕ) (within : i < length text)
     → ReadSoFar text i (state_after Between (take i text))
     → state_after Between (take (i + 1) text) ≢ Failed
     → ReadSoFar text (i + 1) (state_after Between (take (i + 1) text))
-so_far-further text i within old ok =
+so_far-further text i within old going =
     subst (ReadSoFar text (i + 1)) (sym (state_after-next text i within))
-    (so_far-next text i within _ old (λ failed. ok (state_after-next text i within ∙ failed)))
+    (so_far-next text i within _ old (λ failed. going (state_after-next text i within ∙ failed)))
 
 pub so_far-all : (text : List ℕ) (i : ℕ) → i ≤ length text → state_after Between (take i text) ≢ Failed
     → ReadSoFar text i (state_after Between (take i text))
-so_far-all text zero within ok = so_far-printed (utf8_run-nil true)
-so_far-all text (suc i) within ok =
-    let fine : state_after Between (take (i + 1) text) ≢ Failed = rw add-one ok in
+so_far-all text zero within going = so_far-printed (utf8_run-nil true)
+so_far-all text (suc i) within going =
+    let fine : state_after Between (take (i + 1) text) ≢ Failed = rw add-one going in
     let old =
     so_far-all text i (omega arith)
     (λ failed.

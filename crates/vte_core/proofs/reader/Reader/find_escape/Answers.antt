@@ -14,13 +14,14 @@ returns-in-Some c =
       low = omega arith;
       high = search rules;
       passed = λ k low high is_escape.
-          let no = first.0.before (k - c.args.from) (omega arith) (omega (arith, low, high)) in
+          let not_escape = first.0.before (k - c.args.from) (omega arith) (omega (arith, low, high)) in
           let is_there =
           rest-byte c.args.input.bytes.now c.args.from (k - c.args.from) k (omega (arith, low)) ∙ is_escape in
           grind (arith, nat_tests);
       ended =
-          λ within no.
-          no (sym (rest-byte c.args.input.bytes.now c.args.from c.in-Some.distance _ refl) ∙ eqb-true _ _ first.1);
+          λ within not_escape.
+          not_escape
+          (sym (rest-byte c.args.input.bytes.now c.args.from c.in-Some.distance _ refl) ∙ eqb-true _ _ first.1);
       count = search rules;
     }
 
@@ -29,10 +30,10 @@ returns-in-None c = record {
   low = omega (arith, c.requires);
   high = search rules;
   passed = λ k low high is_escape.
-      let no = c.in-None.ensures (k - c.args.from) (omega arith) (omega (arith, low, high)) in
+      let not_escape = c.in-None.ensures (k - c.args.from) (omega arith) (omega (arith, low, high)) in
       let is_there =
       rest-byte c.args.input.bytes.now c.args.from (k - c.args.from) k (omega (arith, low)) ∙ is_escape in
       grind (arith, nat_tests);
-  ended = λ within no. omega (arith, within);
+  ended = λ within not_escape. omega (arith, within);
   count = search rules;
 }

@@ -13,8 +13,8 @@ loop-block-preserved c =
       low = omega (arith, v.low);
       high = block.0;
       plain =
-          each-both StaysBetween bytes c.args.from c.loop-block.at _ v.plain
-          (each-block StaysBetween bytes c.in-Some.block c.loop-block.at 32 32 block.1 (omega arith)
+          each-both StaysBetween bytes c.args.from c.loop-block.end _ v.plain
+          (each-block StaysBetween bytes c.in-Some.block c.loop-block.end 32 32 block.1 (omega arith)
           (c.are_printed_or_layout.ensures c.if-not-are_printed_or_layout.false));
       count = omega (arith, v.count, block.2);
     }

@@ -9,17 +9,17 @@ use Rattle.vte_core.proofs.reader.Reader.skip_run_blocks.Given as goal
 
 abbrev pub invariant-loop-window : goal.invariant-loop-window
 invariant-loop-window l = record {
-  low : l.from ≤ l.at;
-  high : l.at ≤ length l.input.bytes.now;
-  leads : TrailsAt l.input.bytes.now l.from l.at;
-  kept : l.layout ≡ false → Each (λ byte. 0x20 ≤ byte) l.input.bytes.now l.from l.at;
-  whole : l.from < l.at → l.from + 16 ≤ l.at;
-  at_least : looked l.initial.self + l.at ≤ looked l.self + l.from;
-  no_looks : l.at ≡ l.from → looked l.self ≡ looked l.initial.self;
-  spare : l.from < l.at → 3 * looked l.self + 11 * l.from + 110 ≤ 3 * looked l.initial.self + 11 * l.at;
-  at_most : l.ascii_blocks ≤ l.at;
-  early : l.at ≡ l.from → l.ascii_blocks ≤ 2;
+  low : l.from ≤ l.end;
+  high : l.end ≤ length l.input.bytes.now;
+  leads : TrailsAt l.input.bytes.now l.from l.end;
+  kept : l.layout ≡ false → Each (λ byte. 0x20 ≤ byte) l.input.bytes.now l.from l.end;
+  whole : l.from < l.end → l.from + 16 ≤ l.end;
+  at_least : looked l.initial.self + l.end ≤ looked l.self + l.from;
+  no_looks : l.end ≡ l.from → looked l.self ≡ looked l.initial.self;
+  spare : l.from < l.end → 3 * looked l.self + 11 * l.from + 110 ≤ 3 * looked l.initial.self + 11 * l.end;
+  at_most : l.ascii_blocks ≤ l.end;
+  early : l.end ≡ l.from → l.ascii_blocks ≤ 2;
 }
 
 abbrev pub decreases-loop-window : goal.decreases-loop-window
-decreases-loop-window l = length l.input.bytes.now - l.at
+decreases-loop-window l = length l.input.bytes.now - l.end

@@ -22,29 +22,29 @@ impl Reader {
         if self.count_open_bytes(input, from) > 0 {
             return from;
         }
-        let mut at = from;
+        let mut end = from;
         // Two are enough at first, since most runs are of ASCII.
         let mut ascii_blocks = ASCII_BLOCKS / 2;
-        let most = if layout { ASCII_BLOCKS } else { usize::MAX };
-        while let Some(window) = self.get_window(input, at - 3) {
+        let enough = if layout { ASCII_BLOCKS } else { usize::MAX };
+        while let Some(window) = self.get_window(input, end - 3) {
             if !continues_run(&window, layout) {
                 break;
             }
-            at += 16;
+            end += 16;
             ascii_blocks = if is_ascii(&window.current) {
                 ascii_blocks + 1
             } else {
                 0
             };
-            if ascii_blocks >= most {
+            if ascii_blocks >= enough {
                 ascii_blocks = 0;
-                at = self.skip_ascii_blocks(input, at);
+                end = self.skip_ascii_blocks(input, end);
             }
         }
-        if at == from {
+        if end == from {
             return from;
         }
-        at - self.count_open_bytes(input, at)
+        end - self.count_open_bytes(input, end)
     }
 
     /// Skips blocks of printed ASCII, HT, LF and CR from a position on, if no character is open.
@@ -53,25 +53,25 @@ impl Reader {
         if self.count_open_bytes(input, from) > 0 {
             return from;
         }
-        let mut at = from;
-        while let Some(block) = self.get_block::<32>(input, at) {
+        let mut end = from;
+        while let Some(block) = self.get_block::<32>(input, end) {
             if !are_printed_or_layout(&block) {
                 break;
             }
-            at += 32;
+            end += 32;
         }
-        at
+        end
     }
 
     /// Returns how many of the three bytes before a position are those of a character that they
     /// leave open.
     #[inline(always)]
-    fn count_open_bytes(self, input: &[u8], at: usize) -> usize {
-        if self.byte_at(input, at - 1) >= 0xc0 {
+    fn count_open_bytes(self, input: &[u8], position: usize) -> usize {
+        if self.byte_at(input, position - 1) >= 0xc0 {
             1
-        } else if self.byte_at(input, at - 2) >= 0xe0 {
+        } else if self.byte_at(input, position - 2) >= 0xe0 {
             2
-        } else if self.byte_at(input, at - 3) >= 0xf0 {
+        } else if self.byte_at(input, position - 3) >= 0xf0 {
             3
         } else {
             0

@@ -21,4 +21,4 @@ pub mod positions
 -- From the states of the automaton to what they say of a block of text. The answers of `reader/` use it.
 pub mod automaton_states
 -- From groups of parameters to their text, and back. The answers of `params/` use it.
-pub mod Showing
+pub mod ParameterTexts

@@ -35,7 +35,7 @@ pub fn replay<P: Perform, const OSC_RAW_BUF_SIZE: usize>(performer: &mut P, chun
 }
 
 /// Parameters come back if their debug text is sent, without its brackets, between `ESC [` and `m`.
-#[tactic(auto, using(crate::proofs::Showing::shown_dispatched))]
+#[tactic(auto, using(crate::proofs::ParameterTexts::shown_dispatched))]
 pub fn debug_dispatch()
     ensures { (limit : Option ℕ) (groups : List (List ℕ)) → AreParameters groups
         → DispatchesShown limit groups }

@@ -12,18 +12,18 @@ use Rattle.vte_core.specs.Advance.{ReadsBytes, ReadsUntilTerminated}
 
 events_fit : (size n : ℕ) (events : List Event) → n + 16 ≤ size → All (IsBounded (Some n)) events
     → All (FitsText size) events
-events_fit size n events memory are = search (rules, arith)
+events_fit size n events room bounded = search (rules, arith)
 
 -- If the events of all bytes fit into this size, those of a prefix do too.
-pub prefix_fits : (size : ℕ) (limit : Option ℕ) (p prefix rest : List ℕ)
-    → All (FitsText size) (added limit p (prefix ++ rest)) → All (FitsText size) (added limit p prefix)
-prefix_fits size limit p prefix rest all =
-    let parts : All (FitsText size) (added limit p prefix ++ added limit (p ++ prefix) rest) =
-    rw (added-append limit p prefix rest) at all in
+pub prefix_fits : (size : ℕ) (limit : Option ℕ) (stream prefix rest : List ℕ)
+    → All (FitsText size) (added limit stream (prefix ++ rest)) → All (FitsText size) (added limit stream prefix)
+prefix_fits size limit stream prefix rest all_fit =
+    let parts : All (FitsText size) (added limit stream prefix ++ added limit (stream ++ prefix) rest) =
+    rw (added-append limit stream prefix rest) at all_fit in
     let first =
-    All-take (FitsText size) (length (added limit p prefix))
-    (added limit p prefix ++ added limit (p ++ prefix) rest) parts in
-    rw (take-append_seam (added limit p prefix) (added limit (p ++ prefix) rest)) at first
+    All-take (FitsText size) (length (added limit stream prefix))
+    (added limit stream prefix ++ added limit (stream ++ prefix) rest) parts in
+    rw (take-append_seam (added limit stream prefix) (added limit (stream ++ prefix) rest)) at first
 
 -- ---- the parser with a limit, which bounds a command's data
 
@@ -39,19 +39,19 @@ module _ {N : ℕ} {V W : Type 0} {step : PerformerValue V W → Event → Perfo
     {parser next : Parser N} where
   pub short_parses : ReadsBytes step old new bytes (reading_of parser) (reading_of next)
       → AdvancesAll limited_parser_view (Some N) step parser next old new bytes
-  short_parses r = search (rules, arith, short_fits)
+  short_parses reads = search (rules, arith, short_fits)
 
   pub short_stops : {read : ℕ}
       → ReadsUntilTerminated step (λ performer. performer.terminated) read old new bytes (reading_of parser)
       (reading_of next)
       → AdvancesUntilStop limited_parser_view (Some N) step parser next old new bytes read
-  short_stops r = record {
-    within = r.within;
+  short_stops reads = record {
+    within = reads.within;
     stops =
-        λ stream n reads memory. record {
-          stops = r.stops stream reads;
+        λ stream n has_read memory. record {
+          stops = reads.stops stream has_read;
           fits = short_fits N old.text_size stream bytes memory;
-          reads = r.reads stream reads;
+          reads = reads.reads stream has_read;
         };
     keeps_memory = λ size stream count had. had;
   }
@@ -61,7 +61,7 @@ module _ {N : ℕ} {V W : Type 0} {step : PerformerValue V W → Event → Perfo
 -- If neither size shrinks, memory that was enough stays enough.
 keeps_enough : {A : Type 0} {parser next : LongParser A} {size larger : ℕ} → memory_of parser ≤ memory_of next
     → size ≤ larger → KeepsMemory (ParserHasMemory parser size) (ParserHasMemory next larger)
-keeps_enough more at_most = search (rules, arith)
+keeps_enough memory_grows size_grows = search (rules, arith)
 
 module _ {A : Type 0} {parser : LongParser A} {size : ℕ} (stream bytes : List ℕ) (n : ℕ)
     (memory : ParserHasMemory parser size stream (length bytes + n)) where
@@ -84,40 +84,40 @@ module _ {A V W : Type 0} {step : PerformerValue V W → Event → PerformerValu
   pub long_parses : (result : Result (Unit {0}) Refused)
       → ReadsLong 5 step (λ _. false) old new bytes parser next result (λ (_ : Unit {0}). ReadsBytes step)
       → AdvancesAll long_parser_view None step parser next old new bytes
-  long_parses (Ok _) r = record {
-    parses = λ stream n read memory. record {
-      performs = r.reads.performs stream read;
+  long_parses (Ok _) reads_long = record {
+    parses = λ stream n has_read memory. record {
+      performs = reads_long.reads.performs stream has_read;
       fits = long_fits stream bytes n memory;
-      reads = r.reads.reads stream read;
-      memory = memory_left stream bytes n memory next r.memory;
+      reads = reads_long.reads.reads stream has_read;
+      memory = memory_left stream bytes n memory next reads_long.memory;
     };
-    keeps_memory = λ size. keeps_enough r.memory (omega arith);
+    keeps_memory = λ size. keeps_enough reads_long.memory (omega arith);
   }
-  long_parses (Err refused) r = record {
+  long_parses (Err refused) reads_long = record {
     parses =
-        λ stream n read memory.
-        absurd (omega (arith, r.refuses.lacks_all stream read, enough stream bytes n memory));
-    keeps_memory = λ size. keeps_enough r.memory (omega arith);
+        λ stream n has_read memory.
+        absurd (omega (arith, reads_long.refuses.lacks_all stream has_read, enough stream bytes n memory));
+    keeps_memory = λ size. keeps_enough reads_long.memory (omega arith);
   }
 
   pub long_stops : (result : Result ℕ Refused)
       → ReadsLong 5 step (λ performer. performer.terminated) old new bytes parser next result
       (ReadsUntilTerminated step (λ performer. performer.terminated))
       → AdvancesUntilStop long_parser_view None step parser next old new bytes (read_count result)
-  long_stops (Ok read) r = record {
-    within = r.reads.within;
+  long_stops (Ok read) reads_long = record {
+    within = reads_long.reads.within;
     stops =
-        λ stream n reads memory. record {
-          stops = r.reads.stops stream reads;
+        λ stream n has_read memory. record {
+          stops = reads_long.reads.stops stream has_read;
           fits = long_fits stream bytes n memory;
-          reads = r.reads.reads stream reads;
+          reads = reads_long.reads.reads stream has_read;
         };
-    keeps_memory = λ size. keeps_enough r.memory (omega arith);
+    keeps_memory = λ size. keeps_enough reads_long.memory (omega arith);
   }
-  long_stops (Err refused) r = record {
-    within = omega (arith, r.refuses.within);
+  long_stops (Err refused) reads_long = record {
+    within = omega (arith, reads_long.refuses.within);
     stops =
-        λ stream n reads memory.
-        absurd (omega (arith, r.refuses.lacks_all stream reads, enough stream bytes n memory));
-    keeps_memory = λ size. keeps_enough r.memory (omega arith);
+        λ stream n has_read memory.
+        absurd (omega (arith, reads_long.refuses.lacks_all stream has_read, enough stream bytes n memory));
+    keeps_memory = λ size. keeps_enough reads_long.memory (omega arith);
   }

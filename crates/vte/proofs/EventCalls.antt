@@ -13,45 +13,48 @@ use Rattle.vte_core.specs.Event.{after as performed}
 -- Those of the whole are those of the parts joined, also of what more bytes add. By induction over the events, with the
 -- last printed character carried along.
 
-pub after_calls-append : {V : Type 0} (step : V → Call → V) (value : V) (xs ys : List Call)
-    → after step value (xs ++ ys) ≡ after step (after step value xs) ys
-after_calls-append step value [] ys = refl
-after_calls-append step value (x ∷ xs) ys = after_calls-append step (step value x) xs ys
+pub after_calls-append : {V : Type 0} (step : V → Call → V) (value : V) (front back : List Call)
+    → after step value (front ++ back) ≡ after step (after step value front) back
+after_calls-append step value [] back = refl
+after_calls-append step value (call ∷ front) back = after_calls-append step (step value call) front back
 
 pub ruleset appended = (after_calls-append)
 
-calls-append : (last : Option ℕ) (xs ys : List Event)
-    → calls_from last (xs ++ ys) ≡ calls_from last xs ++ calls_from (last_printed_from last xs) ys
-calls-append last [] ys = refl
-calls-append last (x ∷ xs) ys = rw (calls-append (last_printed_after last x) xs ys, append_assoc)
+calls-append : (last : Option ℕ) (front back : List Event)
+    → calls_from last (front ++ back) ≡ calls_from last front ++ calls_from (last_printed_from last front) back
+calls-append last [] back = refl
+calls-append last (event ∷ front) back =
+    rw (calls-append (last_printed_after last event) front back, append_assoc)
 
-pub last_printed-append : (last : Option ℕ) (xs ys : List Event)
-    → last_printed_from last (xs ++ ys) ≡ last_printed_from (last_printed_from last xs) ys
-last_printed-append last [] ys = refl
-last_printed-append last (x ∷ xs) ys = last_printed-append (last_printed_after last x) xs ys
+pub last_printed-append : (last : Option ℕ) (front back : List Event)
+    → last_printed_from last (front ++ back) ≡ last_printed_from (last_printed_from last front) back
+last_printed-append last [] back = refl
+last_printed-append last (event ∷ front) back = last_printed-append (last_printed_after last event) front back
 
-calls_after-append : (before more : List Event)
-    → calls_after before (before ++ more) ≡ calls_from (last_printed before) more
-calls_after-append before more = rw (calls-append None before more) (drop-append_seam (calls before) _)
+calls_after-append : (before later : List Event)
+    → calls_after before (before ++ later) ≡ calls_from (last_printed before) later
+calls_after-append before later = rw (calls-append None before later) (drop-append_seam (calls before) _)
 
-pub added_calls-events : (limit : Option ℕ) (p u : List ℕ)
-    → added_calls limit p u ≡ calls_from (last_printed (events limit p)) (added limit p u)
-added_calls-events limit p u =
-    ap (calls_after (events limit p)) (events_grow limit p u) ∙ calls_after-append (events limit p) (added limit p u)
+pub added_calls-events : (limit : Option ℕ) (stream bytes : List ℕ)
+    → added_calls limit stream bytes ≡ calls_from (last_printed (events limit stream)) (added limit stream bytes)
+added_calls-events limit stream bytes =
+    ap (calls_after (events limit stream)) (events_grow limit stream bytes)
+    ∙ calls_after-append (events limit stream) (added limit stream bytes)
 
-pub added_calls-nothing : (limit : Option ℕ) (p : List ℕ) → added_calls limit p [] ≡ []
-added_calls-nothing limit p = rw (added_calls-events limit p [], added-nothing limit p)
+pub added_calls-nothing : (limit : Option ℕ) (stream : List ℕ) → added_calls limit stream [] ≡ []
+added_calls-nothing limit stream = rw (added_calls-events limit stream [], added-nothing limit stream)
 
-pub added_calls-append : (limit : Option ℕ) (p u w : List ℕ)
-    → added_calls limit p (u ++ w) ≡ added_calls limit p u ++ added_calls limit (p ++ u) w
-added_calls-append limit p u w =
+pub added_calls-append : (limit : Option ℕ) (stream front bytes : List ℕ)
+    → added_calls limit stream (front ++ bytes)
+    ≡ added_calls limit stream front ++ added_calls limit (stream ++ front) bytes
+added_calls-append limit stream front bytes =
     search (rules, arith, events_grow, last_printed-append, added_calls-events, added-append, calls-append)
 
-pub calls_whole : (limit : Option ℕ) (p u : List ℕ)
-    → calls (events limit (p ++ u)) ≡ calls (events limit p) ++ added_calls limit p u
-calls_whole limit p u =
-    ap calls (events_grow limit p u)
-    ∙ rw (added_calls-events limit p u) (calls-append None (events limit p) (added limit p u))
+pub calls_whole : (limit : Option ℕ) (stream bytes : List ℕ)
+    → calls (events limit (stream ++ bytes)) ≡ calls (events limit stream) ++ added_calls limit stream bytes
+calls_whole limit stream bytes =
+    ap calls (events_grow limit stream bytes)
+    ∙ rw (added_calls-events limit stream bytes) (calls-append None (events limit stream) (added limit stream bytes))
 
 -- To set a timeout n + k times is to set it n times, then k times.
 pub set_times-add : {W : Type 0} (m : TimeoutMeaning W) (value : W) (n k : ℕ)
@@ -59,15 +62,16 @@ pub set_times-add : {W : Type 0} (m : TimeoutMeaning W) (value : W) (n k : ℕ)
 set_times-add m value zero k = rw zero-add
 set_times-add m value (suc n) k = rw suc-add (set_times-add m (m.set value update_nanos) n k)
 
-begun-more : (b t : Bool) (n : ℕ) → ((b || t) || nat_lt 0 n) ≡ (b || nat_lt 0 ((if t then 1 else 0) + n))
-begun-more b t n = grind (arith, nat_tests)
+terminated-more : (terminated begins : Bool) (n : ℕ)
+    → ((terminated || begins) || nat_lt 0 n) ≡ (terminated || nat_lt 0 ((if begins then 1 else 0) + n))
+terminated-more terminated begins n = grind (arith, nat_tests)
 
 -- To set the first private mode and then the others is to set them all.
 pub modes-more : {V W : Type 0} (step : V → Call → V) (timeout : TimeoutMeaning W) (performer : PerformerValue V W)
     (group : List ℕ) (groups : List (List ℕ))
     → with_private_modes step timeout (with_private_mode step timeout performer (first_number group)) groups
     ≡ with_private_modes step timeout performer (group ∷ groups)
-modes-more step timeout performer group groups = search (rules, arith, begun-more, set_times-add)
+modes-more step timeout performer group groups = search (rules, arith, terminated-more, set_times-add)
 
 -- ---- a run of text
 
@@ -76,21 +80,21 @@ modes-more step timeout performer group groups = search (rules, arith, begun-mor
 
 -- A run calls `input` for each character, and neither sets the timeout nor terminates.
 pub performed_run : {V W : Type 0} (step : V → Call → V) (timeout : TimeoutMeaning W) (performer : PerformerValue V W)
-    (cs : List ℕ)
-    → performed (performer_with_event step timeout) performer (map Print cs)
+    (characters : List ℕ)
+    → performed (performer_with_event step timeout) performer (map Print characters)
     ≡ record performer {
-      handler = after step performer.handler (map Input cs);
-      last = last_printed_from performer.last (map Print cs);
+      handler = after step performer.handler (map Input characters);
+      last = last_printed_from performer.last (map Print characters);
     }
 performed_run step timeout performer [] = refl
-performed_run step timeout performer (c ∷ cs) =
-    performed_run step timeout (performer_with_event step timeout performer (Print c)) cs ∙ rw or-false
+performed_run step timeout performer (c ∷ characters) =
+    performed_run step timeout (performer_with_event step timeout performer (Print c)) characters ∙ rw or-false
 
 -- A character at the end of a run is its last.
-last_printed-added : (last : Option ℕ) (cs : List ℕ) (c : ℕ)
-    → last_printed_from last (map Print (cs ++ c ∷ [])) ≡ Some c
+last_printed-added : (last : Option ℕ) (characters : List ℕ) (c : ℕ)
+    → last_printed_from last (map Print (characters ++ c ∷ [])) ≡ Some c
 last_printed-added last [] c = refl
-last_printed-added last (x ∷ cs) c = last_printed-added (Some x) cs c
+last_printed-added last (other ∷ characters) c = last_printed-added (Some other) characters c
 
 -- No character begins with a byte that continues one.
 encode-lead : (c : ℕ) → 128 ≤ get_or (encode c) 0 0 → 192 ≤ get_or (encode c) 0 0
@@ -103,19 +107,20 @@ boundary-seam prefix c =
     (omega (arith, length-append prefix (encode c)), λ _ high. rw first (encode-lead c (rw first at high)))
 
 -- The last character of a text comes off its end.
-chars_before_last : (prefix : List ℕ) (c : ℕ) → IsUtf8 (prefix ++ encode c)
+chars-last : (prefix : List ℕ) (c : ℕ) → IsUtf8 (prefix ++ encode c)
     → chars (prefix ++ encode c) ≡ chars prefix ++ c ∷ []
-chars_before_last prefix c is =
-    let before : IsUtf8 prefix =
-    rw take-append_seam at (IsUtf8-take (prefix ++ encode c) (length prefix) is (boundary-seam prefix c)) in
-    let last : IsUtf8 (encode c) =
-    rw drop-append_seam at (IsUtf8-drop (prefix ++ encode c) (length prefix) is (boundary-seam prefix c)) in
-    chars-append prefix (encode c) before
-    ∙ rw (chars_past_char (encode c) [] c last (sym (append-nil (encode c))), chars-nil)
+chars-last prefix c utf8 =
+    let prefix_utf8 : IsUtf8 prefix =
+    rw take-append_seam at (IsUtf8-take (prefix ++ encode c) (length prefix) utf8 (boundary-seam prefix c)) in
+    let last_utf8 : IsUtf8 (encode c) =
+    rw drop-append_seam at (IsUtf8-drop (prefix ++ encode c) (length prefix) utf8 (boundary-seam prefix c)) in
+    chars-append prefix (encode c) prefix_utf8
+    ∙ rw (chars_past_char (encode c) [] c last_utf8 (sym (append-nil (encode c))), chars-nil)
 
 -- What comes off the end of a text is its last character, and nothing comes off an empty one.
-pub last_of_text : (text : List ℕ) (s t : _) (taken last : Option ℕ) → IsUtf8 text → chars_rest s ≡ text
-    → chars_steps_back s taken t
+pub last_of_text : (text : List ℕ) (iterator next : _) (taken last : Option ℕ) → IsUtf8 text
+    → chars_rest iterator ≡ text
+    → chars_steps_back iterator taken next
     → option_or taken last ≡ last_printed_from last (map Print (chars text))
-last_of_text text s t taken last is same o =
-    search (rules, arith, nil_from_length, chars-nil, encode, chars_before_last, last_printed-added)
+last_of_text text iterator next taken last utf8 rest_is steps_back =
+    search (rules, arith, nil_from_length, chars-nil, encode, chars-last, last_printed-added)

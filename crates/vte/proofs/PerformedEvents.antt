@@ -28,12 +28,12 @@ with_events m performer events = record {
 performed-events : {V W : Type 0} (m : Meaning V W) (performer : PerformerValue V W) (events : List Event)
     → All (FitsText performer.text_size) events
     → performed (performer_with_event m.step m.timeout) performer events ≡ with_events m performer events
-performed-events m performer [] fit = rw or-false
-performed-events m performer (event ∷ events) fit =
+performed-events m performer [] fits = rw or-false
+performed-events m performer (event ∷ events) fits =
     performed-events m (performer_with_event m.step m.timeout performer event) events
-    (All-tail (FitsText performer.text_size) event events fit)
+    (All-tail (FitsText performer.text_size) event events fits)
     ∙ rw (
-      All-head (FitsText performer.text_size) event events fit performer.last,
+      All-head (FitsText performer.text_size) event events fits performer.last,
       ← after_calls-append m.step performer.handler (calls_of performer.last event)
           (calls_from (last_printed_after performer.last event) events),
       ← set_times-add m.timeout performer.timeout (begins_in_event event) (begin_count events),
@@ -45,53 +45,54 @@ performed-events m performer (event ∷ events) fit =
 -- What comes back has the value of `with_events`, so the parts are at the state after `parse`.
 
 module _ {H T B G V W : Type 0} (handler_of : H → V) (timeout_of : T → W) (text_size_of : B → ℕ) (m : Meaning V W)
-    (s : State V W) (f : List ℕ)
+    (start : State V W) (bytes : List ℕ)
     (old : PerformerValue V W) (new : Performer H T B G) {state : ProcessorState T B}
-    (fit : All (FitsText old.text_size) (added m.limit s.parsed f))
-    (made : performer_value handler_of timeout_of text_size_of new
-    ≡ performed (performer_with_event m.step m.timeout) old (added m.limit s.parsed f))
+    (fits : All (FitsText old.text_size) (added m.limit start.parsed bytes))
+    (performs : performer_value handler_of timeout_of text_size_of new
+    ≡ performed (performer_with_event m.step m.timeout) old (added m.limit start.parsed bytes))
     (back_state : old.state_name ≡ new.state.ghost_name → state ≡ new.state.now) where
-  all_made : performer_value handler_of timeout_of text_size_of new ≡ with_events m old (added m.limit s.parsed f)
-  all_made = made ∙ performed-events m old (added m.limit s.parsed f) fit
+  value_is : performer_value handler_of timeout_of text_size_of new
+      ≡ with_events m old (added m.limit start.parsed bytes)
+  value_is = performs ∙ performed-events m old (added m.limit start.parsed bytes) fits
 
   state-is : state ≡ new.state.now
-  state-is = back_state (sym (ap (λ performer. performer.state_name) all_made))
+  state-is = back_state (sym (ap (λ performer. performer.state_name) value_is))
 
   -- The text has the same size as before.
   pub text_size_back : text_size_of state.text ≡ old.text_size
-  text_size_back = rw state-is (ap (λ performer. performer.text_size) all_made)
+  text_size_back = rw state-is (ap (λ performer. performer.text_size) value_is)
 
   pub performer-given_back : {P : Type 0} {view : ParserView P} {parser next : P} {lent : ProcessorState T B}
-      {value : V} {handler : H} → ArePartsAt (engine_view m.limit view text_size_of timeout_of) parser lent value s
+      {value : V} {handler : H} → ArePartsAt (engine_view m.limit view text_size_of timeout_of) parser lent value start
       → old.last ≡ lent.preceding_char → old.timeout ≡ timeout_of lent.timeout → old.handler ≡ value
       → old.text_size ≡ text_size_of lent.text
-      → view.has_read next (s.parsed ++ f)
+      → view.has_read next (start.parsed ++ bytes)
       → (old.handler_name ≡ new.handler.ghost_name → handler ≡ new.handler.now)
       → ((size : ℕ) → KeepsMemory (view.has_memory parser size) (view.has_memory next size))
       → ArePartsAtKeepingMemory (engine_view m.limit view text_size_of timeout_of) parser lent next state
       (handler_of handler)
-      (parse m s f)
-  performer-given_back {lent} at at_last at_timeout at_handler at_text_size read back_handler keeps =
-      let all = all_made in
+      (parse m start bytes)
+  performer-given_back {lent} parts_at lent_last lent_timeout lent_handler lent_text_size has_read back_handler
+      keeps_memory =
       -- The handler that comes back is the one that was lent.
-      let is_handler = back_handler (sym (ap (λ performer. performer.handler_name) all)) in
-      -- Before the bytes, the performer had the values of the state `s`.
-      let last : old.last ≡ last_printed (events m.limit s.parsed) = at_last ∙ at.last in
-      let timeout : old.timeout ≡ s.timeout = at_timeout ∙ at.timeout_is in
-      let handler : old.handler ≡ s.handler = at_handler ∙ at.handler_is in
-      -- After the bytes, it has those of `with_events`, which are the values of `parse m s f`.
+      let handler_back = back_handler (sym (ap (λ performer. performer.handler_name) value_is)) in
+      -- Before the bytes, the performer had the values of the state `start`.
+      let last_is : old.last ≡ last_printed (events m.limit start.parsed) = lent_last ∙ parts_at.last in
+      let timeout_is : old.timeout ≡ start.timeout = lent_timeout ∙ parts_at.timeout_is in
+      let handler_is : old.handler ≡ start.handler = lent_handler ∙ parts_at.handler_is in
+      -- After the bytes, it has those of `with_events`, which are the values of `parse m start bytes`.
       record {
         parts_at = record {
-          has_read = read;
+          has_read = has_read;
           last =
-              rw (state-is, events_grow m.limit s.parsed f, last_printed-append, ← last)
-              (ap (λ performer. performer.last) all);
-          timeout_is = rw (state-is, ← timeout) (ap (λ performer. performer.timeout) all);
+              rw (state-is, events_grow m.limit start.parsed bytes, last_printed-append, ← last_is)
+              (ap (λ performer. performer.last) value_is);
+          timeout_is = rw (state-is, ← timeout_is) (ap (λ performer. performer.timeout) value_is);
           handler_is =
-              rw (is_handler, added_calls-events m.limit s.parsed f, ← last, ← handler)
-              (ap (λ performer. performer.handler) all);
+              rw (handler_back, added_calls-events m.limit start.parsed bytes, ← last_is, ← handler_is)
+              (ap (λ performer. performer.handler) value_is);
         };
-        keeps_memory = rw (text_size_back, at_text_size) (keeps (text_size_of lent.text));
+        keeps_memory = rw (text_size_back, lent_text_size) (keeps_memory (text_size_of lent.text));
       }
 
 -- ---- an early stop reads the prefix
@@ -107,68 +108,70 @@ terminated_by m performer (event ∷ events) =
     ∙ any-sum performer.terminated (begins_in_event event) (begin_count events)
 
 module _ {V W : Type 0} (m : Meaning V W) {old new : PerformerValue V W} (goes_on : old.terminated ≡ false)
-    {p r : List ℕ} {n : ℕ}
-    (stop : StopsExactly (performer_with_event m.step m.timeout) (λ performer. performer.terminated) old m.limit p r new
-    n) where
-  prefix : IsPrefix m.limit p r (length (prefix_to_begin m.limit p r))
-  prefix = prefix-is m.limit p r
+    {stream bytes : List ℕ} {read : ℕ}
+    (stop : StopsExactly (performer_with_event m.step m.timeout) (λ performer. performer.terminated) old m.limit stream
+    bytes new read) where
+  is_prefix : IsPrefix m.limit stream bytes (length (prefix_to_begin m.limit stream bytes))
+  is_prefix = prefix-is m.limit stream bytes
 
   -- Before position i, the performer is terminated exactly if an update begins in the first i bytes.
   terminated_at : (i : ℕ)
-      → (performed (performer_with_event m.step m.timeout) old (reported_before m.limit p r i)).terminated
-      ≡ nat_lt 0 (begin_count (added m.limit p (take i r)))
+      → (performed (performer_with_event m.step m.timeout) old (reported_before m.limit stream bytes i)).terminated
+      ≡ nat_lt 0 (begin_count (added m.limit stream (take i bytes)))
   terminated_at i =
-      terminated_by m old (reported_before m.limit p r i) ∙ rw (goes_on, begin_count-reported m.limit p r i)
+      terminated_by m old (reported_before m.limit stream bytes i)
+      ∙ rw (goes_on, begin_count-reported m.limit stream bytes i)
 
   -- The call doesn't stop before the end of the prefix.
-  size-not_before : n < length (prefix_to_begin m.limit p r) → ⊥
-  size-not_before less =
-      let f = prefix in
-      -- Bytes are left after a stop at n, so the performer is terminated there.
-      let ends = stop.stops (omega (arith, f.within)) in
-      -- But in the first n bytes no update begins.
-      let none = rw (stop.comes.performed, terminated_at n, f.before n less) at ends in
-      false≢true none
+  size-not_before : read < length (prefix_to_begin m.limit stream bytes) → ⊥
+  size-not_before stops_before =
+      -- Bytes are left after a stop at `read`, so the performer is terminated there.
+      let terminated = stop.stops (omega (arith, is_prefix.within)) in
+      -- But in the first `read` bytes no update begins.
+      let not_terminated =
+      rw (stop.comes.performed, terminated_at read, is_prefix.none_before read stops_before) at terminated in
+      false≢true not_terminated
 
   -- The call doesn't stop after the end of the prefix.
-  size-not_after : length (prefix_to_begin m.limit p r) < n → ⊥
-  size-not_after less =
-      let f = prefix in
-      let k = length (prefix_to_begin m.limit p r) in
+  size-not_after : length (prefix_to_begin m.limit stream bytes) < read → ⊥
+  size-not_after stops_after =
+      let size = length (prefix_to_begin m.limit stream bytes) in
       -- The end of the prefix is a start, as no character is open there.
-      let within : k < length r = omega (arith, stop.comes.within) in
+      let within : size < length bytes = omega (arith, stop.comes.within) in
       -- A call that stops later wasn't terminated there.
-      let goes_on =
-      rw (terminated_at k) at (stop.comes.earlier k less
-      (starts-settled within (open_character-prefix f within))) in
+      let not_terminated =
+      rw (terminated_at size) at (stop.comes.earlier size stops_after
+      (starts-settled within (open_character-prefix is_prefix within))) in
       -- But in the prefix an update begins.
-      grind (arith, nat_tests, f.begins within)
+      grind (arith, nat_tests, is_prefix.begins within)
 
-  pub stops_at_prefix : n ≡ length (prefix_to_begin m.limit p r)
-  stops_at_prefix = elim (cases_lt n (length (prefix_to_begin m.limit p r))) [
-    | inl less ↦ absurd (size-not_before less)
-    | inr at_least ↦ elim (cases_lt (length (prefix_to_begin m.limit p r)) n) [
-      | inl less ↦ absurd (size-not_after less)
+  pub stops_at_prefix : read ≡ length (prefix_to_begin m.limit stream bytes)
+  stops_at_prefix = elim (cases_lt read (length (prefix_to_begin m.limit stream bytes))) [
+    | inl stops_before ↦ absurd (size-not_before stops_before)
+    | inr at_least ↦ elim (cases_lt (length (prefix_to_begin m.limit stream bytes)) read) [
+      | inl stops_after ↦ absurd (size-not_after stops_after)
       | inr most ↦ omega arith
     ]
   ]
 
   pub stop_performs : new
-      ≡ performed (performer_with_event m.step m.timeout) old (added m.limit p (prefix_to_begin m.limit p r))
+      ≡ performed (performer_with_event m.step m.timeout) old
+      (added m.limit stream (prefix_to_begin m.limit stream bytes))
   stop_performs =
       -- After the prefix no character is broken, so what is reported before its end is what the prefix adds.
-      let f =
-      prefix in
-      rw (f.is, ← stops_at_prefix, ← reported-settled m.limit p r n (rw stops_at_prefix (breaks_at-prefix f)))
-      stop.comes.performed
+      rw (
+        is_prefix.prefix_is,
+        ← stops_at_prefix,
+        ← reported-settled m.limit stream bytes read (rw stops_at_prefix (breaks_at-prefix is_prefix)),
+      ) stop.comes.performed
 
-  pub stop_terminated : new.terminated ≡ nat_lt 0 (begin_count (added m.limit p (prefix_to_begin m.limit p r)))
+  pub stop_terminated : new.terminated
+      ≡ nat_lt 0 (begin_count (added m.limit stream (prefix_to_begin m.limit stream bytes)))
   stop_terminated =
       ap (λ performer. performer.terminated) stop_performs
-      ∙ terminated_by m old (added m.limit p (prefix_to_begin m.limit p r)) ∙ rw goes_on
+      ∙ terminated_by m old (added m.limit stream (prefix_to_begin m.limit stream bytes)) ∙ rw goes_on
 
-  pub stop_stream : resumed_stream p r n ≡ p ++ prefix_to_begin m.limit p r
+  pub stop_stream : resumed_stream stream bytes read ≡ stream ++ prefix_to_begin m.limit stream bytes
   stop_stream =
-      let f =
-      prefix in rw (f.is, ← stops_at_prefix)
-      (resumed_stream-settled p r n (rw stops_at_prefix (breaks_at-prefix f)))
+      rw (is_prefix.prefix_is, ← stops_at_prefix)
+      (resumed_stream-settled stream bytes read (rw stops_at_prefix (breaks_at-prefix is_prefix)))

@@ -11,24 +11,24 @@ use Rattle.std.proofs.lemmas.Fmt.{length-decimal-le}
 module _ {A : Type 0} (number : A → ℕ) where
   pub no_red : (left : List A) → None ≡ first_component (map number left)
       → None ≡ (kind_reading 2 (map number left)).color
-  no_red [] part = cc
-  no_red (r ∷ left) part = grind (arith, nat_tests)
+  no_red [] missing = cc
+  no_red (red ∷ left) missing = grind (arith, nat_tests)
 
   pub after_red : (left : List A) → None ≡ first_component (map number left)
       → drop 1 left ≡ drop (kind_reading 2 (map number left)).used left
-  after_red [] part = cc
-  after_red (r ∷ left) part = grind (arith, nat_tests)
+  after_red [] missing = cc
+  after_red (red ∷ left) missing = grind (arith, nat_tests)
 
   pub after_green : (left : List A) (red : ℕ) → Some red ≡ first_component (map number left)
       → None ≡ first_component (map number (drop 1 left))
       → drop 1 (drop 1 left) ≡ drop (kind_reading 2 (map number left)).used left
-  after_green left red has_red part = grind (arith, nat_tests)
+  after_green left red has_red missing = grind (arith, nat_tests)
 
   pub after_blue : (left : List A) (red green : ℕ) → Some red ≡ first_component (map number left)
       → Some green ≡ first_component (map number (drop 1 left))
       → None ≡ first_component (map number (drop 1 (drop 1 left)))
       → drop 1 (drop 1 (drop 1 left)) ≡ drop (kind_reading 2 (map number left)).used left
-  after_blue left red green has_red has_green part = grind (arith, nat_tests)
+  after_blue left red green has_red has_green missing = grind (arith, nat_tests)
 
 pub themselves : (numbers : List ℕ) → map (λ number. number) numbers ≡ numbers
 themselves numbers = map-id numbers
@@ -49,8 +49,8 @@ fourth_part red green blue rest =
 
 -- Three hex digits or fewer write a number below 4096.
 pub few_hex_digits : (i number : ℕ) → i ≤ 3 → number < 16 ^ i → number < 4096
-few_hex_digits i number at_most small = let k : 16 ^ i ≤ 16 ^ 3 = pow-le-pow_right {n = 16} (omega arith) at_most in
-    omega (arith, k, small)
+few_hex_digits i number at_most small = let power : 16 ^ i ≤ 16 ^ 3 = pow-le-pow_right {n = 16} (omega arith) at_most in
+    omega (arith, power, small)
 
 -- ---- the number of a colour of the palette
 

@@ -32,14 +32,14 @@ joins-begin {keeps_all} {all} empty fits =
 texts-more : (keeps_all : Bool) (piece : List ℕ) {part : List ℕ} (left : List (List ℕ))
     → Some part ≡ text_in keeps_all piece
     → filter_map (text_in keeps_all) (piece ∷ left) ≡ part ∷ filter_map (text_in keeps_all) left
-texts-more keeps_all piece left has = rw (← has) refl
+texts-more keeps_all piece left has_text = rw (← has_text) refl
 
 texts-same : (keeps_all : Bool) (piece : List ℕ) (left : List (List ℕ)) → None ≡ text_in keeps_all piece
     → filter_map (text_in keeps_all) (piece ∷ left) ≡ filter_map (text_in keeps_all) left
-texts-same keeps_all piece left none = rw (← none) refl
+texts-same keeps_all piece left no_text = rw (← no_text) refl
 
 text-short : (keeps_all : Bool) (piece part : List ℕ) → Some part ≡ text_in keeps_all piece → length part ≤ length piece
-text-short keeps_all piece part is = grind arith
+text-short keeps_all piece part has_text = grind arith
 
 text_to_join-length : (is_first : Bool) (text : List ℕ) → length (text_to_join is_first text) ≤ length text + 1
 text_to_join-length true text = omega arith
@@ -60,19 +60,19 @@ module _ (keeps_all : Bool) (pieces : List (Bor (List ℕ))) (i : ℕ) (d : Bor 
 
   -- The next text fits into the size, with its separator.
   pub joins-fits : {part : List ℕ} → Some part ≡ text_in keeps_all piece → length text + length part + 1 ≤ size
-  joins-fits {part} is =
-      omega (arith, text-short keeps_all piece part is, opened.fits, length-append piece (concat left))
+  joins-fits {part} has_text =
+      omega (arith, text-short keeps_all piece part has_text, opened.fits, length-append piece (concat left))
 
   -- If the next piece has a text, it is joined to the others.
   pub joins-more : {part : List ℕ} → Some part ≡ text_in keeps_all piece
       → Joins keeps_all size (text ++ text_to_join is_first part) false left all
-  joins-more {part} is = record {
+  joins-more {part} has_text = record {
     joins =
         append_assoc text (text_to_join is_first part) _
-        ∙ (rw (texts-more keeps_all piece left is) at opened.joins);
+        ∙ (rw (texts-more keeps_all piece left has_text) at opened.joins);
     fits = omega (
       arith,
-      text-short keeps_all piece part is,
+      text-short keeps_all piece part has_text,
       opened.fits,
       length-append text (text_to_join is_first part),
       length-append piece (concat left),
@@ -82,30 +82,30 @@ module _ (keeps_all : Bool) (pieces : List (Bor (List ℕ))) (i : ℕ) (d : Bor 
 
   -- If the next piece has no text, nothing is joined.
   pub joins-same : None ≡ text_in keeps_all piece → Joins keeps_all size text is_first left all
-  joins-same none =
+  joins-same no_text =
       record {
-        joins = rw (texts-same keeps_all piece left none) at opened.joins;
+        joins = rw (texts-same keeps_all piece left no_text) at opened.joins;
         fits = omega (arith, opened.fits, length-append piece (concat left));
       }
 
 -- ---- pieces that may be no text
 
 pub no_utf8 : (text : List ℕ) → ¬ (IsUtf8 text) → is_utf8 text ≡ false
-no_utf8 text never = false_from_ne_true _ (λ is. never (IsUtf8-from_is_utf8 text is))
+no_utf8 text not_utf8 = false_from_ne_true _ (λ utf8. not_utf8 (IsUtf8-from_is_utf8 text utf8))
 
 pub is_text : (text : List ℕ) → IsUtf8 text → is_utf8 text ≡ true
-is_text text is = is_utf8-from_IsUtf8 text is
+is_text text utf8 = is_utf8-from_IsUtf8 text utf8
 
 -- One piece needs no joining: its text, if any, is the joined text.
 pub one_text : (keeps_all : Bool) (piece : List ℕ) (found : Option (Bor (List ℕ))) (nothing : Bor (List ℕ))
     → option_map (λ text. text.now) found ≡ text_in keeps_all piece
     → nothing.now ≡ [] → joined_texts keeps_all (piece ∷ []) ≡ (unwrap_or found nothing).now
-one_text keeps_all piece None nothing is empty = rw (← is, empty) refl
-one_text keeps_all piece (Some text) nothing is empty = rw (← is) refl
+one_text keeps_all piece None nothing found_is empty = rw (← found_is, empty) refl
+one_text keeps_all piece (Some text) nothing found_is empty = rw (← found_is) refl
 
 -- ---- the link to a text
 
 pub some_link : (parameters uri : List ℕ) → (uri ≡ [] → ⊥)
     → link_to parameters uri ≡ Some (record { id = id_of parameters; uri = uri })
-some_link parameters [] some = absurd (some refl)
-some_link parameters (byte ∷ uri) some = refl
+some_link parameters [] some_uri = absurd (some_uri refl)
+some_link parameters (byte ∷ uri) some_uri = refl

@@ -19,11 +19,11 @@ module _ {V : Type 0} (step : V → Call → V) (old new all : V) where
       → after step new
       (palette_entries_calls terminator (map (λ piece. piece.now) (take (length left - 2) (drop 2 left))))
       ≡ all
-  entry_made terminator [] no_index no_color some made before = absurd (omega arith)
-  entry_made terminator (index ∷ []) no_index no_color some made before = absurd (omega arith)
-  entry_made terminator (index ∷ color ∷ rest) no_index no_color some made before =
-      let left : take (length (index ∷ color ∷ rest) - 2) rest ≡ rest = take_all _ rest (omega arith) in
-      rw (left, made) (rw after_calls-append at before)
+  entry_made terminator [] no_index no_color two_left made before = absurd (omega arith)
+  entry_made terminator (index ∷ []) no_index no_color two_left made before = absurd (omega arith)
+  entry_made terminator (index ∷ color ∷ rest) no_index no_color two_left made before =
+      let rest_is : take (length (index ∷ color ∷ rest) - 2) rest ≡ rest = take_all _ rest (omega arith) in
+      rw (rest_is, made) (rw after_calls-append at before)
 
 -- The attributes from group n on are those of the groups that are left without the first n.
 pub attributes_after : (n : ℕ) (groups : List (List ℕ)) → attributes_from n groups ≡ attributes_from 0 (drop n groups)

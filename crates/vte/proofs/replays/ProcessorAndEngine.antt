@@ -20,22 +20,22 @@ limited timeout_of = engine_view usual_limit limited_parser_view (λ text. TEXT_
 module _ {T A V W : Type 0} {timeout_of : T → W} {processor : Processor T A} {value : V} (state : State V W) where
   is_at-engine : IsAt (HasParsedAndHolds timeout_of processor) value state
       → IsAt (EngineHasParsedAndHolds (limited timeout_of) processor.engine) value state
-  is_at-engine at = search (rules, arith)
+  is_at-engine is_at = search (rules, arith)
 
   is_at-processor : IsAt (EngineHasParsedAndHolds (limited timeout_of) processor.engine) value state
       → IsAt (HasParsedAndHolds timeout_of processor) value state
-  is_at-processor at = record {
+  is_at-processor is_at = record {
     agrees = search rules;
-    handler_is = at.handler_is;
+    handler_is = is_at.handler_is;
   }
 
 -- What a call of any processor ensures if it has read all its bytes.
 module _ {V W : Type 0} {m : Meaning V W} {Before After : ProcessorPredicate W} {old new : V}
     (bytes : Bor (List ℕ)) {read : ℕ}
     (takes : (state : State V W) → IsAt Before old state → HasTaken m state bytes.now read (IsAt After new))
-    (all : read ≡ length bytes.now) where
+    (all_read : read ≡ length bytes.now) where
   reads-advances : (state : State V W) → IsAt Before old state → HasAdvanced m state bytes.now (IsAt After new)
-  reads-advances state at = has_advanced m state bytes.now (takes state at) (omega (arith, all))
+  reads-advances state is_at = has_advanced m state bytes.now (takes state is_at) (omega (arith, all_read))
 
   reads_in_turns : ReadsInTurns m Before After old new bytes.now
   reads_in_turns = record { advances = reads-advances; plain = plain_call m bytes reads-advances }
@@ -44,11 +44,11 @@ pub refused-never : {T A V W : Type 0} {timeout_of : T → W} {m : Meaning V W} 
     {old new : V} (bytes : Bor (List ℕ)) (result : Result (Unit {0}) Refused)
     → EngineReads (limited timeout_of) m processor.engine next.engine old new bytes.now result
     → ReadsInTurns m (HasParsedAndHolds timeout_of processor) (HasParsedAndHolds timeout_of next) old new bytes.now
-refused-never bytes (Ok all) reads =
-    reads_in_turns bytes (λ state at. taken-to is_at-processor (reads.takes state (is_at-engine state at))) refl
+refused-never bytes (Ok _) reads =
+    reads_in_turns bytes (λ state is_at. taken-to is_at-processor (reads.takes state (is_at-engine state is_at))) refl
 refused-never bytes (Err refused) reads =
-    reads_in_turns bytes {read = length bytes.now} (λ state at. absurd (
-    let taken = reads.takes state (is_at-engine state at) in
+    reads_in_turns bytes {read = length bytes.now} (λ state is_at. absurd (
+    let taken = reads.takes state (is_at-engine state is_at) in
     reads.lacks.lacks taken.next.parsed taken.is_at.agrees.has_read (omega arith))) refl
 
 -- ---- with a limit of its own
@@ -59,22 +59,22 @@ module _ {T A V W : Type 0} {N : ℕ} {timeout_of : T → W} {processor : Bounde
     (state : State V W) where
   is_at-bounded_engine : IsAt (HasParsedAndHoldsBounded timeout_of processor) value state
       → IsAt (EngineHasParsedAndHolds (bounded_engine_view timeout_of) processor.engine) value state
-  is_at-bounded_engine at = record { agrees = at.agrees.agrees; handler_is = at.handler_is }
+  is_at-bounded_engine is_at = record { agrees = is_at.agrees.agrees; handler_is = is_at.handler_is }
 
   is_at-bounded : HasTextMemory N processor.engine.state.text.size
       → IsAt (EngineHasParsedAndHolds (bounded_engine_view timeout_of) processor.engine) value state
       → IsAt (HasParsedAndHoldsBounded timeout_of processor) value state
-  is_at-bounded memory at = search (rules, arith)
+  is_at-bounded memory is_at = search (rules, arith)
 
 module _ {T A V W : Type 0} {N : ℕ} {timeout_of : T → W} {m : Meaning V W} {old new : BoundedProcessor T A N}
     {before value : V} where
   pub stops_within : EngineStops (bounded_engine_view timeout_of) m old.engine new.engine before value
       → StopsSync m (HasParsedAndHoldsBounded timeout_of old) (HasParsedAndHoldsBounded timeout_of new) before value
   stops_within stops = record {
-    stops = λ state at.
+    stops = λ state is_at.
         is_at-bounded (stop m state)
-        (stops.keeps_memory state (is_at-bounded_engine state at) [] 0 at.agrees.has_memory)
-        (stops.stops.stops state (is_at-bounded_engine state at));
+        (stops.keeps_memory state (is_at-bounded_engine state is_at) [] 0 is_at.agrees.has_memory)
+        (stops.stops.stops state (is_at-bounded_engine state is_at));
     each_once = stops.stops.each_once;
     holds_well = stops.stops.holds_well;
   }
@@ -83,16 +83,16 @@ module _ {T A V W : Type 0} {N : ℕ} {timeout_of : T → W} {m : Meaning V W} {
       → EngineReads (bounded_engine_view timeout_of) m old.engine new.engine before value bytes.now result
       → ReadsInTurns m (HasParsedAndHoldsBounded timeout_of old) (HasParsedAndHoldsBounded timeout_of new) before value
       bytes.now
-  refused-never-within bytes (Ok all) reads =
-      reads_in_turns bytes (λ state at.
-      taken-to (λ t. is_at-bounded t
-      (reads.keeps_memory state (is_at-bounded_engine state at) [] 0 at.agrees.has_memory))
-      (reads.takes state (is_at-bounded_engine state at))) refl
+  refused-never-within bytes (Ok _) reads =
+      reads_in_turns bytes (λ state is_at.
+      taken-to (λ next. is_at-bounded next
+      (reads.keeps_memory state (is_at-bounded_engine state is_at) [] 0 is_at.agrees.has_memory))
+      (reads.takes state (is_at-bounded_engine state is_at))) refl
   refused-never-within bytes (Err refused) reads =
-      reads_in_turns bytes {read = length bytes.now} (λ state at. absurd (
-      let taken = reads.takes state (is_at-bounded_engine state at) in
+      reads_in_turns bytes {read = length bytes.now} (λ state is_at. absurd (
+      let taken = reads.takes state (is_at-bounded_engine state is_at) in
       reads.lacks.lacks taken.next.parsed taken.is_at.agrees.has_read
-      (reads.keeps_memory state (is_at-bounded_engine state at) [] 0 at.agrees.has_memory))) refl
+      (reads.keeps_memory state (is_at-bounded_engine state is_at) [] 0 is_at.agrees.has_memory))) refl
 
 -- ---- without a limit
 
@@ -105,7 +105,7 @@ module _ {T A V W : Type 0} {timeout_of : T → W} {m : Meaning V W} {new : Long
       → HasTaken m state bytes read (IsAt (HasParsedAndHoldsLong timeout_of new) value)
       → LacksMemoryLong timeout_of new (length bytes - read)
       → HasMemory new state.parsed (length state.held + length bytes) → ⊥
-  had_memory read less taken lacks had =
+  had_memory read bytes_left taken lacks had =
       let next = taken.next in
       let progress = progresses-until_refused m taken.takes in
       let counts = counts_data state.parsed progress.more in
@@ -113,7 +113,7 @@ module _ {T A V W : Type 0} {timeout_of : T → W} {m : Meaning V W} {new : Long
       let sum : length progress.more + length next.held ≡ length state.held + read =
       omega (
         arith,
-        less,
+        bytes_left,
         ap length progress.each_once,
         length-append state.held bytes,
         length-append progress.more
@@ -123,23 +123,25 @@ module _ {T A V W : Type 0} {timeout_of : T → W} {m : Meaning V W} {new : Long
       ) in
       let held = ap length taken.is_at.agrees.holds in
       lacks.lacks next.parsed taken.is_at.agrees.has_read (record {
-        kept = omega (arith, left, had.kept, lacks.within, less, sum, held);
-        joined = omega (arith, left, had.joined, lacks.within, less, sum, held);
-        counted = omega (arith, left, had.counted, lacks.within, less, sum, held);
+        kept = omega (arith, left, had.kept, lacks.within, bytes_left, sum, held);
+        joined = omega (arith, left, had.joined, lacks.within, bytes_left, sum, held);
+        counted = omega (arith, left, had.counted, lacks.within, bytes_left, sum, held);
       })
 
 pub advances_long : {T A V W : Type 0} {timeout_of : T → W} {m : Meaning V W} {old new : LongProcessor T A}
     {before value : V} (bytes : Bor (List ℕ)) (result : Result (Unit {0}) Refused)
     → EngineReads (long_engine_view timeout_of) m old.engine new.engine before value bytes.now result
     → AdvancesLong timeout_of m old new before value bytes.now result
-advances_long bytes (Ok all) reads = record {
+advances_long bytes (Ok _) reads = record {
   reads = reads;
   all = reads_in_turns bytes reads.takes refl;
-  enough = λ s at had. refl;
+  enough = λ state is_at had. refl;
 }
 advances_long bytes (Err refused) reads = record {
   reads = reads;
   all = tt;
-  enough = λ s at had.
-      absurd (had_memory refused.read reads.within (reads.takes s at) reads.lacks (reads.keeps_memory s at _ _ had));
+  enough = λ state is_at had.
+      absurd
+      (had_memory refused.read reads.within (reads.takes state is_at) reads.lacks
+      (reads.keeps_memory state is_at _ _ had));
 }

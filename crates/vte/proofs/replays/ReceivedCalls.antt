@@ -29,13 +29,13 @@ module _ (limit : Option ℕ) (parsed prefix : List ℕ) where
       ≡ added_calls limit parsed prefix ++ calls_between limit (both ++ rest) (length both) position
   calls_between-append rest position from =
       let past = position - length both in
-      let is : position ≡ length both + past = omega (arith, from) in
+      let position_is : position ≡ length both + past = omega (arith, from) in
       let first : take (length parsed) (both ++ rest) ≡ parsed =
       ap (take (length parsed)) (append_assoc parsed prefix rest) ∙ take-append_seam parsed (prefix ++ rest) in
-      let more = take past rest in
-      rw (is, first, take-append-add both rest past, take-append_seam both rest)
-      (ap (λ all. calls_after (events limit parsed) (events limit all)) (append_assoc parsed prefix more)
-      ∙ added_calls-append limit parsed prefix more)
+      let further = take past rest in
+      rw (position_is, first, take-append-add both rest past, take-append_seam both rest)
+      (ap (λ all. calls_after (events limit parsed) (events limit all)) (append_assoc parsed prefix further)
+      ∙ added_calls-append limit parsed prefix further)
 
   pub calls_between-whole : calls_between limit both (length parsed) (length both) ≡ added_calls limit parsed prefix
   calls_between-whole = rw (take-append_seam parsed prefix, take_all (length both) both (omega arith)) refl
@@ -45,9 +45,9 @@ module _ (limit : Option ℕ) (parsed prefix : List ℕ) where
       → AreInOrder (length both) positions (length all)
       → calls_with_stops limit all (length parsed) positions
       ≡ added_calls limit parsed prefix ++ calls_with_stops limit all (length both) positions
-  calls_with_stops-later rest [] is from = rw is (calls_between-append rest _ (rw is at from))
-  calls_with_stops-later rest (position ∷ positions) is (from, order) =
-      rw (is, calls_between-append rest position from) (append_assoc (added_calls limit parsed prefix) _ _)
+  calls_with_stops-later rest [] all_is from = rw all_is (calls_between-append rest _ (rw all_is at from))
+  calls_with_stops-later rest (position ∷ positions) all_is (from, order) =
+      rw (all_is, calls_between-append rest position from) (append_assoc (added_calls limit parsed prefix) _ _)
 
 -- ---- from a state to the end of a list of calls
 
@@ -115,52 +115,53 @@ module _ {V W : Type 0} (m : Meaning V W) (end : State V W) where
 
   delivers-hold : (state : State V W) (bytes : List ℕ) → DeliversAt (hold_turn m state bytes) → DeliversAt state
   delivers-hold state bytes = elim (cases_Option (after_last_end (state.held ++ bytes))) [
-    | inl none ↦ rw (hold_turn-all m state bytes none) (λ rest. rest)
-    | inr some ↦
-        rw (hold_turn-rest m state bytes some.1)
-        (delivers-release (extend m state bytes) (from_begin_update some.0))
+    | inl no_end ↦ rw (hold_turn-all m state bytes no_end) (λ rest. rest)
+    | inr last_end ↦
+        rw (hold_turn-rest m state bytes last_end.1)
+        (delivers-release (extend m state bytes) (from_begin_update last_end.0))
   ]
 
   delivers-due : (pending : Bool) (state : State V W) → DeliversAt (stop_if_due m pending state) → DeliversAt state
   delivers-due pending state = elim (cases_Bool (is_stopped pending state)) [
     | inl stopped ↦ rw stopped (delivers-stop state)
-    | inr none ↦ rw none (λ rest. rest)
+    | inr not_stopped ↦ rw not_stopped (λ rest. rest)
   ]
 
   delivers-turn : (pending : Bool) (state : State V W) (bytes : List ℕ) → DeliversAt (turn m pending state bytes).state
       → DeliversAt state
   delivers-turn pending state bytes = elim (cases_Bool (is_held pending state bytes)) [
     | inl held ↦ rw (turn-holds m pending state bytes held) (delivers-hold state bytes)
-    | inr parses ↦
-        rw (turn-parses m pending state bytes parses)
+    | inr not_held ↦
+        rw (turn-parses m pending state bytes not_held)
         (λ rest. delivers-due pending state (delivers-parsing (stop_if_due m pending state) bytes rest))
   ]
 
   delivers-turns : (state next : State V W) (bytes left : List ℕ) → TakesTurns m state bytes next left → DeliversAt next
       → DeliversAt state
   delivers-turns state next bytes left done rest = rest
-  delivers-turns state next (byte ∷ bytes) left (turns pending allowed more) rest =
-      delivers-turn pending state (byte ∷ bytes) (delivers-turns _ next _ left more rest)
+  delivers-turns state next (byte ∷ bytes) left (turns pending allowed takes) rest =
+      delivers-turn pending state (byte ∷ bytes) (delivers-turns _ next _ left takes rest)
 
   delivers-steps : (state next : State V W) (steps : List Step) → TakesSteps m state steps next → DeliversAt next
       → DeliversAt state
   delivers-steps state next [] same = rw same (λ rest. rest)
-  delivers-steps state next (Advance bytes ∷ steps) (reached, (advances, more)) =
-      λ rest. delivers-turns state reached bytes.now [] advances (delivers-steps reached next steps more rest)
-  delivers-steps state next (StopSync ∷ steps) more =
-      λ rest. delivers-stop state (delivers-steps (stop m state) next steps more rest)
+  delivers-steps state next (Advance bytes ∷ steps) (reached, (advances, takes)) =
+      λ rest. delivers-turns state reached bytes.now [] advances (delivers-steps reached next steps takes rest)
+  delivers-steps state next (StopSync ∷ steps) takes =
+      λ rest. delivers-stop state (delivers-steps (stop m state) next steps takes rest)
 
   pub delivers-replay : (state : State V W) (steps : List Step) → TakesSteps m state steps end → DeliversAt state
-  delivers-replay state steps taken = delivers-steps state end steps taken delivers-nothing
+  delivers-replay state steps takes = delivers-steps state end steps takes delivers-nothing
 
   -- `DeliversAt` also holds if the last call was refused memory.
   pub delivers-refused : (state reached : State V W) (steps : List Step) (bytes left : List ℕ)
       → TakesSteps m state steps reached → TakesTurnsUntilRefused m reached bytes end left → DeliversAt state
-  delivers-refused state reached steps bytes left taken (between_turns more) =
-      delivers-steps state reached steps taken (delivers-turns reached end bytes left more delivers-nothing)
-  delivers-refused state reached steps bytes left taken (inside_turn {reached = mid} {rest} more pending _ refused) =
-      let parsed = (refused-parses m pending mid end rest left refused).1 in
-      delivers-steps state reached steps taken
-      (delivers-turns reached mid bytes rest more
-      (delivers-due pending mid
+  delivers-refused state reached steps bytes left takes (between_turns takes_left) =
+      delivers-steps state reached steps takes (delivers-turns reached end bytes left takes_left delivers-nothing)
+  delivers-refused state reached steps bytes left takes
+      (inside_turn {reached = before} {rest} takes_left pending _ refused) =
+      let parsed = (refused-parses m pending before end rest left refused).1 in
+      delivers-steps state reached steps takes
+      (delivers-turns reached before bytes rest takes_left
+      (delivers-due pending before
       (delivers-parse parsed.prefix (subst (λ state. DeliversAt state) parsed.state_is delivers-nothing))))

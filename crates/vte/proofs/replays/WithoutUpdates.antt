@@ -15,41 +15,41 @@ record IsPlain {V W : Type 0} (state next : State V W) : Type 0 where
 module _ {V W : Type 0} (m : Meaning V W) (never : IsNeverPending m.timeout.allows) where
   plain_advances : (state next : State V W) (bytes : List ℕ) → TakesAllTurns m state bytes next → state.held ≡ []
       → IsPlain state next
-  plain_advances state next [] done none = record { none_held = none; no_stop = refl }
-  plain_advances state next (b ∷ bytes) (turns true allowed more) none =
+  plain_advances state next [] done none_held = record { none_held = none_held; no_stop = refl }
+  plain_advances state next (b ∷ bytes) (turns true allowed takes) none_held =
       absurd (let same : true ≡ false = never state.timeout true allowed in cc)
-  plain_advances state next (b ∷ bytes) (turns false allowed more) none =
-      let first = (turn m false state (b ∷ bytes)).state in
-      let held : first.held ≡ [] = rw none refl in
-      let no_stop : first.stops ≡ state.stops = rw none refl in
-      let rest = plain_advances _ next _ more held in
+  plain_advances state next (b ∷ bytes) (turns false allowed takes) none_held =
+      let reached = (turn m false state (b ∷ bytes)).state in
+      let still_none_held : reached.held ≡ [] = rw none_held refl in
+      let no_stop : reached.stops ≡ state.stops = rw none_held refl in
+      let rest = plain_advances _ next _ takes still_none_held in
       record { none_held = rest.none_held; no_stop = rest.no_stop ∙ no_stop }
 
   plain_run : (state end : State V W) (steps : List Step) → TakesSteps m state steps end → AreAdvances steps
       → state.held ≡ []
       → IsPlain state end
-  plain_run state end [] same only none = rw (← same) (record { none_held = none; no_stop = refl })
-  plain_run state end (Advance bytes ∷ steps) (next, (advances, takes)) only none =
-      let first = plain_advances state next bytes.now advances none in
-      let rest = plain_run next end steps takes only first.none_held in
-      record { none_held = rest.none_held; no_stop = rest.no_stop ∙ first.no_stop }
-  plain_run state end (StopSync ∷ steps) takes only none = absurd only
+  plain_run state end [] same are_advances none_held = rw (← same) (record { none_held = none_held; no_stop = refl })
+  plain_run state end (Advance bytes ∷ steps) (next, (advances, takes)) are_advances none_held =
+      let plain_first = plain_advances state next bytes.now advances none_held in
+      let rest = plain_run next end steps takes are_advances plain_first.none_held in
+      record { none_held = rest.none_held; no_stop = rest.no_stop ∙ plain_first.no_stop }
+  plain_run state end (StopSync ∷ steps) takes are_advances none_held = absurd are_advances
 
 -- ---- from a processor that holds nothing, calls parse all bytes
 
 module _ {V W : Type 0} {Before : ProcessorPredicate W} (old : V) {stream : List ℕ}
-    (all : HasParsedAll Before stream) where
+    (has_parsed : HasParsedAll Before stream) where
   abbrev here : State V W
-  here = record { parsed = stream; stops = []; held = []; timeout = all.timeout; handler = old }
+  here = record { parsed = stream; stops = []; held = []; timeout = has_parsed.timeout; handler = old }
 
   is_here : IsAt Before old here
-  is_here = record { agrees = all.agrees; handler_is = refl }
+  is_here = record { agrees = has_parsed.agrees; handler_is = refl }
 
   module _ (m : Meaning V W) (never : IsNeverPending m.timeout.allows) {After : ProcessorPredicate W} {new : V}
-      (steps : List Step) (only : AreAdvances steps)
+      (steps : List Step) (are_advances : AreAdvances steps)
       (replayed : HasReplayed m here steps (IsAt After new)) where
     plain : IsPlain here replayed.next
-    plain = plain_run m never here replayed.next steps replayed.takes only refl
+    plain = plain_run m never here replayed.next steps replayed.takes are_advances refl
 
     more_is : replayed.delivers.more ≡ given_bytes steps
     more_is =
@@ -61,7 +61,7 @@ module _ {V W : Type 0} {Before : ProcessorPredicate W} (old : V) {stream : List
 
     plain_follows : (start : V) → old ≡ after m.step start (calls (events m.limit stream))
         → new ≡ after m.step start (calls (events m.limit (stream ++ given_bytes steps)))
-    plain_follows start was =
+    plain_follows start old_is =
         replayed.is_at.handler_is
         ∙ replayed.delivers.handler_is
         ∙ rw (
@@ -69,7 +69,7 @@ module _ {V W : Type 0} {Before : ProcessorPredicate W} (old : V) {stream : List
           plain.no_stop,
           parsed_all,
           calls_between-whole m.limit stream (given_bytes steps),
-          was,
+          old_is,
         )
         (sym
         (after_calls-append m.step start (calls (events m.limit stream))
@@ -88,9 +88,11 @@ module _ {V W : Type 0} (m : Meaning V W) {Before After : ProcessorPredicate W} 
   plain_calls : (steps : List Step)
       → ((state : State V W) → IsAt Before old state → HasReplayed m state steps (IsAt After new))
       → IsNeverPending m.timeout.allows → AreAdvances steps → ParsesAll m Before After old new (given_bytes steps)
-  plain_calls steps replayed never only = record {
-    follows = λ start stream all. plain_follows old all m never steps only (replayed _ (is_here old all)) start;
-    parses_all = λ stream all. plain_parses old all m never steps only (replayed _ (is_here old all));
+  plain_calls steps replayed never are_advances = record {
+    follows = λ start stream has_parsed.
+        plain_follows old has_parsed m never steps are_advances (replayed _ (is_here old has_parsed)) start;
+    parses_all = λ stream has_parsed.
+        plain_parses old has_parsed m never steps are_advances (replayed _ (is_here old has_parsed));
   }
 
   pub replays_all : {steps : List Step}
@@ -103,5 +105,5 @@ module _ {V W : Type 0} (m : Meaning V W) {Before After : ProcessorPredicate W} 
       → ((state : State V W) → IsAt Before old state → HasAdvanced m state bytes.now (IsAt After new))
       → IsNeverPending m.timeout.allows → ParsesAll m Before After old new bytes.now
   plain_call bytes advances never =
-      let replays = replays_all {steps = Advance bytes ∷ []} (λ state at. advance_runs m (advances state at)) in
+      let replays = replays_all {steps = Advance bytes ∷ []} (λ state is_at. advance_runs m (advances state is_at)) in
       rw append-nil at (replays.plain never tt)

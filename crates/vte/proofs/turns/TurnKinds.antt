@@ -7,11 +7,11 @@ use Rattle.std.specs.Prelude.{◌&&◌, if◌then◌else◌}
 
 module _ {V W : Type 0} (m : Meaning V W) (state : State V W) (bytes : List ℕ) where
   pub hold_turn-all : after_last_end (state.held ++ bytes) ≡ None → hold_turn m state bytes ≡ extend m state bytes
-  hold_turn-all none = rw none refl
+  hold_turn-all no_end = rw no_end refl
 
   pub hold_turn-rest : {rest : List ℕ} → after_last_end (state.held ++ bytes) ≡ Some rest
       → hold_turn m state bytes ≡ release m (extend m state bytes) (from_begin_update rest)
-  hold_turn-rest is = rw is refl
+  hold_turn-rest last_end = rw last_end refl
 
 -- ---- whether bytes are held, and what is stopped before they are parsed
 
@@ -36,7 +36,7 @@ module _ {V W : Type 0} (m : Meaning V W) where
 
   pub turn-parses : (pending : Bool) (state : State V W) (bytes : List ℕ) → is_held pending state bytes ≡ false
       → turn m pending state bytes ≡ parsing_turn m (stop_if_due m pending state) bytes
-  turn-parses pending state bytes parses = search (rules, arith)
+  turn-parses pending state bytes not_held = search (rules, arith)
 
   pub refused-parses : (pending : Bool) (state next : State V W) (bytes left : List ℕ)
       → TurnIsRefused m pending state bytes next left

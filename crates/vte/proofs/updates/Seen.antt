@@ -5,7 +5,7 @@ use Rattle.vte.proofs.Common.{◌≡◌, ℕ, zero, suc, ◌+◌, ◌-◌, ◌<�
 use Rattle.std.specs.Prelude.{◌&&◌, nat_lt}
 use Rattle.memchr.specs.Find.{NoneAfter, Nowhere, Passes, is_byte}
 use Rattle.vte.specs.private.Hold.{IsNeither, HasNoPrivateSequence, NoneBetween}
-use Rattle.vte.proofs.updates.Sequences.{after_word-whole, begins_ending_in_last-tail, begins_with-is, begins_with-length, after_last_end-tail, from_begin-end_skipped, begins_with-further, not_some}
+use Rattle.vte.proofs.updates.Sequences.{after_word-whole, begins_ending_in_last-tail, begins_with-is, begins_with-length, after_last_end-tail, from_begin-end_skipped, begins_with-further, none_from_is_some}
 use Rattle.std.proofs.lemmas.List.{take_rest}
 
 -- Neither sequence begins at a byte other than ESC, or if fewer than eight bytes are left.
@@ -28,37 +28,37 @@ neither-short text position short =
 neither-pair : (byte : ℕ) (rest text : List ℕ) (position : ℕ)
     → (eqb (get_or text position 0) 0x1b && eqb (get_or text (position + 2) 0) 0x3f) ≡ false
     → begins_with (0x1b ∷ byte ∷ 0x3f ∷ rest) (drop position text) ≡ false
-neither-pair byte rest text position none =
+neither-pair byte rest text position not_both =
     let sequence = 0x1b ∷ byte ∷ 0x3f ∷ rest in elim (cases_Bool (begins_with sequence (drop position text))) [
-      | inl is ↦
-          let whole = begins_with-is sequence (drop position text) is in
-          let first : get_or (drop position text) 0 0 ≡ 0x1b = ap {B = ℕ} (λ bytes. get_or bytes 0 0) whole in
-          let third : get_or (drop position text) 2 0 ≡ 0x3f = ap {B = ℕ} (λ bytes. get_or bytes 2 0) whole in
-          absurd (grind (arith, nat_tests, get_or-drop, first, third, none))
-      | inr other ↦ other
+      | inl begins ↦
+          let text_is = begins_with-is sequence (drop position text) begins in
+          let first : get_or (drop position text) 0 0 ≡ 0x1b = ap {B = ℕ} (λ bytes. get_or bytes 0 0) text_is in
+          let third : get_or (drop position text) 2 0 ≡ 0x3f = ap {B = ℕ} (λ bytes. get_or bytes 2 0) text_is in
+          absurd (grind (arith, nat_tests, get_or-drop, first, third, not_both))
+      | inr not_begun ↦ not_begun
     ]
 
 -- Neither sequence begins in a block, if no ESC of the block has `?` as the second byte after it.
 pub neither-block : (text : List ℕ) (from n : ℕ) → HasNoPrivateSequence (take (n + 2) (drop from text)) n
     → NoneBetween text from (from + n)
-neither-block text from n plain k low high =
+neither-block text from n no_private_sequence k low high =
     let i = k - from in
     let here : from + i ≡ k = omega arith in
     -- Byte j of the block, and of the two bytes after it, is byte `from + j` of the text.
     let byte : (j : ℕ) → j < n + 2 → get_or (take (n + 2) (drop from text)) j 0 ≡ get_or text (from + j) 0
     = λ j inside. get_or-take (n + 2) (drop from text) j 0 inside ∙ get_or-drop from text j 0 in
     let first : get_or (take (n + 2) (drop from text)) i 0 ≡ get_or text k 0 =
-    byte i (omega arith) ∙ ap (λ at. get_or text at 0) here in
+    byte i (omega arith) ∙ ap (λ position. get_or text position 0) here in
     let third : get_or (take (n + 2) (drop from text)) (i + 2) 0 ≡ get_or text (k + 2) 0 =
-    byte (i + 2) (omega arith) ∙ ap (λ at. get_or text at 0) (omega arith) in
+    byte (i + 2) (omega arith) ∙ ap (λ position. get_or text position 0) (omega arith) in
     -- So the test of the block says that byte k isn't ESC, or that the third byte from there isn't `?`.
-    let none : (eqb (get_or text k 0) 0x1b && eqb (get_or text (k + 2) 0) 0x3f) ≡ false =
+    let not_both : (eqb (get_or text k 0) 0x1b && eqb (get_or text (k + 2) 0) 0x3f) ≡ false =
     subst (λ a. (eqb a 0x1b && eqb (get_or text (k + 2) 0) 0x3f) ≡ false) first
     (subst (λ a. (eqb (get_or (take (n + 2) (drop from text)) i 0) 0x1b && eqb a 0x3f) ≡ false) third
-    (plain i (omega arith))) in
+    (no_private_sequence i (omega arith))) in
     record {
-      no_begin = neither-pair 0x5b (drop 3 begin_update) text k none;
-      no_end = neither-pair 0x5b (drop 3 end_update) text k none;
+      no_begin = neither-pair 0x5b (drop 3 begin_update) text k not_both;
+      no_end = neither-pair 0x5b (drop 3 end_update) text k not_both;
     }
 
 -- Neither sequence begins within the seven bytes before an ESC, as neither has an ESC after its first byte.
@@ -69,33 +69,35 @@ HasNoEscape (b ∷ bytes) = (eqb b 0x1b ≡ false) × HasNoEscape bytes
 no_escape-within : (sequence text : List ℕ) (i : ℕ) → HasNoEscape sequence → i < length sequence
     → eqb (get_or text i 0) 0x1b ≡ true
     → begins_with sequence text ≡ false
-no_escape-within [] text i plain inside here = absurd (omega arith)
-no_escape-within (a ∷ sequence) [] i plain inside here = refl
-no_escape-within (a ∷ sequence) (b ∷ text) zero plain inside here = let first = plain.0 in grind (arith, nat_tests)
-no_escape-within (a ∷ sequence) (b ∷ text) (suc i) plain inside here =
-    begins_with-further a b sequence text (no_escape-within sequence text i plain.1 (omega arith) here)
+no_escape-within [] text i no_escape inside is_escape = absurd (omega arith)
+no_escape-within (a ∷ sequence) [] i no_escape inside is_escape = refl
+no_escape-within (a ∷ sequence) (b ∷ text) zero no_escape inside is_escape =
+    let first = no_escape.0 in grind (arith, nat_tests)
+no_escape-within (a ∷ sequence) (b ∷ text) (suc i) no_escape inside is_escape =
+    begins_with-further a b sequence text (no_escape-within sequence text i no_escape.1 (omega arith) is_escape)
 
 neither-before : (text : List ℕ) (position escape : ℕ) → position < escape → escape < position + 8
     → escape < length text
     → eqb (get_or text escape 0) 0x1b ≡ true → IsNeither text position
-neither-before text position escape before near inside here =
+neither-before text position escape before near inside is_escape =
     let cut = drop_more text position 0 (omega arith) in
     let i = escape - (position + 1) in
     let n : position + 1 + i ≡ escape = omega arith in
     -- The ESC is among the seven bytes after `position`.
-    let there : eqb (get_or (drop (position + 1) text) i 0) 0x1b ≡ true = rw (get_or-drop, n) here in
+    let there : eqb (get_or (drop (position + 1) text) i 0) 0x1b ≡ true = rw (get_or-drop, n) is_escape in
     -- A sequence has no ESC after its first byte, so none begins at `position`.
-    let none : (sequence : List ℕ) → HasNoEscape sequence → 7 ≡ length sequence
+    let none_begins : (sequence : List ℕ) → HasNoEscape sequence → 7 ≡ length sequence
     → begins_with (0x1b ∷ sequence) (drop position text) ≡ false
-    = λ sequence plain long.
-    rw cut (begins_with-further 0x1b _ sequence _ (no_escape-within sequence _ i plain (omega (arith, long)) there)) in
+    = λ sequence no_escape size_is.
+    rw cut
+    (begins_with-further 0x1b _ sequence _ (no_escape-within sequence _ i no_escape (omega (arith, size_is)) there)) in
     record {
-      no_begin = none (drop 1 begin_update) (refl, (refl, (refl, (refl, (refl, (refl, (refl, tt))))))) refl;
-      no_end = none (drop 1 end_update) (refl, (refl, (refl, (refl, (refl, (refl, (refl, tt))))))) refl;
+      no_begin = none_begins (drop 1 begin_update) (refl, (refl, (refl, (refl, (refl, (refl, (refl, tt))))))) refl;
+      no_end = none_begins (drop 1 end_update) (refl, (refl, (refl, (refl, (refl, (refl, (refl, tt))))))) refl;
     }
 
-begins-one : (text : List ℕ) → begins_with begin_update text ≡ true → after_word end_update text ≡ None
-begins-one text begins = rw (begins_with-is begin_update text begins) refl
+after_word-begin : (text : List ℕ) → begins_with begin_update text ≡ true → after_word end_update text ≡ None
+after_word-begin text begins = rw (begins_with-is begin_update text begins) refl
 
 -- What was seen after the position `unread` of a text, of which the last `new` bytes are new.
 pub record HasSeen (text : List ℕ) (new unread begin begins : ℕ) : Type 0 where
@@ -111,8 +113,8 @@ module _ {text : List ℕ} {new position begin begins : ℕ} (within : position 
     (seen : HasSeen text new (position + 1) begin begins) where
   seen-other : IsNeither text position → HasSeen text new position begin begins
   seen-other neither = let cut = drop_more text position 0 within in
-      let no_begin = not_some _ (rw cut at neither.no_begin) in
-      let no_end = not_some _ (rw cut at neither.no_end) in
+      let no_begin = none_from_is_some _ (rw cut at neither.no_begin) in
+      let no_end = none_from_is_some _ (rw cut at neither.no_end) in
       grind (arith, cut)
 
   -- A begin-update with at most seven older bytes from its start on ends among the new ones, so it is counted.
@@ -123,13 +125,13 @@ module _ {text : List ℕ} {new position begin begins : ℕ} (within : position 
       let long = begins_with-length begin_update (drop position text) is_begin in
       -- Fewer than `new` bytes follow the sequence, so it ends among the new bytes.
       let near : nat_lt (length (drop 7 (drop (position + 1) text))) new ≡ true =
-      (let h = rw length-drop at long in rw (length-drop, length-drop) (grind (arith, nat_tests))) in
+      (let size = rw length-drop at long in rw (length-drop, length-drop) (grind (arith, nat_tests))) in
       let here = rw cut at is_begin in
       -- A begin-update is no end-update, so there is still none of those.
-      let other = rw cut at (begins-one (drop position text) is_begin) in
+      let no_end = rw cut at (after_word-begin (drop position text) is_begin) in
       -- So the earliest begin-update is here, and one more ends among the new bytes.
       record {
-        no_end = rw (cut, seen.no_end, other) refl;
+        no_end = rw (cut, seen.no_end, no_end) refl;
         begin_is = rw (cut, here) (rw length-drop (omega arith));
         begins_are = rw (cut, after_word-whole begin_update _ here, near) (omega (arith, seen.begins_are));
       }
@@ -143,16 +145,17 @@ module _ {text : List ℕ} {new position begin begins : ℕ} (within : position 
       let skipped = from_begin-end_skipped new (get_or text position 0) (drop (position + 1) text) here in
       -- It is the last end-update of the text, as none was seen after it.
       let last : after_last_end text ≡ Some (drop 7 (drop (position + 1) text)) =
-      last_of position text _ (rw (cut, seen.no_end, after_word-whole end_update _ here) refl) in
+      after_last_end-earlier position text _ (rw (cut, seen.no_end, after_word-whole end_update _ here) refl) in
       record {
         begins = rw last (seen.begins_are ∙ skipped.1);
         released = rw last (seen.begin_is ∙ ap (λ part. length text - length part) skipped.0);
       }
     where
-      last_of : (n : ℕ) (h later : List ℕ) → after_last_end (drop n h) ≡ Some later → after_last_end h ≡ Some later
-      last_of zero h later e = e
-      last_of (suc n) [] later e = e
-      last_of (suc n) (b ∷ h) later e = rw (last_of n h later e) refl
+      after_last_end-earlier : (n : ℕ) (bytes later : List ℕ) → after_last_end (drop n bytes) ≡ Some later
+          → after_last_end bytes ≡ Some later
+      after_last_end-earlier zero bytes later is_last = is_last
+      after_last_end-earlier (suc n) [] later is_last = is_last
+      after_last_end-earlier (suc n) (b ∷ bytes) later is_last = rw (after_last_end-earlier n bytes later is_last) refl
 
 -- ---- many positions more, at which no sequence begins
 
@@ -184,19 +187,19 @@ pub record IsLastEscape (all : List ℕ) (new position unread begin begins : ℕ
 
 module _ {all : List ℕ} {new position unread begin begins : ℕ}
     (last : IsLastEscape all new position unread begin begins)
-    (at : ℕ) (low : at ≤ position) (near : position ≤ at + 7) where
-  further : {first count : ℕ} → HasSeen all new position first count → HasSeen all new at first count
+    (from : ℕ) (low : from ≤ position) (near : position ≤ from + 7) where
+  further : {first count : ℕ} → HasSeen all new position first count → HasSeen all new from first count
   further {first} {count} seen =
       let inside = last.inside in
       seen-down low (omega arith)
       (λ k low high. neither-before all k position high (omega arith) inside last.here) seen
 
   pub seen-begin_before : length all ≤ position + 7 + new → begins_with begin_update (drop position all) ≡ true
-      → HasSeen all new at position (begins + 1)
+      → HasSeen all new from position (begins + 1)
   seen-begin_before at_most is_begin = further (seen-begin last.inside last.seen at_most is_begin)
 
   pub seen-other_before : begins_with begin_update (drop position all) ≡ false
-      → begins_with end_update (drop position all) ≡ false → HasSeen all new at begin begins
+      → begins_with end_update (drop position all) ≡ false → HasSeen all new from begin begins
   seen-other_before no_begin no_end =
       further (seen-other last.inside last.seen (record { no_begin = no_begin; no_end = no_end }))
 
@@ -220,7 +223,7 @@ module _ {held more text : List ℕ} {start : ℕ} (held_tail : IsHeldTail held 
   neither_between : (from low unread : ℕ) → start + from ≡ low → unread ≤ length text
       → Nowhere (Passes (is_byte 0x1b) (take unread text)) from (length (take unread text))
       → (k : ℕ) → low ≤ k → k < start + unread → IsNeither all k
-  neither_between from low unread is within nowhere k above high =
+  neither_between from low unread low_is within nowhere k above high =
       let i = k - start in
       let position : start + i ≡ k = omega arith in
       let here : get_or (take unread text) i 0 ≡ get_or all k 0 = byte_at unread i (omega arith) ∙ rw position in
@@ -231,42 +234,46 @@ module _ {held more text : List ℕ} {start : ℕ} (held_tail : IsHeldTail held 
   pub seen-skipped : (unread before : ℕ) {begin begins : ℕ} → unread ≤ before → before ≤ length text
       → NoneBetween text unread before → HasSeen all (length more) (start + before) begin begins
       → HasSeen all (length more) (start + unread) begin begins
-  seen-skipped unread before at_most within none seen =
+  seen-skipped unread before at_most within none_between seen =
       seen-down (omega arith) (omega (arith, whole_size))
       (λ k low high.
       let position : k - start + start ≡ k = omega arith in
-      let neither = none (k - start) (omega arith) (omega arith) in
+      let neither = none_between (k - start) (omega arith) (omega arith) in
       let tail : drop (k - start) text ≡ drop k all =
       ap (drop (k - start)) held_tail.text_is ∙ drop-drop (k - start) start all
-      ∙ ap (λ at. drop at all) (omega arith) in
+      ∙ ap (λ position. drop position all) (omega arith) in
       record { no_begin = rw tail at neither.no_begin; no_end = rw tail at neither.no_end })
       seen
 
   -- The last seven bytes are too few for a sequence.
   pub seen-nothing : (unread : ℕ) → unread ≡ length text - 7
       → HasSeen all (length more) (start + unread) (start + length text) 0
-  seen-nothing unread is =
-      let none = drop_all (length all) all (omega arith) in
+  seen-nothing unread unread_is =
+      let nothing_left = drop_all (length all) all (omega arith) in
       seen-down {unread = length all} (omega (arith, whole_size)) (omega arith)
       (λ k low high. neither-short all k (omega (arith, whole_size)))
-      (record { no_end = rw none; begin_is = rw none (omega (arith, whole_size)); begins_are = rw none })
+      (record {
+        no_end = rw nothing_left;
+        begin_is = rw nothing_left (omega (arith, whole_size));
+        begins_are = rw nothing_left;
+      })
 
   -- The last ESC of what is unread is found, and everything after it was seen.
   pub last_escape : (position unread : ℕ) {begin begins : ℕ} → unread ≤ length text
       → NoneAfter (Passes (is_byte 0x1b) (take unread text)) 0 (length (take unread text)) position
       → Passes (is_byte 0x1b) (take unread text) position → HasSeen all (length more) (start + unread) begin begins
       → IsLastEscape all (length more) (start + position) (start + unread) begin begins
-  last_escape position unread within last escape seen =
-      let earlier : position < unread = omega (arith, length-take-le unread text within, last.high) in
+  last_escape position unread within none_after is_escape seen =
+      let earlier : position < unread = omega (arith, length-take-le unread text within, none_after.high) in
       record {
         earlier = omega arith;
         inside = omega (arith, whole_size);
-        here = rw (byte_at unread position earlier) at escape;
+        here = rw (byte_at unread position earlier) at is_escape;
         -- None of the bytes after the ESC is another one, so no sequence begins at them.
         seen =
             seen-down (omega arith)
             (omega (arith, whole_size))
-            (neither_between (position + 1) _ unread (omega arith) within last.after) seen;
+            (neither_between (position + 1) _ unread (omega arith) within none_after.after) seen;
       }
 
   -- If no ESC is left, there is no end-update, as there is none in the older bytes.
@@ -274,16 +281,43 @@ module _ {held more text : List ℕ} {start : ℕ} (held_tail : IsHeldTail held 
       → Nowhere (Passes (is_byte 0x1b) (take unread text)) 0 (length (take unread text))
       → HasSeen all (length more) (start + unread) begin begins
       → Adds all (length more) (record { begins = begins; released = 0 })
-  seen-all unread begin begins none within nowhere seen =
+  seen-all unread begin begins held_no_end within nowhere seen =
       -- Without ESC no sequence begins in what is unread, so all of the tail is seen.
       let rest =
       seen-down (omega arith) (omega (arith, whole_size))
       (neither_between 0 start unread (omega arith) within nowhere) seen in
       let tail : drop start all ≡ drop (length held - 7) all = rw held_tail.start_is in
       -- The tail has no end-update. With none in the older bytes, there is none at all.
-      let no_end : after_last_end all ≡ None = cc (tail, after_last_end-tail held more none, rest.no_end) in
+      let no_end : after_last_end all ≡ None = cc (tail, after_last_end-tail held more held_no_end, rest.no_end) in
       -- So no bytes are released, and the updates that begin are those of the tail.
       record {
         begins = rw no_end (cc (tail, rest.begins_are, begins_ending_in_last-tail held more refl));
         released = rw no_end (omega arith);
       }
+
+-- ---- a round of the search
+
+-- The last ESC of what is unread is read, and blocks before it are skipped.
+
+module _ (text : List ℕ) {unread before next : ℕ} (position : ℕ) (within : unread ≤ length text)
+    (none_after : NoneAfter (Passes (is_byte 0x1b) (take unread text)) 0 (length (take unread text)) position)
+    (before_is : before ≡ position - 7) (skips : next ≤ before) where
+  escape-earlier : position < unread
+  escape-earlier = omega (arith, length-take-le unread text within, none_after.high)
+
+  pub unread-decreases : next < unread
+  unread-decreases = omega (arith, escape-earlier, before_is, skips)
+
+  -- What is seen if the ESC is read was seen from the end of the skipped blocks on.
+  pub seen-round : {held more : List ℕ} {start begin begins begin_then begins_then : ℕ}
+      (held_tail : IsHeldTail held more text start) → Passes (is_byte 0x1b) (take unread text) position
+      → NoneBetween text next before
+      → HasSeen (held ++ more) (length more) (start + unread) begin begins
+      → (IsLastEscape (held ++ more) (length more) (start + position) (start + unread) begin begins
+      → (from : ℕ) → from ≤ start + position → start + position ≤ from + 7
+      → HasSeen (held ++ more) (length more) from begin_then begins_then)
+      → HasSeen (held ++ more) (length more) (start + next) begin_then begins_then
+  seen-round {start} held_tail is_escape none_between seen reads =
+      seen-skipped held_tail next before skips (omega (arith, escape-earlier, before_is, within)) none_between
+      (reads (last_escape held_tail position unread within none_after is_escape seen) (start + before)
+      (omega (arith, before_is)) (omega (arith, before_is)))

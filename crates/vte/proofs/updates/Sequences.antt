@@ -8,9 +8,9 @@ pub cases_Option : {A : Type 0} (option : Option A) → (option ≡ None) ⊎ ((
 cases_Option None = inl refl
 cases_Option (Some x) = inr (x, refl)
 
-pub not_some : {A : Type 0} (option : Option A) → is_some option ≡ false → option ≡ None
-not_some None none = refl
-not_some (Some x) none = cc
+pub none_from_is_some : {A : Type 0} (option : Option A) → is_some option ≡ false → option ≡ None
+none_from_is_some None is_not_some = refl
+none_from_is_some (Some x) is_not_some = cc
 
 -- ---- a sequence at the front
 
@@ -22,7 +22,7 @@ after_word-whole (a ∷ sequence) (b ∷ text) begins = grind (arith, after_word
 
 pub begins_with-further : (first b : ℕ) (sequence text : List ℕ) → begins_with sequence text ≡ false
     → begins_with (first ∷ sequence) (b ∷ text) ≡ false
-begins_with-further first b sequence text other = grind (arith, other)
+begins_with-further first b sequence text differs = grind (arith, differs)
 
 -- A text that begins with a sequence is the sequence and what follows it.
 pub begins_with-is : (sequence text : List ℕ) → begins_with sequence text ≡ true
@@ -59,26 +59,28 @@ from_begin-end_skipped n b text begins = search (rules, arith)
 pub record IsSuffix (part text : List ℕ) : Type 0 where
   pub prefix : ℕ
   pub within : prefix ≤ length text
-  pub is : part ≡ drop prefix text
+  pub part_is : part ≡ drop prefix text
 
 pub suffix-length : {part text : List ℕ} → (suffix : IsSuffix part text) → suffix.prefix + length part ≡ length text
-suffix-length {part} {text} suffix = omega (arith, suffix.within, ap length suffix.is, length-drop suffix.prefix text)
+suffix-length {part} {text} suffix =
+    omega (arith, suffix.within, ap length suffix.part_is, length-drop suffix.prefix text)
 
 suffix-trans : {part middle text : List ℕ} → IsSuffix part middle → IsSuffix middle text → IsSuffix part text
 suffix-trans {text} suffix further = record {
   prefix = further.prefix + suffix.prefix;
   within = omega (arith, suffix.within, suffix-length further);
-  is = cc (suffix.is, further.is, drop-drop suffix.prefix further.prefix text);
+  part_is = cc (suffix.part_is, further.part_is, drop-drop suffix.prefix further.prefix text);
 }
 
 suffix-more : {part text : List ℕ} (b : ℕ) → IsSuffix part text → IsSuffix part (b ∷ text)
-suffix-more b suffix = record { prefix = suc suffix.prefix; within = omega (arith, suffix.within); is = suffix.is }
+suffix-more b suffix =
+    record { prefix = suc suffix.prefix; within = omega (arith, suffix.within); part_is = suffix.part_is }
 
 -- Without an end-update in a text there is none in its parts.
 after_last_end-drop : (n : ℕ) (text : List ℕ) → after_last_end text ≡ None → after_last_end (drop n text) ≡ None
-after_last_end-drop zero text none = none
-after_last_end-drop (suc n) [] none = none
-after_last_end-drop (suc n) (b ∷ text) none = grind (arith, after_last_end-drop n text)
+after_last_end-drop zero text no_end = no_end
+after_last_end-drop (suc n) [] no_end = no_end
+after_last_end-drop (suc n) (b ∷ text) no_end = grind (arith, after_last_end-drop n text)
 
 -- What is after the last end-update has none.
 pub record FollowsLastEnd (rest text : List ℕ) : Type 0 where
@@ -86,15 +88,15 @@ pub record FollowsLastEnd (rest text : List ℕ) : Type 0 where
   pub no_end : after_last_end rest ≡ None
 
 follows_last_end : (text rest : List ℕ) → after_last_end text ≡ Some rest → FollowsLastEnd rest text
-follows_last_end [] rest is = cc
+follows_last_end [] rest is_last = cc
 follows_last_end (b ∷ text) rest is_last = elim (cases_Option (after_last_end text)) [
-  | inl none ↦
-      let here : after_word end_update (b ∷ text) ≡ Some rest = rw none at is_last in
-      let first : begins_with end_update (b ∷ text) ≡ true = rw here refl in
-      let is : rest ≡ drop 7 text = cc (here, after_word-whole end_update (b ∷ text) first) in
+  | inl no_later_end ↦
+      let end_here : after_word end_update (b ∷ text) ≡ Some rest = rw no_later_end at is_last in
+      let begins : begins_with end_update (b ∷ text) ≡ true = rw end_here refl in
+      let rest_is : rest ≡ drop 7 text = cc (end_here, after_word-whole end_update (b ∷ text) begins) in
       record {
-        suffix = record { prefix = 8; within = begins_with-length end_update (b ∷ text) first; is = is };
-        no_end = rw is (after_last_end-drop 7 text none);
+        suffix = record { prefix = 8; within = begins_with-length end_update (b ∷ text) begins; part_is = rest_is };
+        no_end = rw rest_is (after_last_end-drop 7 text no_later_end);
       }
   | inr later ↦
       let follows = follows_last_end text rest (grind arith) in
@@ -108,10 +110,14 @@ pub record StartsAtBegin (kept text : List ℕ) : Type 0 where
 
 starts_at_begin : (text : List ℕ) → StartsAtBegin (from_begin_update text) text
 starts_at_begin [] =
-    record { suffix = record { prefix = 0; within = omega arith; is = refl }; begins = λ some. absurd (omega arith) }
+    record {
+      suffix = record { prefix = 0; within = omega arith; part_is = refl };
+      begins = λ some_kept. absurd (omega arith);
+    }
 starts_at_begin (b ∷ text) = elim (cases_Bool (begins_with begin_update (b ∷ text))) [
   | inl here ↦
-      rw here (record { suffix = record { prefix = 0; within = omega arith; is = refl }; begins = λ some. here })
+      rw here
+      (record { suffix = record { prefix = 0; within = omega arith; part_is = refl }; begins = λ some_kept. here })
   | inr later ↦
       let start = starts_at_begin text in
       rw later (record { suffix = suffix-more b start.suffix; begins = start.begins })
@@ -125,16 +131,20 @@ pub record StaysHeld (held kept : List ℕ) : Type 0 where
 
 pub stays_held : (held : List ℕ) → StaysHeld held (still_held held)
 stays_held held = elim (cases_Option (after_last_end held)) [
-  | inl none ↦
-      rw none
-      (record { suffix = record { prefix = 0; within = omega arith; is = refl }; no_end = none; begins = inl refl })
-  | inr some ↦
-      let last = follows_last_end held some.0 some.1 in
-      let first = starts_at_begin some.0 in
-      rw some.1 (record {
-        suffix = suffix-trans first.suffix last.suffix;
-        no_end = rw first.suffix.is (after_last_end-drop first.suffix.prefix _ last.no_end);
-        begins = inr first.begins;
+  | inl no_end ↦
+      rw no_end
+      (record {
+        suffix = record { prefix = 0; within = omega arith; part_is = refl };
+        no_end = no_end;
+        begins = inl refl;
+      })
+  | inr last_end ↦
+      let follows = follows_last_end held last_end.0 last_end.1 in
+      let starts = starts_at_begin last_end.0 in
+      rw last_end.1 (record {
+        suffix = suffix-trans starts.suffix follows.suffix;
+        no_end = rw starts.suffix.part_is (after_last_end-drop starts.suffix.prefix _ follows.no_end);
+        begins = inr starts.begins;
       })
 ]
 
@@ -142,40 +152,40 @@ pub stays-is : (held : List ℕ) → drop (length held - length (still_held held
 stays-is held =
     let suffix = (stays_held held).suffix in
     let prefix : length held - length (still_held held) ≡ suffix.prefix = omega (arith, suffix-length suffix) in
-    rw prefix (sym suffix.is)
+    rw prefix (sym suffix.part_is)
 
 -- ---- the last seven of the older bytes suffice, if no end-update is in them
 
 -- An end-update that begins eight bytes before the end of the older ones would be in them.
 begins_with-no_end : (b : ℕ) (old more : List ℕ) → 7 ≤ length old → after_last_end (b ∷ old) ≡ None
     → begins_with end_update (b ∷ (old ++ more)) ≡ false
-begins_with-no_end b old more long none = grind (arith, begins_with-more end_update (b ∷ old) more (omega arith))
+begins_with-no_end b old more long no_end = grind (arith, begins_with-more end_update (b ∷ old) more (omega arith))
 
 pub after_last_end-tail : (old more : List ℕ) → after_last_end old ≡ None
     → after_last_end (old ++ more) ≡ after_last_end (drop (length old - 7) (old ++ more))
-after_last_end-tail [] more none = refl
-after_last_end-tail (b ∷ old) more none = elim (cases_lt (length old) 7) [
+after_last_end-tail [] more no_end = refl
+after_last_end-tail (b ∷ old) more no_end = elim (cases_lt (length old) 7) [
   | inl at_most ↦ let same : suc (length old) - 7 ≡ 0 = omega arith in rw same
   | inr many ↦
       let same : suc (length old) - 7 ≡ suc (length old - 7) = omega arith in
-      let no_end = not_some _ (begins_with-no_end b old more many none) in
-      rw same (grind (arith, no_end, after_last_end-tail old more))
+      let none_here = none_from_is_some _ (begins_with-no_end b old more many no_end) in
+      rw same (grind (arith, none_here, after_last_end-tail old more))
 ]
 
 -- A begin-update ends among the last n bytes only if it begins among these and the seven before
 -- them.
 pub begins_ending_in_last-tail : {n : ℕ} (old more : List ℕ) → length more ≡ n
     → begins_ending_in_last n (old ++ more) ≡ begins_ending_in_last n (drop (length old - 7) (old ++ more))
-begins_ending_in_last-tail [] more is = refl
-begins_ending_in_last-tail {n} (b ∷ old) more is = elim (cases_lt (length old) 7) [
+begins_ending_in_last-tail [] more count_is = refl
+begins_ending_in_last-tail {n} (b ∷ old) more count_is = elim (cases_lt (length old) 7) [
   | inl at_most ↦ let same : suc (length old) - 7 ≡ 0 = omega arith in rw same
   | inr many ↦
       let same : suc (length old) - 7 ≡ suc (length old - 7) = omega arith in
       let far : nat_lt (length (drop 7 (old ++ more))) n ≡ false =
       rw (length-drop, length-append) (grind (arith, nat_tests)) in
-      let tail = begins_ending_in_last-tail old more is in
+      let tail = begins_ending_in_last-tail old more count_is in
       rw same (elim (cases_Bool (begins_with begin_update (b ∷ (old ++ more)))) [
         | inl here ↦ rw (after_word-whole begin_update (b ∷ (old ++ more)) here, far, zero-add) tail
-        | inr other ↦ rw (not_some _ other, zero-add) tail
+        | inr differs ↦ rw (none_from_is_some _ differs, zero-add) tail
       ])
 ]

@@ -1,5 +1,5 @@
 -- Each law is a lemma on lists of calls.
-use Rattle.vte.proofs.replays.ReplayedSteps.{refused_delivered, replay_append, replay_only_one, replay_well, steps_delivered}
+use Rattle.vte.proofs.replays.ReplayedSteps.{refused_delivered, replay-append, replay-only_one, replay-well, steps_delivered}
 use Rattle.vte.proofs.ansi.laws.calls_are_received.Goals as goal
 
 pub returns-clause-calls : goal.returns-clause-calls
@@ -9,11 +9,12 @@ pub returns-clause-refused : goal.returns-clause-refused
 returns-clause-refused g c = refused_delivered _
 
 pub returns-clause-goes_on : goal.returns-clause-goes_on
-returns-clause-goes_on g c = λ limit. replay_append _
+returns-clause-goes_on g c = λ limit. replay-append _
 
 pub returns-clause-holds_well : goal.returns-clause-holds_well
-returns-clause-holds_well g c = λ limit. replay_well _
+returns-clause-holds_well g c = λ limit. replay-well _
 
 pub returns-clause-only : goal.returns-clause-only
 returns-clause-only g c =
-    λ limit s t other steps steady well run more. replay_only_one _ steady s t other steps well run more
+    λ limit state end other steps steady well takes takes_other.
+    replay-only_one _ steady state end other steps well takes takes_other

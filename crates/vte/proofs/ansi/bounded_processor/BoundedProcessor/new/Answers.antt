@@ -23,8 +23,8 @@ returns g c =
 
 pub returns-in_err-engine : goal.returns-in_err-engine
 returns-in_err-engine g c =
-    let e = err_from_is_err_and c.from_residual.result c.from_residual.ensures.1 in
-    rw (e.1 ∙ ap Err e.2) (record {
+    let error_is = err_from_is_err_and c.from_residual.result c.from_residual.ensures.1 in
+    rw (error_is.1 ∙ ap Err error_is.2) (record {
       agrees = search rules;
       holds_well = search rules;
       timeout = tt;

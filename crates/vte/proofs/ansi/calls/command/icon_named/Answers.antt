@@ -7,9 +7,9 @@ use Rattle.vte.proofs.ansi.calls.command.icon_named.Goals as goal
 -- `ok_or` keeps what was found, whatever the error.
 ok_or-found : {A E : Type 0} (found : Option A) (error : E) → result_ok (ok_or found error) ≡ found
 ok_or-found None error = refl
-ok_or-found (Some x) error = refl
+ok_or-found (Some value) error = refl
 
 pub returns : goal.returns
 returns c =
-    let e : c.in_ok-text_in.field-0.now ≡ c.args.name.now = search rules in
-    c.ok.ensures.value ∙ ap result_ok c.from_str.ensures ∙ ok_or-found _ _ ∙ ap icon_of e
+    let same_name : c.in_ok-text_in.field-0.now ≡ c.args.name.now = search rules in
+    c.ok.ensures.value ∙ ap result_ok c.from_str.ensures ∙ ok_or-found _ _ ∙ ap icon_of same_name

@@ -6,31 +6,32 @@ use Rattle.vte.proofs.Common.{◌≡◌, ℕ, ◌+◌, ◌<◌, ◌≤◌, List,
 use Rattle.vte.proofs.ansi.calls.numbers.parse_number.Invariants.{number_after}
 use Rattle.vte.proofs.ansi.calls.numbers.parse_number.Goals as goal
 
-grows : (number : ℕ) (digits : List ℕ) → number ≤ digits_value_after 10 number digits
-grows number [] = omega arith
-grows number (digit ∷ digits) = omega (arith, grows (number * 10 + digit_value digit) digits)
+digits_value_after-grows : (number : ℕ) (digits : List ℕ) → number ≤ digits_value_after 10 number digits
+digits_value_after-grows number [] = omega arith
+digits_value_after-grows number (digit ∷ digits) =
+    omega (arith, digits_value_after-grows (number * 10 + digit_value digit) digits)
 
-too_large : (number : ℕ) (digits : List ℕ) (i : ℕ) → i < length digits
+decimal_number-too_large : (number : ℕ) (digits : List ℕ) (i : ℕ) → i < length digits
     → 256 ≤ number * 10 + digit_value (get_or digits i 0)
     → number_after number (drop i digits) ≡ decimal_number digits → None ≡ decimal_number digits
-too_large number digits i inside large before =
+decimal_number-too_large number digits i inside large before =
     let digit = get_or digits i 0 in
     let all : ℕ = digits_value_after 10 (number * 10 + digit_value digit) (drop (i + 1) digits) in
     let over : nat_lt all 256 ≡ false =
-    grind (arith, nat_tests, large, grows (number * 10 + digit_value digit) (drop (i + 1) digits)) in
-    let none : number_after number (digit ∷ drop (i + 1) digits) ≡ None = rw (over, and-false) refl in
-    sym none ∙ rw (drop_more digits i 0 inside) at before
+    grind (arith, nat_tests, large, digits_value_after-grows (number * 10 + digit_value digit) (drop (i + 1) digits)) in
+    let is_none : number_after number (digit ∷ drop (i + 1) digits) ≡ None = rw (over, and-false) refl in
+    sym is_none ∙ rw (drop_more digits i 0 inside) at before
 
 pub returns-in_err-checked_mul : goal.returns-in_err-checked_mul
 returns-in_err-checked_mul c =
     c.from_residual-in_err-checked_mul.ensures
-    ∙ too_large c.loop-byte.number c.args.digits.now c.loop-byte.byte-index c.loop-byte-test.true
+    ∙ decimal_number-too_large c.loop-byte.number c.args.digits.now c.loop-byte.byte-index c.loop-byte-test.true
     (search rules) c.loop-byte.invariant.rest
 
 pub returns-in_err-number : goal.returns-in_err-number
 returns-in_err-number c =
     c.from_residual-in_err-number.ensures
-    ∙ too_large c.loop-byte.number c.args.digits.now c.loop-byte.byte-index c.loop-byte-test.true
+    ∙ decimal_number-too_large c.loop-byte.number c.args.digits.now c.loop-byte.byte-index c.loop-byte-test.true
     (search rules) c.loop-byte.invariant.rest
 
 pub returns : goal.returns

@@ -6,22 +6,22 @@ use Rattle.vte.proofs.ansi.laws.replays.replay.Goals as goal
 use Rattle.vte.proofs.ansi.laws.replays.replay.Goals.{in-Advance, in-StopSync}
 
 pub loop-step-init : goal.loop-step-init
-loop-step-init g c = λ s at. replayed _ s refl at
+loop-step-init g c = λ state is_at. replayed _ state refl is_at
 
 pub loop-step-preserved : goal.loop-step-preserved
-loop-step-preserved g c = λ s at.
-    let r = c.loop-step.invariant s at in
+loop-step-preserved g c = λ state is_at.
+    let before = c.loop-step.invariant state is_at in
     elim c.match-step.branch [
       | in-Advance w ↦ rw (w.processor-is, w.handler-is)
-          (advance_taken _ s c.args.steps.now _ _ c.loop-step-test.true r w.in-Advance.is
-          (w.advance.ensures.advances r.next r.is_at))
+          (advance_taken _ state c.args.steps.now _ _ c.loop-step-test.true before w.in-Advance.is
+          (w.advance.ensures.advances before.next before.is_at))
       | in-StopSync w ↦ rw (w.processor-is, w.handler-is)
-          (stop_taken _ s c.args.steps.now _ _ c.loop-step-test.true r w.in-StopSync.is
-          (w.stop_sync.ensures.stops r.next r.is_at))
+          (stop_taken _ state c.args.steps.now _ _ c.loop-step-test.true before w.in-StopSync.is
+          (w.stop_sync.ensures.stops before.next before.is_at))
     ]
 
 pub returns : goal.returns
 returns g c =
     replays_all _
-    (λ s at.
-    rw (take_all c.loop-step.step-index c.args.steps.now c.loop-step-test.false) at (c.loop-step.invariant s at))
+    (λ state is_at.
+    rw (take_all c.loop-step.step-index c.args.steps.now c.loop-step-test.false) at (c.loop-step.invariant state is_at))

@@ -5,7 +5,7 @@ use Rattle.vte.proofs.ansi.laws.replays.replay.Given as goal
 abbrev pub invariant-loop-step : goal.invariant-loop-step
 invariant-loop-step g l =
     let m = meaning_of usual_limit g.H.Handler.step g.T.Timeout.set g.T.Timeout.clear g.T.Timeout.allows in
-    (s : State g.H.Handler.Value g.T.Timeout.Value)
-    → IsAt (HasParsedAndHolds g.T.Timeout.value_of l.initial.processor) (g.H.Handler.value_of l.initial.handler) s
-    → HasReplayed m s (take l.step-index l.steps)
+    (state : State g.H.Handler.Value g.T.Timeout.Value)
+    → IsAt (HasParsedAndHolds g.T.Timeout.value_of l.initial.processor) (g.H.Handler.value_of l.initial.handler) state
+    → HasReplayed m state (take l.step-index l.steps)
     (IsAt (HasParsedAndHolds g.T.Timeout.value_of l.processor) (g.H.Handler.value_of l.handler))

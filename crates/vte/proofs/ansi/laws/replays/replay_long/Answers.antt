@@ -6,25 +6,25 @@ use Rattle.vte.proofs.ansi.laws.replays.replay_long.Goals as goal
 use Rattle.vte.proofs.ansi.laws.replays.replay_long.Goals.{in-Advance+in_default, in-StopSync}
 
 pub loop-index-init : goal.loop-index-init
-loop-index-init g c = λ s at. replayed _ s refl at
+loop-index-init g c = λ state is_at. replayed _ state refl is_at
 
 pub loop-index-preserved : goal.loop-index-preserved
-loop-index-preserved g c = λ s at.
-    let r = c.loop-index.invariant s at in
+loop-index-preserved g c = λ state is_at.
+    let before = c.loop-index.invariant state is_at in
     elim c.match-step.branch [
       | in-Advance+in_default w ↦ rw (w.processor-is, w.handler-is)
-          (advance_taken _ s c.args.steps.now _ _ c.loop-index-test.true r w.in-Advance.is
-          (w.in_default.ensures.all.advances r.next r.is_at))
+          (advance_taken _ state c.args.steps.now _ _ c.loop-index-test.true before w.in-Advance.is
+          (w.in_default.ensures.all.advances before.next before.is_at))
       | in-StopSync w ↦ rw (w.processor-is, w.handler-is)
-          (stop_taken _ s c.args.steps.now _ _ c.loop-index-test.true r w.in-StopSync.is
-          (w.stop_sync.ensures.stops.stops r.next r.is_at))
+          (stop_taken _ state c.args.steps.now _ _ c.loop-index-test.true before w.in-StopSync.is
+          (w.stop_sync.ensures.stops.stops before.next before.is_at))
     ]
 
 pub returns-in-Err-clause-refuses : goal.returns-in-Err-clause-refuses
-returns-in-Err-clause-refuses g c = λ s at.
-    let r = c.loop-index.invariant s at in
-    advance_refused _ s c.args.steps.now _ _ c.loop-index-test.true r c.in-Advance.is c.in-Err.ensures.reads.within
-    (c.in-Err.ensures.reads.takes r.next r.is_at)
+returns-in-Err-clause-refuses g c = λ state is_at.
+    let before = c.loop-index.invariant state is_at in
+    advance_refused _ state c.args.steps.now _ _ c.loop-index-test.true before c.in-Advance.is
+    c.in-Err.ensures.reads.within (c.in-Err.ensures.reads.takes before.next before.is_at)
 
 pub returns-in-Err-clause-lacks : goal.returns-in-Err-clause-lacks
 returns-in-Err-clause-lacks g c =
@@ -35,4 +35,5 @@ returns-in-Err-clause-lacks g c =
 pub returns-clause-replays : goal.returns-clause-replays
 returns-clause-replays g c =
     replays_all _
-    (λ s at. rw (take_all c.loop-index.index c.args.steps.now c.loop-index-test.false) at (c.loop-index.invariant s at))
+    (λ state is_at.
+    rw (take_all c.loop-index.index c.args.steps.now c.loop-index-test.false) at (c.loop-index.invariant state is_at))

@@ -5,7 +5,8 @@ use Rattle.vte.proofs.ansi.laws.replays.replay_long.Given as goal
 abbrev pub invariant-loop-index : goal.invariant-loop-index
 invariant-loop-index g l =
     let m = meaning_of None g.H.Handler.step g.T.Timeout.set g.T.Timeout.clear g.T.Timeout.allows in
-    (s : State g.H.Handler.Value g.T.Timeout.Value)
-    → IsAt (HasParsedAndHoldsLong g.T.Timeout.value_of l.initial.processor) (g.H.Handler.value_of l.initial.handler) s
-    → HasReplayed m s (take l.index l.steps)
+    (state : State g.H.Handler.Value g.T.Timeout.Value)
+    → IsAt (HasParsedAndHoldsLong g.T.Timeout.value_of l.initial.processor) (g.H.Handler.value_of l.initial.handler)
+    state
+    → HasReplayed m state (take l.index l.steps)
     (IsAt (HasParsedAndHoldsLong g.T.Timeout.value_of l.processor) (g.H.Handler.value_of l.handler))

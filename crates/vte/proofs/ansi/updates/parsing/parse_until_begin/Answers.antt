@@ -7,22 +7,22 @@ use Rattle.vte.proofs.turns.EachOnce.{prefix-rest}
 use Rattle.vte.proofs.ansi.updates.parsing.parse_until_begin.Goals as goal
 
 pub returns-clause-stops : goal.returns-clause-stops
-returns-clause-stops g c = λ s n ready.
+returns-clause-stops g c = λ state n ready.
     let m = meaning_of g.P.EventParser.limit g.H.Handler.step g.T.Timeout.set g.T.Timeout.clear g.T.Timeout.allows in
     let bytes = c.args.bytes.now in
-    let prefix = prefix_to_begin g.P.EventParser.limit s.parsed bytes in
-    let p = c.advance_until_begin-read.ensures.stops s.parsed n ready.parts_at.has_read ready.memory in
+    let prefix = prefix_to_begin g.P.EventParser.limit state.parsed bytes in
+    let ends = c.advance_until_begin-read.ensures.stops state.parsed n ready.parts_at.has_read ready.memory in
     let fit =
-    prefix_fits (g.B.TextBuffer.text_size c.args.state.now.text) g.P.EventParser.limit s.parsed prefix
+    prefix_fits (g.B.TextBuffer.text_size c.args.state.now.text) g.P.EventParser.limit state.parsed prefix
     (drop (length prefix) bytes)
-    (rw (prefix-rest g.P.EventParser.limit s.parsed bytes) p.fits) in
+    (rw (prefix-rest g.P.EventParser.limit state.parsed bytes) ends.fits) in
     record {
-      count = stops_at_prefix m refl p.stops;
-      begins_is = stop_terminated m refl p.stops;
+      count = stops_at_prefix m refl ends.stops;
+      begins_is = stop_terminated m refl ends.stops;
       is_at =
-          performer-given_back g.H.Handler.value_of g.T.Timeout.value_of g.B.TextBuffer.text_size m s prefix _
-          c.advance_until_begin-read.new.performer fit (stop_performs m refl p.stops)
+          performer-given_back g.H.Handler.value_of g.T.Timeout.value_of g.B.TextBuffer.text_size m state prefix _
+          c.advance_until_begin-read.new.performer fit (stop_performs m refl ends.stops)
           c.state-1.given.1 ready.parts_at refl refl refl refl
-          (rw (stop_stream m refl p.stops) at p.reads) c.handler-1.given.1
+          (rw (stop_stream m refl ends.stops) at ends.reads) c.handler-1.given.1
           c.advance_until_begin-read.ensures.keeps_memory;
     }

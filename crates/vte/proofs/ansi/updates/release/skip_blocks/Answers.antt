@@ -5,16 +5,18 @@ use Rattle.vte.proofs.ansi.updates.release.skip_blocks.Goals as goal
 
 pub loop-unread-preserved : goal.loop-unread-preserved
 loop-unread-preserved c =
-    let v = c.loop-unread.invariant in
-    let at = c.loop-unread.unread - 32 in
-    let block : c.in-Some.block.now ≡ take 34 (drop at c.args.text.now) =
+    let invariant = c.loop-unread.invariant in
+    let from = c.loop-unread.unread - 32 in
+    let block : c.in-Some.block.now ≡ take 34 (drop from c.args.text.now) =
     c.in-Some.ensures.cases.same
-    ∙ ap (take 34) (take_all (length c.args.text.now - at) (drop at c.args.text.now) (rw length-drop (omega arith))) in
-    let plain = rw block at c.has_no_private_sequence.ensures c.if-has_no_private_sequence.true in
+    ∙ ap (take 34) (take_all (length c.args.text.now - from) (drop from c.args.text.now)
+    (rw length-drop (omega arith))) in
+    let no_private_sequence = rw block at c.has_no_private_sequence.ensures c.if-has_no_private_sequence.true in
     record {
-      within = omega (arith, v.within);
+      within = omega (arith, invariant.within);
       none = λ k low high. elim (cases_lt k c.loop-unread.unread) [
-        | inl inside ↦ neither-block c.args.text.now at 32 plain k low (omega (arith, c.loop-unread-test.true))
-        | inr later ↦ v.none k later high
+        | inl inside ↦
+            neither-block c.args.text.now from 32 no_private_sequence k low (omega (arith, c.loop-unread-test.true))
+        | inr later ↦ invariant.none k later high
       ];
     }

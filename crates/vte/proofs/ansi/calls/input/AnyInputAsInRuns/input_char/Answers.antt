@@ -10,11 +10,13 @@ input_text-requires-clause-plain g c =
     let shown : is_control_character c.args.c ≡ false = grind (arith, nat_tests) in
     let spelt : chars c.encode_utf8.result.now ≡ c.args.c ∷ [] =
     rw c.encode_utf8.ensures.value (chars-encode c.args.c c.ranges.c.0) in
-    subst (All (λ x. is_control_character x ≡ false)) (sym spelt)
-    (All-cons (λ x. is_control_character x ≡ false) c.args.c [] shown (All-nil (λ x. is_control_character x ≡ false)))
+    subst (All (λ character. is_control_character character ≡ false)) (sym spelt)
+    (All-cons (λ character. is_control_character character ≡ false) c.args.c [] shown
+    (All-nil (λ character. is_control_character character ≡ false)))
 
 pub returns-in_default : goal.returns-in_default
 returns-in_default g c =
     let spelt : chars c.encode_utf8.result.now ≡ c.args.c ∷ [] =
     rw c.encode_utf8.ensures.value (chars-encode c.args.c c.ranges.c.0) in
-    c.input_text.ensures ∙ ap (λ cs. after g.H.Handler.step (g.H.Handler.value_of c.args.self.now) (map Input cs)) spelt
+    c.input_text.ensures
+    ∙ ap (λ characters. after g.H.Handler.step (g.H.Handler.value_of c.args.self.now) (map Input characters)) spelt

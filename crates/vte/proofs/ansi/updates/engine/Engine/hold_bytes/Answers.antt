@@ -4,14 +4,14 @@ use Rattle.vte.proofs.turns.HoldTurns.{turned_cut, turned_stop}
 use Rattle.vte.proofs.ansi.updates.engine.Engine.hold_bytes.Goals as goal
 
 pub returns-then-len-eq0 : goal.returns-then-len-eq0
-returns-then-len-eq0 g c = λ s at memory.
+returns-then-len-eq0 g c = λ state is_at memory.
     let m = meaning_of g.P.EventParser.limit g.H.Handler.step g.T.Timeout.set g.T.Timeout.clear g.T.Timeout.allows in
-    turned_stop m at (rw at.agrees.holds at c.add-begins.ensures) c.set_timeout_times.ensures memory
+    turned_stop m is_at (rw is_at.agrees.holds at c.add-begins.ensures) c.set_timeout_times.ensures memory
     c.requires.some (sym c.len.ensures.count ∙ c.if-len-eq0.true) c.end_update.ensures.stops
 
 pub returns-else-len-eq0 : goal.returns-else-len-eq0
-returns-else-len-eq0 g c = λ s at memory.
+returns-else-len-eq0 g c = λ state is_at memory.
     let m = meaning_of g.P.EventParser.limit g.H.Handler.step g.T.Timeout.set g.T.Timeout.clear g.T.Timeout.allows in
-    let e = c.parse_released.ensures in
-    turned_cut m at (rw at.agrees.holds at c.add-begins.ensures) c.set_timeout_times.ensures memory
-    (omega (arith, c.len.ensures.count, c.if-len-eq0.false)) e.parsed e.memory e.hold
+    let releases = c.parse_released.ensures in
+    turned_cut m is_at (rw is_at.agrees.holds at c.add-begins.ensures) c.set_timeout_times.ensures memory
+    (omega (arith, c.len.ensures.count, c.if-len-eq0.false)) releases.parsed releases.memory releases.hold

@@ -1,6 +1,6 @@
 -- A turn more leads on (`reaches-more`), until all bytes are read or a turn is refused memory.
 use Rattle.vte.proofs.Common.{◌≡◌, ◌+◌, ◌-◌, length, take, drop, arith}
-use Rattle.vte.proofs.turns.EngineTurns.{engine_reads-all, reached-refused, next-at, reaches-more, reaches-nothing, engine_reads-until, rest-size}
+use Rattle.vte.proofs.turns.EngineTurns.{engine_reads-all, reached-refused, keeping_memory-same, reaches-more, reaches-nothing, engine_reads-until, rest-size}
 use Rattle.vte.proofs.ansi.updates.engine.Engine.read.Goals as goal
 
 -- Before the first turn, nothing is read.
@@ -8,8 +8,8 @@ pub loop-turn-init : goal.loop-turn-init
 loop-turn-init g c =
     record {
       within = omega arith;
-      some = λ some. some;
-      reaches = λ s at. reaches-nothing _ s c.args.bytes.now (next-at at);
+      some = λ some_bytes. some_bytes;
+      reaches = λ state is_at. reaches-nothing _ state c.args.bytes.now (keeping_memory-same is_at);
     }
 
 -- After one more turn, bytes are left.
@@ -19,11 +19,11 @@ loop-turn-preserved g c =
     let size = rest-size c.args.bytes.now c.loop-turn.read before.within in
     record {
       within = omega (arith, before.within, c.in-Ok.ensures.within, size);
-      some = λ more. omega (arith, before.within, c.in-Ok.ensures.within, size, c.if-read-bytes.false);
-      reaches = λ s at.
-          let r = before.reaches s at in
-          reaches-more _ s c.args.bytes.now r (before.some c.loop-turn-test.true)
-          (c.in-Ok.ensures.turned r.here r.is_at.engine_at).turned;
+      some = λ turns_left. omega (arith, before.within, c.in-Ok.ensures.within, size, c.if-read-bytes.false);
+      reaches = λ state is_at.
+          let reached = before.reaches state is_at in
+          reaches-more _ state c.args.bytes.now reached (before.some c.loop-turn-test.true)
+          (c.in-Ok.ensures.turned reached.here reached.is_at.engine_at).turned;
     }
 
 -- A turn has bytes to read.
@@ -38,25 +38,26 @@ turn-requires g c =
 pub returns-then-read-bytes : goal.returns-then-read-bytes
 returns-then-read-bytes g c =
     let before = c.loop-turn.invariant in
-    engine_reads-all c.args.bytes.now (λ s at. (
-    let r =
-    before.reaches s at in
-    reaches-more _ s c.args.bytes.now r (before.some c.loop-turn-test.true)
-    (c.in-Ok.ensures.turned r.here r.is_at.engine_at).turned))
-    (λ s at. c.if-read-bytes.true)
+    engine_reads-all c.args.bytes.now (λ state is_at. (
+    let reached =
+    before.reaches state is_at in
+    reaches-more _ state c.args.bytes.now reached (before.some c.loop-turn-test.true)
+    (c.in-Ok.ensures.turned reached.here reached.is_at.engine_at).turned))
+    (λ state is_at. c.if-read-bytes.true)
 
 -- The turn was refused memory.
 pub returns-in-Err : goal.returns-in-Err
 returns-in-Err g c =
-    let b = c.args.bytes.now in
+    let bytes = c.args.bytes.now in
     let read = c.loop-turn.read in
-    let size = rest-size b read c.loop-turn.invariant.within in
-    let left : length (take (length b - read) (drop read b)) - c.in-Err.refused.read
-    ≡ length b - (read + c.in-Err.refused.read) = omega (arith, size) in
+    let size = rest-size bytes read c.loop-turn.invariant.within in
+    let left : length (take (length bytes - read) (drop read bytes)) - c.in-Err.refused.read
+    ≡ length bytes - (read + c.in-Err.refused.read) = omega (arith, size) in
     engine_reads-until c.args.bytes.now
-    (λ s at.
-    (let r = c.loop-turn.invariant.reaches s at in
-    reached-refused _ s b r c.loop-turn.invariant.within (c.in-Err.ensures.turned r.here r.is_at.engine_at).refused))
+    (λ state is_at.
+    (let reached = c.loop-turn.invariant.reaches state is_at in
+    reached-refused _ state bytes reached c.loop-turn.invariant.within
+    (c.in-Err.ensures.turned reached.here reached.is_at.engine_at).refused))
     (omega (arith, c.loop-turn.invariant.within, c.in-Err.ensures.within, size))
     (rw left at c.in-Err.ensures.lacks)
 
@@ -64,5 +65,5 @@ returns-in-Err g c =
 pub returns : goal.returns
 returns g c =
     engine_reads-all c.args.bytes.now c.loop-turn.invariant.reaches
-    (λ s at. let r = c.loop-turn.invariant.reaches s at in
-    omega (arith, r.enough, c.loop-turn-test.false, c.loop-turn.invariant.within))
+    (λ state is_at. let reached = c.loop-turn.invariant.reaches state is_at in
+    omega (arith, reached.enough, c.loop-turn-test.false, c.loop-turn.invariant.within))

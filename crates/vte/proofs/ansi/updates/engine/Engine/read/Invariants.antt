@@ -10,8 +10,8 @@ invariant-loop-turn g l =
     record {
       within : l.read ≤ length l.bytes;
       some : l._turn < length l.bytes → l.read < length l.bytes;
-      reaches : (s : State g.H.Handler.Value g.T.Timeout.Value)
-          → EngineIsAt view l.initial.self (g.H.Handler.value_of l.initial.handler) s
-          → HasReached m s l.bytes l._turn l.read
+      reaches : (state : State g.H.Handler.Value g.T.Timeout.Value)
+          → EngineIsAt view l.initial.self (g.H.Handler.value_of l.initial.handler) state
+          → HasReached m state l.bytes l._turn l.read
           (EngineIsAtKeepingMemory view l.initial.self l.self (g.H.Handler.value_of l.handler));
     }

@@ -9,7 +9,7 @@ returns-clause-reserved g c = record {
     last = had.last;
     timeout_is = had.timeout_is;
     holds = had.holds;
-    has_memory = λ some. c.reserve.ensures.keeps_memory parsed (length held) (had.has_memory some);
+    has_memory = λ some_held. c.reserve.ensures.keeps_memory parsed (length held) (had.has_memory some_held);
   };
   memory =
       λ yes parsed held timeout had.

@@ -4,7 +4,7 @@ use Rattle.vte.proofs.turns.EngineTurns.{parts-at, stops_update}
 use Rattle.vte.proofs.ansi.updates.engine.Engine.stop.Goals as goal
 
 pub returns-clause-stopped : goal.returns-clause-stopped
-returns-clause-stopped g c = stops_update (λ stream count had. had) (λ s at.
-    c.end_update.ensures.stops s 0 (parts-at at)
-    (c.release_all.ensures.released ∙ at.agrees.holds) c.release_all.ensures.held
-    (λ some. rw add-zero (at.agrees.has_memory some)))
+returns-clause-stopped g c = stops_update (λ stream count had. had) (λ state is_at.
+    c.end_update.ensures.stops state 0 (parts-at is_at)
+    (c.release_all.ensures.released ∙ is_at.agrees.holds) c.release_all.ensures.held
+    (λ some_held. rw add-zero (is_at.agrees.has_memory some_held)))

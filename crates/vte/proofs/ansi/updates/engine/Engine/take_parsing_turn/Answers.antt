@@ -1,8 +1,8 @@
 -- Slices in which no update begins add up to a longer prefix (`parsing-more`). The turn ends with the slice in which
 -- one begins, with the last byte, or when memory is refused.
 use Rattle.vte.proofs.Common.{refl, sym, arith, ◌∙◌}
-use Rattle.vte.proofs.turns.Slices.{begin-whole, parsing-all, parsing-ends, parsing-more, parsing-nothing, slice_size}
-use Rattle.vte.proofs.turns.EngineTurns.{kept-next, next-at, slice_parsed}
+use Rattle.vte.proofs.turns.Slices.{count-whole, parsing-all, parsing-ends, parsing-more, parsing-nothing, slice_size}
+use Rattle.vte.proofs.turns.EngineTurns.{keeping_memory-reserved, keeping_memory-same, slice_parsed}
 use Rattle.vte.proofs.ansi.updates.engine.Engine.take_parsing_turn.Goals as goal
 use Rattle.vte.proofs.ansi.updates.engine.Engine.take_parsing_turn.Goals.{then-begins-via-then-begins, then-begins-via-else-begins+then-read-bytes}
 
@@ -11,40 +11,45 @@ pub loop-slice-init : goal.loop-slice-init
 loop-slice-init g c =
     record {
       within = omega arith;
-      some = λ some. some;
-      reaches = λ s at. (omega arith, parsing-nothing _ s c.args.bytes.now (next-at at));
+      some = λ some_bytes. some_bytes;
+      reaches = λ state is_at. (omega arith, parsing-nothing _ state c.args.bytes.now (keeping_memory-same is_at));
     }
 
 -- Memory was refused for a slice: the processor is before it.
 pub returns-then-not-reserve-clause-parsed : goal.returns-then-not-reserve-clause-parsed
-returns-then-not-reserve-clause-parsed g c = λ s at.
-    let o = (c.loop-slice.invariant.reaches s at).1 in
+returns-then-not-reserve-clause-parsed g c = λ state is_at.
+    let so_far = (c.loop-slice.invariant.reaches state is_at).1 in
     record {
       parsed = tt;
-      refused = record { none_begin = o.none_begin; is_at = kept-next c.reserve.ensures.reserved o.is_at };
+      refused = record {
+        none_begin = so_far.none_begin;
+        is_at = keeping_memory-reserved c.reserve.ensures.reserved so_far.is_at;
+      };
     }
 
 -- A slice in which an update begins ends the turn there; one that has the last byte, and begins none, ends it too.
 pub returns-then-begins-clause-parsed : goal.returns-then-begins-clause-parsed
-returns-then-begins-clause-parsed g c = λ s at.
-    let o = (c.loop-slice.invariant.reaches s at).1 in
-    let slice =
+returns-then-begins-clause-parsed g c = λ state is_at.
+    let so_far = (c.loop-slice.invariant.reaches state is_at).1 in
+    let size_is =
     slice_size c.args.bytes.now c.loop-slice.read c.loop-slice.invariant.within
     (omega (arith, c.min-count.ensures)) in
-    let e = slice_parsed o c.if-not-reserve.ensures.reserved slice (sym at.agrees.holds ∙ c.requires.none)
+    let parsed_slice =
+    slice_parsed so_far c.if-not-reserve.ensures.reserved size_is (sym is_at.agrees.holds ∙ c.requires.none)
     c.parse_until_begin-parsed.ensures.stops in
     elim c.then-begins.branch [
       -- An update begins.
       | then-begins-via-then-begins w ↦
           record {
-            parsed = parsing-ends _ s c.args.bytes.now _ o c.loop-slice.invariant.within refl e
+            parsed = parsing-ends _ state c.args.bytes.now _ so_far c.loop-slice.invariant.within refl parsed_slice
                 w.if-begins.true;
             refused = tt;
           }
       -- No update begins in the slice, and all bytes are read.
       | then-begins-via-else-begins+then-read-bytes w ↦
           record {
-            parsed = parsing-all _ s c.args.bytes.now (parsing-more _ s c.args.bytes.now _ o refl e w.if-begins.false)
+            parsed = parsing-all _ state c.args.bytes.now
+                (parsing-more _ state c.args.bytes.now _ so_far refl parsed_slice w.if-begins.false)
                 (omega (arith, w.if-read-bytes.true));
             refused = tt;
           }
@@ -54,40 +59,44 @@ returns-then-begins-clause-parsed g c = λ s at.
 pub loop-slice-preserved : goal.loop-slice-preserved
 loop-slice-preserved g c =
     let before = c.loop-slice.invariant in
-    let slice =
+    let size_is =
     slice_size c.args.bytes.now c.loop-slice.read before.within
     (omega (arith, c.min-count.ensures)) in
     record {
-      within = omega (arith, c.parse_until_begin-parsed.ensures.within, slice, c.min-count.ensures, before.within);
+      within = omega (arith, c.parse_until_begin-parsed.ensures.within, size_is, c.min-count.ensures, before.within);
       some =
-          λ more.
+          λ slices_left.
           omega (
             arith,
             c.parse_until_begin-parsed.ensures.within,
-            slice,
+            size_is,
             c.min-count.ensures,
             before.within,
             c.if-read-bytes.false,
           );
-      reaches = λ s at.
-          let o = before.reaches s at in
-          let e = slice_parsed o.1 c.if-not-reserve.ensures.reserved slice (sym at.agrees.holds ∙ c.requires.none)
+      reaches = λ state is_at.
+          let so_far = before.reaches state is_at in
+          let parsed_slice =
+          slice_parsed so_far.1 c.if-not-reserve.ensures.reserved size_is (sym is_at.agrees.holds ∙ c.requires.none)
           c.parse_until_begin-parsed.ensures.stops in (
             omega (
               arith,
-              o.0,
-              begin-whole e c.if-begins.false,
-              slice,
+              so_far.0,
+              count-whole parsed_slice c.if-begins.false,
+              size_is,
               c.min-count.ensures,
               before.some
                   c.loop-slice-test.true,
             ),
-            parsing-more _ s c.args.bytes.now _ o.1 refl e c.if-begins.false,
+            parsing-more _ state c.args.bytes.now _ so_far.1 refl parsed_slice c.if-begins.false,
           );
     }
 
 -- The loop ends with all bytes read.
 pub returns-clause-parsed : goal.returns-clause-parsed
-returns-clause-parsed g c = λ s at.
-    let o = c.loop-slice.invariant.reaches s at in
-    record { parsed = parsing-all _ s c.args.bytes.now o.1 (omega (arith, o.0, c.loop-slice-test.false)); refused = tt }
+returns-clause-parsed g c = λ state is_at.
+    let so_far = c.loop-slice.invariant.reaches state is_at in
+    record {
+      parsed = parsing-all _ state c.args.bytes.now so_far.1 (omega (arith, so_far.0, c.loop-slice-test.false));
+      refused = tt;
+    }

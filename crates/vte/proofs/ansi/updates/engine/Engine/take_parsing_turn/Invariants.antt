@@ -9,9 +9,9 @@ invariant-loop-slice g l =
     record {
       within : l.read ≤ length l.bytes;
       some : l._slice < length l.bytes → l.read < length l.bytes;
-      reaches : (s : State g.H.Handler.Value g.T.Timeout.Value)
-          → EngineIsAt view l.initial.self (g.H.Handler.value_of l.initial.handler) s
+      reaches : (state : State g.H.Handler.Value g.T.Timeout.Value)
+          → EngineIsAt view l.initial.self (g.H.Handler.value_of l.initial.handler) state
           → (l._slice ≤ l.read)
-          × HasParsedWithoutBegin m s l.bytes l.read
+          × HasParsedWithoutBegin m state l.bytes l.read
           (EngineIsAtKeepingMemory view l.initial.self l.self (g.H.Handler.value_of l.handler));
     }

@@ -1,21 +1,21 @@
--- By the timeout's answer: the bytes are held while an update is pending and they fit the hold. Otherwise it is
+-- By the timeout'state answer: the bytes are held while an update is pending and they fit the hold. Otherwise it is
 -- stopped if it is pending or bytes are held, and the turn parses.
 use Rattle.vte.proofs.Common.{◌≡◌, ◌<◌, length, refl, sym, ◌∙◌, arith, nat_tests, nat_le, max_held, held_of, inr, true, false, and-false, ◌+◌, meaning_of, engine_view, EngineIsAtKeepingMemory}
 use Rattle.vte.proofs.turns.TurnKinds.{is_held, is_stopped, stop_if_due}
 use Rattle.vte.proofs.turns.RefusedTurns.{refused-nothing}
-use Rattle.vte.proofs.turns.EngineTurns.{after-next, ends_turn, kept-next, next-at, stops-next, turned_hold}
+use Rattle.vte.proofs.turns.EngineTurns.{keeping_memory-then, ends_turn, keeping_memory-reserved, keeping_memory-same, engine-at_stop, turned_hold}
 use Rattle.vte.proofs.ansi.updates.engine.Engine.turn.Goals as goal
 use Rattle.vte.proofs.ansi.updates.engine.Engine.turn.Goals.{else-pending-via-else-pending, else-pending-via-then-pending+else-has_room, else-pending-2+else-len-gt0, then-pending-2, then-pending-2-via-else-pending-2+then-len-gt0, then-pending-2-via-then-pending-2}
 
 -- A parsing turn: the bytes are not to be held, and what was pending or held is stopped first, as `parsed` says.
 pub returns-clause-turned : goal.returns-clause-turned
-returns-clause-turned g c = λ s at.
+returns-clause-turned g c = λ state is_at.
     let pending = c.pending_timeout-pending.result in
-    let parses : is_held pending s c.args.bytes.now ≡ false = elim c.else-pending.branch [
+    let not_held : is_held pending state c.args.bytes.now ≡ false = elim c.else-pending.branch [
       -- The bytes don't fit the hold.
       | else-pending-via-then-pending+else-has_room w ↦
-          let full : nat_le (length s.held + length c.args.bytes.now) max_held ≡ false =
-          rw (← at.agrees.holds) (sym w.has_room.ensures ∙ w.if-has_room.false) in
+          let full : nat_le (length state.held + length c.args.bytes.now) max_held ≡ false =
+          rw (← is_at.agrees.holds) (sym w.has_room.ensures ∙ w.if-has_room.false) in
           rw (full, and-false) refl
       -- No update is pending.
       | else-pending-via-else-pending w ↦ rw w.if-pending.false refl
@@ -24,40 +24,41 @@ returns-clause-turned g c = λ s at.
     let view = engine_view g.P.EventParser.limit g.P.EventParser.view g.B.TextBuffer.text_size g.T.Timeout.value_of in
     let here : EngineIsAtKeepingMemory view c.args.self.now c.if-pending-2.self
     (g.H.Handler.value_of c.if-pending-2.handler)
-    (stop_if_due m pending s) = elim c.if-pending-2.branch [
+    (stop_if_due m pending state) = elim c.if-pending-2.branch [
       -- The update is stopped first.
       | then-pending-2 w ↦
-          let stopped : is_stopped pending s ≡ true = elim w.then-pending-2.branch [
+          let stopped : is_stopped pending state ≡ true = elim w.then-pending-2.branch [
             | then-pending-2-via-then-pending-2 v ↦ rw v.if-pending-2.true refl
             | then-pending-2-via-else-pending-2+then-len-gt0 v ↦
-                let some : 0 < length s.held =
-                rw (← at.agrees.holds) (omega (arith, v.len.ensures.count, v.if-len-gt0.true)) in
+                let some_held : 0 < length state.held =
+                rw (← is_at.agrees.holds) (omega (arith, v.len.ensures.count, v.if-len-gt0.true)) in
                 grind (arith, nat_tests)
           ] in
-          rw (w.self-is, w.handler-is, stopped) (stops-next w.stop.ensures.stopped at)
+          rw (w.self-is, w.handler-is, stopped) (engine-at_stop w.stop.ensures.stopped is_at)
       -- Nothing is held.
       | else-pending-2+else-len-gt0 w ↦
-          let none : length s.held ≡ 0 =
-          rw (← at.agrees.holds) (omega (arith, w.len.ensures.count, w.if-len-gt0.false)) in
-          let free : is_stopped pending s ≡ false = rw (w.if-pending-2.false, none) refl in
-          rw (w.self-is, w.handler-is, free) (next-at at)
+          let none_held : length state.held ≡ 0 =
+          rw (← is_at.agrees.holds) (omega (arith, w.len.ensures.count, w.if-len-gt0.false)) in
+          let not_stopped : is_stopped pending state ≡ false = rw (w.if-pending-2.false, none_held) refl in
+          rw (w.self-is, w.handler-is, not_stopped) (keeping_memory-same is_at)
     ] in
     ends_turn pending
-    (rw at.agrees.timeout_is at c.pending_timeout-pending.ensures) parses here.keeps_memory _
+    (rw is_at.agrees.timeout_is at c.pending_timeout-pending.ensures) not_held here.keeps_memory _
     c.take_parsing_turn.ensures.within
     (c.take_parsing_turn.ensures.parsed _ here.engine_at)
 
 -- A hold turn: an update is pending, the bytes fit the hold, and there is memory for them.
 pub returns-then-has_room-clause-turned : goal.returns-then-has_room-clause-turned
-returns-then-has_room-clause-turned g c = λ s at.
-    let here = kept-next c.reserve.ensures.reserved (next-at at) in
-    let fits : nat_le (length s.held + length c.args.bytes.now) max_held ≡ true =
-    rw (← at.agrees.holds) (sym c.has_room.ensures ∙ c.if-has_room.true) in
-    let held : is_held c.pending_timeout-pending.result s c.args.bytes.now ≡ true = rw (c.if-pending.true, fits) refl in
+returns-then-has_room-clause-turned g c = λ state is_at.
+    let here = keeping_memory-reserved c.reserve.ensures.reserved (keeping_memory-same is_at) in
+    let fits : nat_le (length state.held + length c.args.bytes.now) max_held ≡ true =
+    rw (← is_at.agrees.holds) (sym c.has_room.ensures ∙ c.if-has_room.true) in
+    let held : is_held c.pending_timeout-pending.result state c.args.bytes.now ≡ true =
+    rw (c.if-pending.true, fits) refl in
     record {
-      turned = turned_hold _ (rw at.agrees.timeout_is at c.pending_timeout-pending.ensures) held refl
-          (after-next here.keeps_memory
-          (c.hold_bytes.ensures s here.engine_at
+      turned = turned_hold _ (rw is_at.agrees.timeout_is at c.pending_timeout-pending.ensures) held refl
+          (keeping_memory-then here.keeps_memory
+          (c.hold_bytes.ensures state here.engine_at
           (c.if-not-reserve.ensures.reserved.memory refl _ _ _ here.engine_at.agrees)));
       refused = tt;
     }
@@ -65,7 +66,10 @@ returns-then-has_room-clause-turned g c = λ s at.
 -- Memory was refused before anything was read.
 pub returns-then-not-reserve-clause-turned : goal.returns-then-not-reserve-clause-turned
 returns-then-not-reserve-clause-turned g c =
-    λ s at. record { turned = tt; refused = refused-nothing _ (kept-next c.reserve.ensures.reserved (next-at at)) }
+    λ state is_at. record {
+      turned = tt;
+      refused = refused-nothing _ (keeping_memory-reserved c.reserve.ensures.reserved (keeping_memory-same is_at));
+    }
 
 -- Memory was refused for all bytes, which fit the hold.
 pub returns-then-not-reserve-clause-lacks : goal.returns-then-not-reserve-clause-lacks

@@ -4,39 +4,41 @@ use Rattle.vte.proofs.Common.{ℕ, List, refl, rules, ◌≡◌, ◌++◌, ◌-�
 use Rattle.vte.proofs.updates.Sequences.{stays_held, stays-is}
 use Rattle.vte.proofs.ansi.updates.hold.SyncState.add.Goals as goal
 
-is_end : {bytes old more : List ℕ} {start len : ℕ} → bytes ≡ old ++ more → len ≡ length old → start ≡ len - 7
+held_tail-slice : {bytes old more : List ℕ} {start len : ℕ} → bytes ≡ old ++ more → len ≡ length old → start ≡ len - 7
     → IsHeldTail old more (take (length bytes - start) (drop start bytes)) start
-is_end {bytes} {start} is from position =
+held_tail-slice {bytes} {start} bytes_are len_is start_is =
     record {
-      start_is = position ∙ ap (λ n. n - 7) from;
+      start_is = start_is ∙ ap (λ n. n - 7) len_is;
       text_is =
-          take_all (length bytes - start) (drop start bytes) (rw length-drop (omega arith)) ∙ ap (drop start) is;
+          take_all (length bytes - start) (drop start bytes) (rw length-drop (omega arith)) ∙ ap (drop start) bytes_are;
     }
 
 pub invariant_of-self : goal.invariant_of-self
 invariant_of-self g c =
     let old = held_of c.args.self.now in
     let all = old ++ c.args.more.now in
-    let is : c.extend_from_slice.new.self.items ≡ all = search rules in
+    let bytes_are : c.extend_from_slice.new.self.items ≡ all = search rules in
     let added : Adds all (length c.args.more.now) c.find_release-added.result =
     c.find_release-added.ensures old c.args.more.now
-    (is_end (c.as_slice.ensures.value ∙ is) (search rules) c.saturating_sub-start.ensures) c.args.self.now.no_end in
+    (held_tail-slice (c.as_slice.ensures.value ∙ bytes_are) (search rules) c.saturating_sub-start.ensures)
+    c.args.self.now.no_end in
     record {
-      within = rw is (omega (arith, added.released));
-      no_end = rw (is, added.released, stays-is) (stays_held all).no_end;
-      fits = rw (is, length-drop) (omega (arith, c.requires, length-append old c.args.more.now));
+      within = rw bytes_are (omega (arith, added.released));
+      no_end = rw (bytes_are, added.released, stays-is) (stays_held all).no_end;
+      fits = rw (bytes_are, length-drop) (omega (arith, c.requires, length-append old c.args.more.now));
       capacity = search rules;
     }
 
 pub returns : goal.returns
 returns g c =
     let old = held_of c.args.self.now in
-    let is : c.extend_from_slice.new.self.items ≡ old ++ c.args.more.now = search rules in
+    let bytes_are : c.extend_from_slice.new.self.items ≡ old ++ c.args.more.now = search rules in
     let added : Adds (old ++ c.args.more.now) (length c.args.more.now) c.find_release-added.result =
     c.find_release-added.ensures old c.args.more.now
-    (is_end (c.as_slice.ensures.value ∙ is) (search rules) c.saturating_sub-start.ensures) c.args.self.now.no_end in
+    (held_tail-slice (c.as_slice.ensures.value ∙ bytes_are) (search rules) c.saturating_sub-start.ensures)
+    c.args.self.now.no_end in
     record {
-      held_is = rw (is, added.released) (stays-is (old ++ c.args.more.now));
-      released_is = rw (is, added.released) refl;
+      held_is = rw (bytes_are, added.released) (stays-is (old ++ c.args.more.now));
+      released_is = rw (bytes_are, added.released) refl;
       begins_are = added.begins;
     }

@@ -59,14 +59,14 @@ module _ {N : ℕ} {V W : Type 0} {step : PerformerValue V W → Event → Perfo
 -- ---- the parser without a limit
 
 -- If neither size shrinks, memory that was enough stays enough.
-keeps_enough : {A : Type 0} {parser next : LongParser A} {size larger : ℕ} → memory_of parser ≤ memory_of next
+keeps_memory-grown : {A : Type 0} {parser next : LongParser A} {size larger : ℕ} → memory_of parser ≤ memory_of next
     → size ≤ larger → KeepsMemory (ParserHasMemory parser size) (ParserHasMemory next larger)
-keeps_enough memory_grows size_grows = search (rules, arith)
+keeps_memory-grown memory_grows size_grows = search (rules, arith)
 
 module _ {A : Type 0} {parser : LongParser A} {size : ℕ} (stream bytes : List ℕ) (n : ℕ)
     (memory : ParserHasMemory parser size stream (length bytes + n)) where
-  enough : open_command_size stream + length bytes ≤ memory_of parser
-  enough = omega (arith, memory.kept)
+  open_command-fits : open_command_size stream + length bytes ≤ memory_of parser
+  open_command-fits = omega (arith, memory.kept)
 
   long_fits : All (FitsText size) (added None stream bytes)
   long_fits =
@@ -91,13 +91,13 @@ module _ {A V W : Type 0} {step : PerformerValue V W → Event → PerformerValu
       reads = reads_long.reads.reads stream has_read;
       memory = memory_left stream bytes n memory next reads_long.memory;
     };
-    keeps_memory = λ size. keeps_enough reads_long.memory (omega arith);
+    keeps_memory = λ size. keeps_memory-grown reads_long.memory (omega arith);
   }
   long_parses (Err refused) reads_long = record {
     parses =
         λ stream n has_read memory.
-        absurd (omega (arith, reads_long.refuses.lacks_all stream has_read, enough stream bytes n memory));
-    keeps_memory = λ size. keeps_enough reads_long.memory (omega arith);
+        absurd (omega (arith, reads_long.refuses.lacks_all stream has_read, open_command-fits stream bytes n memory));
+    keeps_memory = λ size. keeps_memory-grown reads_long.memory (omega arith);
   }
 
   pub long_stops : (result : Result ℕ Refused)
@@ -112,12 +112,12 @@ module _ {A V W : Type 0} {step : PerformerValue V W → Event → PerformerValu
           fits = long_fits stream bytes n memory;
           reads = reads_long.reads.reads stream has_read;
         };
-    keeps_memory = λ size. keeps_enough reads_long.memory (omega arith);
+    keeps_memory = λ size. keeps_memory-grown reads_long.memory (omega arith);
   }
   long_stops (Err refused) reads_long = record {
     within = omega (arith, reads_long.refuses.within);
     stops =
         λ stream n has_read memory.
-        absurd (omega (arith, reads_long.refuses.lacks_all stream has_read, enough stream bytes n memory));
-    keeps_memory = λ size. keeps_enough reads_long.memory (omega arith);
+        absurd (omega (arith, reads_long.refuses.lacks_all stream has_read, open_command-fits stream bytes n memory));
+    keeps_memory = λ size. keeps_memory-grown reads_long.memory (omega arith);
   }

@@ -55,13 +55,13 @@ module _ (keeps_all : Bool) (pieces : List (Bor (List ℕ))) (i : ℕ) (d : Bor 
   abbrev left : List (List ℕ)
   left = map (λ (piece : Bor (List ℕ)). piece.now) (drop (i + 1) pieces)
 
-  opened : Joins keeps_all size text is_first (piece ∷ left) all
-  opened = rw (drop_more pieces i d inside) at before
+  joins-opened : Joins keeps_all size text is_first (piece ∷ left) all
+  joins-opened = rw (drop_more pieces i d inside) at before
 
   -- The next text fits into the size, with its separator.
   pub joins-fits : {part : List ℕ} → Some part ≡ text_in keeps_all piece → length text + length part + 1 ≤ size
   joins-fits {part} has_text =
-      omega (arith, text-short keeps_all piece part has_text, opened.fits, length-append piece (concat left))
+      omega (arith, text-short keeps_all piece part has_text, joins-opened.fits, length-append piece (concat left))
 
   -- If the next piece has a text, it is joined to the others.
   pub joins-more : {part : List ℕ} → Some part ≡ text_in keeps_all piece
@@ -69,11 +69,11 @@ module _ (keeps_all : Bool) (pieces : List (Bor (List ℕ))) (i : ℕ) (d : Bor 
   joins-more {part} has_text = record {
     joins =
         append_assoc text (text_to_join is_first part) _
-        ∙ (rw (texts-more keeps_all piece left has_text) at opened.joins);
+        ∙ (rw (texts-more keeps_all piece left has_text) at joins-opened.joins);
     fits = omega (
       arith,
       text-short keeps_all piece part has_text,
-      opened.fits,
+      joins-opened.fits,
       length-append text (text_to_join is_first part),
       length-append piece (concat left),
       text_to_join-length is_first part,
@@ -84,8 +84,8 @@ module _ (keeps_all : Bool) (pieces : List (Bor (List ℕ))) (i : ℕ) (d : Bor 
   pub joins-same : None ≡ text_in keeps_all piece → Joins keeps_all size text is_first left all
   joins-same no_text =
       record {
-        joins = rw (texts-same keeps_all piece left no_text) at opened.joins;
-        fits = omega (arith, opened.fits, length-append piece (concat left));
+        joins = rw (texts-same keeps_all piece left no_text) at joins-opened.joins;
+        fits = omega (arith, joins-opened.fits, length-append piece (concat left));
       }
 
 -- ---- pieces that may be no text

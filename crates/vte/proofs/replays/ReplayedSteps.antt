@@ -65,10 +65,10 @@ module _ {V W : Type 0} (m : Meaning V W) where
       replay-append (stop m state) reached next steps others takes takes_others
 
   -- `HasDelivered` says what the handler has received, and what became of the bytes.
-  delivers : {state next : State V W} {bytes : List ℕ} (more : List ℕ) → next.parsed ≡ state.parsed ++ more
+  has_delivered : {state next : State V W} {bytes : List ℕ} (more : List ℕ) → next.parsed ≡ state.parsed ++ more
       → state.held ++ bytes ≡ more ++ next.held → HasStillToDeliver m next state.parsed state.stops state.handler
       → HasDelivered m state bytes next
-  delivers more parsed_is each_once still = record {
+  has_delivered more parsed_is each_once still = record {
     more = more;
     positions = still.positions;
     parsed_is = parsed_is;
@@ -82,7 +82,7 @@ module _ {V W : Type 0} (m : Meaning V W) where
       → HasDelivered m state (given_bytes steps) next
   steps_delivered state next steps takes =
       let progress = progresses-replay m state next steps takes in
-      delivers progress.more progress.parsed_is
+      has_delivered progress.more progress.parsed_is
       (progress.each_once ∙ ap (λ held. progress.more ++ held) (append-nil next.held))
       (delivers-replay m next state steps takes)
 
@@ -95,7 +95,7 @@ module _ {V W : Type 0} (m : Meaning V W) where
       let progress =
       progresses-then (progresses-before (progresses-replay m state reached steps takes) bytes)
       (progresses-until_refused m until_refused) in
-      delivers progress.more progress.parsed_is
+      has_delivered progress.more progress.parsed_is
       (append_cancel_right _ _ (drop read bytes)
       (append_assoc state.held (given_bytes steps ++ take read bytes) (drop read bytes)
       ∙ ap (λ all. state.held ++ all)
@@ -104,10 +104,10 @@ module _ {V W : Type 0} (m : Meaning V W) where
       ∙ progress.each_once ∙ sym (append_assoc progress.more next.held (drop read bytes))))
       (delivers-refused m next state reached steps bytes (drop read bytes) takes until_refused)
 
-  pub replayed : {state : State V W} (next : State V W) {steps : List Step} {IsNowAt : State V W → Type 0}
+  pub has_replayed : {state : State V W} (next : State V W) {steps : List Step} {IsNowAt : State V W → Type 0}
       → TakesSteps m state steps next
       → IsNowAt next → HasReplayed m state steps IsNowAt
-  replayed {state} next {steps} takes is_at = record {
+  has_replayed {state} next {steps} takes is_at = record {
     next = next;
     takes = takes;
     delivers = steps_delivered state next steps takes;
@@ -119,14 +119,14 @@ module _ {V W : Type 0} (m : Meaning V W) where
   -- A call of `advance` is a list of one step.
   pub advance_runs : {state : State V W} {bytes : Bor (List ℕ)} {IsNowAt : State V W → Type 0}
       → HasAdvanced m state bytes.now IsNowAt → HasReplayed m state (Advance bytes ∷ []) IsNowAt
-  advance_runs advanced = replayed advanced.next (advanced.next, (advanced.advances, refl)) advanced.is_at
+  advance_runs advanced = has_replayed advanced.next (advanced.next, (advanced.advances, refl)) advanced.is_at
 
   module _ (state : State V W) (steps : List Step) {i : ℕ} (missing : Step) {old : State V W → Type 0}
       (new : State V W → Type 0) (inside : i < length steps) (before : HasReplayed m state (take i steps) old) where
     step_taken : HasReplayed m before.next (get_or steps i missing ∷ []) new
         → HasReplayed m state (take (i + 1) steps) new
     step_taken replayed_step =
-        replayed replayed_step.next
+        has_replayed replayed_step.next
         (rw (take_more steps i missing inside)
         (replay-append state before.next replayed_step.next (take i steps)
         (get_or steps i missing ∷ []) before.takes replayed_step.takes)) replayed_step.is_at
@@ -139,11 +139,11 @@ module _ {V W : Type 0} (m : Meaning V W) where
 
     pub stop_taken : get_or steps i missing ≡ StopSync → new (stop m before.next)
         → HasReplayed m state (take (i + 1) steps) new
-    stop_taken step_is is_at = step_taken (rw step_is (replayed (stop m before.next) refl is_at))
+    stop_taken step_is is_at = step_taken (rw step_is (has_replayed (stop m before.next) refl is_at))
 
     pub advance_refused : {bytes : Bor (List ℕ)} {read : ℕ} → get_or steps i missing ≡ Advance bytes
         → read < length bytes.now
         → HasTaken m before.next bytes.now read new
         → HasReplayed m state (take i steps) (λ reached. IsFirstRefused m reached (drop i steps) read new)
     advance_refused step_is bytes_left taken =
-        replayed before.next before.takes (rw (drop_more steps i missing inside, step_is) (bytes_left, taken))
+        has_replayed before.next before.takes (rw (drop_more steps i missing inside, step_is) (bytes_left, taken))

@@ -48,13 +48,13 @@ module _ {V W : Type 0} {Before : ProcessorPredicate W} (old : V) {stream : List
   module _ (m : Meaning V W) (never : IsNeverPending m.timeout.allows) {After : ProcessorPredicate W} {new : V}
       (steps : List Step) (are_advances : AreAdvances steps)
       (replayed : HasReplayed m here steps (IsAt After new)) where
-    plain : IsPlain here replayed.next
-    plain = plain_run m never here replayed.next steps replayed.takes are_advances refl
+    is_plain : IsPlain here replayed.next
+    is_plain = plain_run m never here replayed.next steps replayed.takes are_advances refl
 
     more_is : replayed.delivers.more ≡ given_bytes steps
     more_is =
         let more = replayed.delivers.more in
-        sym (replayed.delivers.each_once ∙ ap (λ held. more ++ held) plain.none_held ∙ append-nil more)
+        sym (replayed.delivers.each_once ∙ ap (λ held. more ++ held) is_plain.none_held ∙ append-nil more)
 
     parsed_all : replayed.next.parsed ≡ stream ++ given_bytes steps
     parsed_all = replayed.delivers.parsed_is ∙ ap (λ more. stream ++ more) more_is
@@ -66,7 +66,7 @@ module _ {V W : Type 0} {Before : ProcessorPredicate W} (old : V) {stream : List
         ∙ replayed.delivers.handler_is
         ∙ rw (
           ← replayed.delivers.stops_are,
-          plain.no_stop,
+          is_plain.no_stop,
           parsed_all,
           calls_between-whole m.limit stream (given_bytes steps),
           old_is,
@@ -79,7 +79,7 @@ module _ {V W : Type 0} {Before : ProcessorPredicate W} (old : V) {stream : List
     plain_parses : HasParsedAll After (stream ++ given_bytes steps)
     plain_parses = record {
       timeout = replayed.next.timeout;
-      agrees = rw (parsed_all, plain.none_held) at replayed.is_at.agrees;
+      agrees = rw (parsed_all, is_plain.none_held) at replayed.is_at.agrees;
     }
 
 -- ---- the clauses of a list of calls, and of one call

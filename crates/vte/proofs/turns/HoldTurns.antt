@@ -52,8 +52,8 @@ module _ {P B T A V W : Type 0} {view : EngineView P B T W} (m : Meaning V W) {s
   abbrev HasMemoryFor : List ℕ → ℕ → Type 0
   HasMemoryFor = view.parser.has_memory old.parser (view.text_size_of old.state.text)
 
-  extended : ArePartsAt view extended_engine.parser extended_engine.state value (extend m state more)
-  extended = record {
+  parts-extended : ArePartsAt view extended_engine.parser extended_engine.state value (extend m state more)
+  parts-extended = record {
     has_read = is_at.agrees.has_read;
     last = is_at.agrees.last;
     timeout_is = is_set ∙ rw (is_at.agrees.timeout_is, added.begins_are);
@@ -92,7 +92,7 @@ module _ {P B T A V W : Type 0} {view : EngineView P B T W} (m : Meaning V W) {s
       =
       rw sum memory in
       -- The released bytes are parsed, which leads to the state after the bytes before `still_held`.
-      let there = parses extended_state rest extended (λ some_released. ready) in
+      let there = parses extended_state rest parts-extended (λ some_released. ready) in
       let parsed : ArePartsAt view last.parser last.state next
       (parse m extended_state (take (length all - length (still_held all)) all)) =
       rw added.released_is at there.parts_at in
@@ -107,7 +107,7 @@ module _ {P B T A V W : Type 0} {view : EngineView P B T W} (m : Meaning V W) {s
             has_memory =
                 λ some_left.
                 rw (added.released_is, added.held_is) at (leaves extended_state rest
-                (record { parts_at = extended; memory = ready }));
+                (record { parts_at = parts-extended; memory = ready }));
           };
           handler_is = parsed.handler_is;
         };
@@ -133,7 +133,7 @@ module _ {P B T A V W : Type 0} {view : EngineView P B T W} (m : Meaning V W) {s
       let sum : length all + 0 ≡ length state.held + length more = omega (arith, length-append state.held more) in
       -- The stop parses all of them, for which there is memory.
       let there : EngineIsAtKeepingMemory view extended_engine last next (stop m (extend m state more)) =
-      stops (extend m state more) 0 extended released_all nothing_held (λ some_held. rw sum memory) in
+      stops (extend m state more) 0 parts-extended released_all nothing_held (λ some_held. rw sum memory) in
       -- As no byte stays held, the turn is this stop.
       rw (holds-none m state more (omega (arith, some_bytes, length-append state.held more)) none_left)
       (record { engine_at = there.engine_at; keeps_memory = there.keeps_memory })

@@ -188,20 +188,20 @@ pub record IsLastEscape (all : List ℕ) (new position unread begin begins : ℕ
 module _ {all : List ℕ} {new position unread begin begins : ℕ}
     (last : IsLastEscape all new position unread begin begins)
     (from : ℕ) (low : from ≤ position) (near : position ≤ from + 7) where
-  further : {first count : ℕ} → HasSeen all new position first count → HasSeen all new from first count
-  further {first} {count} seen =
+  seen-before_escape : {first count : ℕ} → HasSeen all new position first count → HasSeen all new from first count
+  seen-before_escape {first} {count} seen =
       let inside = last.inside in
       seen-down low (omega arith)
       (λ k low high. neither-before all k position high (omega arith) inside last.here) seen
 
   pub seen-begin_before : length all ≤ position + 7 + new → begins_with begin_update (drop position all) ≡ true
       → HasSeen all new from position (begins + 1)
-  seen-begin_before at_most is_begin = further (seen-begin last.inside last.seen at_most is_begin)
+  seen-begin_before at_most is_begin = seen-before_escape (seen-begin last.inside last.seen at_most is_begin)
 
   pub seen-other_before : begins_with begin_update (drop position all) ≡ false
       → begins_with end_update (drop position all) ≡ false → HasSeen all new from begin begins
   seen-other_before no_begin no_end =
-      further (seen-other last.inside last.seen (record { no_begin = no_begin; no_end = no_end }))
+      seen-before_escape (seen-other last.inside last.seen (record { no_begin = no_begin; no_end = no_end }))
 
 module _ {held more text : List ℕ} {start : ℕ} (held_tail : IsHeldTail held more text start) where
   abbrev all : List ℕ

@@ -1,12 +1,12 @@
 -- As for `replay`; a call that is refused memory ends the list where it is, and says what it lacks.
 use Rattle.vte.proofs.Common.{refl, take_all, LacksMemoryLong}
 use Rattle.vte.proofs.replays.WithoutUpdates.{replays_all}
-use Rattle.vte.proofs.replays.ReplayedSteps.{advance_refused, advance_taken, first_lacks, replayed, stop_taken}
+use Rattle.vte.proofs.replays.ReplayedSteps.{advance_refused, advance_taken, first_lacks, has_replayed, stop_taken}
 use Rattle.vte.proofs.ansi.laws.replays.replay_long.Goals as goal
 use Rattle.vte.proofs.ansi.laws.replays.replay_long.Goals.{in-Advance+in_default, in-StopSync}
 
 pub loop-index-init : goal.loop-index-init
-loop-index-init g c = λ state is_at. replayed _ state refl is_at
+loop-index-init g c = λ state is_at. has_replayed _ state refl is_at
 
 pub loop-index-preserved : goal.loop-index-preserved
 loop-index-preserved g c = λ state is_at.

@@ -11,7 +11,8 @@ parts bits fits = (λ i. and_comm bits 0xe0 i + and_comm bits 0x1f i) ∙ and-no
 
 -- All flags are set if setting them changes nothing.
 pub all_set : (bits : ℕ) → bit_or 0x1f bits ≡ bits → bit_and bits 0x1f ≡ 0x1f
-all_set bits e = ap (λ n. bit_and n 0x1f) (sym e ∙ or_comm 0x1f bits) ∙ and_or_self 0x1f bits
+all_set bits unchanged = ap (λ n. bit_and n 0x1f) (sym unchanged ∙ or_comm 0x1f bits) ∙ and_or_self 0x1f bits
 
 pub set_all : (bits : ℕ) → bit_and bits 0x1f ≡ 0x1f → bit_or 0x1f bits ≡ bits
-set_all bits e = let sum = or_add_and 0x1f bits in let turned = and_comm 0x1f bits in omega arith
+set_all bits are_set =
+    let sum = or_add_and 0x1f bits in let turned = and_comm 0x1f bits in omega arith

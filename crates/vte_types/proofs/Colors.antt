@@ -15,26 +15,31 @@ use Rattle.vte_types.specs.declared.color.NamedColor.TheVariants.{Black, Red, Gr
 
 -- ---- texts
 
-digit_value-glyph : (d : ℕ) → d < 16 → digit_value (digit_glyph false d) ≡ d
-digit_value-glyph d h = digit_value-digit_char d (omega (arith, h))
+digit_value-glyph : (digit : ℕ) → digit < 16 → digit_value (digit_glyph false digit) ≡ digit
+digit_value-glyph digit below = digit_value-digit_char digit (omega (arith, below))
 
 hex_number-digits : (high low byte : ℕ) → high < 16 → low < 16 → 16 * high + low ≡ byte
     → (if nat_lt high 16 then if nat_lt low 16 then Some (16 * (16 * 0 + high) + low) else None else None) ≡ Some byte
-hex_number-digits high low byte h l e =
-    let a : nat_lt high 16 ≡ true = grind (arith, nat_tests) in
-    let b : nat_lt low 16 ≡ true = grind (arith, nat_tests) in
+hex_number-digits high low byte high_below low_below sum =
+    let high_is_digit : nat_lt high 16 ≡ true = grind (arith, nat_tests) in
+    let low_is_digit : nat_lt low 16 ≡ true = grind (arith, nat_tests) in
     let same : 16 * (16 * 0 + high) + low ≡ byte = omega arith in
-    rw (a, b) (ap Some same)
+    rw (high_is_digit, low_is_digit) (ap Some same)
 
 hex_number-shown : (byte : ℕ) → byte < 256 → hex_number (shown_byte byte) ≡ Some byte
-hex_number-shown byte h =
-    rw (digit_value-glyph (byte / 16) (omega (arith, h)), digit_value-glyph (byte % 16) (omega (arith, h)))
-    (hex_number-digits (byte / 16) (byte % 16) byte (omega (arith, h)) (omega (arith, h)) (omega (arith, h)))
+hex_number-shown byte fits =
+    rw (digit_value-glyph (byte / 16) (omega (arith, fits)), digit_value-glyph (byte % 16) (omega (arith, fits)))
+    (hex_number-digits (byte / 16) (byte % 16) byte (omega (arith, fits)) (omega (arith, fits))
+    (omega (arith, fits)))
 
 pub hex_color_of-shown : (color : Rgb) → color.r < 256 → color.g < 256 → color.b < 256
     → hex_color_of (shown_color color) ≡ Some color
-hex_color_of-shown color r g b =
-    rw (hex_number-shown color.r r, hex_number-shown color.g g, hex_number-shown color.b b) refl
+hex_color_of-shown color red_fits green_fits blue_fits =
+    rw (
+      hex_number-shown color.r red_fits,
+      hex_number-shown color.g green_fits,
+      hex_number-shown color.b blue_fits,
+    ) refl
 
 -- ---- named colours
 
@@ -83,4 +88,5 @@ row_of Black = refl
 row_of color = refl
 
 pub number_decides : (a b : NamedColor) → number_of_color a ≡ number_of_color b → a ≡ b
-number_decides a b e = let one = row_of a in let other = row_of b in let same = ap (entry_of color_rows) e in cc
+number_decides a b same_number =
+    let row_a = row_of a in let row_b = row_of b in let same_row = ap (entry_of color_rows) same_number in cc

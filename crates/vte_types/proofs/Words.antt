@@ -11,42 +11,44 @@ use Rattle.std.proofs.lemmas.Str.{IsUtf8-from_ascii, is_utf8-from_IsUtf8}
 use Rattle.vte_types.specs.CursorIcon.{icons, icon_of}
 
 pub bytes_eq-other : (text word : List ℕ) → (text ≡ word → ⊥) → bytes_eq text word ≡ false
-bytes_eq-other text word h = false_from_ne_true _ (λ e. h ((bytes_eq-Decides text word).0 e))
+bytes_eq-other text word differ = false_from_ne_true _ (λ equal. differ ((bytes_eq-Decides text word).0 equal))
 
 pub bytes_eq-shorter : (text word : List ℕ) → length text < length word → bytes_eq text word ≡ false
-bytes_eq-shorter text word h = bytes_eq-other text word (λ e. let k = ap length e in omega arith)
+bytes_eq-shorter text word shorter =
+    bytes_eq-other text word (λ same. let same_length = ap length same in omega arith)
 
 pub bytes_eq-longer : (text word : List ℕ) → length word < length text → bytes_eq text word ≡ false
-bytes_eq-longer text word h = bytes_eq-other text word (λ e. let k = ap length e in omega arith)
+bytes_eq-longer text word longer =
+    bytes_eq-other text word (λ same. let same_length = ap length same in omega arith)
 
 after_word-same_first : (a : ℕ) (word text : List ℕ) (t : Bool) → eqb a a ≡ t
     → cond t (after_word word text) None ≡ after_word word text
-after_word-same_first a word text true e = refl
-after_word-same_first a word text false e = absurd (grind (arith, nat_tests))
+after_word-same_first a word text true test = refl
+after_word-same_first a word text false test = absurd (grind (arith, nat_tests))
 
 pub after_word-append : (word rest : List ℕ) → after_word word (word ++ rest) ≡ Some rest
 after_word-append [] rest = refl
 after_word-append (a ∷ word) rest =
     after_word-same_first a word (word ++ rest) (eqb a a) refl ∙ after_word-append word rest
 
-after_word-other_first : (a b : ℕ) (word text : List ℕ) (more : ((rest : List ℕ) → text ≢ word ++ rest)
+after_word-other_first : (a b : ℕ) (word text : List ℕ) (further : ((rest : List ℕ) → text ≢ word ++ rest)
     → after_word word text ≡ None) (t : Bool) → eqb a b ≡ t
     → ((rest : List ℕ) → (b ∷ text) ≢ (a ∷ word) ++ rest) → cond t (after_word word text) None ≡ None
-after_word-other_first a b word text more true e h =
-    more (λ rest same. h rest (let first : a ≡ b = grind (arith, nat_tests) in cc))
-after_word-other_first a b word text more false e h = refl
+after_word-other_first a b word text further true test differ =
+    further (λ rest same. differ rest (let same_first : a ≡ b = grind (arith, nat_tests) in cc))
+after_word-other_first a b word text further false test differ = refl
 
 pub after_word-other : (word text : List ℕ) → ((rest : List ℕ) → text ≢ word ++ rest) → after_word word text ≡ None
-after_word-other [] text h = absurd (h text refl)
-after_word-other (a ∷ word) [] h = refl
-after_word-other (a ∷ word) (b ∷ text) h =
-    after_word-other_first a b word text (after_word-other word text) (eqb a b) refl h
+after_word-other [] text differ = absurd (differ text refl)
+after_word-other (a ∷ word) [] differ = refl
+after_word-other (a ∷ word) (b ∷ text) differ =
+    after_word-other_first a b word text (after_word-other word text) (eqb a b) refl differ
 
-pub after_word-is : (word text : List ℕ) (r : Option (Bor (List ℕ)))
-    → MatchOption r ((rest : List ℕ) → text ≢ word ++ rest) (λ x. text ≡ word ++ x.now)
-    → option_map (λ rest. rest.now) r ≡ after_word word text
-after_word-is word text None h = sym (after_word-other word text h)
-after_word-is word text (Some x) h = sym (ap (after_word word) h ∙ after_word-append word x.now)
+pub after_word-is : (word text : List ℕ) (found : Option (Bor (List ℕ)))
+    → MatchOption found ((rest : List ℕ) → text ≢ word ++ rest) (λ rest. text ≡ word ++ rest.now)
+    → option_map (λ rest. rest.now) found ≡ after_word word text
+after_word-is word text None differ = sym (after_word-other word text differ)
+after_word-is word text (Some rest) text_is = sym (ap (after_word word) text_is ∙ after_word-append word rest.now)
 
 -- ---- a table of words
 
@@ -59,20 +61,21 @@ pub from_row : {A : Type 0} (rows : List (Bor (List ℕ) × A)) (i : ℕ) (d : B
     → i < length rows → t ≡ bytes_eq text (get_or rows i d).0.now
     → entry_of_word (rows_of (drop i rows)) text
     ≡ cond t (Some (get_or rows i d).1) (entry_of_word (rows_of (drop (i + 1) rows)) text)
-from_row rows i d text t within is =
+from_row rows i d text t within test =
     let next : suc i ≡ i + 1 = omega arith in
     ap (λ rows. entry_of_word (rows_of rows) text)
     (drop-cons rows i d within ∙ ap (λ n. get_or rows i d ∷ drop n rows) next)
     ∙ ap (λ t. cond t (Some (get_or rows i d).1) (entry_of_word (rows_of (drop (i + 1) rows)) text))
-    (sym is)
+    (sym test)
 
 -- ---- keywords
 
 -- They are ASCII, as a test of the whole table computes. So a text that isn't UTF-8 differs from each of them.
 
-row_by : {A : Type 0} (x : A) (others : Option A) (t : Bool) → t ≡ false → others ≡ None → cond t (Some x) others ≡ None
-row_by x others true e h = cc
-row_by x others false e h = h
+row_by : {A : Type 0} (entry : A) (others : Option A) (t : Bool) → t ≡ false → others ≡ None
+    → cond t (Some entry) others ≡ None
+row_by entry others true is_false others_none = cc
+row_by entry others false is_false others_none = others_none
 
 abbrev are_ascii : List ℕ → Bool
 are_ascii [] = true
@@ -83,22 +86,22 @@ have_ascii_words [] = true
 have_ascii_words (row ∷ rows) = are_ascii row.0 && have_ascii_words rows
 
 are_below : (bytes : List ℕ) → are_ascii bytes ≡ true → IsAscii bytes
-are_below [] e i = omega arith
-are_below (b ∷ bytes) e zero = ltb-true b 128 (and_parts _ _ e).0
-are_below (b ∷ bytes) e (suc i) = are_below bytes (and_parts _ _ e).1 i
+are_below [] ascii i = omega arith
+are_below (b ∷ bytes) ascii zero = ltb-true b 128 (and_parts _ _ ascii).0
+are_below (b ∷ bytes) ascii (suc i) = are_below bytes (and_parts _ _ ascii).1 i
 
 ascii_is_utf8 : (bytes : List ℕ) → are_ascii bytes ≡ true → is_utf8 bytes ≡ true
-ascii_is_utf8 bytes e = is_utf8-from_IsUtf8 bytes (IsUtf8-from_ascii bytes (are_below bytes e))
+ascii_is_utf8 bytes ascii = is_utf8-from_IsUtf8 bytes (IsUtf8-from_ascii bytes (are_below bytes ascii))
 
 other_bytes : {A : Type 0} (rows : List (List ℕ × A)) (text : List ℕ) → have_ascii_words rows ≡ true
     → is_utf8 text ≡ false → entry_of_word rows text ≡ None
-other_bytes [] text are not = refl
-other_bytes (row ∷ rows) text are not =
+other_bytes [] text ascii not_utf8 = refl
+other_bytes (row ∷ rows) text ascii not_utf8 =
     row_by row.1 (entry_of_word rows text) (bytes_eq text row.0)
     (bytes_eq-other text row.0
-    (λ e. let same = ap is_utf8 e in let is = ascii_is_utf8 row.0 (and_parts _ _ are).0 in cc))
-    (other_bytes rows text (and_parts _ _ are).1 not)
+    (λ same. let same_test = ap is_utf8 same in let word_utf8 = ascii_is_utf8 row.0 (and_parts _ _ ascii).0 in cc))
+    (other_bytes rows text (and_parts _ _ ascii).1 not_utf8)
 
 -- A text that isn't UTF-8 is no keyword.
 pub no_icon : (text : List ℕ) → is_utf8 text ≡ false → icon_of text ≡ None
-no_icon text not = other_bytes icons text refl not
+no_icon text not_utf8 = other_bytes icons text refl not_utf8

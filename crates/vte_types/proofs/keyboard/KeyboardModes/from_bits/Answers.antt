@@ -14,12 +14,13 @@ by_others : (bits others flags : ℕ) (result : Option KeyboardModes) → others
     → IfSome result (λ modes. bits_of modes ≡ bits)
     → (flags ≡ bits → IsSome result) → (flags ≢ bits → IsNone result) → (t : Bool) → eqb others 0 ≡ t
     → result ≡ (if t then Some (modes_of_bits bits) else None)
-by_others bits others flags None sum value known unknown true e =
+by_others bits others flags None sum value known unknown true test =
     let all : flags ≡ bits = grind (arith, nat_tests) in search (rules, known all)
-by_others bits others flags (Some modes) sum value known unknown true e = ap (λ bits. Some (modes_of_bits bits)) value
-by_others bits others flags None sum value known unknown false e = refl
-by_others bits others flags (Some modes) sum value known unknown false e =
-    let not : flags ≢ bits = grind (arith, nat_tests) in search (rules, unknown not)
+by_others bits others flags (Some modes) sum value known unknown true test =
+    ap (λ bits. Some (modes_of_bits bits)) value
+by_others bits others flags None sum value known unknown false test = refl
+by_others bits others flags (Some modes) sum value known unknown false test =
+    let not_all : flags ≢ bits = grind (arith, nat_tests) in search (rules, unknown not_all)
 
 pub returns : goal.returns
 unfolding bitflags_on_literals

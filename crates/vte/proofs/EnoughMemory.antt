@@ -48,7 +48,7 @@ module _ {N : ℕ} {V W : Type 0} {step : PerformerValue V W → Event → Perfo
   short_stops reads = record {
     within = reads.within;
     stops =
-        λ stream n has_read memory. record {
+        λ stream spare has_read memory. record {
           stops = reads.stops stream has_read;
           fits = short_fits N old.text_size stream bytes memory;
           reads = reads.reads stream has_read;
@@ -63,8 +63,8 @@ keeps_memory-grown : {A : Type 0} {parser next : LongParser A} {size larger : �
     → size ≤ larger → KeepsMemory (ParserHasMemory parser size) (ParserHasMemory next larger)
 keeps_memory-grown memory_grows size_grows = search (rules, arith)
 
-module _ {A : Type 0} {parser : LongParser A} {size : ℕ} (stream bytes : List ℕ) (n : ℕ)
-    (memory : ParserHasMemory parser size stream (length bytes + n)) where
+module _ {A : Type 0} {parser : LongParser A} {size : ℕ} (stream bytes : List ℕ) (spare : ℕ)
+    (memory : ParserHasMemory parser size stream (length bytes + spare)) where
   open_command-fits : open_command_size stream + length bytes ≤ memory_of parser
   open_command-fits = omega (arith, memory.kept)
 
@@ -74,7 +74,7 @@ module _ {A : Type 0} {parser : LongParser A} {size : ℕ} (stream bytes : List 
       (let counts = counts_data stream bytes in counts.reported)
 
   memory_left : (next : LongParser A) → memory_of parser ≤ memory_of next
-      → ParserHasMemory next size (stream ++ bytes) n
+      → ParserHasMemory next size (stream ++ bytes) spare
   memory_left next kept = search (rules, arith, counts_data)
 
 -- A call for which there is memory is refused none.
@@ -85,18 +85,19 @@ module _ {A V W : Type 0} {step : PerformerValue V W → Event → PerformerValu
       → ReadsLong 5 step (λ _. false) old new bytes parser next result (λ (_ : Unit {0}). ReadsBytes step)
       → AdvancesAll long_parser_view None step parser next old new bytes
   long_parses (Ok _) reads_long = record {
-    parses = λ stream n has_read memory. record {
+    parses = λ stream spare has_read memory. record {
       performs = reads_long.reads.performs stream has_read;
-      fits = long_fits stream bytes n memory;
+      fits = long_fits stream bytes spare memory;
       reads = reads_long.reads.reads stream has_read;
-      memory = memory_left stream bytes n memory next reads_long.memory;
+      memory = memory_left stream bytes spare memory next reads_long.memory;
     };
     keeps_memory = λ size. keeps_memory-grown reads_long.memory (omega arith);
   }
   long_parses (Err refused) reads_long = record {
     parses =
-        λ stream n has_read memory.
-        absurd (omega (arith, reads_long.refuses.lacks_all stream has_read, open_command-fits stream bytes n memory));
+        λ stream spare has_read memory.
+        absurd
+        (omega (arith, reads_long.refuses.lacks_all stream has_read, open_command-fits stream bytes spare memory));
     keeps_memory = λ size. keeps_memory-grown reads_long.memory (omega arith);
   }
 
@@ -107,9 +108,9 @@ module _ {A V W : Type 0} {step : PerformerValue V W → Event → PerformerValu
   long_stops (Ok read) reads_long = record {
     within = reads_long.reads.within;
     stops =
-        λ stream n has_read memory. record {
+        λ stream spare has_read memory. record {
           stops = reads_long.reads.stops stream has_read;
-          fits = long_fits stream bytes n memory;
+          fits = long_fits stream bytes spare memory;
           reads = reads_long.reads.reads stream has_read;
         };
     keeps_memory = λ size. keeps_memory-grown reads_long.memory (omega arith);
@@ -117,7 +118,8 @@ module _ {A V W : Type 0} {step : PerformerValue V W → Event → PerformerValu
   long_stops (Err refused) reads_long = record {
     within = omega (arith, reads_long.refuses.within);
     stops =
-        λ stream n has_read memory.
-        absurd (omega (arith, reads_long.refuses.lacks_all stream has_read, open_command-fits stream bytes n memory));
+        λ stream spare has_read memory.
+        absurd
+        (omega (arith, reads_long.refuses.lacks_all stream has_read, open_command-fits stream bytes spare memory));
     keeps_memory = λ size. keeps_memory-grown reads_long.memory (omega arith);
   }

@@ -37,15 +37,15 @@ themselves numbers = map-id numbers
 
 -- Four parts and more are none, and three hex digits give a small number.
 
-further_part : (red green blue : List ℕ) (parts : List (List ℕ)) (n : ℕ) → length parts ≡ n + 1
+color_of_parts-further : (red green blue : List ℕ) (parts : List (List ℕ)) (n : ℕ) → length parts ≡ n + 1
     → color_of_parts (red ∷ green ∷ blue ∷ parts) ≡ None
-further_part red green blue [] n size = absurd (omega (arith, size))
-further_part red green blue (part ∷ parts) n size = refl
+color_of_parts-further red green blue [] n size = absurd (omega (arith, size))
+color_of_parts-further red green blue (part ∷ parts) n size = refl
 
 -- Four parts or more are no colour.
 pub fourth_part : (red green blue rest : List ℕ) → color_of_parts (red ∷ green ∷ blue ∷ split_by 0x2f rest) ≡ None
 fourth_part red green blue rest =
-    further_part red green blue (split_by 0x2f rest) _ (length-slice_split (λ (byte : ℕ). byte == 0x2f) rest)
+    color_of_parts-further red green blue (split_by 0x2f rest) _ (length-slice_split (λ (byte : ℕ). byte == 0x2f) rest)
 
 -- Three hex digits or fewer write a number below 4096.
 pub few_hex_digits : (i number : ℕ) → i ≤ 3 → number < 16 ^ i → number < 4096

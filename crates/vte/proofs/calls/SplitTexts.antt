@@ -3,14 +3,14 @@ use Rattle.vte.proofs.Common.{◌≡◌, ◌<◌, ◌+◌, ℕ, List, [], ◌∷
 use Rattle.std.specs.List.{position_or_len, slice_split}
 
 -- A text without a separator is split into one part.
-pub whole_part : (splits : ℕ → Bool) (text : List ℕ) → position_or_len splits text ≡ length text
+pub split-whole : (splits : ℕ → Bool) (text : List ℕ) → position_or_len splits text ≡ length text
     → slice_split splits text ≡ text ∷ []
-whole_part splits text no_separator =
+split-whole splits text no_separator =
     slice_split_none splits text (λ k d inside. fails_before_first splits text k d (omega (arith, no_separator)))
 
-pub first_part : (splits : ℕ → Bool) (text : List ℕ) {i : ℕ} → position_or_len splits text ≡ i → i < length text
+pub split-first : (splits : ℕ → Bool) (text : List ℕ) {i : ℕ} → position_or_len splits text ≡ i → i < length text
     → slice_split splits text ≡ take i text ∷ slice_split splits (drop (i + 1) text)
-first_part splits text position_is inside =
+split-first splits text position_is inside =
     rw (sym position_is) (slice_split_first splits text 0 (omega (arith, position_is)))
 
 -- The size of what is left to split, which gets smaller with each part.

@@ -56,15 +56,16 @@ module _ {P B T A V W : Type 0} {view : EngineView P B T W} {value : V} {state :
 module _ {P B T A V W : Type 0} {view : EngineView P B T W} {m : Meaning V W} {start : State V W} {bytes slice : List ℕ}
     {read count n : ℕ} {begins : Bool}
     {first old taken : Engine P B T A} {parser : P} {state : ProcessorState T B} {before value : V} where
-  pub slice_parsed : HasParsedWithoutBegin m start bytes read (EngineIsAtKeepingMemory view first old before)
+  pub slice-parsed : HasParsedWithoutBegin m start bytes read (EngineIsAtKeepingMemory view first old before)
       → Reserves view old taken count true
       → length slice ≡ count → start.held ≡ []
-      → ((next : State V W) (k : ℕ) → ArePartsAtWithMemory view taken.parser taken.state before next (length slice + k)
+      → ((next : State V W) (spare : ℕ)
+      → ArePartsAtWithMemory view taken.parser taken.state before next (length slice + spare)
       → HasParsedPrefix m next slice n begins
       (ArePartsAtKeepingMemory view taken.parser taken.state parser state value))
       → HasParsedPrefix m (parse m start (take read bytes)) slice n begins
       (EngineIsAtKeepingMemory view first (record taken { parser = parser; state = state }) value)
-  slice_parsed parsed reserves size_is none_held parses =
+  slice-parsed parsed reserves size_is none_held parses =
       let here : EngineIsAtKeepingMemory view first taken before
       (parse m start (take read bytes)) = keeping_memory-reserved reserves parsed.is_at in
       let sum : length slice + 0 ≡ length start.held + count = omega (arith, size_is, ap length none_held) in

@@ -62,15 +62,15 @@ module _ {P B T A V W : Type 0} {view : EngineView P B T W} (m : Meaning V W) {s
 
   -- If some bytes stay held, the released ones are parsed, with memory to parse the others later.
   pub turned_cut : {last : Engine P B T A} {next : V} → 0 < length (held_of hold)
-      → ((state : State V W) (n : ℕ) → ArePartsAt view extended_engine.parser extended_engine.state value state
+      → ((state : State V W) (spare : ℕ) → ArePartsAt view extended_engine.parser extended_engine.state value state
       → (0 < length (released_of hold)
-      → HasMemoryFor state.parsed (length (released_of hold) + n))
+      → HasMemoryFor state.parsed (length (released_of hold) + spare))
       → ArePartsAtKeepingMemory view extended_engine.parser extended_engine.state last.parser last.state next
       (parse m state (released_of hold)))
-      → ((state : State V W) (n : ℕ)
+      → ((state : State V W) (spare : ℕ)
       → ArePartsAtWithMemory view extended_engine.parser extended_engine.state value state
-      (length (released_of hold) + n)
-      → view.parser.has_memory last.parser (view.text_size_of last.state.text) (state.parsed ++ released_of hold) n)
+      (length (released_of hold) + spare)
+      → view.parser.has_memory last.parser (view.text_size_of last.state.text) (state.parsed ++ released_of hold) spare)
       → last.hold ≡ hold → EngineIsAtKeepingMemory view old last next (hold_turn m state more)
   turned_cut {last} {next} some_held parses leaves same_hold =
       let extended_state = extend m state more in
@@ -116,11 +116,11 @@ module _ {P B T A V W : Type 0} {view : EngineView P B T W} (m : Meaning V W) {s
 
   -- If no bytes stay held, the update is stopped.
   pub turned_stop : {last : Engine P B T A} {next : V} → 0 < length more → length (held_of hold) ≡ 0
-      → ((state : State V W) (n : ℕ) → ArePartsAt view extended_engine.parser extended_engine.state value state
+      → ((state : State V W) (spare : ℕ) → ArePartsAt view extended_engine.parser extended_engine.state value state
       → released_of hold ≡ state.held
       → held_of hold ≡ []
       → (0 < length state.held → HasMemoryFor state.parsed
-      (length state.held + n))
+      (length state.held + spare))
       → EngineIsAtKeepingMemory view extended_engine last next (stop m state))
       → EngineIsAtKeepingMemory view old last next (hold_turn m state more)
   turned_stop {last} {next} some_bytes none_held stops =

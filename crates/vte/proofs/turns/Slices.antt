@@ -5,9 +5,9 @@ use Rattle.vte.proofs.Common.{◌≡◌, ℕ, ◌+◌, ◌-◌, ◌<◌, ◌≤�
 use Rattle.vte.proofs.EventCalls.{after_calls-append, added_calls-append, added_calls-nothing, set_times-add}
 use Rattle.vte.proofs.updates.Prefixes.{begin_count-added, prefix-after, prefix-all, prefix-more, prefix-some, begin_count-nothing, begin_count-none}
 
-pub slice_size : (bytes : List ℕ) (read : ℕ) {count : ℕ} → read ≤ length bytes → count ≤ length bytes - read
+pub slice-size : (bytes : List ℕ) (read : ℕ) {count : ℕ} → read ≤ length bytes → count ≤ length bytes - read
     → length (take (read + count - read) (drop read bytes)) ≡ count
-slice_size bytes read {count} inside at_most =
+slice-size bytes read {count} inside at_most =
     length-take-le (read + count - read) (drop read bytes) (rw length-drop (omega arith)) ∙ omega arith
 
 module _ {V W : Type 0} (m : Meaning V W) where

@@ -1,6 +1,7 @@
 -- What the search from the end of a hold has seen (`HasSeen`), position by position: how many updates begin, and where
 -- what is unread starts. Only a position with ESC can change it (`seen-skipped`, `last_escape`), and the older bytes
--- matter only by their last seven. At the front the whole hold is seen (`seen-all`).
+-- matter only by their last seven. A round of the search reads the last ESC (`seen-round`), and at the front the whole
+-- hold is seen (`seen-all`).
 use Rattle.vte.proofs.Common.{◌≡◌, ℕ, zero, suc, ◌+◌, ◌-◌, ◌<◌, ◌≤◌, inl, inr, true, false, eqb, Some, None, List, [], ◌∷◌, length, drop, take, get_or, refl, ap, subst, ◌∙◌, add-zero, length-drop, arith, cases_Bool, nat_tests, drop_all, drop_more, get_or-drop, get_or-take, length-take-le, ◌++◌, IsHeldTail, drop-drop, length-append, Adds, after_word, begin_update, end_update, begins_ending_in_last, begins_with, after_last_end, from_begin_update, rules}
 use Rattle.std.specs.Prelude.{◌&&◌, nat_lt}
 use Rattle.memchr.specs.Find.{NoneAfter, Nowhere, Passes, is_byte}
@@ -207,27 +208,27 @@ module _ {held more text : List ℕ} {start : ℕ} (held_tail : IsHeldTail held 
   abbrev all : List ℕ
   all = held ++ more
 
-  whole_size : start + length text ≡ length all
-  whole_size =
+  tail-size : start + length text ≡ length all
+  tail-size =
       let from = held_tail.start_is in
       omega (arith, ap length held_tail.text_is, length-drop start all, length-append held more)
 
-  pub sequence_at : (position : ℕ) → take (length text - position) (drop position text) ≡ drop (start + position) all
-  sequence_at position =
+  pub tail-sequence : (position : ℕ) → take (length text - position) (drop position text) ≡ drop (start + position) all
+  tail-sequence position =
       take_rest text position ∙ ap (drop position) held_tail.text_is ∙ drop-drop position start all
 
-  byte_at : (unread k : ℕ) → k < unread → get_or (take unread text) k 0 ≡ get_or all (start + k) 0
-  byte_at unread k inside =
+  tail-byte : (unread k : ℕ) → k < unread → get_or (take unread text) k 0 ≡ get_or all (start + k) 0
+  tail-byte unread k inside =
       get_or-take unread text k 0 inside ∙ ap (λ bytes. get_or bytes k 0) held_tail.text_is ∙ rw get_or-drop
 
-  neither_between : (from low unread : ℕ) → start + from ≡ low → unread ≤ length text
+  neither-between : (from low unread : ℕ) → start + from ≡ low → unread ≤ length text
       → Nowhere (Passes (is_byte 0x1b) (take unread text)) from (length (take unread text))
       → (k : ℕ) → low ≤ k → k < start + unread → IsNeither all k
-  neither_between from low unread low_is within nowhere k above high =
+  neither-between from low unread low_is within nowhere k above high =
       let i = k - start in
       let position : start + i ≡ k = omega arith in
-      let here : get_or (take unread text) i 0 ≡ get_or all k 0 = byte_at unread i (omega arith) ∙ rw position in
-      neither-plain all k (omega (arith, whole_size))
+      let here : get_or (take unread text) i 0 ≡ get_or all k 0 = tail-byte unread i (omega arith) ∙ rw position in
+      neither-plain all k (omega (arith, tail-size))
       (grind (arith, nowhere i (omega arith) (rw length-take-le (omega arith))))
 
   -- Blocks in which neither sequence begins change nothing.
@@ -235,7 +236,7 @@ module _ {held more text : List ℕ} {start : ℕ} (held_tail : IsHeldTail held 
       → NoneBetween text unread before → HasSeen all (length more) (start + before) begin begins
       → HasSeen all (length more) (start + unread) begin begins
   seen-skipped unread before at_most within none_between seen =
-      seen-down (omega arith) (omega (arith, whole_size))
+      seen-down (omega arith) (omega (arith, tail-size))
       (λ k low high.
       let position : k - start + start ≡ k = omega arith in
       let neither = none_between (k - start) (omega arith) (omega arith) in
@@ -250,11 +251,11 @@ module _ {held more text : List ℕ} {start : ℕ} (held_tail : IsHeldTail held 
       → HasSeen all (length more) (start + unread) (start + length text) 0
   seen-nothing unread unread_is =
       let nothing_left = drop_all (length all) all (omega arith) in
-      seen-down {unread = length all} (omega (arith, whole_size)) (omega arith)
-      (λ k low high. neither-short all k (omega (arith, whole_size)))
+      seen-down {unread = length all} (omega (arith, tail-size)) (omega arith)
+      (λ k low high. neither-short all k (omega (arith, tail-size)))
       (record {
         no_end = rw nothing_left;
-        begin_is = rw nothing_left (omega (arith, whole_size));
+        begin_is = rw nothing_left (omega (arith, tail-size));
         begins_are = rw nothing_left;
       })
 
@@ -267,13 +268,13 @@ module _ {held more text : List ℕ} {start : ℕ} (held_tail : IsHeldTail held 
       let earlier : position < unread = omega (arith, length-take-le unread text within, none_after.high) in
       record {
         earlier = omega arith;
-        inside = omega (arith, whole_size);
-        here = rw (byte_at unread position earlier) at is_escape;
+        inside = omega (arith, tail-size);
+        here = rw (tail-byte unread position earlier) at is_escape;
         -- None of the bytes after the ESC is another one, so no sequence begins at them.
         seen =
             seen-down (omega arith)
-            (omega (arith, whole_size))
-            (neither_between (position + 1) _ unread (omega arith) within none_after.after) seen;
+            (omega (arith, tail-size))
+            (neither-between (position + 1) _ unread (omega arith) within none_after.after) seen;
       }
 
   -- If no ESC is left, there is no end-update, as there is none in the older bytes.
@@ -284,8 +285,8 @@ module _ {held more text : List ℕ} {start : ℕ} (held_tail : IsHeldTail held 
   seen-all unread begin begins held_no_end within nowhere seen =
       -- Without ESC no sequence begins in what is unread, so all of the tail is seen.
       let rest =
-      seen-down (omega arith) (omega (arith, whole_size))
-      (neither_between 0 start unread (omega arith) within nowhere) seen in
+      seen-down (omega arith) (omega (arith, tail-size))
+      (neither-between 0 start unread (omega arith) within nowhere) seen in
       let tail : drop start all ≡ drop (length held - 7) all = rw held_tail.start_is in
       -- The tail has no end-update. With none in the older bytes, there is none at all.
       let no_end : after_last_end all ≡ None = cc (tail, after_last_end-tail held more held_no_end, rest.no_end) in

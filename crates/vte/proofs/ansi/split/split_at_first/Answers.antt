@@ -1,6 +1,6 @@
 -- The first separator parts the text; without one the text is a part of its own.
 use Rattle.vte.proofs.Common.{ℕ, ◌==◌, ◌+◌, length, arith, rules, position_or_len_is, take_rest}
-use Rattle.vte.proofs.calls.SplitTexts.{first_part, whole_part}
+use Rattle.vte.proofs.calls.SplitTexts.{split-first, split-whole}
 use Rattle.vte.proofs.ansi.split.split_at_first.Goals as goal
 
 pub returns-in-Some-clause-parts : goal.returns-in-Some-clause-parts
@@ -9,11 +9,11 @@ returns-in-Some-clause-parts c =
     let found =
     position_or_len_is (λ (b : ℕ). b == c.args.separator) text c.in-Some.position 0 (search rules) (search rules)
     (search rules) in
-    rw (take_rest text (c.in-Some.position + 1)) (first_part _ text found (search rules))
+    rw (take_rest text (c.in-Some.position + 1)) (split-first _ text found (search rules))
 
 pub returns-in-None-clause-parts : goal.returns-in-None-clause-parts
 returns-in-None-clause-parts c =
     let text = c.args.text.now in
-    whole_part _ text
+    split-whole _ text
     (position_or_len_is (λ (b : ℕ). b == c.args.separator) text (length text) 0 (omega arith) (search rules)
     (search rules))

@@ -7,11 +7,11 @@ use Rattle.vte.proofs.turns.EachOnce.{prefix-rest}
 use Rattle.vte.proofs.ansi.updates.parsing.parse_until_begin.Goals as goal
 
 pub returns-clause-stops : goal.returns-clause-stops
-returns-clause-stops g c = λ state n ready.
+returns-clause-stops g c = λ state spare ready.
     let m = meaning_of g.P.EventParser.limit g.H.Handler.step g.T.Timeout.set g.T.Timeout.clear g.T.Timeout.allows in
     let bytes = c.args.bytes.now in
     let prefix = prefix_to_begin g.P.EventParser.limit state.parsed bytes in
-    let ends = c.advance_until_begin-read.ensures.stops state.parsed n ready.parts_at.has_read ready.memory in
+    let ends = c.advance_until_begin-read.ensures.stops state.parsed spare ready.parts_at.has_read ready.memory in
     let fit =
     prefix_fits (g.B.TextBuffer.text_size c.args.state.now.text) g.P.EventParser.limit state.parsed prefix
     (drop (length prefix) bytes)

@@ -1,7 +1,7 @@
 -- From the end back, from ESC to ESC: a begin counts, an end is the last one and ends the search, and any other
 -- sequence changes nothing (`updates/Seen`).
 use Rattle.vte.proofs.Common.{◌≤◌, length, sym, ◌∙◌, arith, length-append}
-use Rattle.vte.proofs.updates.Seen.{last_escape, seen-all, seen-begin_before, seen-end, seen-nothing, seen-other_before, seen-round, seen-skipped, sequence_at, unread-decreases}
+use Rattle.vte.proofs.updates.Seen.{last_escape, seen-all, seen-begin_before, seen-end, seen-nothing, seen-other_before, seen-round, seen-skipped, tail-sequence, unread-decreases}
 use Rattle.vte.proofs.ansi.updates.release.find_release.Goals as goal
 
 -- Nothing is seen yet.
@@ -30,7 +30,7 @@ loop-position-preserved-then-begins_update c =
           seen-round _ c.in-Some.position within escape.0 before_is skipped.within held_tail escape.1 skipped.none
           (invariant.seen held more held_tail) (λ last from low near.
           seen-begin_before last from low near (omega (arith, held_tail.start_is, length-append held more))
-          (rw (sequence_at held_tail) at (sym c.begins_update.ensures.value ∙ c.if-begins_update.true)));
+          (rw (tail-sequence held_tail) at (sym c.begins_update.ensures.value ∙ c.if-begins_update.true)));
     }
 
 -- Any other sequence at the ESC changes nothing.
@@ -48,8 +48,8 @@ loop-position-preserved c =
           seen-round _ c.in-Some.position within escape.0 before_is skipped.within held_tail escape.1 skipped.none
           (invariant.seen held more held_tail) (λ last from low near.
           seen-other_before last from low near
-          (rw (sequence_at held_tail) at (sym c.begins_update.ensures.value ∙ c.if-begins_update.false))
-          (rw (sequence_at held_tail) at (sym c.ends_update.ensures.value ∙ c.if-ends_update.false)));
+          (rw (tail-sequence held_tail) at (sym c.begins_update.ensures.value ∙ c.if-begins_update.false))
+          (rw (tail-sequence held_tail) at (sym c.ends_update.ensures.value ∙ c.if-ends_update.false)));
     }
 
 -- The last end of an update.
@@ -61,7 +61,7 @@ returns-then-ends_update c = λ held more held_tail no_end.
     c.in-Some.ensures.1
     (invariant.seen held more held_tail) in
     seen-end last.inside last.seen
-    (rw (sequence_at held_tail) at (sym c.ends_update.ensures.value ∙ c.if-ends_update.true))
+    (rw (tail-sequence held_tail) at (sym c.ends_update.ensures.value ∙ c.if-ends_update.true))
 
 -- If no ESC is left, there is no end-update either.
 pub returns : goal.returns

@@ -1,8 +1,8 @@
 -- Slices in which no update begins add up to a longer prefix (`parsing-more`). The turn ends with the slice in which
 -- one begins, with the last byte, or when memory is refused.
 use Rattle.vte.proofs.Common.{refl, sym, arith, ◌∙◌}
-use Rattle.vte.proofs.turns.Slices.{count-whole, parsing-all, parsing-ends, parsing-more, parsing-nothing, slice_size}
-use Rattle.vte.proofs.turns.EngineTurns.{keeping_memory-reserved, keeping_memory-same, slice_parsed}
+use Rattle.vte.proofs.turns.Slices.{count-whole, parsing-all, parsing-ends, parsing-more, parsing-nothing, slice-size}
+use Rattle.vte.proofs.turns.EngineTurns.{keeping_memory-reserved, keeping_memory-same, slice-parsed}
 use Rattle.vte.proofs.ansi.updates.engine.Engine.take_parsing_turn.Goals as goal
 use Rattle.vte.proofs.ansi.updates.engine.Engine.take_parsing_turn.Goals.{then-begins-via-then-begins, then-begins-via-else-begins+then-read-bytes}
 
@@ -32,10 +32,10 @@ pub returns-then-begins-clause-parsed : goal.returns-then-begins-clause-parsed
 returns-then-begins-clause-parsed g c = λ state is_at.
     let so_far = (c.loop-slice.invariant.reaches state is_at).1 in
     let size_is =
-    slice_size c.args.bytes.now c.loop-slice.read c.loop-slice.invariant.within
+    slice-size c.args.bytes.now c.loop-slice.read c.loop-slice.invariant.within
     (omega (arith, c.min-count.ensures)) in
     let parsed_slice =
-    slice_parsed so_far c.if-not-reserve.ensures.reserved size_is (sym is_at.agrees.holds ∙ c.requires.none)
+    slice-parsed so_far c.if-not-reserve.ensures.reserved size_is (sym is_at.agrees.holds ∙ c.requires.none)
     c.parse_until_begin-parsed.ensures.stops in
     elim c.then-begins.branch [
       -- An update begins.
@@ -60,7 +60,7 @@ pub loop-slice-preserved : goal.loop-slice-preserved
 loop-slice-preserved g c =
     let before = c.loop-slice.invariant in
     let size_is =
-    slice_size c.args.bytes.now c.loop-slice.read before.within
+    slice-size c.args.bytes.now c.loop-slice.read before.within
     (omega (arith, c.min-count.ensures)) in
     record {
       within = omega (arith, c.parse_until_begin-parsed.ensures.within, size_is, c.min-count.ensures, before.within);
@@ -77,7 +77,7 @@ loop-slice-preserved g c =
       reaches = λ state is_at.
           let so_far = before.reaches state is_at in
           let parsed_slice =
-          slice_parsed so_far.1 c.if-not-reserve.ensures.reserved size_is (sym is_at.agrees.holds ∙ c.requires.none)
+          slice-parsed so_far.1 c.if-not-reserve.ensures.reserved size_is (sym is_at.agrees.holds ∙ c.requires.none)
           c.parse_until_begin-parsed.ensures.stops in (
             omega (
               arith,

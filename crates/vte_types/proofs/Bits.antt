@@ -6,8 +6,8 @@ use Rattle.std.specs.Int.Bits.{or_add_and}
 use Rattle.std.specs.Int.RustNames.{bit_and, bit_or}
 
 -- A byte is its flags and its other bits.
-pub parts : (bits : ℕ) → bits < 256 → bit_and bits 0xe0 + bit_and bits 0x1f ≡ bits
-parts bits fits = (λ i. and_comm bits 0xe0 i + and_comm bits 0x1f i) ∙ and-not 8 0x1f bits (omega arith) fits
+pub bits-parts : (bits : ℕ) → bits < 256 → bit_and bits 0xe0 + bit_and bits 0x1f ≡ bits
+bits-parts bits fits = (λ i. and_comm bits 0xe0 i + and_comm bits 0x1f i) ∙ and-not 8 0x1f bits (omega arith) fits
 
 -- All flags are set if setting them changes nothing.
 pub all_set : (bits : ℕ) → bit_or 0x1f bits ≡ bits → bit_and bits 0x1f ≡ 0x1f

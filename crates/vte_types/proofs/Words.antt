@@ -57,11 +57,11 @@ abbrev pub rows_of : {A : Type 0} → List (Bor (List ℕ) × A) → List (List 
 rows_of rows = map (λ row. (row.0.now, row.1)) rows
 
 -- From a row on, a text has that row's entry, or the one that it has from the next row on.
-pub from_row : {A : Type 0} (rows : List (Bor (List ℕ) × A)) (i : ℕ) (d : Bor (List ℕ) × A) (text : List ℕ) (t : Bool)
-    → i < length rows → t ≡ bytes_eq text (get_or rows i d).0.now
+pub entry-from_row : {A : Type 0} (rows : List (Bor (List ℕ) × A)) (i : ℕ) (d : Bor (List ℕ) × A) (text : List ℕ)
+    (t : Bool) → i < length rows → t ≡ bytes_eq text (get_or rows i d).0.now
     → entry_of_word (rows_of (drop i rows)) text
     ≡ cond t (Some (get_or rows i d).1) (entry_of_word (rows_of (drop (i + 1) rows)) text)
-from_row rows i d text t within test =
+entry-from_row rows i d text t within test =
     let next : suc i ≡ i + 1 = omega arith in
     ap (λ rows. entry_of_word (rows_of rows) text)
     (drop-cons rows i d within ∙ ap (λ n. get_or rows i d ∷ drop n rows) next)
@@ -72,10 +72,10 @@ from_row rows i d text t within test =
 
 -- They are ASCII, as a test of the whole table computes. So a text that isn't UTF-8 differs from each of them.
 
-row_by : {A : Type 0} (entry : A) (others : Option A) (t : Bool) → t ≡ false → others ≡ None
+entry-other : {A : Type 0} (entry : A) (others : Option A) (t : Bool) → t ≡ false → others ≡ None
     → cond t (Some entry) others ≡ None
-row_by entry others true is_false others_none = cc
-row_by entry others false is_false others_none = others_none
+entry-other entry others true is_false others_none = cc
+entry-other entry others false is_false others_none = others_none
 
 abbrev are_ascii : List ℕ → Bool
 are_ascii [] = true
@@ -93,15 +93,15 @@ are_below (b ∷ bytes) ascii (suc i) = are_below bytes (and_parts _ _ ascii).1 
 ascii_is_utf8 : (bytes : List ℕ) → are_ascii bytes ≡ true → is_utf8 bytes ≡ true
 ascii_is_utf8 bytes ascii = is_utf8-from_IsUtf8 bytes (IsUtf8-from_ascii bytes (are_below bytes ascii))
 
-other_bytes : {A : Type 0} (rows : List (List ℕ × A)) (text : List ℕ) → have_ascii_words rows ≡ true
+entry-other_bytes : {A : Type 0} (rows : List (List ℕ × A)) (text : List ℕ) → have_ascii_words rows ≡ true
     → is_utf8 text ≡ false → entry_of_word rows text ≡ None
-other_bytes [] text ascii not_utf8 = refl
-other_bytes (row ∷ rows) text ascii not_utf8 =
-    row_by row.1 (entry_of_word rows text) (bytes_eq text row.0)
+entry-other_bytes [] text ascii not_utf8 = refl
+entry-other_bytes (row ∷ rows) text ascii not_utf8 =
+    entry-other row.1 (entry_of_word rows text) (bytes_eq text row.0)
     (bytes_eq-other text row.0
     (λ same. let same_test = ap is_utf8 same in let word_utf8 = ascii_is_utf8 row.0 (and_parts _ _ ascii).0 in cc))
-    (other_bytes rows text (and_parts _ _ ascii).1 not_utf8)
+    (entry-other_bytes rows text (and_parts _ _ ascii).1 not_utf8)
 
 -- A text that isn't UTF-8 is no keyword.
 pub no_icon : (text : List ℕ) → is_utf8 text ≡ false → icon_of text ≡ None
-no_icon text not_utf8 = other_bytes icons text refl not_utf8
+no_icon text not_utf8 = entry-other_bytes icons text refl not_utf8

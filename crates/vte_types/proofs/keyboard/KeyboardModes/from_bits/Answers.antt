@@ -4,7 +4,7 @@ use Rattle.std.proofs.lemmas.Bool.Decides.{nat_tests}
 use Rattle.std.specs.Int.RustNames.{bit_and}
 use Rattle.std.specs.Prelude.{if◌then◌else◌, IfSome, IsSome, IsNone}
 use Rattle.bitflags.proofs.OnLiterals.{bitflags_on_literals}
-use Rattle.vte_types.proofs.Bits.{parts}
+use Rattle.vte_types.proofs.Bits.{bits-parts}
 use Rattle.vte_types.proofs.keyboard.KeyboardModes.from_bits.Goals as goal
 use Rattle.vte_types.specs.Keyboard.{bits_of, modes_of_bits}
 use Rattle.vte_types.specs.declared.keyboard.KeyboardModes.{KeyboardModes}
@@ -25,6 +25,6 @@ by_others bits others flags (Some modes) sum value known unknown false test =
 pub returns : goal.returns
 unfolding bitflags_on_literals
 returns c =
-    by_others c.args.bits (bit_and c.args.bits 0xe0) (bit_and c.args.bits 0x1f) _ (parts c.args.bits (omega arith))
+    by_others c.args.bits (bit_and c.args.bits 0xe0) (bit_and c.args.bits 0x1f) _ (bits-parts c.args.bits (omega arith))
     (c.from_bits.ensures.value tt)
     (c.from_bits.ensures.known tt).1 (c.from_bits.ensures.unknown tt) _ refl

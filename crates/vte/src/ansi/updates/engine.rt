@@ -102,7 +102,7 @@ impl<P: EventParser + Drop, B: TextBuffer + Drop, T: Timeout + Drop, A: Allocato
         ensures stopped { EngineStops (engine_view P.limit P.view B.text_size T.value_of)
             (meaning_of P.limit H.step T.set T.clear T.allows) self.old self.new
             (H.value_of handler.old) (H.value_of handler.new) }
-        ensures none { held_of self.new.hold ≡ [] }
+        ensures nothing_held { held_of self.new.hold ≡ [] }
     {
         self.hold.release_all();
         self.end_update::<H, G>(handler);
@@ -196,7 +196,7 @@ impl<P: EventParser + Drop, B: TextBuffer + Drop, T: Timeout + Drop, A: Allocato
         handler: &mut H,
         bytes: &[u8],
     ) -> Result<usize, Refused>
-        requires none { held_of self.old.hold ≡ [] }
+        requires nothing_held { held_of self.old.hold ≡ [] }
         ensures within { MatchResult result (λ read. read ≤ length bytes.now)
             (λ refused. refused.read < length bytes.now) }
         ensures parsed { EngineLeadsOn (engine_view P.limit P.view B.text_size T.value_of) self.old

@@ -86,7 +86,7 @@ impl<A: Allocator> SyncState<A> {
 
     /// Releases everything.
     pub(crate) fn release_all(&mut self)
-        ensures held { held_of self.new ≡ [] }
+        ensures nothing_held { held_of self.new ≡ [] }
         ensures released { released_of self.new ≡ held_of self.old }
     {
         self.forget_released();
@@ -96,7 +96,7 @@ impl<A: Allocator> SyncState<A> {
     /// Drops the released bytes, and moves the held ones to the start.
     fn forget_released(&mut self)
         ensures held { held_of self.new ≡ held_of self.old }
-        ensures none { self.new.released ≡ 0 }
+        ensures nothing_released { self.new.released ≡ 0 }
     {
         if self.released > 0 {
             let len = self.bytes.len();

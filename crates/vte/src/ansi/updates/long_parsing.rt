@@ -34,7 +34,7 @@ impl<A: Allocator> EventParser for LongParser<A> {
 /// Returns how many bytes a text has at most that is joined from these.
 fn joined_size(stored: usize, more: usize) -> Option<usize>
     ensures size { IfSome result (λ size. size ≡ stored + more + SEPARATORS) }
-    ensures none { result ≡ None → 2 ^ 64 ≤ stored + more + SEPARATORS }
+    ensures too_large { result ≡ None → 2 ^ 64 ≤ stored + more + SEPARATORS }
 {
     stored.checked_add(more)?.checked_add(SEPARATORS)
 }

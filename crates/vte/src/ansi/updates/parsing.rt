@@ -42,7 +42,7 @@ pub(crate) trait EventParser {
             → view.has_memory self.new (B.text_size text.new) stream (held + more) }
         ensures keeps_memory { KeepsMemory (view.has_memory self.old (B.text_size text.old))
             (view.has_memory self.new (B.text_size text.new)) }
-        ensures lost { view.lost self.new ≡ view.lost self.old }
+        ensures keeps_lost { view.lost self.new ≡ view.lost self.old }
         ensures lacks { result ≡ false → (stream : List ℕ) → view.has_read self.new stream
             → ¬ view.has_memory self.new (B.text_size text.new) stream (held + more) };
 }

@@ -51,7 +51,7 @@ pub(crate) fn find_release(text: &[u8], start: usize) -> Release
 fn skip_blocks(text: &[u8], before: usize) -> usize
     requires { before ≤ length text.now }
     ensures within { result ≤ before }
-    ensures none { NoneBetween text.now result before }
+    ensures none_between { NoneBetween text.now result before }
 {
     let mut unread = before;
     while unread >= 32 {

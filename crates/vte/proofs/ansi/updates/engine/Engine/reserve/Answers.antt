@@ -15,6 +15,6 @@ returns-clause-reserved g c = record {
       λ yes parsed held timeout had.
       rw (← had.holds, ← c.len.ensures.count) (c.reserve.ensures.memory yes parsed had.has_read);
   keeps_memory = c.reserve.ensures.keeps_memory;
-  lost = c.reserve.ensures.lost;
+  lost = c.reserve.ensures.keeps_lost;
   lacks = λ no stream reads. rw (← c.len.ensures.count) (c.reserve.ensures.lacks no stream reads);
 }

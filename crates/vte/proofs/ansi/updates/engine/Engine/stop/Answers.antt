@@ -6,5 +6,5 @@ use Rattle.vte.proofs.ansi.updates.engine.Engine.stop.Goals as goal
 pub returns-clause-stopped : goal.returns-clause-stopped
 returns-clause-stopped g c = stops_update (λ stream count had. had) (λ state is_at.
     c.end_update.ensures.stops state 0 (parts-at is_at)
-    (c.release_all.ensures.released ∙ is_at.agrees.holds) c.release_all.ensures.held
+    (c.release_all.ensures.released ∙ is_at.agrees.holds) c.release_all.ensures.nothing_held
     (λ some_held. rw add-zero (is_at.agrees.has_memory some_held)))

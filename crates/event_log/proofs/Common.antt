@@ -12,7 +12,7 @@ pub use Rattle.std.proofs.lemmas.Str.{encode_ascii, encodes-chars, len_utf8_boun
 pub use Rattle.std.specs.Fmt.{decimal}
 pub use Rattle.std.specs.List.{All, concat, flat_map, join_with_byte}
 pub use Rattle.std.specs.Str.{IsUtf8, bytes_eq, chars}
-pub use Rattle.vte_core.proofs.ParameterTexts.{after_colon, after_semicolon, group_text, group_written, groups_written, shown-nil}
+pub use Rattle.vte_core.proofs.lemmas.ParameterTexts.{after_colon, after_semicolon, group_text, group_written, groups_written, shown-nil}
 pub use Rattle.vte_core.specs.EventBounds.{IsBounded, AreFromOneByte}
 pub use Rattle.vte_core.specs.EarlyStop.{IsStart, StopsExactly, breaks_at, resumed_stream}
 unfoldable pub use Rattle.vte_core.specs.EarlyStop.{reported_before}

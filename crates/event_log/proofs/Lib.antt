@@ -1,7 +1,4 @@
--- From the parts of lines (`Fields`) to what is held (`Records`), which is never too long (`Lengths`), and written
--- (`Progress`); `Common` passes on words.
+-- Words from std and specs/.
 pub mod Common
-pub mod Fields
-pub mod Lengths
-pub mod Progress
-pub mod Records
+-- What answers cite. The other folders have the answers, and are named after the code.
+pub mod lemmas

@@ -16,10 +16,10 @@ pub use Rattle.std.specs.Option.{ok_or, option_or}
 pub use Rattle.std.specs.Prelude.{replicate, slice_index_or}
 pub use Rattle.std.specs.Str.{IsCharBoundary, IsUtf8}
 unfoldable pub use Rattle.std.specs.Str.{chars, is_utf8, trim_end, trim_start}
-pub use Rattle.vte_core.proofs.shapes.BrokenCharacters.{starts-settled, resumed_stream-settled, reported-settled}
-pub use Rattle.vte_core.proofs.EarlyStops.{added-append}
-pub use Rattle.vte_core.proofs.streams.After.{added-nothing}
-pub use Rattle.vte_core.proofs.streams.StreamSteps.{counts_data, events_are_bounded, events_grow, opens_silently}
+pub use Rattle.vte_core.proofs.lemmas.shapes.BrokenCharacters.{starts-settled, resumed_stream-settled, reported-settled}
+pub use Rattle.vte_core.proofs.lemmas.EarlyStops.{added-append}
+pub use Rattle.vte_core.proofs.lemmas.streams.After.{added-nothing}
+pub use Rattle.vte_core.proofs.lemmas.streams.StreamSteps.{counts_data, events_are_bounded, events_grow, opens_silently}
 pub use Rattle.vte_core.specs.EarlyStop.{StopsExactly, breaks_at, resumed_stream, reported_before}
 pub use Rattle.vte_core.specs.Event.{Event, OscDispatch, Print, replacement}
 pub use Rattle.vte_core.specs.Stream.{added, open_character, usual_limit}

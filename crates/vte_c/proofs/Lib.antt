@@ -1,8 +1,4 @@
--- From what a call goes on with (`Continuations`) and what it writes (`Buffers`) to calls (`CallSteps`, `Stripping`)
--- and to what their callers find (`ReadBack`); `Common` passes on words.
-pub mod CallSteps
+-- Words from std and specs/.
 pub mod Common
-pub mod Continuations
-pub mod ReadBack
-pub mod Buffers
-pub mod Stripping
+-- What answers cite. The other folders have the answers, and are named after the code.
+pub mod lemmas

@@ -35,14 +35,14 @@ pub fn replay<P: Perform, const OSC_RAW_BUF_SIZE: usize>(performer: &mut P, chun
 }
 
 /// Parameters come back if their debug text is sent, without its brackets, between `ESC [` and `m`.
-#[tactic(auto, using(crate::proofs::ParameterTexts::shown_dispatched))]
+#[tactic(auto, using(crate::proofs::lemmas::ParameterTexts::shown_dispatched))]
 pub fn debug_dispatch()
     ensures { (limit : Option ℕ) (groups : List (List ℕ)) → AreParameters groups
         → DispatchesShown limit groups }
 {}
 
 /// The events of a prefix are a prefix of the events, whatever the limit.
-#[tactic(auto, using(crate::proofs::streams::StreamSteps::events_grow))]
+#[tactic(auto, using(crate::proofs::lemmas::streams::StreamSteps::events_grow))]
 pub fn events_grow()
     ensures { (limit : Option ℕ) → Grows limit }
 {}
@@ -56,7 +56,7 @@ pub fn empty_stream()
 /// The arguments of an event are bounded: a printed character is no control, a sequence has at most
 /// 32 numbers and two intermediates, an operating system command at least one piece and at most 16,
 /// which fit into the buffer.
-#[tactic(auto, using(crate::proofs::streams::StreamSteps::events_are_bounded))]
+#[tactic(auto, using(crate::proofs::lemmas::streams::StreamSteps::events_are_bounded))]
 pub fn events_are_bounded()
     ensures { (limit : Option ℕ) (stream : List ℕ) → All (IsBounded limit) (events limit stream) }
 {}
@@ -68,21 +68,21 @@ pub fn commands_are_counted()
 {}
 
 /// A byte adds at most two events, and the second of them is a character or an executed byte.
-#[tactic(auto, using(crate::proofs::streams::StreamSteps::bytes_are_brief))]
+#[tactic(auto, using(crate::proofs::lemmas::streams::StreamSteps::bytes_are_brief))]
 pub fn bytes_are_brief()
     ensures { (limit : Option ℕ) (stream : List ℕ) (byte : ℕ)
         → AreFromOneByte limit (added limit stream (byte ∷ [])) }
 {}
 
 /// A byte after which a character is open reports nothing, or U+FFFD if it broke another one.
-#[tactic(auto, using(crate::proofs::streams::StreamSteps::opens_silently))]
+#[tactic(auto, using(crate::proofs::lemmas::streams::StreamSteps::opens_silently))]
 pub fn opens_silently()
     ensures { (limit : Option ℕ) → OpensSilently limit }
 {}
 
 /// What is open at the end of a stream began at the last ESC, or is at most three bytes of a
 /// character.
-#[tactic(auto, using(crate::proofs::streams::OpenLaws::opens_late))]
+#[tactic(auto, using(crate::proofs::lemmas::streams::OpenLaws::opens_late))]
 pub fn opens_late()
     ensures { OpensLate }
 {}
@@ -90,7 +90,7 @@ pub fn opens_late()
 /// What a call that stops early has reported, followed by what the unread bytes add from there, is
 /// what all bytes add. From one start to the next it reports at most two events, and the second of
 /// them is a character or an executed byte.
-#[tactic(auto, using(crate::proofs::EarlyStops::goes_on_from, crate::proofs::EarlyStops::reports_units))]
+#[tactic(auto, using(crate::proofs::lemmas::EarlyStops::goes_on_from, crate::proofs::lemmas::EarlyStops::reports_units))]
 pub fn early_stops()
     ensures goes_on { (limit : Option ℕ) → GoesOnFromPositions limit }
     ensures units { (limit : Option ℕ) → ReportsUnits limit }
@@ -104,7 +104,7 @@ pub fn resync()
 /// The events of a stream are those of its parts, one part after another, if an ESC is the end of
 /// each part and the start of the next. That ESC closes what is open before it, and makes nothing
 /// else.
-#[tactic(auto, using(crate::proofs::streams::Parts::parts_give_events, crate::proofs::streams::Parts::ends_with_escape))]
+#[tactic(auto, using(crate::proofs::lemmas::streams::Parts::parts_give_events, crate::proofs::lemmas::streams::Parts::ends_with_escape))]
 pub fn events_of_parts()
     ensures parts { (limit : Option ℕ) (stream cuts : List ℕ) → AreCuts stream 0 cuts
         → GiveEvents limit (parts_at cuts stream) stream }
@@ -113,7 +113,7 @@ pub fn events_of_parts()
 
 /// A text is divided as Unicode recommends: each segment is the well-formed sequence that starts
 /// there, else the longest truncated one, else one byte. No other division has this property.
-#[tactic(auto, using(crate::proofs::dividing::Division::all_divided, crate::proofs::dividing::Division::are_right_segments, crate::proofs::dividing::Division::only_division))]
+#[tactic(auto, using(crate::proofs::lemmas::dividing::Division::all_divided, crate::proofs::lemmas::dividing::Division::are_right_segments, crate::proofs::lemmas::dividing::Division::only_division))]
 pub fn maximal_subparts()
     ensures all { (text : List ℕ) → IsAllDivided text }
     ensures right { (text : List ℕ) → AreRightSegments (segments text) }
@@ -123,7 +123,7 @@ pub fn maximal_subparts()
 
 /// The rows of UTF-8 agree with the standard library: the well-formed sequences are the encodings
 /// of characters, and the texts that consist of them are those of a `str`.
-#[tactic(auto, using(crate::proofs::dividing::Utf8Agrees::well_formed_is_encoded, crate::proofs::dividing::Utf8Agrees::segments_of_text, crate::proofs::dividing::Utf8Agrees::text_of_segments, crate::proofs::bytes::Scalars::well_formed_is_scalar))]
+#[tactic(auto, using(crate::proofs::lemmas::dividing::Utf8Agrees::well_formed_is_encoded, crate::proofs::lemmas::dividing::Utf8Agrees::segments_of_text, crate::proofs::lemmas::dividing::Utf8Agrees::text_of_segments, crate::proofs::lemmas::bytes::Scalars::well_formed_is_scalar))]
 pub fn utf8_agrees()
     ensures sequence { (bytes : List ℕ) → is_well_formed bytes ≡ true → IsEncoding bytes }
     ensures character { (c : ℕ) → IsScalar c → IsDecoded c }
@@ -133,7 +133,7 @@ pub fn utf8_agrees()
 {}
 
 /// A `str` without ESC gives one event for each of its characters.
-#[tactic(auto, using(crate::proofs::positions::TextRuns::reported_as_characters))]
+#[tactic(auto, using(crate::proofs::lemmas::positions::TextRuns::reported_as_characters))]
 pub fn text_by_characters()
     ensures { (limit : Option ℕ) (text : List ℕ) → IsUtf8 text → GivesCharacters limit text }
 {}

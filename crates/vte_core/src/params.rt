@@ -157,7 +157,7 @@ fn take_joined(lengths: &mut ArrayVec<u8, MAX_NUMBERS>, joined: bool) -> Option<
 }
 
 /// Returns whether these are the lengths of groups with these numbers.
-#[tactic(auto, using(std::proofs::lemmas::Grind::elements, crate::proofs::fields::Numbers::sum_take_more, crate::proofs::fields::Numbers::sum_take_below, crate::proofs::fields::Numbers::filled_take_more))]
+#[tactic(auto, using(std::proofs::lemmas::Grind::elements, crate::proofs::lemmas::fields::Numbers::sum_take_more, crate::proofs::lemmas::fields::Numbers::sum_take_below, crate::proofs::lemmas::fields::Numbers::filled_take_more))]
 // cargo: #[cfg(feature = "__own")]
 fn are_lengths(lengths: &[u8], numbers: &[u16]) -> bool
     ensures { IsTrue result ↔ AreFlatGroups lengths.now numbers.now }

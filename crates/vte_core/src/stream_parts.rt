@@ -25,7 +25,7 @@ use iter::Parts;
 /// assert_eq!(parts.next(), Some(&b"\x1b[mthree"[..]));
 /// assert_eq!(parts.next(), None);
 /// ```
-#[tactic(auto, using(crate::proofs::streams::Parts::parts_of_events))]
+#[tactic(auto, using(crate::proofs::lemmas::streams::Parts::parts_of_events))]
 pub fn parts(stream: &[u8], size: usize) -> Parts<'_>
     ensures value { result ≡ parts_of size stream.now }
     ensures events { (limit : Option ℕ) → GiveEvents limit result stream.now }

@@ -1,4 +1,2 @@
--- Words and the tables of them (`Words`), colours (`Colors`) and flags (`Bits`).
-pub mod Bits
-pub mod Colors
-pub mod Words
+-- What answers cite. The other folders have the answers, and are named after the code.
+pub mod lemmas

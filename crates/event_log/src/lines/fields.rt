@@ -34,7 +34,7 @@ impl Lines {
     }
 
     /// Pushes a blank, and bytes as hex digits, or `-` for none.
-    #[tactic(auto, using(crate::proofs::Fields::extends_then), unfolding(crate::specs::Lines::hex_field))]
+    #[tactic(auto, using(crate::proofs::lemmas::Fields::extends_then), unfolding(crate::specs::Lines::hex_field))]
     pub(crate) fn push_hex_field(&mut self, bytes: &[u8])
         ensures { ExtendsLine self.old (hex_field bytes.now) self.new }
     {

@@ -68,7 +68,7 @@ pub fn calls_are_received<H: Handler, T: Timeout>()
 /// Where the rest of a refused call of a [`LongProcessor`](crate::ansi::LongProcessor) leads to,
 /// the whole call leads to: if it was refused between turns, and with a steady timeout within a
 /// turn too, although the timeout is asked once more.
-#[tactic(auto, using(crate::proofs::turns::RefusedTurns::taken_on))]
+#[tactic(auto, using(crate::proofs::lemmas::turns::RefusedTurns::taken_on))]
 pub fn refused_calls_go_on<H: Handler, T: Timeout>()
     ensures between { (state next end : State H.Value T.Value) (bytes rest : List ℕ)
         → let m = meaning_of None H.step T.set T.clear T.allows in

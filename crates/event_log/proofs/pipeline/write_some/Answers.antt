@@ -1,6 +1,6 @@
 -- What the collector collected is appended to what was written (`written-more`).
-use Rattle.event_log.proofs.Records.{adds_up-at_first}
-use Rattle.event_log.proofs.Progress.{written-more}
+use Rattle.event_log.proofs.lemmas.Records.{adds_up-at_first}
+use Rattle.event_log.proofs.lemmas.Progress.{written-more}
 use Rattle.event_log.proofs.pipeline.write_some.Goals as goal
 
 pub returns-clause-reads : goal.returns-clause-reads

@@ -15,7 +15,7 @@ fn next_component<I: NumberIterator>(numbers: &mut I) -> Option<u8>
 }
 
 /// Reads a colour of this kind, and uses up what it read.
-#[tactic(auto, using(crate::proofs::calls::Colors::no_red, crate::proofs::calls::Colors::after_red, crate::proofs::calls::Colors::after_green, crate::proofs::calls::Colors::after_blue))]
+#[tactic(auto, using(crate::proofs::lemmas::calls::Colors::no_red, crate::proofs::lemmas::calls::Colors::after_red, crate::proofs::lemmas::calls::Colors::after_green, crate::proofs::lemmas::calls::Colors::after_blue))]
 pub(crate) fn read_color<I: NumberIterator>(kind: u16, numbers: &mut I) -> Option<Color>
     ensures color { result ≡ (kind_reading kind (map I.number (I.left numbers.old))).color }
     ensures rest { I.left numbers.new
@@ -34,7 +34,7 @@ pub(crate) fn read_color<I: NumberIterator>(kind: u16, numbers: &mut I) -> Optio
 }
 
 /// Reads a colour after 38, 48 or 58 in one group.
-#[tactic(auto, using(crate::proofs::calls::Colors::themselves))]
+#[tactic(auto, using(crate::proofs::lemmas::calls::Colors::themselves))]
 pub(crate) fn read_joined(numbers: &[u16]) -> Option<Color>
     ensures { result ≡ (color_reading (without_color_space numbers.now)).color }
 {

@@ -18,7 +18,7 @@ pub(crate) fn xparse_color(text: &[u8]) -> Option<Rgb>
 }
 
 /// Returns the colour of three numbers with `/` between them.
-#[tactic(auto, using(crate::proofs::calls::Colors::fourth_part))]
+#[tactic(auto, using(crate::proofs::lemmas::calls::Colors::fourth_part))]
 fn color_by_parts(text: &[u8]) -> Option<Rgb>
     ensures { result ≡ color_of_parts (split_by 0x2f text.now) }
 {

@@ -58,7 +58,7 @@ pub(crate) fn perform_system_command<H: Handler, B: TextBuffer>(
 }
 
 /// Sets the title that these pieces make: 0 and 2. A title of one piece is lent, and not copied.
-#[tactic(auto, using(crate::proofs::calls::JoinedTexts::one_text))]
+#[tactic(auto, using(crate::proofs::lemmas::calls::JoinedTexts::one_text))]
 fn set_title<H: Handler, B: TextBuffer>(handler: &mut H, text: &mut B, texts: &[&[u8]])
     requires { FitsTextSize (B.text_size text.old) (map (λ piece. piece.now) texts.now) }
     ensures calls { H.value_of handler.new
@@ -98,7 +98,7 @@ fn set_color<H: Handler>(handler: &mut H, prefix: &str, index: usize, terminator
 }
 
 /// Sets a colour of the palette, or asks for it.
-#[tactic(auto, using(crate::proofs::calls::Colors::few_digits))]
+#[tactic(auto, using(crate::proofs::lemmas::calls::Colors::few_digits))]
 fn set_palette_entry<H: Handler>(handler: &mut H, index: &[u8], color: &[u8], terminator: &str)
     ensures { H.value_of handler.new
         ≡ after H.step (H.value_of handler.old)
@@ -119,7 +119,7 @@ fn set_palette_entry<H: Handler>(handler: &mut H, index: &[u8], color: &[u8], te
 }
 
 /// Sets colours of the palette, or asks for them: 4. Each index is followed by its colour.
-#[tactic(auto, using(crate::proofs::calls::Loops::entry_made))]
+#[tactic(auto, using(crate::proofs::lemmas::calls::Loops::entry_made))]
 fn set_palette<H: Handler>(handler: &mut H, texts: &[&[u8]], terminator: &str)
     ensures { H.value_of handler.new
         ≡ after H.step (H.value_of handler.old)
@@ -136,7 +136,7 @@ fn set_palette<H: Handler>(handler: &mut H, texts: &[&[u8]], terminator: &str)
 }
 
 /// Sets the link that these pieces make. A URI of one piece is lent, and not copied.
-#[tactic(auto, using(crate::proofs::calls::JoinedTexts::one_text))]
+#[tactic(auto, using(crate::proofs::lemmas::calls::JoinedTexts::one_text))]
 fn set_link<H: Handler, B: TextBuffer>(handler: &mut H, text: &mut B, texts: &[&[u8]])
     requires { FitsTextSize (B.text_size text.old) (map (λ piece. piece.now) texts.now) }
     ensures calls { H.value_of handler.new
@@ -154,7 +154,7 @@ fn set_link<H: Handler, B: TextBuffer>(handler: &mut H, text: &mut B, texts: &[&
 }
 
 /// Begins a link to a URI, or ends one if it is empty.
-#[tactic(auto, using(crate::proofs::calls::JoinedTexts::some_link))]
+#[tactic(auto, using(crate::proofs::lemmas::calls::JoinedTexts::some_link))]
 fn set_link_to<H: Handler>(handler: &mut H, parameters: &[u8], uri: &str)
     ensures { H.value_of handler.new
         ≡ H.step (H.value_of handler.old) (SetHyperlink (link_to parameters.now uri.now)) }
@@ -182,7 +182,7 @@ fn set_dynamic_color<H: Handler>(handler: &mut H, code: usize, terminator: &str,
 }
 
 /// Sets such colours, or asks for them: 10, 11 or 12, and those after it, one for each text.
-#[tactic(auto, using(crate::proofs::EventCalls::appended))]
+#[tactic(auto, using(crate::proofs::lemmas::EventCalls::appended))]
 fn set_dynamic_colors<H: Handler>(handler: &mut H, first: usize, texts: &[&[u8]], terminator: &str)
     requires { first ≤ 12 }
     ensures { H.value_of handler.new
@@ -249,7 +249,7 @@ fn use_clipboard<H: Handler>(handler: &mut H, texts: &[&[u8]], terminator: &str)
 }
 
 /// Resets all colours of the palette.
-#[tactic(auto, using(crate::proofs::calls::Loops::one_less), unfolding(crate::specs::CommandCalls::all_reset))]
+#[tactic(auto, using(crate::proofs::lemmas::calls::Loops::one_less), unfolding(crate::specs::CommandCalls::all_reset))]
 fn reset_all<H: Handler>(handler: &mut H)
     ensures { H.value_of handler.new ≡ after H.step (H.value_of handler.old) all_reset }
 {

@@ -137,7 +137,7 @@ fn perform_without_intermediates<H: InputAs<G>, G>(
 }
 
 /// Passes the last printed character on `count` times, if there is one.
-#[tactic(auto, using(crate::proofs::calls::Loops::one_less))]
+#[tactic(auto, using(crate::proofs::lemmas::calls::Loops::one_less))]
 fn repeat<H: InputAs<G>, G>(handler: &mut H, last: Option<char>, count: u16)
     ensures { H.value_of handler.new ≡ after H.step (H.value_of handler.old)
         (repeat_calls last count) }

@@ -44,7 +44,7 @@ fn push_part<B: TextBuffer>(text: &mut B, is_first: bool, part: &str)
 }
 
 /// Returns the text of a piece, if it is UTF-8. Any other counts as empty if all are kept.
-#[tactic(auto, using(crate::proofs::calls::JoinedTexts::is_text, crate::proofs::calls::JoinedTexts::no_utf8))]
+#[tactic(auto, using(crate::proofs::lemmas::calls::JoinedTexts::is_text, crate::proofs::lemmas::calls::JoinedTexts::no_utf8))]
 pub(crate) fn text_in(piece: &[u8], keeps_all: bool) -> Option<&str>
     ensures { option_map (λ text. text.now) result ≡ text_in keeps_all piece.now }
 {

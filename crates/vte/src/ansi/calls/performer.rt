@@ -106,7 +106,7 @@ impl<'s, 'h, H: HandlerText, T: Timeout + Drop, B: TextBuffer + Drop> PerformTex
     }
 
     #[inline(always)]
-    #[tactic(auto, using(crate::proofs::EventCalls::performed_run))]
+    #[tactic(auto, using(crate::proofs::lemmas::EventCalls::performed_run))]
     fn print_text(&mut self, text: &str) {
         self.handler.input_text(text);
         self.state.preceding_char = last_char(text, self.state.preceding_char);
@@ -152,7 +152,7 @@ impl<'s, 'h, H: Handler, T: Timeout + Drop, B: TextBuffer + Drop, G> Performer<'
 }
 
 /// Returns the last character of a text, or the one before it if the text is empty.
-#[tactic(auto, using(crate::proofs::EventCalls::last_of_text))]
+#[tactic(auto, using(crate::proofs::lemmas::EventCalls::last_of_text))]
 // cargo: #[inline(always)]
 fn last_char(text: &str, before: Option<char>) -> Option<char>
     ensures { result ≡ last_printed_from before (map Print (chars text.now)) }

@@ -12,7 +12,7 @@ use vte_types::{Attr, Color, NamedColor};
 
 /// Calls the handler for each attribute of the groups.
 #[inline(always)]
-#[tactic(auto, using(crate::proofs::calls::Loops::attributes_after))]
+#[tactic(auto, using(crate::proofs::lemmas::calls::Loops::attributes_after))]
 pub(crate) fn perform_attributes<H: Handler>(handler: &mut H, params: &Params)
     ensures { H.value_of handler.new
         ≡ after H.step (H.value_of handler.old) (attribute_calls params.now) }

@@ -86,7 +86,7 @@ pub(crate) trait ParseAs<H: Handler, T: Timeout + Drop, P: EventParser>: Sized {
             bytes.now result };
 }
 
-#[tactic(auto, using(crate::proofs::EnoughMemory::short_parses))]
+#[tactic(auto, using(crate::proofs::lemmas::EnoughMemory::short_parses))]
 impl<H: Handler, T: Timeout + Drop, const N: usize> ParseAs<H, T, Parser<N>> for ByCharacter {
     #[inline(always)]
     fn advance<B: TextBuffer + Drop>(
@@ -107,7 +107,7 @@ impl<H: Handler, T: Timeout + Drop, const N: usize> ParseAs<H, T, Parser<N>> for
     }
 }
 
-#[tactic(auto, using(crate::proofs::EnoughMemory::short_parses))]
+#[tactic(auto, using(crate::proofs::lemmas::EnoughMemory::short_parses))]
 impl<H: HandlerText, T: Timeout + Drop, const N: usize> ParseAs<H, T, Parser<N>> for InRuns {
     #[inline(always)]
     fn advance<B: TextBuffer + Drop>(

@@ -1,5 +1,5 @@
 -- The parser is restored before and saved after, so what `read_all` ensures holds for what is saved (`call-fed`).
-use Rattle.vte_c.proofs.ReadBack.{call-fed}
+use Rattle.vte_c.proofs.lemmas.ReadBack.{call-fed}
 use Rattle.vte_c.proofs.feed.read_into.Goals as goal
 
 pub returns-clause-stops : goal.returns-clause-stops

@@ -2,7 +2,7 @@
 -- (`goes-further`).
 use Rattle.vte_c.proofs.Common.{List, arith, drop, length, length-drop, buffers_of, resumed_stream, take, ℕ, ◌++◌, ◌-◌, ◌≡◌, ◌≤◌, usual_limit}
 use Rattle.vte_core.specs.AdvanceToRun.{run_bytes}
-use Rattle.vte_c.proofs.CallSteps.{Laws, goes-further, goes-to-run}
+use Rattle.vte_c.proofs.lemmas.CallSteps.{Laws, goes-further, goes-to-run}
 use Rattle.vte_c.proofs.feed.read_more.Goals as goal
 use Rattle.std.proofs.lemmas.List.{take_rest}
 

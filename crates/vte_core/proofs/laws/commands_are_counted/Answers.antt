@@ -1,5 +1,5 @@
 -- A lemma of streams: `counts_data`.
-use Rattle.vte_core.proofs.streams.StreamSteps.{counts_data}
+use Rattle.vte_core.proofs.lemmas.streams.StreamSteps.{counts_data}
 use Rattle.vte_core.proofs.laws.commands_are_counted.Goals as goal
 
 pub returns : goal.returns

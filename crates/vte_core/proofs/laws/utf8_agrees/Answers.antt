@@ -1,5 +1,5 @@
 -- The encoding of a character is well formed and spells its number (`dividing/Utf8Agrees`).
-use Rattle.vte_core.proofs.dividing.Utf8Agrees.{encoded_is_well_formed, scalar_of-encoded}
+use Rattle.vte_core.proofs.lemmas.dividing.Utf8Agrees.{encoded_is_well_formed, scalar_of-encoded}
 use Rattle.vte_core.proofs.laws.utf8_agrees.Goals as goal
 
 pub returns-clause-character : goal.returns-clause-character

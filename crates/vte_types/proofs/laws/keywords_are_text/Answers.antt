@@ -1,5 +1,5 @@
 -- Keywords are ASCII, so the text is none of them (`Words`).
-use Rattle.vte_types.proofs.Words.{no_icon}
+use Rattle.vte_types.proofs.lemmas.Words.{no_icon}
 use Rattle.vte_types.proofs.laws.keywords_are_text.Goals as goal
 
 pub returns : goal.returns

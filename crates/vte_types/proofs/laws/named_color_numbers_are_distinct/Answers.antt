@@ -1,5 +1,5 @@
 -- A table reads the colour back from its number (`Colors`).
-use Rattle.vte_types.proofs.Colors.{number_decides}
+use Rattle.vte_types.proofs.lemmas.Colors.{number_decides}
 use Rattle.vte_types.proofs.laws.named_color_numbers_are_distinct.Goals as goal
 
 pub returns : goal.returns

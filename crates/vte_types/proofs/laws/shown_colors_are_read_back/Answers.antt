@@ -1,5 +1,5 @@
 -- Each digit that is shown is read back (`Colors`).
-use Rattle.vte_types.proofs.Colors.{hex_color_of-shown}
+use Rattle.vte_types.proofs.lemmas.Colors.{hex_color_of-shown}
 use Rattle.vte_types.proofs.laws.shown_colors_are_read_back.Goals as goal
 
 pub returns : goal.returns

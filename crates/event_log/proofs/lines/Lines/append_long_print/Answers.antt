@@ -1,6 +1,6 @@
 -- The line has the last five of the six hex digits, or all of them (`Fields`).
 use Rattle.event_log.proofs.Common.{arith, hex_byte, six_hex_digits}
-use Rattle.event_log.proofs.Fields.{line_of-five_digits, line_of-six_digits}
+use Rattle.event_log.proofs.lemmas.Fields.{line_of-five_digits, line_of-six_digits}
 use Rattle.event_log.proofs.lines.Lines.append_long_print.Goals as goal
 
 pub returns-in-65536-to-1048575 : goal.returns-in-65536-to-1048575

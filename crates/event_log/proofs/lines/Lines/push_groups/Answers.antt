@@ -2,7 +2,7 @@
 -- that text is empty.
 use Rattle.event_log.proofs.Common.{◌≡◌, ◌++◌, ℕ, List, Bor, get_or, map, [], refl, sym, ◌∙◌, append-nil, arith, common_steps, All-tail, flat_map, shown, IsFilled}
 use Rattle.event_log.proofs.Common.{after_semicolon, group_text, groups_written, shown-nil}
-use Rattle.event_log.proofs.Fields.{extends_then}
+use Rattle.event_log.proofs.lemmas.Fields.{extends_then}
 use Rattle.event_log.proofs.lines.Lines.push_groups.Goals as goal
 use Rattle.event_log.proofs.lines.Lines.push_groups.Goals.{in-Some+in-None, in_default}
 

@@ -1,6 +1,6 @@
 -- The table has the two hex digits of each byte (`Fields`).
 use Rattle.event_log.proofs.Common.{arith}
-use Rattle.event_log.proofs.Fields.{entry-of_byte}
+use Rattle.event_log.proofs.lemmas.Fields.{entry-of_byte}
 use Rattle.event_log.proofs.lines.short.hex_pair.Goals as goal
 
 pub returns : goal.returns

@@ -1,5 +1,5 @@
 -- Each law is a lemma on lists of calls.
-use Rattle.vte.proofs.replays.ReplayedSteps.{refused_delivered, replay-append, replay-only_one, replay-well, steps_delivered}
+use Rattle.vte.proofs.lemmas.replays.ReplayedSteps.{refused_delivered, replay-append, replay-only_one, replay-well, steps_delivered}
 use Rattle.vte.proofs.ansi.laws.calls_are_received.Goals as goal
 
 pub returns-clause-calls : goal.returns-clause-calls

@@ -1,6 +1,6 @@
 -- The first separator parts the text; without one the text is a part of its own.
 use Rattle.vte.proofs.Common.{ℕ, ◌==◌, ◌+◌, length, arith, rules, position_or_len_is, take_rest}
-use Rattle.vte.proofs.calls.SplitTexts.{split-first, split-whole}
+use Rattle.vte.proofs.lemmas.calls.SplitTexts.{split-first, split-whole}
 use Rattle.vte.proofs.ansi.split.split_at_first.Goals as goal
 
 pub returns-in-Some-clause-parts : goal.returns-in-Some-clause-parts

@@ -1,6 +1,6 @@
 -- A run is written as its characters are, one after another (`run-written`).
 use Rattle.vte_c.proofs.Common.{text_buffer_of, ◌∙◌}
-use Rattle.vte_c.proofs.Stripping.{run-written}
+use Rattle.vte_c.proofs.lemmas.Stripping.{run-written}
 use Rattle.vte_c.proofs.text.TextWriterPerformText.print_text.Goals as goal
 
 pub returns : goal.returns

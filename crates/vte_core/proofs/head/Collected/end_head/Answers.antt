@@ -1,6 +1,6 @@
 -- The last number is settled, so what is held is the whole head: whether too many numbers were given or not.
 use Rattle.vte_core.proofs.Common.{refl}
-use Rattle.vte_core.proofs.fields.Heads.{head-ready}
+use Rattle.vte_core.proofs.lemmas.fields.Heads.{head-ready}
 use Rattle.vte_core.proofs.head.Collected.end_head.Goals as goal
 
 pub returns-then-self : goal.returns-then-self

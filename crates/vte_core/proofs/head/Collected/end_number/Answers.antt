@@ -1,6 +1,6 @@
 -- A `;` settles the open number and opens another.
 use Rattle.vte_core.proofs.Common.{refl}
-use Rattle.vte_core.proofs.fields.Heads.{counts-separator}
+use Rattle.vte_core.proofs.lemmas.fields.Heads.{counts-separator}
 use Rattle.vte_core.proofs.head.Collected.end_number.Goals as goal
 
 pub returns-clause-counts : goal.returns-clause-counts

@@ -1,6 +1,6 @@
 -- Each round reads one byte of the head, and what was read adds up (`reads_head-then`).
 use Rattle.vte_core.proofs.Common.{refl, sym, ◌∙◌, arith, rules}
-use Rattle.vte_core.proofs.positions.HeadStretches.{reads_head-byte, reads_head-nothing, reads_head-then}
+use Rattle.vte_core.proofs.lemmas.positions.HeadStretches.{reads_head-byte, reads_head-nothing, reads_head-then}
 use Rattle.vte_core.proofs.head.Collected.read_head.Goals as goal
 
 pub loop-position-init : goal.loop-position-init

@@ -1,7 +1,7 @@
 -- A number more joins the last group or begins one (`pushed` of `fields/Numbers`): there is room, the last length stays
 -- small, and the lengths still fit.
 use Rattle.vte_core.proofs.Common.{◌<◌, ◌≤◌, ◌+◌, All-push, arith, ap, greatest_number, lit<, count_of, rules}
-use Rattle.vte_core.proofs.fields.Numbers.{count_of-cut_by_lengths, pushed}
+use Rattle.vte_core.proofs.lemmas.fields.Numbers.{count_of-cut_by_lengths, pushed}
 use Rattle.vte_core.proofs.params.Params.push.Goals as goal
 
 -- There is room for the number.

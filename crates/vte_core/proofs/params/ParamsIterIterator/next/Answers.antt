@@ -1,7 +1,7 @@
 -- The first length is cut off with its numbers, and the other lengths fit the rest.
 use Rattle.vte_core.proofs.Common.{ℕ, List, subst}
 use Rattle.vte_core.specs.private.Store.{AreLengths}
-use Rattle.vte_core.proofs.fields.Numbers.{AreLengths-rest}
+use Rattle.vte_core.proofs.lemmas.fields.Numbers.{AreLengths-rest}
 use Rattle.vte_core.proofs.params.ParamsIterIterator.next.Goals as goal
 
 pub invariant_of-self : goal.invariant_of-self

@@ -1,6 +1,6 @@
 -- As many groups are left as lengths.
 use Rattle.vte_core.proofs.Common.{length, arith, ap, rules}
-use Rattle.vte_core.proofs.fields.Numbers.{length-cut_by_lengths}
+use Rattle.vte_core.proofs.lemmas.fields.Numbers.{length-cut_by_lengths}
 use Rattle.vte_core.proofs.params.ParamsIterIterator.size_hint.Goals as goal
 
 pub returns-clause-exact : goal.returns-clause-exact

@@ -1,6 +1,6 @@
 -- What `drive_to_run` ensures, of the run that was taken.
 use Rattle.vte_core.proofs.Common.{refl, rules}
-use Rattle.vte_core.proofs.positions.ToRun.{reads-run, returns-run}
+use Rattle.vte_core.proofs.lemmas.positions.ToRun.{reads-run, returns-run}
 use Rattle.vte_core.proofs.parser.Parser.advance_to_run.Goals as goal
 
 pub returns : goal.returns

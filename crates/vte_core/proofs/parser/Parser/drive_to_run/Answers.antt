@@ -1,5 +1,5 @@
 -- With a limit nothing is refused, so a run is found.
-use Rattle.vte_core.proofs.positions.Contracts.{costs-added}
+use Rattle.vte_core.proofs.lemmas.positions.Contracts.{costs-added}
 use Rattle.vte_core.proofs.parser.Parser.drive_to_run.Goals as goal
 
 pub returns-in-Ok : goal.returns-in-Ok

@@ -1,6 +1,6 @@
 -- Where no further ASCII follows, the run is the first byte, which prints as a character. The longer run is
 -- `report_text`'s.
-use Rattle.vte_core.proofs.positions.TextRuns.{prints-one}
+use Rattle.vte_core.proofs.lemmas.positions.TextRuns.{prints-one}
 use Rattle.vte_core.proofs.parser.text.print_ascii.Goals as goal
 
 pub returns-in-Some-clause-prints : goal.returns-in-Some-clause-prints

@@ -1,6 +1,6 @@
 -- A word of eight printed bytes is added whole, or up to its first byte that is not.
 use Rattle.vte_core.proofs.Common.{arith, IsPrintedAscii}
-use Rattle.vte_core.proofs.bytes.Runs.{scans-block}
+use Rattle.vte_core.proofs.lemmas.bytes.Runs.{scans-block}
 use Rattle.vte_core.proofs.reader.Reader.find_ascii_end_by_words.Goals as goal
 
 pub loop-word-preserved : goal.loop-word-preserved

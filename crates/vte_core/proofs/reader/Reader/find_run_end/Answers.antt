@@ -1,6 +1,6 @@
 -- A short search first. If the run goes on where that ends, the long one continues it.
 use Rattle.vte_core.proofs.Common.{arith, eqb-true, rules}
-use Rattle.vte_core.proofs.bytes.Runs.{no_run-all, scans-run}
+use Rattle.vte_core.proofs.lemmas.bytes.Runs.{no_run-all, scans-run}
 use Rattle.vte_core.proofs.reader.Reader.find_run_end.Goals as goal
 
 pub returns-else-end-len-clause-scans : goal.returns-else-end-len-clause-scans

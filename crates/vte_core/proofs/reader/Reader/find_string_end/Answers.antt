@@ -1,6 +1,6 @@
 -- A block of ignored bytes is added whole.
 use Rattle.vte_core.proofs.Common.{arith, IsIgnored}
-use Rattle.vte_core.proofs.bytes.Runs.{scans-block}
+use Rattle.vte_core.proofs.lemmas.bytes.Runs.{scans-block}
 use Rattle.vte_core.proofs.reader.Reader.find_string_end.Goals as goal
 
 pub loop-block-preserved : goal.loop-block-preserved

@@ -1,9 +1,9 @@
 -- A block whose bytes all fit is skipped. The run ends before the character that the last bytes leave open.
 use Rattle.vte_core.proofs.Common.{◌≡◌, ◌≤◌, ◌<◌, ◌+◌, ◌-◌, false, drop, arith, false≢true, ◌∙◌, inl, inr, cases_lt, sym, subst, get_or-drop, looked, rules}
 use Rattle.vte_core.specs.private.Scans.{Each}
-use Rattle.vte_core.proofs.bytes.Runs.{run-none}
-use Rattle.vte_core.proofs.automaton_states.Scanned.{run-kept}
-use Rattle.vte_core.proofs.automaton_states.Windows.{above-block, trails-ascii, trails-block, run-before-open}
+use Rattle.vte_core.proofs.lemmas.bytes.Runs.{run-none}
+use Rattle.vte_core.proofs.lemmas.automaton_states.Scanned.{run-kept}
+use Rattle.vte_core.proofs.lemmas.automaton_states.Windows.{above-block, trails-ascii, trails-block, run-before-open}
 use Rattle.vte_core.proofs.reader.Reader.skip_run_blocks.Goals.{then-is_ascii, else-is_ascii, then-layout, else-layout}
 use Rattle.vte_core.proofs.reader.Reader.skip_run_blocks.Goals as goal
 

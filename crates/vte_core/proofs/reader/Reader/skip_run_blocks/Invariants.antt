@@ -4,7 +4,7 @@
 -- (`at_most`), and the larger ones aren't the first (`early`).
 use Rattle.vte_core.proofs.Common.{false, length, ◌*◌, ◌+◌, ◌-◌, ◌≡◌, ◌≤◌, ◌<◌, looked}
 use Rattle.vte_core.specs.private.Scans.{Each}
-use Rattle.vte_core.proofs.automaton_states.Windows.{TrailsAt}
+use Rattle.vte_core.proofs.lemmas.automaton_states.Windows.{TrailsAt}
 use Rattle.vte_core.proofs.reader.Reader.skip_run_blocks.Given as goal
 
 abbrev pub invariant-loop-window : goal.invariant-loop-window

@@ -1,7 +1,7 @@
 -- A byte that passes joins those before it (`each-next`).
 use Rattle.vte_core.proofs.Common.{ℕ, arith, nat_tests, and_parts, refl, slice_index, ◌||◌}
 use Rattle.vte_core.specs.private.Automaton.{StaysBetween}
-use Rattle.vte_core.proofs.bytes.Runs.{each-next}
+use Rattle.vte_core.proofs.lemmas.bytes.Runs.{each-next}
 use Rattle.vte_core.proofs.reader.run_blocks.are_printed_or_layout.Goals as goal
 
 pub loop-byte-preserved : goal.loop-byte-preserved

@@ -4,7 +4,7 @@ use Rattle.vte_core.proofs.Common.{Bool, ℕ, arith, false, nat_le, nat_tests, a
 use Rattle.std.proofs.Common.{nat_eq, nat_lt}
 use Rattle.std.proofs.lemmas.Bool.{or_parts}
 use Rattle.std.proofs.Math.Bool.{beq}
-use Rattle.vte_core.proofs.automaton_states.Windows.{trails-after}
+use Rattle.vte_core.proofs.lemmas.automaton_states.Windows.{trails-after}
 use Rattle.vte_core.proofs.reader.run_blocks.may_follow.Goals as goal
 
 beq-same : (left right : Bool) → beq left right ≡ true → left ≡ right

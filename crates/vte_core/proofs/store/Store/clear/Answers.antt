@@ -1,6 +1,6 @@
 -- An empty store keeps no items.
 use Rattle.vte_core.proofs.Common.{refl}
-use Rattle.vte_core.proofs.fields.Stores.{keeps-nothing}
+use Rattle.vte_core.proofs.lemmas.fields.Stores.{keeps-nothing}
 use Rattle.vte_core.proofs.store.Store.clear.Goals as goal
 
 pub returns-clause-holds : goal.returns-clause-holds

@@ -1,6 +1,6 @@
 -- Data are kept as far as there is room. Once there are 16 ends they only count as dropped.
 use Rattle.vte_core.proofs.Common.{◌≡◌, ℕ, ◌-◌, length, take, drop, length-take, length-drop, refl, sym, subst, ◌∙◌, arith, eqb-true, eqb-false, HoldsItems}
-use Rattle.vte_core.proofs.fields.Stores.{keeps-later, keeps-run}
+use Rattle.vte_core.proofs.lemmas.fields.Stores.{keeps-later, keeps-run}
 use Rattle.vte_core.proofs.store.Store.push_data.Goals as goal
 use Rattle.vte_core.proofs.store.Store.push_data.Goals.{then-not-is_full, else-not-is_full}
 

@@ -1,6 +1,6 @@
 -- What `memchr` finds from the start of the search on.
 use Rattle.vte_core.proofs.Common.{take_rest, arith, rules}
-use Rattle.vte_core.proofs.streams.Parts.{escape_found, escape_missing}
+use Rattle.vte_core.proofs.lemmas.streams.Parts.{escape_found, escape_missing}
 use Rattle.vte_core.proofs.stream_parts.iter.find_escape.Goals as goal
 
 pub returns-in-Some-clause-first : goal.returns-in-Some-clause-first

@@ -1,5 +1,5 @@
 -- There is memory for texts, so nothing is refused and all bytes are read (`refused-never-within`).
-use Rattle.vte.proofs.replays.ProcessorAndEngine.{refused-never-within}
+use Rattle.vte.proofs.lemmas.replays.ProcessorAndEngine.{refused-never-within}
 use Rattle.vte.proofs.ansi.bounded_processor.BoundedProcessor.advance.Goals as goal
 
 pub returns : goal.returns

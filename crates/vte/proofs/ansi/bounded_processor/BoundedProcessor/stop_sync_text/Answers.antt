@@ -1,5 +1,5 @@
 -- The engine keeps the memory for texts (`stops_within`).
-use Rattle.vte.proofs.replays.ProcessorAndEngine.{stops_within}
+use Rattle.vte.proofs.lemmas.replays.ProcessorAndEngine.{stops_within}
 use Rattle.vte.proofs.ansi.bounded_processor.BoundedProcessor.stop_sync_text.Goals as goal
 
 pub returns : goal.returns

@@ -1,5 +1,5 @@
 -- What the engine ensures, and that no memory is refused which is there (`replays/ProcessorAndEngine`).
-use Rattle.vte.proofs.replays.ProcessorAndEngine.{advances_long}
+use Rattle.vte.proofs.lemmas.replays.ProcessorAndEngine.{advances_long}
 use Rattle.vte.proofs.ansi.long_processor.LongProcessor.advance.Goals as goal
 
 pub returns : goal.returns

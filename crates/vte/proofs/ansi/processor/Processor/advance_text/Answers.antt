@@ -1,5 +1,5 @@
 -- With a limit nothing is refused, so all bytes are read (`refused-never`).
-use Rattle.vte.proofs.replays.ProcessorAndEngine.{refused-never}
+use Rattle.vte.proofs.lemmas.replays.ProcessorAndEngine.{refused-never}
 use Rattle.vte.proofs.ansi.processor.Processor.advance_text.Goals as goal
 
 pub returns : goal.returns

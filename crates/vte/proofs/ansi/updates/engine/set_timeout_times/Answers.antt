@@ -1,6 +1,6 @@
 -- Once more is one more.
 use Rattle.vte.proofs.Common.{◌∙◌}
-use Rattle.vte.proofs.EventCalls.{set_times-add}
+use Rattle.vte.proofs.lemmas.EventCalls.{set_times-add}
 use Rattle.vte.proofs.ansi.updates.engine.set_timeout_times.Goals as goal
 
 pub loop-time-preserved : goal.loop-time-preserved

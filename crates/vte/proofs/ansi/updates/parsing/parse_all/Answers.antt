@@ -1,6 +1,6 @@
 -- What was lent to the performer comes back with the calls of the parsed bytes.
 use Rattle.vte.proofs.Common.{refl, meaning_of}
-use Rattle.vte.proofs.PerformedEvents.{performer-given_back, text_size_back}
+use Rattle.vte.proofs.lemmas.PerformedEvents.{performer-given_back, text_size_back}
 use Rattle.vte.proofs.ansi.updates.parsing.parse_all.Goals as goal
 
 pub returns-clause-parsed : goal.returns-clause-parsed

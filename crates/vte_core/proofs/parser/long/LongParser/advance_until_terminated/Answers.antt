@@ -1,5 +1,5 @@
 -- As for `advance_text_until_terminated`.
-use Rattle.vte_core.proofs.positions.Contracts.{advance-until}
+use Rattle.vte_core.proofs.lemmas.positions.Contracts.{advance-until}
 use Rattle.vte_core.proofs.parser.long.LongParser.advance_until_terminated.Goals as goal
 
 pub returns : goal.returns

@@ -1,6 +1,6 @@
 -- What the machine's `drive` ensures, of a reader that begins with no looks.
 use Rattle.vte_core.proofs.Common.{arith, rules}
-use Rattle.vte_core.proofs.positions.Contracts.{costs-added}
+use Rattle.vte_core.proofs.lemmas.positions.Contracts.{costs-added}
 use Rattle.vte_core.proofs.parser.long.LongParser.drive.Goals as goal
 
 pub returns : goal.returns

@@ -1,5 +1,5 @@
 -- What the machine's `drive_to_run` ensures, of a reader that begins with no looks.
-use Rattle.vte_core.proofs.positions.Contracts.{costs-added}
+use Rattle.vte_core.proofs.lemmas.positions.Contracts.{costs-added}
 use Rattle.vte_core.proofs.parser.long.LongParser.drive_to_run.Goals as goal
 
 pub returns : goal.returns

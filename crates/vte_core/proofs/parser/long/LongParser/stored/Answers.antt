@@ -1,6 +1,6 @@
 -- The store has the open command in the state of one, and in every other state none is open.
 use Rattle.vte_core.proofs.Common.{sym, ◌∙◌}
-use Rattle.vte_core.proofs.positions.Open.{none_is_open, stored_is_open}
+use Rattle.vte_core.proofs.lemmas.positions.Open.{none_is_open, stored_is_open}
 use Rattle.vte_core.proofs.parser.long.LongParser.stored.Goals as goal
 
 pub returns-in-SystemCommand : goal.returns-in-SystemCommand

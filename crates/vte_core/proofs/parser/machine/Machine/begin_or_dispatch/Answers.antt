@@ -2,11 +2,11 @@
 -- shape with nothing read.
 use Rattle.vte_core.proofs.Common.{refl, ◌∙◌, arith, sequence_kind, rules}
 use Rattle.vte_core.specs.SequenceKind.{DeviceControl, IgnoredString, SystemCommand}
-use Rattle.vte_core.proofs.bytes.Classes.{class-final, other_key}
-use Rattle.vte_core.proofs.positions.Stretches.{takes-byte}
-use Rattle.vte_core.proofs.positions.Progress.{settled-same_state}
-use Rattle.vte_core.proofs.fields.PlaceOfState.{is_at-escape, is_at-text_begun}
-use Rattle.vte_core.proofs.places.PlaceLeads.{escape-key, escape-end}
+use Rattle.vte_core.proofs.lemmas.bytes.Classes.{class-final, other_key}
+use Rattle.vte_core.proofs.lemmas.positions.Stretches.{takes-byte}
+use Rattle.vte_core.proofs.lemmas.positions.Progress.{settled-same_state}
+use Rattle.vte_core.proofs.lemmas.fields.PlaceOfState.{is_at-escape, is_at-text_begun}
+use Rattle.vte_core.proofs.lemmas.places.PlaceLeads.{escape-key, escape-end}
 use Rattle.vte_core.proofs.parser.machine.Machine.begin_or_dispatch.Goals as goal
 
 -- `P` begins a device control string.

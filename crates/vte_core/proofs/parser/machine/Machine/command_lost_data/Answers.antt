@@ -1,8 +1,8 @@
 -- Data of a command were dropped if the store says so: by the state, and so the place, of the parser.
 use Rattle.vte_core.proofs.Common.{ℕ, Option, List, [], ◌∷◌, sym, Machine, State, SystemCommand, IsAtPlace, IsPlaceOfState, Place, InText, InSystemCommand, HoldsItems, SaysLoss, left_at, arith, rules}
-use Rattle.vte_core.proofs.fields.PlaceOfState.{is_at-place}
-use Rattle.vte_core.proofs.fields.Stores.{loses_held}
-use Rattle.vte_core.proofs.streams.After.{after-left}
+use Rattle.vte_core.proofs.lemmas.fields.PlaceOfState.{is_at-place}
+use Rattle.vte_core.proofs.lemmas.fields.Stores.{loses_held}
+use Rattle.vte_core.proofs.lemmas.streams.After.{after-left}
 use Rattle.vte_core.proofs.parser.machine.Machine.command_lost_data.Goals as goal
 
 by_state : {B : Type 0} (limit : Option ℕ) (state : State) (parser : Machine B) (items : List ℕ)

@@ -2,13 +2,13 @@
 -- lemmas `goes-*` say how far it has gone, `completes-*` how it ends there, from the second byte on; `advances-first`
 -- leads from the first. A run that it begins is reported as a text.
 use Rattle.vte_core.proofs.Common.{◌≡◌, ℕ, ◌+◌, ◌<◌, ◌≤◌, length, ap, subst, sym, ◌∙◌, arith, false≢true, slice_index, IsRun}
-use Rattle.vte_core.proofs.bytes.Scalars.{second-broken, third-broken, fourth-broken, spells-four}
-use Rattle.vte_core.proofs.bytes.Runs.{run-append}
-use Rattle.vte_core.proofs.positions.Characters.{completes-broken, completes-then, completes-whole, goes-nowhere, goes-second, goes-third, unfinished-some}
-use Rattle.vte_core.proofs.positions.BetweenCharacters.{advances-first}
-use Rattle.vte_core.proofs.positions.Stretches.{advances-weaker}
-use Rattle.vte_core.proofs.positions.TextRuns.{advances-text}
-use Rattle.vte_core.proofs.dividing.Utf8Agrees.{run-four}
+use Rattle.vte_core.proofs.lemmas.bytes.Scalars.{second-broken, third-broken, fourth-broken, spells-four}
+use Rattle.vte_core.proofs.lemmas.bytes.Runs.{run-append}
+use Rattle.vte_core.proofs.lemmas.positions.Characters.{completes-broken, completes-then, completes-whole, goes-nowhere, goes-second, goes-third, unfinished-some}
+use Rattle.vte_core.proofs.lemmas.positions.BetweenCharacters.{advances-first}
+use Rattle.vte_core.proofs.lemmas.positions.Stretches.{advances-weaker}
+use Rattle.vte_core.proofs.lemmas.positions.TextRuns.{advances-text}
+use Rattle.vte_core.proofs.lemmas.dividing.Utf8Agrees.{run-four}
 use Rattle.vte_core.proofs.parser.machine.Machine.complete_four.Goals as goal
 
 -- `omega` proves these over plain numbers, so that it has little to read.

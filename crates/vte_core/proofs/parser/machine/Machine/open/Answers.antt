@@ -1,6 +1,6 @@
 -- The state and the fields say what is open of every stream that the parser may have read.
 use Rattle.vte_core.proofs.Common.{sym, ◌∙◌}
-use Rattle.vte_core.proofs.positions.Open.{closed_is_finished, open_is_unfinished, which_is_open}
+use Rattle.vte_core.proofs.lemmas.positions.Open.{closed_is_finished, open_is_unfinished, which_is_open}
 use Rattle.vte_core.proofs.parser.machine.Machine.open.Goals as goal
 
 pub returns : goal.returns

@@ -1,10 +1,10 @@
 -- The head first. Then nothing is left, or the next byte hooks, ends the string, or is dropped, by its class.
 use Rattle.vte_core.proofs.Common.{refl, sym, ◌∙◌, rules, class_of}
-use Rattle.vte_core.proofs.bytes.Classes.{final_ends_nothing, other_in_head}
-use Rattle.vte_core.proofs.positions.Stretches.{takes-byte}
-use Rattle.vte_core.proofs.positions.HeadStretches.{DeviceHead, advances-head, advances-past_head, match-none, takes_bytes-head}
-use Rattle.vte_core.proofs.fields.PlaceOfState.{is_at-by}
-use Rattle.vte_core.proofs.places.PlaceLeads.{device-dropped}
+use Rattle.vte_core.proofs.lemmas.bytes.Classes.{final_ends_nothing, other_in_head}
+use Rattle.vte_core.proofs.lemmas.positions.Stretches.{takes-byte}
+use Rattle.vte_core.proofs.lemmas.positions.HeadStretches.{DeviceHead, advances-head, advances-past_head, match-none, takes_bytes-head}
+use Rattle.vte_core.proofs.lemmas.fields.PlaceOfState.{is_at-by}
+use Rattle.vte_core.proofs.lemmas.places.PlaceLeads.{device-dropped}
 use Rattle.vte_core.proofs.parser.machine.Machine.read_device_control.Goals.{then-is_final, else-is_final+then-ends_body, else-is_final+else-ends_body}
 use Rattle.vte_core.proofs.parser.machine.Machine.read_device_control.Goals as goal
 

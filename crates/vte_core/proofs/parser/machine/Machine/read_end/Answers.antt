@@ -1,5 +1,5 @@
 -- The body ends. After ESC the call goes on with the byte after that.
-use Rattle.vte_core.proofs.positions.Stretches.{advances-byte, advances-given, advances-then}
+use Rattle.vte_core.proofs.lemmas.positions.Stretches.{advances-byte, advances-given, advances-then}
 use Rattle.vte_core.proofs.parser.machine.Machine.read_end.Goals as goal
 
 pub returns-then-byte-ne-ESCAPE-clause-advances : goal.returns-then-byte-ne-ESCAPE-clause-advances

@@ -1,12 +1,12 @@
 -- Data join the open piece. The byte after them ends the command, or is `;`, BEL or a control: by its class, since data
 -- would have been read.
 use Rattle.vte_core.proofs.Common.{◌≡◌, ◌<◌, length, [], ◌∷◌, ◌++◌, refl, sym, subst, ◌∙◌, arith, ne_eqb, Machine, HoldsItems, IsCommandData, rules}
-use Rattle.vte_core.proofs.bytes.Classes.{other_is_control}
-use Rattle.vte_core.proofs.positions.Stretches.{advances-in, takes-in_system_command, takes-byte, advances-items, advances-given, advances-then}
-use Rattle.vte_core.proofs.fields.PlaceOfState.{is_at-by}
-use Rattle.vte_core.proofs.fields.Stores.{pieces_held}
-use Rattle.vte_core.proofs.positions.Progress.{settled-same_state}
-use Rattle.vte_core.proofs.places.PlaceLeads.{command-item, command-control, command-bell}
+use Rattle.vte_core.proofs.lemmas.bytes.Classes.{other_is_control}
+use Rattle.vte_core.proofs.lemmas.positions.Stretches.{advances-in, takes-in_system_command, takes-byte, advances-items, advances-given, advances-then}
+use Rattle.vte_core.proofs.lemmas.fields.PlaceOfState.{is_at-by}
+use Rattle.vte_core.proofs.lemmas.fields.Stores.{pieces_held}
+use Rattle.vte_core.proofs.lemmas.positions.Progress.{settled-same_state}
+use Rattle.vte_core.proofs.lemmas.places.PlaceLeads.{command-item, command-control, command-bell}
 use Rattle.vte_core.proofs.parser.machine.Machine.read_system_command.Goals.{then-byte-eq59, else-byte-eq59+then-byte-eq-BELL, else-byte-eq59+else-byte-eq-BELL}
 use Rattle.vte_core.proofs.parser.machine.Machine.read_system_command.Goals as goal
 

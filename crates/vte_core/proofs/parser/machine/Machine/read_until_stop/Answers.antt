@@ -1,9 +1,9 @@
 -- A round reads the byte before which the call is: what begins with a lead byte by a branch of its own, and a
 -- character, a control or malformed byte alone by two that join.
 use Rattle.vte_core.proofs.Common.{◌≡◌, ◌+◌, ◌<◌, length, slice_index, sym, ◌∙◌, arith, rules, Advances}
-use Rattle.vte_core.proofs.positions.Progress.{settled-same_state}
-use Rattle.vte_core.proofs.positions.Stretches.{advances-byte, advances-without_promise, advances-then}
-use Rattle.vte_core.proofs.positions.BetweenCharacters.{takes_bytes-printed, takes_bytes-single}
+use Rattle.vte_core.proofs.lemmas.positions.Progress.{settled-same_state}
+use Rattle.vte_core.proofs.lemmas.positions.Stretches.{advances-byte, advances-without_promise, advances-then}
+use Rattle.vte_core.proofs.lemmas.positions.BetweenCharacters.{takes_bytes-printed, takes_bytes-single}
 use Rattle.vte_core.proofs.parser.machine.Machine.read_until_stop.Given.{Over}
 use Rattle.vte_core.proofs.parser.machine.Machine.read_until_stop.Invariants.{call_at}
 use Rattle.vte_core.proofs.parser.machine.Machine.read_until_stop.Goals.{Joined-is_printed_ascii, then-is_printed_ascii, else-is_printed_ascii+else-is_lead+else-byte-eq-ESCAPE}

@@ -1,6 +1,6 @@
 -- Of a text in which nothing is open, nothing but the state counts.
 use Rattle.vte_core.proofs.Common.{rules}
-use Rattle.vte_core.proofs.fields.PlaceOfState.{reads_saved}
+use Rattle.vte_core.proofs.lemmas.fields.PlaceOfState.{reads_saved}
 use Rattle.vte_core.proofs.parser.saved.Parser+MAX_OSC_RAW.save.Goals as goal
 
 pub returns-in-Text-Nothing : goal.returns-in-Text-Nothing

@@ -1,6 +1,6 @@
 -- Each field is kept, so a machine made of them has read the same (`reads_saved`).
 use Rattle.vte_core.proofs.Common.{refl, rules}
-use Rattle.vte_core.proofs.fields.PlaceOfState.{reads_saved}
+use Rattle.vte_core.proofs.lemmas.fields.PlaceOfState.{reads_saved}
 use Rattle.vte_core.proofs.parser.saved.Parser+MAX_OSC_RAW.save_open.Goals as goal
 
 pub returns : goal.returns

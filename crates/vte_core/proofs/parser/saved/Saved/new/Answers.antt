@@ -1,7 +1,7 @@
 -- What is saved first is the state of a new parser.
 use Rattle.vte_core.proofs.Common.{refl, Text, Nothing}
-use Rattle.vte_core.proofs.fields.PlaceOfState.{is_at-text_begun}
-use Rattle.vte_core.proofs.streams.After.{has_read-nothing}
+use Rattle.vte_core.proofs.lemmas.fields.PlaceOfState.{is_at-text_begun}
+use Rattle.vte_core.proofs.lemmas.streams.After.{has_read-nothing}
 use Rattle.vte_core.proofs.parser.saved.Saved.new.Goals as goal
 
 pub returns-clause-reads : goal.returns-clause-reads

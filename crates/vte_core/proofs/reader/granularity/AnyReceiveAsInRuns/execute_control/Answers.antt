@@ -1,6 +1,6 @@
 -- A control that is kept is a text of one character, whose event is the control.
 use Rattle.vte_core.proofs.Common.{arith, low_scalar, rules}
-use Rattle.vte_core.proofs.bytes.Runs.{after-character, layout-is_ascii, layout-stays, run_one}
+use Rattle.vte_core.proofs.lemmas.bytes.Runs.{after-character, layout-is_ascii, layout-stays, run_one}
 use Rattle.vte_core.proofs.reader.granularity.AnyReceiveAsInRuns.execute_control.Goals as goal
 
 pub print_text-requires-clause-plain : goal.print_text-requires-clause-plain

@@ -1,6 +1,6 @@
 -- A character is a text of one, whose event is to print it.
 use Rattle.vte_core.proofs.Common.{arith, rules}
-use Rattle.vte_core.proofs.bytes.Runs.{after-character, no_control-stays, run_event-no_control, run_one}
+use Rattle.vte_core.proofs.lemmas.bytes.Runs.{after-character, no_control-stays, run_event-no_control, run_one}
 use Rattle.vte_core.proofs.reader.granularity.AnyReceiveAsInRuns.print_char.Goals as goal
 
 pub print_text-requires-clause-plain : goal.print_text-requires-clause-plain

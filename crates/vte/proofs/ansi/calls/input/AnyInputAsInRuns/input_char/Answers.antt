@@ -2,7 +2,7 @@
 use Rattle.vte.proofs.Common.{◌≡◌, false, [], ◌∷◌, map, ap, sym, subst, ◌∙◌, arith, nat_tests, All, chars, Input, after}
 use Rattle.std.proofs.lemmas.List.Elements.{All-cons, All-nil}
 use Rattle.vte_core.specs.Text.{is_control_character}
-use Rattle.vte_core.proofs.bytes.Runs.{chars-encode}
+use Rattle.vte_core.proofs.lemmas.bytes.Runs.{chars-encode}
 use Rattle.vte.proofs.ansi.calls.input.AnyInputAsInRuns.input_char.Goals as goal
 
 pub input_text-requires-clause-plain : goal.input_text-requires-clause-plain

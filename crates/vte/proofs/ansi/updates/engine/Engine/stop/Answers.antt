@@ -1,6 +1,6 @@
 -- All held bytes are released and parsed, and then the update ends.
 use Rattle.vte.proofs.Common.{add-zero, ◌∙◌}
-use Rattle.vte.proofs.turns.EngineTurns.{parts-at, stops_update}
+use Rattle.vte.proofs.lemmas.turns.EngineTurns.{parts-at, stops_update}
 use Rattle.vte.proofs.ansi.updates.engine.Engine.stop.Goals as goal
 
 pub returns-clause-stopped : goal.returns-clause-stopped

@@ -1,5 +1,5 @@
 -- The parser's contract is the one of turns (`EnoughMemory`).
-use Rattle.vte.proofs.EnoughMemory.{long_parses}
+use Rattle.vte.proofs.lemmas.EnoughMemory.{long_parses}
 use Rattle.vte.proofs.ansi.updates.long_parsing.InRunsParseAsLongParser.advance.Goals as goal
 
 pub returns : goal.returns

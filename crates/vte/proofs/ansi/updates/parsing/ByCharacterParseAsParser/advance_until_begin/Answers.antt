@@ -1,5 +1,5 @@
 -- The parser's contract is the one of turns (`EnoughMemory`).
-use Rattle.vte.proofs.EnoughMemory.{short_stops}
+use Rattle.vte.proofs.lemmas.EnoughMemory.{short_stops}
 use Rattle.vte.proofs.ansi.updates.parsing.ByCharacterParseAsParser.advance_until_begin.Goals as goal
 
 pub returns : goal.returns

@@ -1,0 +1,6 @@
+-- From the parts of lines (`Fields`) to what is held (`Records`), which is never too long (`Lengths`), and written
+-- (`Progress`).
+pub mod Fields
+pub mod Lengths
+pub mod Progress
+pub mod Records

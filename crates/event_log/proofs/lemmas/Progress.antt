@@ -1,0 +1,182 @@
+-- From what a collector holds to what a run has written: what was collected is appended, and each read that gives
+-- something takes a chunk off the input (`HasReadPart`), until one fails or gives nothing.
+use Rattle.event_log.proofs.Common.{◌≡◌, ℕ, ◌+◌, ◌<◌, ◌≤◌, ◌⊎◌, Bool, true, List, [], ◌++◌, length, Option, Some, None, IfSome, inl, inr, refl, sym, ap, ◌∙◌, usual_limit, append_assoc, append-nil, length-append, arith, flat_map, Event, HasRead, events, Parser, AddsUpTo, HasWritten}
+use Rattle.std.specs.Io.KnownBytes.{Appends, Consumes, IsAtEnd, Keeps}
+use Rattle.event_log.specs.Device.{KeepsWhereKnown}
+use Rattle.event_log.specs.Run.{WritesAll, WritesPrefix, max_reads}
+use Rattle.vte_core.proofs.lemmas.streams.After.{added-nothing}
+use Rattle.event_log.proofs.lemmas.Records.{adds_up-at_first}
+
+-- ---- devices whose bytes are known
+
+known-appended : (after : Option (List ℕ)) (known bytes : List ℕ) → Appends (Some known) after bytes
+    → after ≡ Some (known ++ bytes)
+known-appended None known bytes appends = absurd appends
+known-appended (Some bytes_after) known bytes appends = ap Some appends
+
+known-kept : (after : Option (List ℕ)) (known : List ℕ) → Keeps (Some known) after → after ≡ Some known
+known-kept None known keeps = absurd keeps
+known-kept (Some bytes_after) known keeps = ap Some keeps
+
+-- A chunk was taken off the known bytes, and the rest is still to come.
+record HasRest (known chunk : List ℕ) (after : Option (List ℕ)) : Type 0 where
+  rest : List ℕ
+  rest_is : after ≡ Some rest
+  parts : known ≡ chunk ++ rest
+
+known-consumed : (after : Option (List ℕ)) (known chunk : List ℕ) → Consumes (Some known) after chunk
+    → HasRest known chunk after
+known-consumed None known chunk consumes = absurd consumes
+known-consumed (Some rest) known chunk consumes = record { rest = rest; rest_is = refl; parts = consumes }
+
+known-kept_where_known : (after : Option (List ℕ)) (known : List ℕ) → KeepsWhereKnown (Some known) after
+    → IfSome after (λ bytes. bytes ≡ known)
+known-kept_where_known None known keeps = tt
+known-kept_where_known (Some bytes_after) known keeps = keeps
+
+-- ---- a chunk
+
+-- What was collected is written, and the run goes on with the unread bytes.
+pub written-more : {text_of : Event → List ℕ} {whole_text : List ℕ → List ℕ} {unread next_unread collected : List ℕ}
+    {parser next_parser : Parser 1024}
+    {taken next_taken : Option (List ℕ)} → HasWritten text_of whole_text taken parser unread
+    → ((part : List ℕ → List ℕ) → AddsUpTo text_of part [] parser unread
+    → AddsUpTo text_of part collected next_parser next_unread)
+    → Appends taken next_taken collected → HasWritten text_of whole_text next_taken next_parser next_unread
+written-more {unread} {collected} {next_taken} has_written collects appends =
+    let before = has_written.adds_up in
+    let now = collects _ (adds_up-at_first (record { since = before.since; parsed = before.parsed }) unread) in
+    record {
+      written = has_written.written ++ collected;
+      taken_is = known-appended next_taken has_written.written collected (rw has_written.taken_is at appends);
+      adds_up = record {
+        since = now.since;
+        parsed = now.parsed;
+        goes_on = λ more.
+            append_assoc has_written.written collected _
+            ∙ ap (λ (text : List ℕ). has_written.written ++ text) (now.goes_on more)
+            ∙ before.goes_on more;
+      };
+    }
+
+-- A chunk is still to be given to the parser.
+pub written-before_chunk : {text_of : Event → List ℕ} {whole_text : List ℕ → List ℕ} {parser : Parser 1024}
+    {taken : Option (List ℕ)}
+    (chunk : List ℕ) → HasWritten text_of whole_text taken parser []
+    → HasWritten text_of (λ more. whole_text (chunk ++ more)) taken parser chunk
+written-before_chunk chunk has_written = record {
+  written = has_written.written;
+  taken_is = has_written.taken_is;
+  adds_up = record {
+    since = has_written.adds_up.since;
+    parsed = has_written.adds_up.parsed;
+    goes_on = λ more. has_written.adds_up.goes_on (chunk ++ more);
+  };
+}
+
+pub written-kept : {text_of : Event → List ℕ} {whole_text : List ℕ → List ℕ} {parser : Parser 1024}
+    {taken next_taken : Option (List ℕ)} {unread : List ℕ}
+    → HasWritten text_of whole_text taken parser unread → Keeps taken next_taken
+    → HasWritten text_of whole_text next_taken parser unread
+written-kept {next_taken} has_written keeps =
+    record {
+      written = has_written.written;
+      taken_is = known-kept next_taken has_written.written (rw has_written.taken_is at keeps);
+      adds_up = has_written.adds_up;
+    }
+
+-- ---- a run
+
+abbrev means : (Event → List ℕ) → List ℕ → List ℕ
+means text_of stream = flat_map text_of (events usual_limit stream)
+
+-- A run has made this many reads, and each gave something.
+pub record HasReadPart (text_of : Event → List ℕ) (input held : List ℕ) (reads : ℕ) (parser : Parser 1024)
+    (to_come taken : Option (List ℕ)) : Type 0 where
+  pub stream : List ℕ
+  pub rest : List ℕ
+  pub parts : input ≡ stream ++ rest
+  pub left : to_come ≡ Some rest
+  pub whole_text : List ℕ → List ℕ
+  pub meaning : (more : List ℕ) → whole_text more ≡ held ++ means text_of (stream ++ more)
+  pub written : HasWritten text_of whole_text taken parser []
+  pub each_gave : reads ≤ length stream
+
+module _ {text_of : Event → List ℕ} {input held : List ℕ} {parser : Parser 1024} {to_come taken : Option (List ℕ)} where
+  pub run-begins : events usual_limit [] ≡ [] → to_come ≡ Some input → taken ≡ Some held → HasRead parser []
+      → HasReadPart text_of input held 0 parser to_come taken
+  run-begins no_events input_known held_known parsed = record {
+    stream = [];
+    rest = input;
+    parts = refl;
+    left = input_known;
+    whole_text = λ more. held ++ means text_of more;
+    meaning = λ more. refl;
+    written = record {
+      written = held;
+      taken_is = held_known;
+      adds_up = record { since = []; parsed = parsed; goes_on = λ more. rw no_events refl };
+    };
+    each_gave = omega arith;
+  }
+
+  pub run-reads_more : {reads : ℕ} {next_parser : Parser 1024} {next_to_come next_taken : Option (List ℕ)}
+      (chunk : List ℕ)
+      → HasReadPart text_of input held reads parser to_come taken → Consumes to_come next_to_come chunk
+      → 0 < length chunk
+      → ((whole_text : List ℕ → List ℕ) → HasWritten text_of whole_text taken parser []
+      → HasWritten text_of (λ more. whole_text (chunk ++ more)) next_taken next_parser [])
+      → HasReadPart text_of input held (reads + 1) next_parser next_to_come next_taken
+  run-reads_more {next_to_come} chunk has_read consumes not_empty writes =
+      let has_rest = known-consumed next_to_come has_read.rest chunk (rw has_read.left at consumes) in
+      record {
+        stream = has_read.stream ++ chunk;
+        rest = has_rest.rest;
+        parts = rw (append_assoc, ← has_rest.parts) has_read.parts;
+        left = has_rest.rest_is;
+        whole_text = λ more. has_read.whole_text (chunk ++ more);
+        meaning = λ more. rw append_assoc (has_read.meaning (chunk ++ more));
+        written = writes has_read.whole_text has_read.written;
+        each_gave = omega (arith, has_read.each_gave, length-append has_read.stream chunk);
+      }
+
+  -- All that was read is written.
+  run-has_written : {reads : ℕ} → (has_read : HasReadPart text_of input held reads parser to_come taken)
+      → taken ≡ Some (held ++ means text_of has_read.stream)
+  run-has_written has_read =
+      let has_written = has_read.written in
+      has_written.taken_is
+      ∙ ap Some
+      (sym (rw (added-nothing usual_limit has_written.adds_up.since) (append-nil has_written.written))
+      ∙ has_written.adds_up.goes_on [] ∙ has_read.meaning []
+      ∙ rw append-nil refl)
+
+  -- A read that fails ends a run, and so do as many reads as there may be.
+  pub run_ends-at_prefix : {reads : ℕ} {next_to_come : Option (List ℕ)} {failed : Bool}
+      → HasReadPart text_of input held reads parser to_come taken
+      → KeepsWhereKnown to_come next_to_come → (failed ≡ true) ⊎ (max_reads ≤ reads)
+      → WritesPrefix (means text_of) input held next_to_come taken failed
+  run_ends-at_prefix {next_to_come} has_read keeps cause = record {
+    stream = has_read.stream;
+    rest = has_read.rest;
+    parts = has_read.parts;
+    left = known-kept_where_known next_to_come has_read.rest (rw has_read.left at keeps);
+    written = run-has_written has_read;
+    cause = elim cause [
+      | inl fails ↦ inl fails
+      | inr reads_end ↦ inr (omega (arith, has_read.each_gave))
+    ];
+  }
+
+  -- A read that gives nothing ends a run.
+  pub run_ends-with_all : {reads : ℕ} {next_to_come : Option (List ℕ)}
+      → HasReadPart text_of input held reads parser to_come taken
+      → Consumes to_come next_to_come [] → IsAtEnd next_to_come
+      → WritesAll (means text_of) input held next_to_come taken
+  run_ends-with_all {next_to_come} has_read consumes end =
+      let has_rest = known-consumed next_to_come has_read.rest [] (rw has_read.left at consumes) in
+      let none_left : has_rest.rest ≡ [] = rw has_rest.rest_is at end in
+      record {
+        at_end = has_rest.rest_is ∙ ap Some none_left;
+        written = rw (has_read.parts, has_rest.parts, none_left, append-nil) (run-has_written has_read);
+      }

@@ -1,0 +1,109 @@
+-- With a timeout that is never pending, the handler receives the calls of the whole stream (`replays_all`,
+-- `plain_call`): nothing is ever held, so there are no stops. By induction over turns: each one parses, and ends with
+-- nothing held.
+use Rattle.vte.proofs.Common.{◌≡◌, ℕ, List, [], ◌∷◌, ◌++◌, refl, ap, sym, ◌∙◌, append-nil, after, Step, Advance, StopSync, added_calls, Meaning, TakesSteps, calls, events, State, turn, done, turns, Bor, HasAdvanced, HasReplayed, TakesAllTurns, given_bytes, true, false, HasParsedAll, IsAt, Replays, ProcessorPredicate}
+use Rattle.vte.proofs.lemmas.EventCalls.{after_calls-append, calls_whole}
+use Rattle.vte.specs.ProcessorCalls.{AreAdvances, IsNeverPending, ParsesAll}
+use Rattle.vte.proofs.lemmas.replays.ReceivedCalls.{calls_between-whole}
+use Rattle.vte.proofs.lemmas.replays.ReplayedSteps.{advance_runs}
+
+-- `next` holds nothing, and has the stops of `state`.
+record IsPlain {V W : Type 0} (state next : State V W) : Type 0 where
+  pub none_held : next.held ≡ []
+  pub no_stop : next.stops ≡ state.stops
+
+module _ {V W : Type 0} (m : Meaning V W) (never : IsNeverPending m.timeout.allows) where
+  plain_advances : (state next : State V W) (bytes : List ℕ) → TakesAllTurns m state bytes next → state.held ≡ []
+      → IsPlain state next
+  plain_advances state next [] done none_held = record { none_held = none_held; no_stop = refl }
+  plain_advances state next (b ∷ bytes) (turns true allowed takes) none_held =
+      absurd (let same : true ≡ false = never state.timeout true allowed in cc)
+  plain_advances state next (b ∷ bytes) (turns false allowed takes) none_held =
+      let reached = (turn m false state (b ∷ bytes)).state in
+      let still_none_held : reached.held ≡ [] = rw none_held refl in
+      let no_stop : reached.stops ≡ state.stops = rw none_held refl in
+      let rest = plain_advances _ next _ takes still_none_held in
+      record { none_held = rest.none_held; no_stop = rest.no_stop ∙ no_stop }
+
+  plain_run : (state end : State V W) (steps : List Step) → TakesSteps m state steps end → AreAdvances steps
+      → state.held ≡ []
+      → IsPlain state end
+  plain_run state end [] same are_advances none_held = rw (← same) (record { none_held = none_held; no_stop = refl })
+  plain_run state end (Advance bytes ∷ steps) (next, (advances, takes)) are_advances none_held =
+      let plain_first = plain_advances state next bytes.now advances none_held in
+      let rest = plain_run next end steps takes are_advances plain_first.none_held in
+      record { none_held = rest.none_held; no_stop = rest.no_stop ∙ plain_first.no_stop }
+  plain_run state end (StopSync ∷ steps) takes are_advances none_held = absurd are_advances
+
+-- ---- from a processor that holds nothing, calls parse all bytes
+
+module _ {V W : Type 0} {Before : ProcessorPredicate W} (old : V) {stream : List ℕ}
+    (has_parsed : HasParsedAll Before stream) where
+  abbrev here : State V W
+  here = record { parsed = stream; stops = []; held = []; timeout = has_parsed.timeout; handler = old }
+
+  is_here : IsAt Before old here
+  is_here = record { agrees = has_parsed.agrees; handler_is = refl }
+
+  module _ (m : Meaning V W) (never : IsNeverPending m.timeout.allows) {After : ProcessorPredicate W} {new : V}
+      (steps : List Step) (are_advances : AreAdvances steps)
+      (replayed : HasReplayed m here steps (IsAt After new)) where
+    is_plain : IsPlain here replayed.next
+    is_plain = plain_run m never here replayed.next steps replayed.takes are_advances refl
+
+    more_is : replayed.delivers.more ≡ given_bytes steps
+    more_is =
+        let more = replayed.delivers.more in
+        sym (replayed.delivers.each_once ∙ ap (λ held. more ++ held) is_plain.none_held ∙ append-nil more)
+
+    parsed_all : replayed.next.parsed ≡ stream ++ given_bytes steps
+    parsed_all = replayed.delivers.parsed_is ∙ ap (λ more. stream ++ more) more_is
+
+    plain_follows : (start : V) → old ≡ after m.step start (calls (events m.limit stream))
+        → new ≡ after m.step start (calls (events m.limit (stream ++ given_bytes steps)))
+    plain_follows start old_is =
+        replayed.is_at.handler_is
+        ∙ replayed.delivers.handler_is
+        ∙ rw (
+          ← replayed.delivers.stops_are,
+          is_plain.no_stop,
+          parsed_all,
+          calls_between-whole m.limit stream (given_bytes steps),
+          old_is,
+        )
+        (sym
+        (after_calls-append m.step start (calls (events m.limit stream))
+        (added_calls m.limit stream (given_bytes steps))))
+        ∙ ap (after m.step start) (sym (calls_whole m.limit stream (given_bytes steps)))
+
+    plain_parses : HasParsedAll After (stream ++ given_bytes steps)
+    plain_parses = record {
+      timeout = replayed.next.timeout;
+      agrees = rw (parsed_all, is_plain.none_held) at replayed.is_at.agrees;
+    }
+
+-- ---- the clauses of a list of calls, and of one call
+
+module _ {V W : Type 0} (m : Meaning V W) {Before After : ProcessorPredicate W} {old new : V} where
+  plain_calls : (steps : List Step)
+      → ((state : State V W) → IsAt Before old state → HasReplayed m state steps (IsAt After new))
+      → IsNeverPending m.timeout.allows → AreAdvances steps → ParsesAll m Before After old new (given_bytes steps)
+  plain_calls steps replayed never are_advances = record {
+    follows = λ start stream has_parsed.
+        plain_follows old has_parsed m never steps are_advances (replayed _ (is_here old has_parsed)) start;
+    parses_all = λ stream has_parsed.
+        plain_parses old has_parsed m never steps are_advances (replayed _ (is_here old has_parsed));
+  }
+
+  pub replays_all : {steps : List Step}
+      → ((state : State V W) → IsAt Before old state → HasReplayed m state steps (IsAt After new))
+      → Replays m Before After old new steps
+  replays_all {steps} replayed = record { replays = replayed; plain = plain_calls steps replayed }
+
+  -- A single call is a list of one step.
+  pub plain_call : (bytes : Bor (List ℕ))
+      → ((state : State V W) → IsAt Before old state → HasAdvanced m state bytes.now (IsAt After new))
+      → IsNeverPending m.timeout.allows → ParsesAll m Before After old new bytes.now
+  plain_call bytes advances never =
+      let replays = replays_all {steps = Advance bytes ∷ []} (λ state is_at. advance_runs m (advances state is_at)) in
+      rw append-nil at (replays.plain never tt)

@@ -1,0 +1,272 @@
+-- From turns to a call: what the private functions ensure of parser, hold and handler is put together into `HasTurned`
+-- and `HasBeenRefused`, and the loop over turns into `TakesTurns` and `TakesTurnsUntilRefused`.
+use Rattle.vte.proofs.Common.{◌≡◌, ℕ, ◌+◌, ◌-◌, ◌<◌, ◌≤◌, Bool, true, List, [], ◌++◌, length, take, drop, refl, ap, sym, ◌∙◌, arith, length-drop, append_assoc, Result, Ok, Err, append_cancel_right, drop_all, drop-drop, take_all, take-append-drop, Refused, ProcessorState, Engine, Meaning, held_of, rules, false, MatchResult, EndsTurn, inside_turn, HasAdvanced, EngineIsAt, HasTaken, EngineView, KeepsMemory, EngineHasMemory, EngineReads, EngineStops, EngineIsAtKeepingMemory, EndsParsingTurn, HasBeenRefused, HasParsedPrefix, HasParsedWithoutBegin, ArePartsAt, ArePartsAtKeepingMemory, ArePartsAtWithMemory, HasTurned, State, TakesTurnsUntilRefused, TakesTurns, all_bytes, turn, hold_turn, parse, stop, between_turns, done, LacksMemoryForSome, Reserves}
+use Rattle.vte.proofs.lemmas.turns.TurnKinds.{refused-by_parsing, is_held, stop_if_due, turn-holds, turn-parses}
+use Rattle.vte.proofs.lemmas.turns.EachOnce.{all_bytes-grown}
+use Rattle.vte.proofs.lemmas.turns.Slices.{parsing-refused}
+use Rattle.vte.proofs.lemmas.turns.RefusedTurns.{until_refused-all, takes-one, progresses-until_refused, until_refused-on, until_refused-well, taken_on}
+use Rattle.std.proofs.lemmas.List.{take_rest}
+
+-- If an engine is at a state, so are its parts.
+module _ {P B T A V W : Type 0} {view : EngineView P B T W} {engine : Engine P B T A} {value : V} {state : State V W}
+  where
+    pub parts-at : EngineIsAt view engine value state → ArePartsAt view engine.parser engine.state value state
+    parts-at is_at = search rules
+
+    -- If its parts are at a state and nothing is held, the engine is at that state.
+    pub engine-at : ArePartsAt view engine.parser engine.state value state → held_of engine.hold ≡ state.held
+        → state.held ≡ []
+        → EngineIsAt view engine value state
+    engine-at parts_at holds none_held = record {
+      agrees =
+          record {
+            has_read = parts_at.has_read;
+            last = parts_at.last;
+            timeout_is = parts_at.timeout_is;
+            holds = holds;
+            has_memory = λ some_held. absurd (omega (arith, some_held, ap length none_held));
+          };
+      handler_is = parts_at.handler_is;
+    }
+
+-- Turns go on with the memory that was there before.
+module _ {P B T A V W : Type 0} {view : EngineView P B T W} {value : V} {state : State V W} where
+  pub keeping_memory-same : {engine : Engine P B T A} → EngineIsAt view engine value state
+      → EngineIsAtKeepingMemory view engine engine value state
+  keeping_memory-same is_at = record { engine_at = is_at; keeps_memory = λ stream count had. had }
+
+  pub keeping_memory-then : {old mid new : Engine P B T A}
+      → KeepsMemory (EngineHasMemory view old) (EngineHasMemory view mid)
+      → EngineIsAtKeepingMemory view mid new value state → EngineIsAtKeepingMemory view old new value state
+  keeping_memory-then keeps next = search (rules, arith)
+
+  -- A reservation, whatever its result, changes neither the state nor the handler.
+  pub keeping_memory-reserved : {old mid new : Engine P B T A} {more : ℕ} {result : Bool}
+      → Reserves view mid new more result
+      → EngineIsAtKeepingMemory view old mid value state → EngineIsAtKeepingMemory view old new value state
+  keeping_memory-reserved reserves is_at = record {
+    engine_at = record {
+      agrees = reserves.same state.parsed state.held state.timeout is_at.engine_at.agrees;
+      handler_is = is_at.engine_at.handler_is;
+    };
+    keeps_memory = λ stream count had. reserves.keeps_memory stream count (is_at.keeps_memory stream count had);
+  }
+
+-- A slice is parsed with the memory that was reserved for it.
+module _ {P B T A V W : Type 0} {view : EngineView P B T W} {m : Meaning V W} {start : State V W} {bytes slice : List ℕ}
+    {read count n : ℕ} {begins : Bool}
+    {first old taken : Engine P B T A} {parser : P} {state : ProcessorState T B} {before value : V} where
+  pub slice-parsed : HasParsedWithoutBegin m start bytes read (EngineIsAtKeepingMemory view first old before)
+      → Reserves view old taken count true
+      → length slice ≡ count → start.held ≡ []
+      → ((next : State V W) (spare : ℕ)
+      → ArePartsAtWithMemory view taken.parser taken.state before next (length slice + spare)
+      → HasParsedPrefix m next slice n begins
+      (ArePartsAtKeepingMemory view taken.parser taken.state parser state value))
+      → HasParsedPrefix m (parse m start (take read bytes)) slice n begins
+      (EngineIsAtKeepingMemory view first (record taken { parser = parser; state = state }) value)
+  slice-parsed parsed reserves size_is none_held parses =
+      let here : EngineIsAtKeepingMemory view first taken before
+      (parse m start (take read bytes)) = keeping_memory-reserved reserves parsed.is_at in
+      let sum : length slice + 0 ≡ length start.held + count = omega (arith, size_is, ap length none_held) in
+      let parsed_slice =
+      parses (parse m start (take read bytes)) 0
+      (record {
+        parts_at = parts-at here.engine_at;
+        memory = rw sum (reserves.memory refl _ _ _ here.engine_at.agrees);
+      }) in
+      record {
+        count = parsed_slice.count;
+        begins_is = parsed_slice.begins_is;
+        is_at = record {
+          engine_at = engine-at
+              {engine = record taken { parser = parser; state = state }} parsed_slice.is_at.parts_at
+              here.engine_at.agrees.holds none_held;
+          keeps_memory =
+              λ stream more had.
+              parsed_slice.is_at.keeps_memory stream more (here.keeps_memory stream more had);
+        };
+      }
+
+-- A stop ends the update if the engine comes to the stopped state and keeps its memory.
+pub stops_update : {P B T A V W : Type 0} {view : EngineView P B T W} {m : Meaning V W}
+    {old mid new : Engine P B T A}
+    {before value : V} → KeepsMemory (EngineHasMemory view old) (EngineHasMemory view mid)
+    → ((state : State V W) → EngineIsAt view old before state
+    → EngineIsAtKeepingMemory view mid new value (stop m state))
+    → EngineStops view m old new before value
+stops_update {m} keeps ends = search (rules, arith)
+
+pub engine-at_stop : {P B T A V W : Type 0} {view : EngineView P B T W} {m : Meaning V W} {old new : Engine P B T A}
+    {before value : V} {state : State V W} → EngineStops view m old new before value
+    → EngineIsAt view old before state → EngineIsAtKeepingMemory view old new value (stop m state)
+engine-at_stop stops is_at = search (rules, arith)
+
+-- A turn whose bytes aren't held parses them, after a stop if one is due.
+pub ends_turn : {P B T A V W : Type 0} {view : EngineView P B T W} {m : Meaning V W} {old mid new : Engine P B T A}
+    {value : V} {state : State V W} {bytes : List ℕ} (pending : Bool)
+    → m.timeout.allows state.timeout pending → is_held pending state bytes ≡ false
+    → KeepsMemory (EngineHasMemory view old) (EngineHasMemory view mid) → (result : Result ℕ Refused)
+    → MatchResult result (λ read. read ≤ length bytes) (λ refused. refused.read < length bytes)
+    → EndsParsingTurn m (stop_if_due m pending state) bytes result (EngineIsAtKeepingMemory view mid new value)
+    → EndsTurn m state bytes result (EngineIsAtKeepingMemory view old new value)
+ends_turn {m} {state} {bytes} pending allowed not_held keeps (Ok read) within ends = record {
+  turned =
+      record {
+        pending = pending;
+        allowed = allowed;
+        progress = ends.parsed.progress;
+        rest = rw (turn-parses m pending state bytes not_held) ends.parsed.rest;
+        is_at = rw (turn-parses m pending state bytes not_held) (keeping_memory-then keeps ends.parsed.is_at);
+      };
+  refused = tt;
+}
+ends_turn {m} {state} {bytes} pending allowed not_held keeps (Err refused) within ends = record {
+  turned = tt;
+  refused = record {
+    next = parse m (stop_if_due m pending state) (take refused.read bytes);
+    takes = inside_turn done pending allowed
+        (refused-by_parsing m pending state _ bytes _
+        (not_held, parsing-refused m (stop_if_due m pending state) bytes ends.refused within));
+    is_at = keeping_memory-then keeps ends.refused.is_at;
+  };
+}
+
+-- ---- one turn
+
+module _ {V W : Type 0} (m : Meaning V W) {state : State V W} {bytes : List ℕ} {n : ℕ}
+    {IsNowAt : State V W → Type 0} where
+  pub turned_hold : {pending : Bool} → m.timeout.allows state.timeout pending → is_held pending state bytes ≡ true
+      → n ≡ length bytes → IsNowAt (hold_turn m state bytes) → HasTurned m state bytes n IsNowAt
+  turned_hold {pending} allowed held all_read is_at = search (rules, arith, turn-holds, drop_all)
+
+-- ---- the turns of a call
+
+-- The loop keeps `HasReached`, and at its end or at refused memory has `HasTaken`, which gives `EngineReads`.
+
+-- As many bytes are left as weren't read.
+pub rest-size : (bytes : List ℕ) (read : ℕ) → read ≤ length bytes
+    → length (take (length bytes - read) (drop read bytes)) ≡ length bytes - read
+rest-size bytes read inside = rw (take_rest bytes read, length-drop)
+
+module _ {V W : Type 0} (m : Meaning V W) (state : State V W) (bytes : List ℕ) where
+  -- `count` turns have read `read` bytes, at least one each.
+  pub record HasReached (count read : ℕ) (IsNowAt : State V W → Type 0) : Type 0 where
+    pub here : State V W
+    pub enough : count ≤ read
+    pub takes : TakesTurns m state bytes here (drop read bytes)
+    pub is_at : IsNowAt here
+
+  pub reaches-nothing : {IsNowAt : State V W → Type 0} → IsNowAt state → HasReached 0 0 IsNowAt
+  reaches-nothing is_at = record { here = state; enough = omega arith; takes = done; is_at = is_at }
+
+  pub reaches-more : {P B T A : Type 0} {view : EngineView P B T W} {first mid new : Engine P B T A}
+      {before value : V}
+      {count read n : ℕ}
+      → (reached : HasReached count read (EngineIsAtKeepingMemory view first mid before)) → read < length bytes
+      → HasTurned m reached.here (take (length bytes - read) (drop read bytes)) n
+      (EngineIsAtKeepingMemory view mid new value)
+      → HasReached (count + 1) (read + n) (EngineIsAtKeepingMemory view first new value)
+  reaches-more {count} {read} {n} reached bytes_left turned =
+      let slice = take (length bytes - read) (drop read bytes) in
+      let slice_is : slice ≡ drop read bytes = take_rest bytes read in
+      let some_bytes : 0 < length slice = rw (slice_is, length-drop read bytes) (omega arith) in
+      let rest_is : (turn m turned.pending reached.here slice).rest ≡ drop (read + n) bytes =
+      turned.rest ∙ rw (slice_is, drop-drop n read bytes) in
+      record {
+        here = (turn m turned.pending reached.here slice).state;
+        enough = omega (arith, reached.enough, turned.progress some_bytes);
+        takes = rw rest_is at
+            (taken_on m state reached.here _ bytes slice _ (rw slice_is reached.takes)
+            (takes-one m turned.pending some_bytes turned.allowed));
+        is_at = keeping_memory-then reached.is_at.keeps_memory turned.is_at;
+      }
+
+  has_taken-turns : {read : ℕ} {IsNowAt : State V W → Type 0} (next : State V W)
+      → TakesTurnsUntilRefused m state bytes next (drop read bytes)
+      → IsNowAt next → HasTaken m state bytes read IsNowAt
+  has_taken-turns {read} next takes is_at = record {
+    next = next;
+    takes = takes;
+    each_once = append_cancel_right _ _ (drop read bytes)
+        (all_bytes-grown (progresses-until_refused m takes)
+        ∙ ap (λ bytes. all_bytes state ++ bytes) (sym (take-append-drop read bytes))
+        ∙ sym (append_assoc (all_bytes state) (take read bytes) (drop read bytes)));
+    holds_well = until_refused-well m takes;
+    is_at = is_at;
+  }
+
+  has_taken-reached : {count read : ℕ} {IsNowAt : State V W → Type 0} → HasReached count read IsNowAt
+      → HasTaken m state bytes read IsNowAt
+  has_taken-reached reached = has_taken-turns reached.here (between_turns reached.takes) reached.is_at
+
+  -- If a turn was refused memory after n bytes, its call has taken `read + n` of them.
+  pub reached-refused : {P B T A : Type 0} {view : EngineView P B T W} {first mid new : Engine P B T A}
+      {before value : V}
+      {count read n : ℕ}
+      → (reached : HasReached count read (EngineIsAtKeepingMemory view first mid before)) → read ≤ length bytes
+      → HasBeenRefused m reached.here (take (length bytes - read) (drop read bytes)) n
+      (EngineIsAtKeepingMemory view mid new value)
+      → HasTaken m state bytes (read + n) (EngineIsAtKeepingMemory view first new value)
+  reached-refused {read} {n} reached within refused =
+      let slice = take (length bytes - read) (drop read bytes) in
+      let slice_is : slice ≡ drop read bytes = take_rest bytes read in
+      let rest_is : drop n slice ≡ drop (read + n) bytes = rw (slice_is, drop-drop n read bytes) in
+      has_taken-turns refused.next
+      (rw rest_is at
+      (until_refused-on m state reached.here refused.next bytes slice (drop n slice)
+      (rw slice_is reached.takes) refused.takes))
+      (keeping_memory-then reached.is_at.keeps_memory refused.is_at)
+
+  -- A call that has read all its bytes ensures `HasAdvanced`.
+  pub has_advanced : {read : ℕ} {IsNowAt : State V W → Type 0} → HasTaken m state bytes read IsNowAt
+      → length bytes ≤ read
+      → HasAdvanced m state bytes IsNowAt
+  has_advanced {read} taken all_read = record {
+    next = taken.next;
+    advances = until_refused-all m (rw (drop_all read bytes all_read) at taken.takes);
+    each_once = rw (take_all read bytes all_read) at taken.each_once;
+    holds_well = taken.holds_well;
+    is_at = taken.is_at;
+  }
+
+-- `HasTaken` may promise less about the state that a call reaches.
+module _ {V W : Type 0} {m : Meaning V W} {state : State V W} {bytes : List ℕ} {read : ℕ} where
+  pub taken-to : {IsNowAt other : State V W → Type 0} → ((state : State V W) → IsNowAt state → other state)
+      → HasTaken m state bytes read IsNowAt → HasTaken m state bytes read other
+  taken-to follows taken = search (rules, arith)
+
+  taken-at : {P B T A : Type 0} {view : EngineView P B T W} {old new : Engine P B T A} {value : V}
+      → HasTaken m state bytes read (EngineIsAtKeepingMemory view old new value)
+      → HasTaken m state bytes read (EngineIsAt view new value)
+  taken-at = taken-to (λ state next. next.engine_at)
+
+-- What a call ensures follows from its turns.
+module _ {P B T A V W : Type 0} {view : EngineView P B T W} {m : Meaning V W} {old new : Engine P B T A}
+    {before value : V} (bytes : List ℕ) where
+  pub engine_reads-all : {count read : ℕ}
+      → ((state : State V W) → EngineIsAt view old before state
+      → HasReached m state bytes count read (EngineIsAtKeepingMemory view old new value))
+      → ((state : State V W) → EngineIsAt view old before state → read ≡ length bytes)
+      → EngineReads view m old new before value bytes (Ok tt)
+  engine_reads-all reaches all_read = record {
+    takes =
+        λ state is_at.
+        rw (all_read state is_at) at (taken-at (has_taken-reached m state bytes (reaches state is_at)));
+    within = tt;
+    lacks = tt;
+    keeps_memory = λ state is_at. (reaches state is_at).is_at.keeps_memory;
+  }
+
+  pub engine_reads-until : {refused : Refused}
+      → ((state : State V W) → EngineIsAt view old before state
+      → HasTaken m state bytes refused.read (EngineIsAtKeepingMemory view old new value))
+      → refused.read < length bytes → LacksMemoryForSome view new (length bytes - refused.read)
+      → EngineReads view m old new before value bytes (Err refused)
+  engine_reads-until taken bytes_left lacks =
+      record {
+        takes = λ state is_at. taken-at (taken state is_at);
+        within = bytes_left;
+        lacks = lacks;
+        keeps_memory = λ state is_at. (taken state is_at).is_at.keeps_memory;
+      }

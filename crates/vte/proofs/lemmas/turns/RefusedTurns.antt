@@ -1,0 +1,143 @@
+-- Turns of a call, of which the last may be refused memory: what is parsed and held then, and what the unread bytes do
+-- in a further call. The refused turn leaves nothing held and is outside an update, so they do what they would have
+-- done (`until_refused-goes_on`).
+use Rattle.vte.proofs.Common.{◌≡◌, ℕ, ◌<◌, inl, Bool, false, List, [], ◌∷◌, ◌++◌, length, drop, refl, ap, subst, ◌∙◌, arith, length-append, drop-append-add, IsSteady, IsOutsideUpdate, Meaning, HoldsWellAt, HasBeenRefused, TakesAllTurns, ParsingTurn, ParsingTurnIsRefused, State, TakesTurnsUntilRefused, TakesTurns, prefix_to_begin, between_turns, done, turn_kind_of, parsing_turn, turn, turns, inside_turn, rules}
+use Rattle.vte.proofs.lemmas.updates.Prefixes.{prefix-after}
+use Rattle.vte.proofs.lemmas.turns.TurnKinds.{stop_if_due, turn-parses, ParsesUntilRefused, refused-parses}
+use Rattle.vte.proofs.lemmas.turns.EachOnce.{Progresses, progresses-then, stop_if_due-holds_nothing, progresses-stop_if_due, progresses-parse, progresses-turns}
+use Rattle.vte.proofs.lemmas.turns.HoldFacts.{turns-well}
+use Rattle.vte.proofs.lemmas.turns.Slices.{parse-append}
+
+-- ---- turns of a call, and one after them that is refused memory
+
+pub refused-nothing : {V W : Type 0} (m : Meaning V W) {state : State V W} {bytes : List ℕ}
+    {IsNowAt : State V W → Type 0} → IsNowAt state → HasBeenRefused m state bytes 0 IsNowAt
+refused-nothing m {state} is_at = record { next = state; takes = between_turns done; is_at = is_at }
+
+module _ {V W : Type 0} (m : Meaning V W) where
+  pub takes-one : {state : State V W} {bytes : List ℕ} (pending : Bool) → 0 < length bytes
+      → m.timeout.allows state.timeout pending
+      → TakesTurns m state bytes (turn m pending state bytes).state (turn m pending state bytes).rest
+  takes-one {bytes = []} pending some_bytes allowed = absurd (omega arith)
+  takes-one {bytes = b ∷ bytes} pending some_bytes allowed = turns pending allowed done
+
+  -- Turns of some bytes, followed by turns of the rest, are turns of all.
+  pub taken_on : (state reached next : State V W) (bytes left rest : List ℕ) → TakesTurns m state bytes reached left
+      → TakesTurns m reached left next rest → TakesTurns m state bytes next rest
+  taken_on state reached next bytes left rest done takes_rest = takes_rest
+  taken_on state reached next (b ∷ bytes) left rest (turns pending allowed takes) takes_rest =
+      turns pending allowed (taken_on _ reached next _ left rest takes takes_rest)
+
+  pub until_refused-on : (state reached next : State V W) (bytes left rest : List ℕ)
+      → TakesTurns m state bytes reached left
+      → TakesTurnsUntilRefused m reached left next rest
+      → TakesTurnsUntilRefused m state bytes next rest
+  until_refused-on state reached next bytes left rest takes (between_turns takes_rest) =
+      between_turns (taken_on state reached next bytes left rest takes takes_rest)
+  until_refused-on state reached next bytes left rest takes (inside_turn takes_rest pending allowed refused) =
+      inside_turn (taken_on state reached _ bytes left _ takes takes_rest) pending allowed refused
+
+  -- If no bytes are left, no turn was refused memory.
+  pub until_refused-all : {state next : State V W} {bytes : List ℕ} → TakesTurnsUntilRefused m state bytes next []
+      → TakesTurns m state bytes next []
+  until_refused-all takes = search (rules, arith)
+
+  -- ---- what is parsed and held then
+
+  progresses-refused : (pending : Bool) {state next : State V W} {bytes left : List ℕ}
+      → ParsesUntilRefused m pending state bytes next left
+      → Progresses state next bytes left
+  progresses-refused pending {state} (not_held, refused) =
+      rw refused.state_is
+      (progresses-then (progresses-stop_if_due m pending)
+      (progresses-parse m refused.prefix (stop_if_due-holds_nothing m pending state) refused.bytes_are))
+
+  pub progresses-until_refused : {state next : State V W} {bytes left : List ℕ}
+      → TakesTurnsUntilRefused m state bytes next left
+      → Progresses state next bytes left
+  progresses-until_refused (between_turns takes) = progresses-turns m takes
+  progresses-until_refused {next} {left} (inside_turn {reached} {rest} takes pending allowed refused) =
+      progresses-then (progresses-turns m takes)
+      (progresses-refused pending (refused-parses m pending reached next rest left refused))
+
+  -- After a parsing turn that was refused memory, no update is pending, and nothing is held.
+  refused-outside : (pending : Bool) (state next : State V W) (bytes left : List ℕ) → IsSteady m.timeout
+      → HoldsWellAt m state
+      → m.timeout.allows state.timeout pending
+      → ParsesUntilRefused m pending state bytes next left → IsOutsideUpdate m.timeout next.held next.timeout
+  refused-outside pending state next bytes left steady well allowed (not_held, refused) = search (rules, arith)
+
+  refused-held : (pending : Bool) (state next : State V W) (bytes left : List ℕ)
+      → ParsesUntilRefused m pending state bytes next left → next.held ≡ []
+  refused-held pending state next bytes left (not_held, refused) =
+      ap (λ next. next.held) refused.state_is ∙ stop_if_due-holds_nothing m pending state
+
+  pub until_refused-well : {state next : State V W} {bytes left : List ℕ}
+      → TakesTurnsUntilRefused m state bytes next left
+      → HoldsWellAt m state
+      → HoldsWellAt m next
+  until_refused-well (between_turns takes) well = turns-well m takes well
+  until_refused-well {next} {left} (inside_turn {reached} {rest} takes pending allowed refused) well =
+      let parses_until = refused-parses m pending reached next rest left refused in
+      let none_held = refused-held pending reached next rest left parses_until in
+      record {
+        no_end = rw none_held refl;
+        fits = rw none_held (omega arith);
+        steady =
+            λ steady.
+            inl (refused-outside pending reached next rest left steady (turns-well m takes well) allowed
+            parses_until);
+      }
+
+  -- ---- the unread bytes in a further call
+
+  parsing_turn-goes_on : (state next : State V W) (bytes left : List ℕ) → ParsingTurnIsRefused m state bytes next left
+      → parsing_turn m next left ≡ parsing_turn m state bytes
+  parsing_turn-goes_on state next bytes left refused =
+      let prefix = prefix_to_begin m.limit (state.parsed ++ refused.prefix) left in
+      rw (
+        refused.state_is,
+        ← refused.bytes_are,
+        prefix-after m.limit state.parsed refused.prefix left refused.none_begin,
+        length-append,
+        drop-append-add refused.prefix left (length prefix),
+      )
+      (ap (λ next. record { state = next; rest = drop (length prefix) left })
+      (parse-append m state refused.prefix prefix))
+
+  refused-goes_on : (pending : Bool) (state next : State V W) (bytes left : List ℕ)
+      → ParsesUntilRefused m pending state bytes next left
+      → turn m false next left ≡ turn m pending state bytes
+  refused-goes_on pending state next bytes left (not_held, refused) =
+      let kind_is : turn_kind_of false (length next.held) (length left) ≡ ParsingTurn =
+      rw (refused-held pending state next bytes left (not_held, refused)) refl in
+      rw (kind_is, turn-parses m pending state bytes not_held)
+      (parsing_turn-goes_on (stop_if_due m pending state) next bytes left refused)
+
+  refused-turn_goes_on : (pending : Bool) {state next end : State V W} {bytes left : List ℕ}
+      → m.timeout.allows state.timeout pending
+      → ParsesUntilRefused m pending state bytes next left
+      → IsOutsideUpdate m.timeout next.held next.timeout → TakesTurns m next left end []
+      → TakesTurns m state bytes end []
+  refused-turn_goes_on pending allowed refused outside done = absurd (omega (arith, refused.1.some_left))
+  refused-turn_goes_on pending {state} {next} {end} {bytes} {left = b ∷ left} allowed refused outside
+      (turns other allows takes) =
+      let same_turn : turn m other next (b ∷ left) ≡ turn m pending state bytes =
+      rw (outside.not_pending.1 other allows) (refused-goes_on pending state next bytes (b ∷ left) refused) in
+      let some_bytes : 0 < length bytes =
+      omega (arith, refused.1.some_left, ap length refused.1.bytes_are, length-append refused.1.prefix (b ∷ left)) in
+      taken_on state _ end bytes _ [] (takes-one pending some_bytes allowed)
+      (subst (λ result. TakesTurns m result.state result.rest end []) same_turn takes)
+
+  pub until_refused-goes_on : (state next end : State V W) (bytes left : List ℕ) → IsSteady m.timeout
+      → HoldsWellAt m state
+      → TakesTurnsUntilRefused m state bytes next left → TakesAllTurns m next left end → TakesAllTurns m state bytes end
+  until_refused-goes_on state next end bytes left steady well (between_turns takes) takes_rest =
+      taken_on state next end bytes left [] takes takes_rest
+  until_refused-goes_on state next end bytes left steady well
+      (inside_turn {reached} {rest} takes pending allowed refused) takes_rest =
+      let parses_until = refused-parses m pending reached next rest left refused in
+      let outside =
+      refused-outside pending reached next rest left steady (turns-well m takes well) allowed parses_until in
+      taken_on state reached end bytes rest [] takes
+      (refused-turn_goes_on pending allowed parses_until outside takes_rest)

@@ -1,0 +1,382 @@
+-- What events leave in the buffers. Those that aren't full have room for what one byte adds, so each event is written
+-- as one entry (`event-written`), or isn't one of the kinds asked for (`event-passed`); so is all that one byte reports
+-- (`entries-unit_more`), and a run of the input (`entries-run`).
+use Rattle.vte_c.proofs.Common.{All, All-head, All-tail, AreGroups, CsiDispatch, Event, Execute, Hook, IsBounded, IsShort, List, OscDispatch, Print, [], arith, concat, usual_limit, count_of, data_of, flat_map, group_bytes, len_utf8_bounds, length, length-append, length-encode, piece_bytes, refl, sum_by-cons, two_bytes, ℕ, ◌*◌, ◌+◌, ◌<◌, ◌∷◌, ◌≡◌, ◌≤◌, AreReadable, Bool, DataRun, EscDispatch, EventWriter, HasEntries, NoRecordStops, Holds, InInput, AreFromOneByte, IsRunAt, Entry, Put, Buffers, RunKind, Single, StopsAtKind, TextRun, Unhook, VteEvent, add-zero, after, ap, append-nil, append_assoc, cases_Bool, false, filter-append, flag_byte, flat_map-append, has, has_kind, has_room_for, if◌then◌else◌, inl, inr, may_have_lost, is_full, entry_data, event_kind, kinds_of, length-map, map, map-append, max_added, nat_lt, nat_tests, or_parts, record_at, records_from, reported, resumed, buffers_of, run_kind, run_record, subst, sym, take, true, buffers_with_event, with_entries, with_one, with_record, without_loss, ◌%◌, ◌++◌, ◌∙◌, IsFilled}
+use Rattle.std.proofs.Math.Bool.{or-false, or_assoc}
+use Rattle.std.proofs.lemmas.List.Folds.{list_any-append}
+use Rattle.vte_core.proofs.lemmas.places.PlaceLeads.{short_bounded}
+use Rattle.vte_core.proofs.lemmas.streams.After.{after_events-append}
+use Rattle.vte_c.proofs.lemmas.Continuations.{no_kind_stops-append, no_kind_stops-none}
+
+-- ---- how long the data of an event are
+
+-- Each event has at most 1,088 bytes, and the second one that a byte adds at most four, by cases of the event.
+
+pub length-two_bytes : (numbers : List ℕ) → length (flat_map two_bytes numbers) ≡ 2 * length numbers
+length-two_bytes [] = refl
+length-two_bytes (n ∷ numbers) = omega (arith, length-two_bytes numbers)
+
+length-group_bytes : (groups : List (List ℕ))
+    → length (flat_map group_bytes groups) ≡ length groups + 2 * count_of groups
+length-group_bytes [] = refl
+length-group_bytes (group ∷ groups) =
+    let parts = length-append (group_bytes group) (flat_map group_bytes groups) in
+    let all = sum_by-cons length group groups in
+    omega (arith, parts, all, length-two_bytes group, length-group_bytes groups)
+
+length-piece_bytes : (pieces : List (List ℕ))
+    → length (flat_map piece_bytes pieces) ≡ 4 * length pieces + length (concat pieces)
+length-piece_bytes [] = refl
+length-piece_bytes (piece ∷ pieces) =
+    let parts = length-append (piece_bytes piece) (flat_map piece_bytes pieces) in
+    omega (arith, parts, length-append piece (concat pieces), length-piece_bytes pieces)
+
+length-filled : (groups : List (List ℕ)) → All IsFilled groups → length groups ≤ count_of groups
+length-filled [] filled = omega arith
+length-filled (group ∷ groups) filled =
+    let not_empty : 0 < length group = All-head IsFilled group groups filled in
+    omega (arith, sum_by-cons length group groups, length-filled groups (All-tail IsFilled group groups filled))
+
+pub length-groups : (groups : List (List ℕ)) → AreGroups groups → length groups ≤ 32
+length-groups groups groups_are = omega (arith, length-filled groups groups_are.filled, groups_are.at_most)
+
+group_bytes-at_most : (groups : List (List ℕ)) → AreGroups groups → length (flat_map group_bytes groups) ≤ 96
+group_bytes-at_most groups groups_are =
+    omega (arith, length-group_bytes groups, length-groups groups groups_are, groups_are.at_most)
+
+-- No event has more data bytes: a command has at most 16 pieces, each after four bytes, with 1,024 bytes together. A
+-- sequence has at most 96: 32 groups, each after one byte, with 32 numbers of two bytes together.
+abbrev max_data : ℕ
+max_data = 1088
+
+data_of-at_most : (event : Event) → IsBounded usual_limit event → length (data_of event) ≤ max_data
+data_of-at_most (Print c) bounded = omega (arith, length-encode c, (len_utf8_bounds c).1)
+data_of-at_most (Hook groups ints ignore final) bounded = omega (arith, group_bytes-at_most groups bounded.0)
+data_of-at_most (OscDispatch pieces bell) bounded = omega (arith, length-piece_bytes pieces, bounded.0, bounded.1)
+data_of-at_most (CsiDispatch groups ints ignore final) bounded = omega (arith, group_bytes-at_most groups bounded.0)
+data_of-at_most _ bounded = omega arith
+
+-- The second event that a byte adds is short.
+data_of-short : (event : Event) → IsShort event → length (data_of event) ≤ 4
+data_of-short (Print c) short = omega (arith, length-encode c, (len_utf8_bounds c).1)
+data_of-short (Execute byte) short = omega arith
+data_of-short _ short = absurd short
+
+-- ---- entries one after the other, if the buffers aren't full in between
+
+records-append : (offset : ℕ) (front back : List Entry)
+    → records_from offset (front ++ back)
+    ≡ records_from offset front ++ records_from (offset + length (flat_map entry_data front)) back
+records-append offset [] back = rw add-zero refl
+records-append offset (entry ∷ front) back =
+    let size : offset + length (entry_data entry) + length (flat_map entry_data front)
+    ≡ offset + length (entry_data entry ++ flat_map entry_data front) =
+    omega (arith, length-append (entry_data entry) (flat_map entry_data front)) in
+    rw (← size, records-append (offset + length (entry_data entry)) front back) refl
+
+pub length-records : (offset : ℕ) (entries : List Entry) → length (records_from offset entries) ≡ length entries
+length-records offset [] = refl
+length-records offset (entry ∷ entries) = omega (arith, length-records (offset + length (entry_data entry)) entries)
+
+with_entries-append : (buffers : Buffers) (front back : List Entry)
+    → with_entries (with_entries buffers front) back ≡ with_entries buffers (front ++ back)
+with_entries-append buffers front back =
+    let size : buffers.used + length (flat_map entry_data front) + length (flat_map entry_data back)
+    ≡ buffers.used + length (flat_map entry_data front ++ flat_map entry_data back) =
+    omega (arith, length-append (flat_map entry_data front) (flat_map entry_data back)) in
+    let count : buffers.count + length front + length back ≡ buffers.count + length (front ++ back) =
+    omega (arith, length-append front back) in
+    rw (← count, records-append, flat_map-append, ← size, list_any-append)
+    (rw (append_assoc buffers.events, append_assoc buffers.area, or_assoc) refl)
+
+-- As long as buffers aren't full, no record stops.
+pub no_record_stops-free : {old new : Buffers} {input : List ℕ} {entries : List Entry}
+    → HasEntries old new input entries → is_full new ≡ false
+    → NoRecordStops old.stops (records_from old.used entries)
+no_record_stops-free {old} {new} {input} {entries} has_entries free =
+    let met : new.met ≡ false = grind (arith, nat_tests) in
+    no_kind_stops-none old.stops (records_from old.used entries)
+    (or_parts old.met (has_kind old.stops (records_from old.used entries))
+    (sym (ap (λ (held : Buffers). held.met) has_entries.written) ∙ met)).1
+
+readable-append : (input : List ℕ) (front back : List Entry) → AreReadable input front → AreReadable input back
+    → AreReadable input (front ++ back)
+readable-append input [] back front_are back_are = back_are
+readable-append input (Single event ∷ front) back front_are back_are =
+    (front_are.0, readable-append input front back front_are.1 back_are)
+readable-append input (InInput run start size ∷ front) back front_are back_are =
+    (front_are.0, readable-append input front back front_are.1 back_are)
+
+-- At most two records may all be the last ones: one that stops, and one after it.
+stops_at_kind-two : (stops offset : ℕ) (entries : List Entry) → length entries ≤ 2
+    → StopsAtKind stops (kinds_of (records_from offset entries))
+stops_at_kind-two stops offset entries at_most =
+    let count = length-map (records_from offset entries) (λ (event : VteEvent). event.kind) in
+    record {
+      before = [];
+      last = kinds_of (records_from offset entries);
+      parts = refl;
+      others = tt;
+      at_most = omega (arith, count, length-records offset entries);
+    }
+
+pub entries-nothing : (buffers : Buffers) (input : List ℕ) → HasEntries buffers buffers input []
+entries-nothing buffers input =
+    record {
+      readable = tt;
+      written = simp (append-nil, add-zero, or-false) refl;
+      first = stops_at_kind-two buffers.stops buffers.used [] (omega arith);
+    }
+
+pub entries-then : {old mid new : Buffers} {input : List ℕ} {front back : List Entry} → HasEntries old mid input front
+    → is_full mid ≡ false
+    → HasEntries mid new input back → HasEntries old new input (front ++ back)
+entries-then {old} {mid} {new} {input} {front} {back} has_front free has_back =
+    let before = records_from old.used front in
+    let soon =
+    subst (λ (held : Buffers). StopsAtKind held.stops (kinds_of (records_from held.used back))) has_front.written
+    has_back.first in
+    record {
+      readable = readable-append input front back has_front.readable has_back.readable;
+      written =
+          has_back.written ∙ ap (λ (held : Buffers). with_entries held back) has_front.written
+          ∙ with_entries-append old front back;
+      first = record {
+        before = kinds_of before ++ soon.before;
+        last = soon.last;
+        parts = rw (records-append old.used front back, map-append, append_assoc (kinds_of before), ← soon.parts) refl;
+        others =
+            no_kind_stops-append old.stops (kinds_of before) soon.before (no_record_stops-free has_front free)
+            soon.others;
+        at_most = soon.at_most;
+      };
+    }
+
+-- ---- before a write the area holds no data of the event
+
+pub holds-nothing : (events : EventWriter) → Holds (buffers_of events) events events.used []
+holds-nothing events = record {
+  same = refl;
+  ends = omega (arith, events.used_limit, events.size_limit);
+  held = λ within. sym (append-nil (take events.used events.area.now));
+}
+
+-- ---- a run of the input
+
+-- What is written has no bit for lost data.
+run-without_loss : (run : RunKind) (start size : ℕ)
+    → without_loss (run_record (run_kind run) start size) ≡ run_record (run_kind run) start size
+unfolding without_loss
+run-without_loss TextRun start size = refl
+run-without_loss DataRun start size = refl
+
+bell-without_loss : (bell : Bool) → flag_byte bell % 2 ≡ flag_byte bell
+bell-without_loss true = refl
+bell-without_loss false = refl
+
+single-without_loss : (offset : ℕ) (event : Event)
+    → without_loss (record_at offset (Single event)) ≡ record_at offset (Single event)
+unfolding without_loss
+single-without_loss offset (OscDispatch pieces bell) = rw (bell-without_loss bell) refl
+single-without_loss offset (Print c) = refl
+single-without_loss offset (Execute byte) = refl
+single-without_loss offset (Hook groups ints ignore final) = refl
+single-without_loss offset (Put byte) = refl
+single-without_loss offset Unhook = refl
+single-without_loss offset (CsiDispatch groups ints ignore final) = refl
+single-without_loss offset (EscDispatch ints ignore final) = refl
+
+pub entries-run : {old new : Buffers} (input : List ℕ) (run : RunKind) (start size : ℕ) → is_full old ≡ false
+    → IsRunAt input run start size
+    → new ≡ with_one old (run_record (run_kind run) start size)
+    → HasEntries old new input (InInput run start size ∷ [])
+unfolding with_one
+entries-run {old} {new} input run start size free is_run recorded =
+    let has_record_room : nat_lt old.count old.capacity ≡ true = grind (arith, nat_tests) in
+    record {
+      readable = (is_run, tt);
+      written = rw (recorded, has_record_room, run-without_loss run start size) (simp (append-nil, add-zero, or-false));
+      first = stops_at_kind-two old.stops old.used (InInput run start size ∷ []) (omega arith);
+    }
+
+-- ---- a pause, apart from which an event is written the same (`resumed`)
+
+pub resumed-same : (buffers : Buffers) → buffers.paused ≡ false → resumed buffers ≡ buffers
+resumed-same buffers unpaused = ap (λ (paused : Bool). record buffers { paused = paused }) (sym unpaused)
+
+pub free-unpaused : (buffers : Buffers) → is_full buffers ≡ false → buffers.paused ≡ false
+free-unpaused buffers free = grind (arith, nat_tests)
+
+pub resumed-free : (buffers : Buffers) → is_full buffers ≡ false → is_full (resumed buffers) ≡ false
+resumed-free buffers free = ap is_full (resumed-same buffers (free-unpaused buffers free)) ∙ free
+
+choice-resumed : (choice : Bool) (first second other_first other_second : Buffers)
+    → resumed first ≡ resumed other_first → resumed second ≡ resumed other_second
+    → resumed (if choice then first else second) ≡ resumed (if choice then other_first else other_second)
+choice-resumed true first second other_first other_second same_first same_second = same_first
+choice-resumed false first second other_first other_second same_first same_second = same_second
+
+choice-paused : (choice paused : Bool) (first second : Buffers) → first.paused ≡ paused → second.paused ≡ paused
+    → (if choice then first else second).paused ≡ paused
+choice-paused true paused first second first_is second_is = first_is
+choice-paused false paused first second first_is second_is = second_is
+
+-- An event is written in the same way after a pause.
+event-resumed : (buffers : Buffers) (event : Event)
+    → resumed (buffers_with_event buffers event) ≡ resumed (buffers_with_event (resumed buffers) event)
+unfolding with_one with_record
+event-resumed buffers event =
+    choice-resumed (has buffers.kinds (event_kind event)) _ _ _ _
+    (choice-resumed (has_room_for buffers (length (data_of event))) _ _ _ _
+    (choice-resumed (nat_lt buffers.count buffers.capacity) _ _ _ _ refl refl) refl) refl
+
+pub paused-after_event : (buffers : Buffers) (event : Event) → may_have_lost event ≡ false
+    → (buffers_with_event buffers event).paused ≡ buffers.paused
+unfolding with_one with_record
+paused-after_event buffers event kept =
+    choice-paused (has buffers.kinds (event_kind event)) buffers.paused _ _
+    (rw kept
+    (choice-paused (has_room_for buffers (length (data_of event))) buffers.paused _ _
+    (choice-paused (nat_lt buffers.count buffers.capacity) buffers.paused _ _ refl refl) refl)) refl
+
+-- ---- events of the parser
+
+-- There is room for `count` events and `size` bytes of data.
+pub record HasRoomFor (buffers : Buffers) (count size : ℕ) : Type 0 where
+  pub events : buffers.count + count ≤ buffers.capacity
+  pub data_fits : buffers.used + size ≤ buffers.size
+
+-- Buffers that aren't full have room for what one byte adds.
+free-has_room : (buffers : Buffers) → is_full buffers ≡ false → HasRoomFor buffers 2 max_added
+free-has_room buffers free = record { events = grind (arith, nat_tests); data_fits = grind (arith, nat_tests) }
+
+pub event-written : (buffers : Buffers) (event : Event) → buffers.paused ≡ false
+    → HasRoomFor buffers 1 (length (data_of event))
+    → has buffers.kinds (event_kind event) ≡ true
+    → resumed (buffers_with_event buffers event) ≡ with_entries buffers (Single event ∷ [])
+unfolding with_one with_record
+event-written buffers event unpaused room_for wanted =
+    let has_both : has_room_for buffers (length (data_of event)) ≡ true = grind (arith, nat_tests) in
+    let has_record_room : nat_lt buffers.count buffers.capacity ≡ true = grind (arith, nat_tests) in
+    rw (wanted, has_both, has_record_room, single-without_loss buffers.used event, unpaused)
+    (simp (append-nil, or-false))
+
+-- An event that isn't reported leaves the buffers as they are.
+pub event-passed : (buffers : Buffers) (event : Event) → buffers.paused ≡ false
+    → has buffers.kinds (event_kind event) ≡ false
+    → resumed (buffers_with_event buffers event) ≡ buffers
+event-passed buffers event unpaused other = rw other (resumed-same buffers unpaused)
+
+-- Each event that is reported has an entry.
+abbrev pub entries_of : Buffers → List Event → List Entry
+entries_of buffers events = map Single (reported buffers.kinds events)
+
+entries-event : (input : List ℕ) (buffers : Buffers) (event : Event) → IsBounded usual_limit event
+    → buffers.paused ≡ false
+    → HasRoomFor buffers 1 (length (data_of event))
+    → HasEntries buffers (resumed (buffers_with_event buffers event)) input (entries_of buffers (event ∷ []))
+entries-event input buffers event bounded unpaused room_for = elim (cases_Bool (has buffers.kinds (event_kind event))) [
+  | inl wanted ↦
+      rw (event-written buffers event unpaused room_for wanted, wanted)
+      (record {
+        readable = (bounded, tt);
+        written = refl;
+        first = stops_at_kind-two buffers.stops buffers.used (Single event ∷ []) (omega arith);
+      })
+  | inr other ↦ rw (event-passed buffers event unpaused other, other) (entries-nothing buffers input)
+]
+
+-- One event has at most one entry, with no more data.
+record AreFew (buffers : Buffers) (event : Event) : Type 0 where
+  pub count : length (entries_of buffers (event ∷ [])) ≤ 1
+  pub size : length (flat_map entry_data (entries_of buffers (event ∷ []))) ≤ length (data_of event)
+
+event-has_few : (buffers : Buffers) (event : Event) → AreFew buffers event
+event-has_few buffers event = elim (cases_Bool (has buffers.kinds (event_kind event))) [
+  | inl wanted ↦
+      record { count = rw wanted (omega arith); size = rw wanted (omega (arith, length-append (data_of event) [])) }
+  | inr other ↦ record { count = rw other (omega arith); size = rw other (omega arith) }
+]
+
+entries-unit : (input : List ℕ) (buffers : Buffers) (unit : List Event) → AreFromOneByte usual_limit unit
+    → is_full buffers ≡ false
+    → HasEntries buffers (resumed (after buffers_with_event buffers unit)) input (entries_of buffers unit)
+entries-unit input buffers [] brief free =
+    rw (resumed-same buffers (free-unpaused buffers free)) (entries-nothing buffers input)
+entries-unit input buffers (event ∷ []) brief free =
+    let room_for = free-has_room buffers free in
+    let size = data_of-at_most event brief in
+    entries-event input buffers event brief (free-unpaused buffers free)
+    (record { events = omega (arith, room_for.events); data_fits = omega (arith, room_for.data_fits) })
+entries-unit input buffers (event ∷ last ∷ []) brief free =
+    let room_for = free-has_room buffers free in
+    -- The first event has at most 1,088 bytes of data, and the last one at most four.
+    let size = data_of-at_most event brief.0 in
+    let short = data_of-short last brief.1 in
+    -- Each has at most one entry, with no more data than the event.
+    let first_few = event-has_few buffers event in
+    let last_few = event-has_few buffers last in
+    let next : Buffers = resumed (buffers_with_event buffers event) in
+    -- The buffers aren't full, so they have room for the first event.
+    let first =
+    entries-event input buffers event brief.0 (free-unpaused buffers free)
+    (record { events = omega (arith, room_for.events); data_fits = omega (arith, room_for.data_fits) }) in
+    -- After that event, the buffers differ from the old ones by the entry alone.
+    let kinds : next.kinds ≡ buffers.kinds = ap (λ (held : Buffers). held.kinds) first.written in
+    let count = ap (λ (held : Buffers). held.count) first.written in
+    let same_capacity = ap (λ (held : Buffers). held.capacity) first.written in
+    let used = ap (λ (held : Buffers). held.used) first.written in
+    let same_size = ap (λ (held : Buffers). held.size) first.written in
+    -- So what is left is enough for the last event.
+    let room_for_last : HasRoomFor next 1 (length (data_of last)) = record {
+      events = omega (arith, room_for.events, first_few.count, count, same_capacity);
+      data_fits = omega (arith, room_for.data_fits, first_few.size, size, short, used, same_size);
+    } in
+    -- The last event is written into these buffers, which report the same kinds.
+    let second =
+    subst
+    (λ (asked : ℕ).
+    HasEntries next (resumed (buffers_with_event next last)) input (map Single (reported asked (last ∷ []))))
+    kinds
+    (entries-event input next last (short_bounded usual_limit last brief.1) refl room_for_last) in
+    -- The entries of both events are those of the first, followed by those of the last.
+    let both : entries_of buffers (event ∷ last ∷ [])
+    ≡ entries_of buffers (event ∷ []) ++ entries_of buffers (last ∷ []) =
+    ap (map Single) (filter-append (λ event. has buffers.kinds (event_kind event)) (event ∷ []) (last ∷ []))
+    ∙ map-append Single _ _ in
+    -- A pause after the first event doesn't change how the last one is written, so the two steps join.
+    rw (event-resumed (buffers_with_event buffers event) last, both) (record {
+      readable = readable-append input _ _ first.readable second.readable;
+      written =
+          second.written ∙ ap (λ (held : Buffers). with_entries held (entries_of buffers (last ∷ []))) first.written
+          ∙ with_entries-append buffers _ _;
+      first = stops_at_kind-two buffers.stops buffers.used
+          (entries_of buffers (event ∷ []) ++ entries_of buffers (last ∷ []))
+          (omega (
+            arith,
+            first_few.count,
+            last_few.count,
+            length-append (entries_of buffers (event ∷ [])) (entries_of buffers (last ∷ [])),
+          ));
+    })
+entries-unit input buffers (event ∷ last ∷ third ∷ events) brief free = absurd brief
+
+pub entries-unit_more : {old : Buffers} (input : List ℕ) (buffers : Buffers) (before unit : List Event)
+    → HasEntries old (resumed (after buffers_with_event buffers before)) input (entries_of old before)
+    → is_full (after buffers_with_event buffers before) ≡ false → AreFromOneByte usual_limit unit
+    → HasEntries old (resumed (after buffers_with_event buffers (before ++ unit))) input
+    (entries_of old (before ++ unit))
+entries-unit_more {old} input buffers before unit has_entries free brief =
+    let mid : Buffers = after buffers_with_event buffers before in
+    -- The buffers before the unit aren't full, so they aren't paused either.
+    let same : resumed mid ≡ mid = resumed-same mid (free-unpaused mid free) in
+    let first : HasEntries old mid input (entries_of old before) = rw same at has_entries in
+    let kinds : mid.kinds ≡ old.kinds = ap (λ (held : Buffers). held.kinds) first.written in
+    -- The unit is written into these buffers, which report the kinds of the old ones.
+    rw (after_events-append buffers_with_event buffers before unit, filter-append, map-append)
+    (entries-then first free
+    (subst
+    (λ (asked : ℕ).
+    HasEntries mid (resumed (after buffers_with_event mid unit)) input (map Single (reported asked unit)))
+    kinds
+    (entries-unit input mid unit brief free)))

@@ -1,0 +1,283 @@
+-- A call goes on (`ReadsOn`) by calls of the parser, whose events are written as long as there is room, and by the runs
+-- that these return. One step after another is a longer one (`goes-then`).
+use Rattle.vte_c.proofs.Common.{AreCharacters, Bool, ComesTo, DataRun, Event, ReadsOn, GoesOnFromPositions, HasReadOn, HasEntries, HasRead, NoRecordStops, InInput, IsRunOfKind, usual_limit, IsRunAt, List, OpensSilently, Parser, Print, Put, Buffers, RunKind, Single, Starts, StopsAtNone, ReportsUnits, TextRun, [], added, after, ap, append-nil, arith, breaks_at, cases_Bool, cases_lt, chars, data_of, drop, drop-drop, false, false≢true, filter-append, flat_map, flat_map-append, has, if◌then◌else◌, inl, inr, is_full, is_stop, entry_events, event_kind, len_utf8_bounds, length, length-append, length-drop, length-encode, map, nat_tests, refl, replacement, reported, resumed, events_of_run, run_kind, run_record, resumed_stream, subst, sym, take, reported_before, true, buffers_with_event, with_entries, with_run, with_taken, with_wanted, zero-add, ℕ, ◌++◌, ◌+◌, ◌-◌, ◌<◌, ◌∙◌, ◌∷◌, ◌≡◌, ◌≤◌}
+use Rattle.vte_core.proofs.lemmas.streams.After.{added-nothing}
+use Rattle.vte_core.specs.AdvanceToRun.{IsLongestRun, ReturnsRun, run_bytes, run_events, taken_bytes}
+use Rattle.vte_core.specs.declared.reader.run.Run.{Run}
+use Rattle.vte_core.specs.declared.reader.run.Taken.{Taken}
+use Rattle.vte_core.specs.declared.reader.run.Taken.TheVariants.{Text, Data, Nothing}
+use Rattle.vte_core.proofs.lemmas.EarlyStops.{passed-at}
+use Rattle.vte_c.proofs.lemmas.Continuations.{no_event_stops-entries, no_event_stops-append, no_event_stops-before, no_event_stops-earlier, no_event_stops-front, no_event_stops-reported, no_event_stops-run, continues-added, continues-call, continues-nothing, continues-then}
+use Rattle.vte_c.proofs.lemmas.Buffers.{event-passed, event-written, entries-nothing, entries-run, entries-then, entries-unit_more, entries_of, paused-after_event, resumed-free, resumed-same, no_record_stops-free, free-unpaused}
+
+-- ---- a run of the input
+
+-- All events of a run are reported, or none.
+calls-reported : (kinds : ℕ) (wanted : Bool) (call : ℕ → Event) → ((n : ℕ) → has kinds (event_kind (call n)) ≡ wanted)
+    → (ns : List ℕ) → reported kinds (map call ns) ≡ (if wanted then map call ns else [])
+calls-reported kinds true call each_wanted [] = refl
+calls-reported kinds false call each_wanted [] = refl
+calls-reported kinds true call each_wanted (n ∷ ns) =
+    rw (each_wanted n, calls-reported kinds true call each_wanted ns) refl
+calls-reported kinds false call each_wanted (n ∷ ns) =
+    rw (each_wanted n) (calls-reported kinds false call each_wanted ns)
+
+run-reported : (kinds : ℕ) (wanted : Bool) (run : RunKind) (bytes : List ℕ) → has kinds (run_kind run) ≡ wanted
+    → reported kinds (events_of_run run bytes) ≡ (if wanted then events_of_run run bytes else [])
+run-reported kinds wanted TextRun bytes kind_wanted = calls-reported kinds wanted Print (λ c. kind_wanted) (chars bytes)
+run-reported kinds wanted DataRun bytes kind_wanted = calls-reported kinds wanted Put (λ b. kind_wanted) bytes
+
+run-never_stops : (buffers : Buffers) (run : RunKind) → StopsAtNone buffers
+    → is_stop buffers.kinds buffers.stops (run_kind run) ≡ false
+run-never_stops buffers TextRun stops_at_none = stops_at_none.0
+run-never_stops buffers DataRun stops_at_none = stops_at_none.1
+
+goes-run : {old new : Buffers} {since bytes : List ℕ} (run : RunKind) {from size : ℕ} → is_full old ≡ false
+    → new ≡ with_wanted old (run_record (run_kind run) from size) → IsRunAt bytes run from size
+    → added usual_limit since (take size (drop from bytes)) ≡ events_of_run run (take size (drop from bytes))
+    → ReadsOn old new since (since ++ take size (drop from bytes)) bytes from size
+goes-run {old} {new} {since} {bytes} run {from} {size} free recorded is_run adds =
+    let part : List ℕ = take size (drop from bytes) in
+    let goes_on = rw adds at (continues-added since (drop from bytes) size) in
+    let before = λ (stops_at_none : StopsAtNone old) (i : ℕ) (earlier : i < size).
+    no_event_stops-earlier (is_stop old.kinds old.stops) since (drop from bytes) i size (omega arith)
+    (rw adds (no_event_stops-run (is_stop old.kinds old.stops) run part (run-never_stops old run stops_at_none))) in
+    elim (cases_Bool (has old.kinds (run_kind run))) [
+      | inl wanted ↦ record {
+        given = events_of_run run part;
+        entries = InInput run from size ∷ [];
+        continues = goes_on;
+        shows = rw (append-nil (events_of_run run part)) (sym (run-reported old.kinds true run part wanted));
+        holds = entries-run bytes run from size free is_run (rw wanted at recorded);
+        before = before;
+      }
+      | inr other ↦ record {
+        given = events_of_run run part;
+        entries = [];
+        continues = goes_on;
+        shows = sym (run-reported old.kinds false run part other);
+        holds = rw (rw other at recorded) (entries-nothing old bytes);
+        before = before;
+      }
+    ]
+
+-- ---- a call of the parser
+
+events-singles : (input : List ℕ) (events : List Event) → flat_map (entry_events input) (map Single events) ≡ events
+events-singles input [] = refl
+events-singles input (event ∷ events) = ap (λ (events : List Event). event ∷ events) (events-singles input events)
+
+-- Before the first byte at most U+FFFD is given, for a character that it breaks, and that doesn't fill the buffers.
+free-at_first : (old : Buffers) (broken : Bool) → Starts old
+    → NoRecordStops old.stops (after buffers_with_event old (if broken then Print replacement ∷ [] else [])).events
+    → is_full (after buffers_with_event old (if broken then Print replacement ∷ [] else [])) ≡ false
+free-at_first old false starts no_stops = grind (arith, nat_tests)
+free-at_first old true starts no_stops =
+    -- U+FFFD has at most four bytes of data, and its event doesn't pause the writer.
+    let small : length (data_of (Print replacement)) ≤ 4 =
+    omega (arith, length-encode replacement, (len_utf8_bounds replacement).1) in
+    let next : Buffers = buffers_with_event old (Print replacement) in
+    let unpaused : next.paused ≡ false = paused-after_event old (Print replacement) refl ∙ starts.paused in
+    let same : resumed next ≡ next = resumed-same next unpaused in
+    elim (cases_Bool (has old.kinds 0)) [
+      | inl wanted ↦
+          let written : next ≡ with_entries old (Single (Print replacement) ∷ []) =
+          sym same
+          ∙ event-written old (Print replacement) starts.paused
+          (record {
+            events = omega (arith, starts.capacity, starts.count);
+            data_fits = omega (arith, starts.size, starts.used);
+          }) wanted in
+          let other : has old.stops 0 ≡ false = (rw (written, starts.events) at no_stops).0 in
+          rw written (grind (arith, nat_tests, length-append))
+      | inr passed ↦
+          let unchanged : next ≡ old = sym same ∙ event-passed old (Print replacement) starts.paused passed in
+          rw unchanged (grind (arith, nat_tests))
+    ]
+
+-- The code cites these laws of the parser.
+pub record Laws : Type 0 where
+  pub units : ReportsUnits usual_limit
+  pub goes_on : GoesOnFromPositions usual_limit
+  pub silent : OpensSilently usual_limit
+
+module _ (old new : Buffers) (since bytes : List ℕ) (from n : ℕ) (laws : Laws) (free : is_full old ≡ false)
+    (comes : ComesTo buffers_with_event is_full old usual_limit since (drop from bytes) new n) where
+  abbrev given_at : ℕ → List Event
+  given_at i = reported_before usual_limit since (drop from bytes) i
+
+  -- All that was given is written, since the buffers weren't full at any start that the call came to.
+  given-written : (i : ℕ) → i ≤ n
+      → HasEntries old (resumed (after buffers_with_event old (given_at i))) bytes (entries_of old (given_at i))
+  given-written i within =
+      passed-at (λ events. HasEntries old (resumed (after buffers_with_event old events)) bytes (entries_of old events))
+      (λ events. is_full (after buffers_with_event old events) ≡ false)
+      since (drop from bytes) laws.units
+      (rw (resumed-same old (free-unpaused old free)) (entries-nothing old bytes)) free
+      (entries-unit_more bytes old)
+      i (omega (arith, comes.within)) (λ j earlier. comes.earlier j (omega arith))
+
+  goes-call : ReadsOn old (resumed new) since (resumed_stream since (drop from bytes) n) bytes from n
+  goes-call = record {
+    given = given_at n;
+    entries = entries_of old (given_at n);
+    continues = continues-call laws.goes_on since (drop from bytes) n;
+    shows = events-singles bytes (reported old.kinds (given_at n));
+    holds =
+        subst (λ (held : Buffers). HasEntries old (resumed held) bytes (entries_of old (given_at n)))
+        (sym comes.performed) (given-written n (omega arith));
+    before = λ stops_at_none.
+        no_event_stops-before (is_stop old.kinds old.stops) stops_at_none.0 since (drop from bytes) n comes.within
+        laws.silent
+        (λ i earlier start.
+        no_event_stops-reported old.kinds old.stops (given_at i)
+        (rw (events-singles bytes (reported old.kinds (given_at i))) at
+        (no_event_stops-entries old.stops bytes old.used (entries_of old (given_at i))
+        (no_record_stops-free (given-written i (omega arith))
+        (resumed-free (after buffers_with_event old (given_at i)) (comes.earlier i earlier start))))));
+  }
+
+-- ---- one step after the other, if the buffers aren't full in between
+
+goes-nothing : {buffers : Buffers} {since bytes : List ℕ} {from : ℕ} → ReadsOn buffers buffers since since bytes from 0
+goes-nothing {buffers} {since} {bytes} {from} = record {
+  given = [];
+  entries = [];
+  continues = continues-nothing since (drop from bytes);
+  shows = refl;
+  holds = entries-nothing buffers bytes;
+  before = λ stops_at_none i earlier. absurd (omega arith);
+}
+
+goes-then : {old mid new : Buffers} {since next last bytes : List ℕ} {from n m : ℕ}
+    (reads : ReadsOn old mid since next bytes from n)
+    → is_full mid ≡ false → from + n + m ≤ length bytes → ReadsOn mid new next last bytes (from + n) m
+    → ReadsOn old new since last bytes from (n + m)
+goes-then {old} {mid} {since} {bytes} {from} {n} {m} reads free within reads_on =
+    let unread : List ℕ = drop from bytes in
+    let size = length-drop from bytes in
+    -- The second step begins n bytes after the first, with the same kinds and stops.
+    let rest : drop (from + n) bytes ≡ drop n unread = sym (drop-drop n from bytes) in
+    let kinds : mid.kinds ≡ old.kinds = ap (λ (held : Buffers). held.kinds) reads.holds.written in
+    let stops : mid.stops ≡ old.stops = ap (λ (held : Buffers). held.stops) reads.holds.written in
+    record {
+      given = reads.given ++ reads_on.given;
+      entries = reads.entries ++ reads_on.entries;
+      continues = continues-then reads.continues (rw rest at reads_on.continues) (omega (arith, within));
+      shows =
+          rw (flat_map-append (entry_events bytes) reads.entries reads_on.entries, filter-append, reads.shows)
+          (rw kinds at (ap (λ (events : List Event). reported old.kinds reads.given ++ events) reads_on.shows));
+      holds = entries-then reads.holds free reads_on.holds;
+      before = λ stops_at_none i earlier. elim (cases_lt i n) [
+        | inl front ↦ reads.before stops_at_none i front
+        | inr after_it ↦
+            let k : ℕ = i - n in
+            let position : n + k ≡ i = omega arith in
+            let front = reads.continues.prefixes k (omega (arith, within)) in
+            let stop : ℕ → Bool = is_stop old.kinds old.stops in
+            -- The buffers weren't full after the first step, so none of its events stops.
+            let given_without_stop =
+            no_event_stops-reported old.kinds old.stops reads.given
+            (rw reads.shows at
+            (no_event_stops-entries old.stops bytes old.used reads.entries (no_record_stops-free reads.holds free))) in
+            -- Before the end of the second step, none of its events stops either.
+            let later_without_stop =
+            rw (kinds, stops, rest) at (reads_on.before (rw (kinds, stops) stops_at_none) k (omega arith)) in
+            -- What the first i bytes add is the first part of these events.
+            rw (← position)
+            (no_event_stops-front stop (added usual_limit since (take (n + k) unread)) front.others
+            (rw front.parts at (no_event_stops-append stop _ _ given_without_stop later_without_stop)))
+      ];
+    }
+
+pub gone-nothing : {old : Buffers} {parser : Parser 1024} {since bytes : List ℕ} → HasRead parser since
+    → HasReadOn old old parser since bytes 0 0
+gone-nothing {since} reads = record { next = since; reads = reads; goes = goes-nothing }
+
+pub gone-then : {old mid new : Buffers} {parser last : Parser 1024} {since bytes : List ℕ} {n m : ℕ}
+    (has_read : HasReadOn old mid parser since bytes 0 n)
+    → is_full mid ≡ false → n + m ≤ length bytes → HasReadOn mid new last has_read.next bytes n m
+    → HasReadOn old new last since bytes 0 (n + m)
+gone-then has_read free within has_read_on =
+    record {
+      next = has_read_on.next;
+      reads = has_read_on.reads;
+      goes = goes-then has_read.goes free (rw zero-add within) (rw zero-add has_read_on.goes);
+    }
+
+-- ---- a call of the parser, and the run that it returned
+
+-- A run that has no bytes isn't there.
+run-empty : (bytes : List ℕ) (end : ℕ) (taken : Taken) → IsLongestRun bytes end taken → length (taken_bytes taken) ≡ 0
+    → (buffers : Buffers) (start : ℕ)
+    → with_taken buffers start taken ≡ resumed buffers
+run-empty bytes end (Text text) longest no_bytes buffers start = absurd (omega (arith, longest.0, no_bytes))
+run-empty bytes end (Data those) longest no_bytes buffers start = absurd (omega (arith, longest.0, no_bytes))
+run-empty bytes end Nothing longest no_bytes buffers start = refl
+
+module _ (old mid new : Buffers) (since bytes : List ℕ) (from : ℕ) (run : Run) {HasReadBefore : List ℕ → Type 0}
+    (laws : Laws) (free : is_full old ≡ false) (begins : from ≤ length bytes)
+    (returned : ReturnsRun buffers_with_event is_full old mid usual_limit HasReadBefore (drop from bytes) run)
+    (before : HasReadBefore since) where
+  abbrev after_call : List ℕ
+  after_call = resumed_stream since (drop from bytes) run.start
+
+  goes-to_run_start : ReadsOn old (resumed mid) since after_call bytes from run.start
+  goes-to_run_start = goes-call old mid since bytes from run.start laws free (returned.comes since before)
+
+  -- A run of this kind was recorded.
+  goes-recorded : (kind : RunKind) → 0 < length (run_bytes run)
+      → new ≡ with_wanted mid (run_record (run_kind kind) (from + run.start) (length (run_bytes run)))
+      → IsRunOfKind kind (run_bytes run) → run_events run ≡ events_of_run kind (run_bytes run)
+      → ReadsOn old new since (after_call ++ run_bytes run) bytes from run.end
+  goes-recorded kind not_empty recorded is_run same_events =
+      let here : take (length (run_bytes run)) (drop (from + run.start) bytes) ≡ run_bytes run =
+      ap (take (length (run_bytes run))) (sym (drop-drop run.start from bytes)) ∙ sym returned.is_run.bytes_are in
+      let within : from + run.start + length (run_bytes run) ≤ length bytes =
+      omega (arith, begins, returned.is_run.end, returned.is_run.within, length-drop from bytes) in
+      let open_room = returned.may_go_on (omega (arith, returned.is_run.end)) in
+      let same_room : resumed mid ≡ mid = resumed-same mid (free-unpaused mid open_room) in
+      let by_run =
+      goes-run {since = after_call} kind open_room recorded
+      (record { within = within; some = not_empty; is = rw here is_run })
+      (rw here (returned.adds since before ∙ same_events)) in
+      rw returned.is_run.end (goes-then (rw same_room at goes-to_run_start) open_room within (rw here at by_run))
+
+  goes-taken : (taken : Taken) → run.taken ≡ taken → AreCharacters taken → IsLongestRun (drop from bytes) run.end taken
+      → new ≡ with_taken mid (from + run.start) taken
+      → ReadsOn old new since (after_call ++ run_bytes run) bytes from run.end
+  goes-taken (Text text) same_taken utf8 longest written =
+      let bytes_are : run_bytes run ≡ text.now = ap taken_bytes same_taken in
+      goes-recorded TextRun (rw bytes_are longest.0) (rw bytes_are written) (rw bytes_are (utf8, longest.1))
+      (rw same_taken refl)
+  goes-taken (Data those) same_taken utf8 longest written =
+      let bytes_are : run_bytes run ≡ those.now = ap taken_bytes same_taken in
+      goes-recorded DataRun (rw bytes_are longest.0) (rw bytes_are written) tt (rw same_taken refl)
+  goes-taken Nothing same_taken utf8 longest written =
+      let no_bytes : run_bytes run ≡ [] = ap taken_bytes same_taken in
+      let end : run.end ≡ run.start = omega (arith, returned.is_run.end, ap length no_bytes) in
+      rw (no_bytes, append-nil after_call, end, written) goes-to_run_start
+
+  pub goes-to-run : AreCharacters run.taken → new ≡ with_run mid from run
+      → ReadsOn old new since (after_call ++ run_bytes run) bytes from run.end
+  goes-to-run utf8 recorded = goes-taken run.taken refl utf8 returned.is_run.whole recorded
+
+  -- With room for what two bytes add, a call reads one, unless a record that stops was written.
+  pub goes-further : Starts old → from < length bytes → new ≡ with_run mid from run
+      → NoRecordStops old.stops new.events → 0 < run.end
+  unfolding reported_before
+  goes-further starts before_end recorded no_stops = elim (cases_lt 0 run.end) [
+    | inl moved ↦ moved
+    | inr at_0 ↦
+        let unread : List ℕ = drop from bytes in
+        let start : run.start ≡ 0 = omega (arith, at_0, returned.is_run.end) in
+        let empty : length (run_bytes run) ≡ 0 = omega (arith, at_0, returned.is_run.end) in
+        let same : new ≡ resumed mid =
+        recorded ∙ run-empty unread run.end run.taken returned.is_run.whole empty mid (from + run.start) in
+        let performed = rw (start, added-nothing usual_limit since) at (returned.comes since before).performed in
+        let goes_on = free-at_first old (breaks_at since unread 0) starts (rw (same, performed) at no_stops) in
+        absurd
+        (false≢true
+        (sym goes_on ∙ ap is_full (sym performed)
+        ∙ returned.stops (omega (arith, at_0, start)) (omega (arith, start, length-drop from bytes, before_end))))
+  ]

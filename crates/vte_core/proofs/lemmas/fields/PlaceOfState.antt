@@ -1,0 +1,181 @@
+-- What is known of a parser that is at a place, and that a clone of it, or one made of what was saved of it, is at the
+-- same: by cases of its state, to each of which belongs one kind of place.
+use Rattle.vte_core.proofs.Common.{◌≡◌, ℕ, true, Option, List, [], ◌∷◌, ◌++◌, refl, ap, subst, append-nil, Machine, State, Text, Escape, SystemCommand, body_outcome, device_data_outcome, executed_events, leaves, open_bytes, HoldsIntermediates, IsPlaceOfState, IsAtPlace, Place, InText, AtEscape, InSystemCommand, open_at, left_at, rest_outcome, outcome_from, events_from, IsSettledPlace, Stored, HoldsItems, SameItems, text_outcome, is_truncated, Nothing, may_continue, EscapeIntermediate, ControlSequence, DeviceControl, DeviceData, IgnoredString, HasReadWithLimit, HasReadHead, InEscape, InControlSequence, InDeviceControl, InDeviceData, InIgnoredString, take, arith, usual_limit, rules}
+use Rattle.vte_core.specs.IgnoredString.{ignored_string_outcome}
+use Rattle.vte_core.specs.private.Place.{control_sequence_from, device_control_from, escape_from, system_command_from}
+use Rattle.vte_core.proofs.lemmas.shapes.FirstSegment.{text_outcome-end, text_outcome-nothing}
+use Rattle.vte_core.specs.declared.parser.saved.Saved.{Saved}
+use Rattle.vte_core.specs.private.SavedLayout.{HasIntermediates, IsInHead, IsRestored, flag_of, state_bytes}
+use Rattle.vte_core.specs.private.Store.{AreParts, ArePieceEnds}
+use Rattle.vte_core.specs.Saved.{HasReadSaved}
+
+-- If the parser is in a state at a place, it is a place of the state.
+pub is_at-in : {B : Type 0} {limit : Option ℕ} {state : State} {parser : Machine B} {place : Place}
+    → parser.state ≡ state → IsAtPlace limit parser place
+    → IsPlaceOfState limit state parser place
+is_at-in {limit} {parser} {place} in_state is_at = search (rules, arith)
+
+-- A parser in a state is at the place that the state says.
+pub is_at-by : {B : Type 0} {limit : Option ℕ} {state : State} {parser : Machine B} {place : Place}
+    → parser.state ≡ state → IsPlaceOfState limit state parser place
+    → IsAtPlace limit parser place
+is_at-by {limit} {parser} {place} in_state fields = search (rules, arith)
+
+escape-by_state : {B : Type 0} (limit : Option ℕ) (state : State) (parser : Machine B)
+    → IsPlaceOfState limit state parser AtEscape
+    → HoldsIntermediates parser.collected []
+escape-by_state limit Escape parser fields = fields
+escape-by_state limit _ parser fields = absurd fields
+
+pub is_at-escape : {B : Type 0} {limit : Option ℕ} (parser : Machine B) → IsAtPlace limit parser AtEscape
+    → HoldsIntermediates parser.collected []
+is_at-escape {limit} parser is_at = escape-by_state limit parser.state parser is_at.fields
+
+-- In a command, there is one shape of places.
+pub record InCommandAt {B : Type 0} (limit : Option ℕ) (parser : Machine B) (place : Place) : Type 0 where
+  pub items : List ℕ
+  pub same : place ≡ InSystemCommand items
+  pub keeps : HoldsItems limit parser.command items
+
+command-by_place : {B : Type 0} {limit : Option ℕ} {parser : Machine B} {place : Place}
+    → IsPlaceOfState limit SystemCommand parser place → InCommandAt limit parser place
+command-by_place fields = search (rules, arith)
+
+pub in_command : {B : Type 0} {limit : Option ℕ} {parser : Machine B} {place : Place} → parser.state ≡ SystemCommand
+    → IsAtPlace limit parser place → InCommandAt limit parser place
+in_command {limit} in_state is_at = command-by_place (is_at-in in_state is_at)
+
+-- `IsPlace` is true of each place at which some parser is.
+abbrev pub IsPlace : Place → Type 0
+IsPlace (InText opened) = may_continue opened ≡ true
+IsPlace _ = Unit {0}
+
+is_place-by_state : {B : Type 0} (limit : Option ℕ) (state : State) (parser : Machine B) (place : Place)
+    → IsPlaceOfState limit state parser place → IsPlace place
+is_place-by_state limit state parser place fields = search (rules, arith)
+
+pub is_at-place : {B : Type 0} {limit : Option ℕ} {parser : Machine B} {place : Place}
+    → IsAtPlace limit parser place
+    → IsPlace place
+is_at-place {limit} {parser} {place} is_at = is_place-by_state limit parser.state parser place is_at.fields
+
+pub may_continue-truncated : (opened : List ℕ) → is_truncated opened ≡ true → may_continue opened ≡ true
+may_continue-truncated [] truncated = refl
+may_continue-truncated (a ∷ opened) truncated = truncated
+
+text_outcome-open : (limit : Option ℕ) (opened : List ℕ) → may_continue opened ≡ true
+    → text_outcome (opened ++ []) ≡ leaves (left_at limit (InText opened))
+text_outcome-open limit [] continues = text_outcome-nothing
+text_outcome-open limit (a ∷ opened) continues = rw append-nil (text_outcome-end (a ∷ opened) continues)
+
+-- If no bytes follow, nothing is reported, and what is open at the place stays open.
+pub rest_outcome-nothing : (limit : Option ℕ) (place : Place) → IsPlace place
+    → rest_outcome limit place [] ≡ leaves (left_at limit place)
+unfolding body_outcome executed_events escape_from control_sequence_from device_control_from device_data_outcome
+    system_command_from ignored_string_outcome
+rest_outcome-nothing limit (InText opened) is_place = text_outcome-open limit opened is_place
+rest_outcome-nothing limit (InSystemCommand items) is_place = simp append-nil
+rest_outcome-nothing limit _ is_place = refl
+
+pub outcome_from-nothing : (limit : Option ℕ) (place : Place) → IsPlace place
+    → outcome_from limit place [] ≡ leaves (left_at limit place)
+unfolding outcome_from
+outcome_from-nothing limit place is_place = rest_outcome-nothing limit place is_place
+
+pub events_from-nothing : (limit : Option ℕ) (place : Place) → IsPlace place → events_from limit place [] ≡ []
+events_from-nothing limit place is_place = ap (λ outcome. outcome.reported) (outcome_from-nothing limit place is_place)
+
+pub open_bytes-at : (limit : Option ℕ) (place : Place) → open_bytes (left_at limit place) ≡ open_at place
+open_bytes-at limit place = search (rules, arith)
+
+pub open_at-settled : (place : Place) → IsSettledPlace place → open_at place ≡ []
+open_at-settled (InText opened) none_open = none_open
+open_at-settled _ none_open = refl
+
+-- A parser between characters is at the place of a text with nothing open.
+pub is_at-text_begun : {B : Type 0} {limit : Option ℕ} {parser : Machine B} → parser.state ≡ Text Nothing
+    → IsAtPlace limit parser (InText [])
+is_at-text_begun in_state = is_at-by in_state (refl, refl)
+
+pub keeps-same : {limit : Option ℕ} {old new : Stored} {items : List ℕ} → SameItems old new → HoldsItems limit old items
+    → HoldsItems limit new items
+keeps-same same keeps = search (rules, arith)
+
+-- ---- clones
+
+-- A machine with the state of another, what is collected there and its items has read the same.
+
+-- If the parser stays in a state, only what counts in this state must be the same.
+place_of_state-same : {B C : Type 0} (limit : Option ℕ) (state : State) (old : Machine B) (new : Machine C)
+    (place : Place)
+    → (HasIntermediates state → (intermediates : List ℕ) → HoldsIntermediates old.collected intermediates
+    → HoldsIntermediates new.collected intermediates)
+    → (IsInHead state → HasIntermediates state → old.collected ≡ new.collected)
+    → (state ≡ SystemCommand → SameItems old.command new.command)
+    → IsPlaceOfState limit state old place → IsPlaceOfState limit state new place
+place_of_state-same limit (Text unfinished) old new (InText opened) same_intermediates same_head same_items fields =
+    fields
+place_of_state-same limit Escape old new AtEscape same_intermediates same_head same_items fields =
+    same_intermediates tt [] fields
+place_of_state-same limit EscapeIntermediate old new (InEscape bytes) same_intermediates same_head same_items fields =
+    same_intermediates tt bytes fields
+place_of_state-same limit (ControlSequence progress) old new (InControlSequence read)
+    same_intermediates same_head same_items fields =
+    subst (λ collected. HasReadHead collected progress read) (same_head tt tt) fields
+place_of_state-same limit (DeviceControl progress) old new (InDeviceControl read)
+    same_intermediates same_head same_items fields =
+    subst (λ collected. HasReadHead collected progress read) (same_head tt tt) fields
+place_of_state-same limit DeviceData old new InDeviceData same_intermediates same_head same_items fields = tt
+place_of_state-same limit SystemCommand old new (InSystemCommand command)
+    same_intermediates same_head same_items fields =
+    keeps-same (same_items refl) fields
+place_of_state-same limit IgnoredString old new InIgnoredString same_intermediates same_head same_items fields = tt
+place_of_state-same limit _ old new _ same_intermediates same_head same_items fields = absurd fields
+
+pub reads_cloned : {B C : Type 0} (limit : Option ℕ) (old : Machine B) (new : Machine C) → new.state ≡ old.state
+    → new.collected ≡ old.collected → SameItems old.command new.command
+    → (stream : List ℕ) → HasReadWithLimit limit old stream → HasReadWithLimit limit new stream
+reads_cloned limit old new state same items stream has_read = search (rules, arith)
+
+-- ---- saved parsers
+
+-- Everything that counts of a machine is saved: in a head the numbers, in a command its pieces.
+pub record HasSaved {B : Type 0} (saved : Saved) (machine : Machine B) : Type 0 where
+  pub state : saved.state ≡ state_bytes machine.state
+  pub intermediates : HasIntermediates machine.state
+      → take saved.intermediate_count saved.intermediates ≡ machine.collected.intermediates.items
+  pub too_many_intermediates : HasIntermediates machine.state
+      → flag_of saved.too_many_intermediates ≡ machine.collected.too_many_intermediates
+  pub params : IsInHead machine.state
+      → AreParts (take saved.group_count saved.lengths)
+      (take saved.number_count saved.numbers) machine.collected.params
+  pub number : IsInHead machine.state → saved.number ≡ machine.collected.number
+  pub joined : IsInHead machine.state → flag_of saved.joined ≡ machine.collected.joined
+  pub bytes : machine.state ≡ SystemCommand
+      → take saved.byte_count saved.bytes ≡ machine.command.bytes
+  pub ends : machine.state ≡ SystemCommand → take saved.end_count saved.ends ≡ machine.command.ends
+  pub lost : machine.state ≡ SystemCommand → flag_of saved.lost ≡ machine.command.lost
+  pub are_ends : machine.state ≡ SystemCommand
+      → ArePieceEnds machine.command.bytes machine.command.ends
+
+holds-saved : {B C : Type 0} {saved : Saved} {old : Machine B} {new : Machine C} {intermediates : List ℕ}
+    → HasSaved saved old
+    → IsRestored saved new → HasIntermediates old.state → HasIntermediates new.state
+    → HoldsIntermediates old.collected intermediates → HoldsIntermediates new.collected intermediates
+holds-saved has_saved restored has_old has_new holds = search (rules, arith)
+
+collected-saved : {B C : Type 0} {saved : Saved} {old : Machine B} {new : Machine C} → HasSaved saved old
+    → IsRestored saved new → IsInHead old.state × HasIntermediates old.state
+    → IsInHead new.state × HasIntermediates new.state → old.collected ≡ new.collected
+collected-saved has_saved restored in_old in_new = search (rules, arith)
+
+items-saved : {B C : Type 0} {saved : Saved} {old : Machine B} {new : Machine C} → HasSaved saved old
+    → IsRestored saved new → old.state ≡ SystemCommand
+    → new.state ≡ SystemCommand → SameItems old.command new.command
+items-saved has_saved restored old_is new_is = search (rules, arith)
+
+-- What was saved has read what the machine has.
+pub reads_saved : {B : Type 0} {saved : Saved} {machine : Machine B} → HasSaved saved machine
+    → (stream : List ℕ) → HasReadWithLimit usual_limit machine stream → HasReadSaved saved stream
+reads_saved {machine} has_saved stream has_read =
+    search (rules, arith, is_at-by, place_of_state-same, holds-saved, collected-saved, items-saved)

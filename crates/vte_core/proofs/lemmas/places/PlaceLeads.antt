@@ -1,0 +1,249 @@
+-- What one byte reports after each place, and where it leads: one lemma for each kind of place and of byte, by the
+-- definition of that shape alone.
+--
+-- A lemma is named by the place and what comes there, as `escape-end` for the end of a sequence right after ESC.
+use Rattle.vte_core.proofs.Common.{◌≡◌, ℕ, ◌≤◌, true, false, eqb, Option, List, [], ◌∷◌, ◌++◌, ap, sym, append_assoc, append-nil, arith, nat_tests, Class, Control, Intermediate, Final, High, dispatches_escape, class_of, is_cancel, is_device_data, is_head_byte, EscapeSequence, sequence_kind, body_outcome, control_sequence_end, control_sequence_outcome, device_data_outcome, device_control_after_head, ends_command, ends_device_data, device_control_outcome, escape_outcome, executed_events, first_two, are_too_many, Execute, Hook, Put, Unhook, OscDispatch, CsiDispatch, EscDispatch, head_of, is_well_shaped, sequence_event, Leads, InText, AtEscape, InEscape, InControlSequence, InDeviceControl, InDeviceData, InSystemCommand, InIgnoredString, pieces_of, bell, system_command_outcome, text_outcome, character_event, Bool, Place, refl, malformed_event, is_truncated, is_well_formed, scalar_of, nat_le, ◌<◌, cond, length, IsBounded, AreFromOneByte, IsExecuted, IsPrintable, IsShort, IsAtMostOneShort, Event, Print, Head, reported_intermediates, rules}
+use Rattle.vte_core.specs.IgnoredString.{ignored_string_outcome}
+use Rattle.vte_core.specs.SequenceKind.{ControlSequence, DeviceControl, SystemCommand, IgnoredString, SequenceKind}
+use Rattle.vte_core.specs.private.Place.{control_sequence_from, device_control_from, escape_from, system_command_from}
+use Rattle.vte_core.proofs.lemmas.bytes.Classes.{spans, head_is_no_control, head_is_no_end, is_dropped, is_dropped_in_head, below_finals}
+use Rattle.vte_core.proofs.lemmas.shapes.FirstSegment.{text_outcome-lone, text_outcome-well_formed}
+use Rattle.std.proofs.lemmas.List.{length-take}
+use Rattle.vte_core.proofs.lemmas.fields.Numbers.{AreGroups-groups_of, some_group}
+use Rattle.vte_core.proofs.lemmas.bytes.Scalars.{well_formed_is_scalar}
+
+-- ---- DEL and 80..FF
+
+-- The places at which DEL and 80..FF are dropped.
+abbrev pub drops : Place → Bool
+drops (InText opened) = false
+drops InDeviceData = false
+drops (InSystemCommand items) = false
+drops _ = true
+
+pub byte-dropped : {limit : Option ℕ} {place : Place} {b : ℕ} {class : Class} → drops place ≡ true → class_of b ≡ class
+    → is_dropped class ≡ true → Leads limit place b [] place
+unfolding body_outcome escape_from control_sequence_from device_control_from ignored_string_outcome executed_events
+byte-dropped place_drops is_class dropped = search (rules, arith)
+
+-- ---- C0
+
+-- The places at which bytes of C0 are executed, and nothing changes.
+abbrev executes : Place → Bool
+executes AtEscape = true
+executes (InEscape intermediates) = true
+executes (InControlSequence head) = true
+executes _ = false
+
+pub byte-executed : {limit : Option ℕ} {place : Place} {b : ℕ} → executes place ≡ true → class_of b ≡ Control
+    → Leads limit place b (Execute b ∷ []) place
+unfolding body_outcome escape_from control_sequence_from executed_events
+byte-executed place_executes is_control = search (rules, arith)
+
+-- ---- after ESC
+
+pub escape-intermediate : {limit : Option ℕ} {b : ℕ} → class_of b ≡ Intermediate
+    → Leads limit AtEscape b [] (InEscape (b ∷ []))
+unfolding body_outcome executed_events escape_outcome escape_from
+escape-intermediate {b} is_intermediate =
+    let range = spans b is_intermediate in
+    record { leads = λ rest. simp (is_intermediate, below_finals b (omega arith)) }
+
+-- The place after a key that begins a body.
+abbrev begun_by : SequenceKind → Place
+begun_by ControlSequence = InControlSequence []
+begun_by DeviceControl = InDeviceControl []
+begun_by SystemCommand = InSystemCommand []
+begun_by IgnoredString = InIgnoredString
+begun_by EscapeSequence = AtEscape
+
+abbrev begins_body : SequenceKind → Bool
+begins_body EscapeSequence = false
+begins_body _ = true
+
+pub escape-key : {limit : Option ℕ} {b : ℕ} (kind : SequenceKind) → class_of b ≡ Final → sequence_kind b ≡ kind
+    → begins_body kind ≡ true
+    → Leads limit AtEscape b [] (begun_by kind)
+unfolding body_outcome executed_events control_sequence_outcome control_sequence_from device_control_outcome
+    device_control_from system_command_outcome system_command_from
+escape-key kind is_final is_kind begins = search (rules, arith)
+
+-- ---- after ESC and intermediates
+
+pub intermediate-more : {limit : Option ℕ} {intermediates : List ℕ} {b : ℕ} → class_of b ≡ Intermediate
+    → Leads limit (InEscape intermediates) b [] (InEscape (intermediates ++ b ∷ []))
+unfolding escape_from executed_events
+intermediate-more is_intermediate = record { leads = λ rest. simp (is_intermediate, append_assoc) }
+
+pub intermediate-end : {limit : Option ℕ} {intermediates : List ℕ} {b : ℕ} {class : Class} → class_of b ≡ class
+    → dispatches_escape class ≡ true
+    → Leads limit (InEscape intermediates) b (EscDispatch (first_two intermediates) (are_too_many intermediates) b ∷ [])
+    (InText [])
+unfolding escape_from executed_events
+intermediate-end is_class dispatches = search (rules, arith)
+
+-- A byte that has no other meaning after ESC ends an escape sequence.
+pub escape-end : {limit : Option ℕ} {b : ℕ} {class : Class} → class_of b ≡ class → dispatches_escape class ≡ true
+    → sequence_kind b ≡ EscapeSequence
+    → Leads limit AtEscape b (EscDispatch [] false b ∷ []) (InText [])
+unfolding body_outcome executed_events escape_outcome
+escape-end is_class dispatches is_kind = search (rules, arith)
+
+-- ---- in the head of a control sequence
+
+pub control-head : {limit : Option ℕ} {head : List ℕ} {b : ℕ} → is_head_byte (class_of b) ≡ true
+    → Leads limit (InControlSequence head) b [] (InControlSequence (head ++ b ∷ []))
+unfolding control_sequence_from executed_events
+control-head {b} is_head =
+    record {
+      leads = λ rest.
+          simp (is_head, head_is_no_control (class_of b) is_head, head_is_no_end (class_of b) is_head, append_assoc);
+    }
+
+pub control-dispatched : {limit : Option ℕ} {head : List ℕ} {b : ℕ} → class_of b ≡ Final
+    → is_well_shaped (head_of head) ≡ true
+    → Leads limit (InControlSequence head) b (sequence_event CsiDispatch (head_of head) b ∷ []) (InText [])
+unfolding control_sequence_from control_sequence_end executed_events
+control-dispatched is_final well_shaped = record { leads = λ rest. simp (is_final, append-nil, well_shaped) }
+
+pub control-silent : {limit : Option ℕ} {head : List ℕ} {b : ℕ} → class_of b ≡ Final
+    → is_well_shaped (head_of head) ≡ false → Leads limit (InControlSequence head) b [] (InText [])
+unfolding control_sequence_from control_sequence_end executed_events
+control-silent is_final ill_shaped = record { leads = λ rest. simp (is_final, append-nil, ill_shaped) }
+
+-- ---- in the head of a device control string
+
+pub device-dropped : {limit : Option ℕ} {head : List ℕ} {b : ℕ} {class : Class} → class_of b ≡ class
+    → is_dropped_in_head class ≡ true → Leads limit (InDeviceControl head) b [] (InDeviceControl head)
+unfolding device_control_from
+device-dropped is_class dropped = search (rules, arith)
+
+pub device-head : {limit : Option ℕ} {head : List ℕ} {b : ℕ} → is_head_byte (class_of b) ≡ true
+    → Leads limit (InDeviceControl head) b [] (InDeviceControl (head ++ b ∷ []))
+unfolding device_control_from
+device-head {b} is_head = record { leads = λ rest. simp (is_head, head_is_no_end (class_of b) is_head, append_assoc) }
+
+pub device-well_shaped : {limit : Option ℕ} {head : List ℕ} {b : ℕ} → class_of b ≡ Final
+    → is_well_shaped (head_of head) ≡ true
+    → Leads limit (InDeviceControl head) b (sequence_event Hook (head_of head) b ∷ []) InDeviceData
+unfolding device_control_from device_control_after_head
+device-well_shaped is_final well_shaped = record { leads = λ rest. simp (is_final, append-nil, well_shaped) }
+
+pub device-ill_shaped : {limit : Option ℕ} {head : List ℕ} {b : ℕ} → class_of b ≡ Final
+    → is_well_shaped (head_of head) ≡ false → Leads limit (InDeviceControl head) b [] InIgnoredString
+unfolding device_control_from device_control_after_head
+device-ill_shaped is_final ill_shaped = record { leads = λ rest. simp (is_final, append-nil, ill_shaped) }
+
+-- ---- in the data of a hooked string
+
+-- A byte of a class that is data doesn't end the data of a device control string.
+data_is_no_end : (b : ℕ) → is_device_data (class_of b) ≡ true → ends_device_data b ≡ false
+unfolding class_of
+data_is_no_end b is_data = grind (arith, nat_tests)
+
+pub data-put : {limit : Option ℕ} {b : ℕ} → is_device_data (class_of b) ≡ true
+    → Leads limit InDeviceData b (Put b ∷ []) InDeviceData
+unfolding device_data_outcome
+data-put {b} is_data = record { leads = λ rest. simp (is_data, data_is_no_end b is_data) }
+
+pub data-dropped : {limit : Option ℕ} {b : ℕ} → ends_device_data b ≡ false → is_device_data (class_of b) ≡ false
+    → Leads limit InDeviceData b [] InDeviceData
+unfolding device_data_outcome
+data-dropped no_end no_data = record { leads = λ rest. simp (no_end, no_data) }
+
+pub data-terminator : {limit : Option ℕ} {b : ℕ} → class_of b ≡ High → eqb b 0x9c ≡ true
+    → Leads limit InDeviceData b (Unhook ∷ []) (InText [])
+unfolding device_data_outcome
+data-terminator is_high is_terminator = record { leads = λ rest. simp (is_high, is_terminator) }
+
+-- ---- in an operating system command
+
+item_is_no_end : (b : ℕ) → 0x20 ≤ b → ends_command b ≡ false
+unfolding class_of
+item_is_no_end b low = grind (arith, nat_tests)
+
+pub command-item : {limit : Option ℕ} {items : List ℕ} {b : ℕ} → 0x20 ≤ b
+    → Leads limit (InSystemCommand items) b [] (InSystemCommand (items ++ b ∷ []))
+unfolding system_command_from
+command-item {b} low =
+    let is_item : nat_le 0x20 b ≡ true =
+    grind (arith, nat_tests) in record { leads = λ rest. simp (item_is_no_end b low, is_item, append_assoc) }
+
+-- In an operating system command, bytes of C0 other than BEL are dropped.
+pub command-control : {limit : Option ℕ} {items : List ℕ} {b : ℕ} → class_of b ≡ Control → eqb b bell ≡ false
+    → Leads limit (InSystemCommand items) b [] (InSystemCommand items)
+unfolding system_command_from class_of
+command-control {b} is_control no_bell = search (rules, arith)
+
+pub command-bell : {limit : Option ℕ} {items : List ℕ} {b : ℕ} → class_of b ≡ Control → eqb b bell ≡ true
+    → Leads limit (InSystemCommand items) b (OscDispatch (pieces_of limit items) true ∷ []) (InText [])
+unfolding system_command_from
+command-bell is_control is_bell = record { leads = λ rest. simp (is_control, is_bell, append-nil) }
+
+-- ---- in a string that means nothing
+
+pub ignored-more : {limit : Option ℕ} {b : ℕ} → is_cancel (class_of b) ≡ false
+    → Leads limit InIgnoredString b [] InIgnoredString
+unfolding ignored_string_outcome
+ignored-more no_cancel = record { leads = λ rest. simp no_cancel }
+
+-- ---- in a text
+
+pub text-unfinished : {limit : Option ℕ} {opened : List ℕ} {b : ℕ}
+    → Leads limit (InText opened) b [] (InText (opened ++ b ∷ []))
+text-unfinished {opened} {b} = record { leads = λ rest. ap text_outcome (sym (append_assoc opened (b ∷ []) rest)) }
+
+pub text-well_formed : {limit : Option ℕ} {opened : List ℕ} {b : ℕ} → is_well_formed (opened ++ b ∷ []) ≡ true
+    → Leads limit (InText opened) b (character_event (scalar_of (opened ++ b ∷ [])) ∷ []) (InText [])
+text-well_formed {opened} {b} well_formed =
+    record { leads = λ rest. rw append_assoc at (text_outcome-well_formed (opened ++ b ∷ []) rest well_formed) }
+
+pub text-lone : {limit : Option ℕ} {b : ℕ} → is_well_formed (b ∷ []) ≡ false → is_truncated (b ∷ []) ≡ false
+    → Leads limit (InText []) b (malformed_event (b ∷ []) ∷ []) (InText [])
+text-lone {b} not_well_formed not_truncated =
+    record { leads = λ rest. text_outcome-lone rest b not_well_formed not_truncated }
+
+-- ---- the events of one byte are small
+
+-- A character, a control, or a dispatch whose intermediates and final byte have bounds: by the kind of event.
+
+pub executed_low : (b : ℕ) → b < 0x20 → IsExecuted b
+executed_low b low = grind (arith, nat_tests)
+
+pub two_at_most : (bytes : List ℕ) → length (first_two bytes) ≤ 2
+two_at_most bytes = omega (arith, length-take 2 bytes)
+
+-- The events of a sequence and of a hook have the same bounds.
+pub bounded-head : (limit : Option ℕ) (head : Head) (final : ℕ) → (0x40 ≤ final) × (final < 0x7f)
+    → IsBounded limit (sequence_event CsiDispatch head final) × IsBounded limit (sequence_event Hook head final)
+unfolding sequence_event
+bounded-head limit head final in_range =
+    let groups = AreGroups-groups_of head.parameter_text in
+    let at_most = two_at_most (reported_intermediates head) in
+    let has_group = some_group head.parameter_text in
+    ((groups, at_most, in_range.1, in_range.0, has_group), (groups, at_most, in_range.1, in_range.0, has_group))
+
+short-chosen : (executed : Bool) (byte scalar : ℕ) → (executed ≡ true → IsExecuted byte)
+    → (executed ≡ false → IsPrintable scalar)
+    → IsShort (cond executed (Execute byte) (Print scalar))
+short-chosen true byte scalar if_executed if_printed = if_executed refl
+short-chosen false byte scalar if_executed if_printed = if_printed refl
+
+pub short-character : (bytes : List ℕ) → is_well_formed bytes ≡ true → IsShort (character_event (scalar_of bytes))
+unfolding character_event
+short-character bytes well_formed = search (rules, arith, short-chosen, well_formed_is_scalar)
+
+pub short-malformed : (b : ℕ) → IsShort (malformed_event (b ∷ []))
+unfolding malformed_event
+short-malformed b = search (rules, arith)
+
+pub short_bounded : (limit : Option ℕ) (event : Event) → IsShort event → IsBounded limit event
+short_bounded limit event short = search (rules, arith)
+
+pub one_short-from_one_byte : (limit : Option ℕ) (reported : List Event) → IsAtMostOneShort reported
+    → AreFromOneByte limit reported
+one_short-from_one_byte limit reported one_short = search (rules, arith)
+
+pub one_short-append : (limit : Option ℕ) (prefix rest : List Event) → IsAtMostOneShort prefix → IsAtMostOneShort rest
+    → AreFromOneByte limit (prefix ++ rest)
+one_short-append limit prefix rest prefix_short rest_short = search (rules, arith)

@@ -1,0 +1,140 @@
+-- A byte in a text, by whether it ends, continues or breaks the open character (`step-text`), and CAN and SUB at all
+-- places (`byte-cancels`).
+use Rattle.vte_core.proofs.Common.{◌≡◌, ℕ, false, eqb, Option, List, [], ◌∷◌, ◌++◌, refl, ap, sym, ◌∙◌, arith, nat_tests, Cancel, class_of, Event, Leads, report, Place, InText, closing_events_at, escape, inl, inr, true, cases_Bool, false≢true, AreFromOneByte, IsAtMostOneShort, Print, open_data_count, left_at, replacement, may_continue, is_truncated, is_well_formed, ◌<◌, Execute, InSystemCommand, bell, text_outcome, character_event, is_control_character, append-nil, body_outcome, control_sequence_end, device_data_outcome, device_control_after_head, executed_events, rules}
+use Rattle.vte_core.proofs.lemmas.shapes.FirstSegment.{text_outcome-broken, text_outcome-well_formed}
+use Rattle.vte_core.proofs.lemmas.shapes.BrokenCharacters.{breaks-broken}
+use Rattle.vte_core.proofs.lemmas.fields.PlaceOfState.{IsPlace, may_continue-truncated}
+use Rattle.vte_core.proofs.lemmas.places.PlaceLeads.{text-unfinished, text-well_formed, text-lone, short-character, short-malformed, one_short-from_one_byte, one_short-append, executed_low}
+use Rattle.vte_core.specs.IgnoredString.{ignored_string_outcome}
+use Rattle.vte_core.specs.private.Place.{control_sequence_from, device_control_from, escape_from, system_command_from}
+use Rattle.vte_core.proofs.lemmas.bytes.Classes.{spans}
+use Rattle.vte_core.proofs.lemmas.bytes.Utf8.{Tests, ascii-alone, ascii-breaks}
+use Rattle.vte_core.proofs.lemmas.fields.Pieces.{few_pieces, some_pieces}
+use Rattle.vte_core.proofs.lemmas.places.BytesInStream.{bytes_lead-byte, waits-byte}
+use Rattle.vte_core.proofs.lemmas.places.Steps.{FitsLeft, IsSilentOrSettles, Steps}
+
+-- ---- a byte in a text
+
+open_data_count-text : (limit : Option ℕ) (begun : List ℕ) → open_data_count (left_at limit (InText begun)) ≡ 0
+open_data_count-text limit [] = refl
+open_data_count-text limit (a ∷ begun) = refl
+
+silent_or_settles-is_short : (next : Place) (reported : List Event) → IsSilentOrSettles next reported
+    → IsAtMostOneShort reported
+silent_or_settles-is_short next reported little = search (rules, arith)
+
+step-silent_or_settles : {limit : Option ℕ} {begun later : List ℕ} {byte : ℕ} {reported : List Event}
+    → IsSilentOrSettles (InText later) reported → eqb byte escape ≡ false
+    → Leads limit (InText begun) byte reported (InText later)
+    → IsPlace (InText later) → Steps limit (InText begun) byte
+step-silent_or_settles {limit} {begun} {later} {byte} {reported} little is_no_escape leads is_place = record {
+  reported = reported;
+  next = InText later;
+  is_place = is_place;
+  reads = bytes_lead-byte is_no_escape leads;
+  brief = λ size _. one_short-from_one_byte size reported (silent_or_settles-is_short (InText later) reported little);
+  grows = λ _. omega (arith, open_data_count-text limit later);
+  leaves = elim little [ inl nothing ↦ inr (inl nothing) | inr closed ↦ inl closed.0 ];
+  little = λ _ _. little;
+  outside_runs = λ outside. absurd outside;
+}
+
+-- `Steps` need only be shown for a byte that neither ends the character nor belongs to it.
+step-by_tests : {limit : Option ℕ} {begun : List ℕ} {byte : ℕ} → eqb byte escape ≡ false
+    → (is_well_formed (begun ++ byte ∷ []) ≡ false → is_truncated (begun ++ byte ∷ []) ≡ false
+    → Steps limit (InText begun) byte)
+    → Steps limit (InText begun) byte
+step-by_tests {begun} {byte} is_no_escape neither = elim (cases_Bool (is_well_formed (begun ++ byte ∷ []))) [
+  | inl well_formed ↦ step-silent_or_settles (inr (refl, short-character (begun ++ byte ∷ []) well_formed)) is_no_escape
+      (text-well_formed well_formed) refl
+  | inr not_well_formed ↦ elim (cases_Bool (is_truncated (begun ++ byte ∷ []))) [
+    | inl truncated ↦ step-silent_or_settles (inl refl) is_no_escape text-unfinished
+        (may_continue-truncated (begun ++ byte ∷ []) truncated)
+    | inr not_truncated ↦ neither not_well_formed not_truncated
+  ]
+]
+
+step-settled : {limit : Option ℕ} {byte : ℕ} → eqb byte escape ≡ false → Steps limit (InText []) byte
+step-settled {byte} is_no_escape =
+    step-by_tests is_no_escape
+    (λ not_well_formed not_truncated.
+    step-silent_or_settles (inr (refl, short-malformed byte)) is_no_escape
+    (text-lone not_well_formed not_truncated) refl)
+
+-- `Steps` holds for a byte that belongs to no character with those before it.
+step-broken : (limit : Option ℕ) (begun : List ℕ) (byte : ℕ) → eqb byte escape ≡ false → is_truncated begun ≡ true
+    → is_well_formed (begun ++ byte ∷ []) ≡ false → is_truncated (begun ++ byte ∷ []) ≡ false
+    → Steps limit (InText begun) byte
+step-broken limit begun byte is_no_escape truncated not_well_formed_after not_truncated_after =
+    let alone : Steps limit (InText []) byte = step-settled is_no_escape in
+    let little : IsSilentOrSettles alone.next alone.reported = alone.little tt refl in
+    record {
+      reported = Print replacement ∷ alone.reported;
+      next = alone.next;
+      is_place = alone.is_place;
+      reads = record {
+        reads = λ rest.
+            waits-byte limit (InText begun) (InText []) byte (Print replacement ∷ []) rest is_no_escape
+            (text_outcome-broken begun byte truncated not_well_formed_after not_truncated_after)
+            ∙ ap (report (Print replacement ∷ [])) (alone.reads.reads rest);
+      };
+      brief =
+          λ size _. one_short-append size (Print replacement ∷ []) alone.reported (refl, refl)
+          (silent_or_settles-is_short alone.next alone.reported little);
+      grows = λ no_limit. omega (arith, alone.grows no_limit);
+      leaves =
+          elim little [
+            | inl nothing ↦ inr (inr (ap (λ events. Print replacement ∷ events) nothing))
+            | inr closed ↦ inl closed.0
+          ];
+      little = λ _ unbroken. absurd (false≢true
+          (sym unbroken ∙ breaks-broken begun byte truncated not_well_formed_after not_truncated_after));
+      outside_runs = λ outside. absurd outside;
+    }
+
+pub step-text : (limit : Option ℕ) (begun : List ℕ) (byte : ℕ) → eqb byte escape ≡ false → may_continue begun ≡ true
+    → Steps limit (InText begun) byte
+step-text limit begun byte is_no_escape continues = search (rules, arith, step-settled, step-by_tests, step-broken)
+
+-- ---- CAN and SUB
+
+-- CAN and SUB end what is open, which is closed first, and then are executed, by cases of the place.
+
+cancel_is_no_bell : (b : ℕ) → class_of b ≡ Cancel → eqb b bell ≡ false
+unfolding class_of
+cancel_is_no_bell b is_cancel = grind (arith, nat_tests)
+
+text_outcome-cancel : (rest : List ℕ) (b : ℕ) → b < 0x20
+    → text_outcome (b ∷ rest) ≡ report (Execute b ∷ []) (text_outcome rest)
+unfolding character_event
+text_outcome-cancel rest b low =
+    let control : is_control_character b ≡ true = grind (arith, nat_tests) in
+    rw control at (text_outcome-well_formed (b ∷ []) rest (ascii-alone b (omega arith)).is_whole)
+
+-- CAN and SUB close what is open, and then are executed.
+pub byte-cancels : {limit : Option ℕ} {place : Place} {b : ℕ} → IsPlace place → class_of b ≡ Cancel
+    → Leads limit place b (closing_events_at limit place ++ Execute b ∷ []) (InText [])
+unfolding body_outcome executed_events escape_from control_sequence_from control_sequence_end device_control_from
+    device_control_after_head device_data_outcome system_command_from ignored_string_outcome
+byte-cancels {place = InText []} {b} is_place is_cancel =
+    record { leads = λ rest. text_outcome-cancel rest b (spans b is_cancel) }
+byte-cancels {place = InText (a ∷ opened)} {b} is_place is_cancel =
+    let low : b < 0x20 = spans b is_cancel in
+    let tests : Tests (a ∷ opened ++ b ∷ []) false false = ascii-breaks (a ∷ opened) b is_place (omega arith) in
+    record {
+      leads = λ rest. text_outcome-broken (a ∷ opened) b is_place tests.is_whole tests.is_open rest
+          ∙ ap (report (Print replacement ∷ [])) (text_outcome-cancel rest b low);
+    }
+byte-cancels {place = InSystemCommand items} {b} is_place is_cancel =
+    record { leads = λ rest. simp (is_cancel, cancel_is_no_bell b is_cancel, append-nil) }
+byte-cancels is_place is_cancel = record { leads = λ rest. simp is_cancel }
+
+-- ---- what ESC, CAN and SUB report is no more than one byte may
+
+pub closing_brief : (limit size : Option ℕ) (place : Place) (b : ℕ) → FitsLeft size (left_at limit place) → b < 0x20
+    → AreFromOneByte size (closing_events_at limit place ++ Execute b ∷ [])
+closing_brief limit size place b fits low = search (rules, arith, executed_low, few_pieces, some_pieces)
+
+pub closing_alone_brief : (limit size : Option ℕ) (place : Place) → FitsLeft size (left_at limit place)
+    → AreFromOneByte size (closing_events_at limit place)
+closing_alone_brief limit size place fits = search (rules, arith, few_pieces, some_pieces)

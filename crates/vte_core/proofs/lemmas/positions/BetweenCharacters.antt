@@ -1,0 +1,201 @@
+-- A byte between characters: it is one (`takes_bytes-printed`), a control or malformed (`takes_bytes-single`), or the
+-- first of one (`takes_bytes-opened`). What the code does is what `places/PlaceLeads` says of the byte, and the parser
+-- is at the next place. A single byte reports nothing that a run would, after a stretch (`advances-single`).
+use Rattle.vte_core.proofs.Common.{◌≡◌, ◌≢◌, ℕ, ◌+◌, ◌<◌, ◌≤◌, inl, inr, true, false, Option, List, [], ◌∷◌, length, refl, ap, sym, subst, ◌∙◌, arith, cases_lt, nat_tests, slice_index, Advances, Machine, Text, Nothing, Event, Print, IsAtPlace, TakesBytes, Place, InText, IsSettledPlace, Carries, escape, character_event, malformed_event, from_to, is_in, is_truncated, is_well_formed, Unfinished, IsOutsideRuns, AddsOutsideRuns, IsAfter, resumed_stream, BytesLead, All, ChunkCall, suc, drop, drop_more, take, HasNoRunAt, One, false≢true, rules}
+use Rattle.vte_core.specs.declared.utf8.Carried.TheVariants.{Unfinished as StillUnfinished}
+use Rattle.vte_core.proofs.lemmas.bytes.Scalars.{begins_none, first_truncated}
+use Rattle.vte_core.proofs.lemmas.bytes.Utf8.{ascii-alone}
+use Rattle.vte_core.proofs.lemmas.fields.PlaceOfState.{is_at-by}
+use Rattle.vte_core.proofs.lemmas.positions.Progress.{settled-same_state, place-settled_text}
+use Rattle.vte_core.proofs.lemmas.positions.Stretches.{advances-byte, advances-reporting, advances-then, not_escape, takes_bytes-begun, reads-byte_at}
+use Rattle.vte_core.specs.private.Prelude.{MayReadByte, Completes}
+use Rattle.vte_core.proofs.lemmas.places.PlaceLeads.{text-lone, text-unfinished, text-well_formed}
+use Rattle.vte_core.proofs.lemmas.streams.StreamSteps.{outside_runs-control}
+use Rattle.vte_core.proofs.lemmas.positions.AddedEvents.{adds-reads, added-inside, adds-character, keep, recorded-at, keeping}
+use Rattle.vte_core.proofs.lemmas.places.BytesInStream.{bytes_lead-byte}
+use Rattle.vte_core.proofs.lemmas.positions.Characters.{in_text}
+
+character_event-printed : (b : ℕ) → is_in (from_to 0x20 0x7f) b ≡ true → character_event b ≡ Print b
+unfolding character_event
+character_event-printed b printed = grind (arith, nat_tests)
+
+module _ {V B : Type 0} {step : V → Event → V} {old new : V} {limit : Option ℕ} {b : ℕ} {parser : Machine B} where
+  -- A byte that is a character by itself reports it.
+  takes_bytes-whole : parser.state ≡ Text Nothing → b ≢ escape → is_well_formed (b ∷ []) ≡ true
+      → new ≡ step old (character_event b) → (place : Place) → IsAtPlace limit parser place → IsSettledPlace place
+      → TakesBytes step old new limit place (b ∷ []) parser
+  takes_bytes-whole begun is_no_escape whole performed =
+      takes_bytes-begun begun is_no_escape
+      (λ s. record {
+        reported = character_event b ∷ [];
+        next = InText [];
+        performed = performed;
+        is_at = s;
+        leads = text-well_formed whole;
+      })
+
+  -- A byte that begins no character is malformed.
+  takes_bytes-lone : parser.state ≡ Text Nothing → b ≢ escape
+      → is_well_formed (b ∷ []) ≡ false → is_truncated (b ∷ []) ≡ false → new ≡ step old (malformed_event (b ∷ []))
+      → (place : Place) → IsAtPlace limit parser place → IsSettledPlace place
+      → TakesBytes step old new limit place (b ∷ []) parser
+  takes_bytes-lone begun is_no_escape whole more performed =
+      takes_bytes-begun begun is_no_escape
+      (λ s. record {
+        reported = malformed_event (b ∷ []) ∷ [];
+        next = InText [];
+        performed = performed;
+        is_at = s;
+        leads = text-lone whole more;
+      })
+
+  -- A character of ASCII that is printed is reported by `Print`.
+  pub takes_bytes-printed : {scalar : ℕ} → parser.state ≡ Text Nothing → is_in (from_to 0x20 0x7f) b ≡ true → scalar ≡ b
+      → new ≡ step old (Print scalar) → (place : Place) → IsAtPlace limit parser place → IsSettledPlace place
+      → TakesBytes step old new limit place (b ∷ []) parser
+  takes_bytes-printed begun printed same reported =
+      let low : 0x20 ≤ b = grind (arith, nat_tests) in
+      let high : b < 0x80 = grind (arith, nat_tests) in
+      takes_bytes-whole begun (λ escape. omega (arith, escape, low)) (ascii-alone b high).is_whole
+      (reported ∙ ap (λ scalar. step old (Print scalar)) same ∙ ap (step old) (sym (character_event-printed b printed)))
+
+  -- A byte that is neither printed nor begins a longer character is a control or malformed.
+  pub takes_bytes-single : parser.state ≡ Text Nothing → b ≢ escape
+      → is_in (from_to 0xc2 0xf4) b ≡ false → (b < 0x80 → new ≡ step old (character_event b))
+      → (0x80 ≤ b → new ≡ step old (malformed_event (b ∷ []))) → (place : Place)
+      → IsAtPlace limit parser place → IsSettledPlace place → TakesBytes step old new limit place (b ∷ []) parser
+  takes_bytes-single begun is_no_escape no_lead control malformed = elim (cases_lt b 0x80) [
+    | inl low ↦ takes_bytes-whole begun is_no_escape (ascii-alone b low).is_whole (control low)
+    | inr high ↦
+        let lone =
+        begins_none b high no_lead in takes_bytes-lone begun is_no_escape lone.is_whole lone.is_open (malformed high)
+  ]
+
+-- A byte that begins a longer character reports nothing, and opens it.
+takes_bytes-opened : {V B : Type 0} {step : V → Event → V} {value : V} {limit : Option ℕ} {b : ℕ} {longer : Unfinished}
+    {parser next : Machine B} → parser.state ≡ Text Nothing
+    → b ≢ escape → Carries [] b (StillUnfinished longer) → next.state ≡ Text longer → (place : Place)
+    → IsAtPlace limit parser place
+    → IsSettledPlace place
+    → TakesBytes step value value limit place (b ∷ []) next
+takes_bytes-opened {limit} {b} {longer} {next} begun is_no_escape carries state =
+    let more : is_truncated (b ∷ []) ≡ true = rw carries.0 at carries.1 in
+    takes_bytes-begun begun is_no_escape
+    (λ s. record {
+      reported = [];
+      next = InText (b ∷ []);
+      performed = refl;
+      is_at = is_at-by state (carries.0, more);
+      leads = text-unfinished;
+    })
+
+-- ---- what a byte reports that is neither printed nor begins a longer one
+
+-- A control or a malformed byte, by whether it is ASCII. Neither event is one of a run.
+
+record Single (limit : Option ℕ) (b : ℕ) : Type 0 where
+  reported : List Event
+  reads : BytesLead limit (InText []) (b ∷ []) reported (InText [])
+  events_are : All IsOutsideRuns reported
+
+outside_runs-malformed : (b : ℕ) → All IsOutsideRuns (malformed_event (b ∷ []) ∷ [])
+unfolding malformed_event
+outside_runs-malformed b = search (rules, arith)
+
+byte-single : (limit : Option ℕ) (b : ℕ) → b ≢ escape → is_in (from_to 0x20 0x7f) b ≡ false
+    → is_in (from_to 0xc2 0xf4) b ≡ false
+    → Single limit b
+byte-single limit b is_no_escape other no_lead = elim (cases_lt b 0x80) [
+  | inl low ↦ record {
+    reported = character_event b ∷ [];
+    reads =
+        bytes_lead-byte (not_escape b is_no_escape)
+        (text-well_formed (ascii-alone b low).is_whole);
+    events_are = outside_runs-control b (grind (arith, nat_tests));
+  }
+  | inr high ↦
+      let lone = begins_none b high no_lead in
+      record {
+        reported = malformed_event (b ∷ []) ∷ [];
+        reads =
+            bytes_lead-byte (not_escape b is_no_escape)
+            (text-lone lone.is_whole lone.is_open);
+        events_are = outside_runs-malformed b;
+      }
+]
+
+adds-single : {B : Type 0} {limit : Option ℕ} {stream bytes : List ℕ} {i b : ℕ} {place : Place} (parser : Machine B)
+    → parser.state ≡ Text Nothing → b ≢ escape
+    → is_in (from_to 0x20 0x7f) b ≡ false → is_in (from_to 0xc2 0xf4) b ≡ false → i < length bytes
+    → b ≡ slice_index bytes i
+    → IsAtPlace limit parser place
+    → IsAfter limit (resumed_stream stream bytes i) place → AddsOutsideRuns limit stream bytes i (i + 1)
+adds-single {limit} {stream} {bytes} {i} {b} {place}
+    parser begun is_no_escape other no_lead within byte_is is_at after =
+    let one = byte-single limit b is_no_escape other no_lead in
+    adds-reads within byte_is
+    (subst (IsAfter limit (resumed_stream stream bytes i)) (place-settled_text begun is_at) after)
+    one.reads refl one.events_are
+
+pub advances-single : {outside V B : Type 0} {call : ChunkCall V} {old mid new : V} {i j b : ℕ}
+    {parser next : Machine B} → Advances outside call old mid i j parser next
+    → MayReadByte call mid (Text Nothing) next j b → b ≢ escape → is_in (from_to 0x20 0x7f) b ≡ false
+    → is_in (from_to 0xc2 0xf4) b ≡ false → (b < 0x80 → new ≡ call.step mid (character_event b))
+    → (0x80 ≤ b → new ≡ call.step mid (malformed_event (b ∷ [])))
+    → Advances outside call old new i (j + 1) parser next
+advances-single before may_read is_no_escape other no_lead control malformed =
+    advances-then before (advances-reporting
+    (advances-byte may_read.within may_read.looked_at may_read.may_go_on
+    (takes_bytes-single may_read.begun is_no_escape no_lead control malformed)
+    (settled-same_state may_read.begun tt))
+    (λ stream place is_at. adds-single _ may_read.begun is_no_escape other no_lead may_read.within may_read.looked_at
+    is_at))
+
+-- ---- what a character reports that a lead byte begins
+
+-- A call that completes it from the second byte on (`Completes`) does from the first what any call does (`Advances`).
+-- What it reports is no printed character where no run could begin.
+
+-- A call that reads the first byte of a character advances by what completes the character.
+pub advances-first : {V B given : Type 0} {call : ChunkCall V} {old new : V} {i j first : ℕ} {parser next : Machine B}
+    → MayReadByte call old (Text Nothing) parser i first → 0xc2 ≤ first → first < 0xf5
+    → Completes call old new (i + 1) j (One first) next
+    → Advances (given × HasNoRunAt false call.bytes i) call old new i j parser next
+advances-first {call} {i} {first} {parser} may_read lead fits completes = record {
+  -- The first byte opens the character, and `completes` goes on from inside it.
+  goes_on = λ value stream position.
+      completes.is_at_position value stream (in_text parser (One first)) refl
+      (reads-byte_at may_read.within may_read.looked_at may_read.may_go_on
+      (takes_bytes-opened may_read.begun (λ is_escape. omega (arith, is_escape, lead))
+      (refl, first_truncated first lead fits) refl) position);
+  -- If bytes are left, the parser is between characters again.
+  settled = λ within. settled-same_state (completes.text within) tt;
+  -- It remains to show that what the whole character reports is outside runs.
+  outside_runs = λ given value stream position.
+      -- After the first byte, the call is inside the character.
+      let inside =
+      reads-byte_at may_read.within may_read.looked_at may_read.may_go_on
+      (takes_bytes-opened may_read.begun (λ is_escape. omega (arith, is_escape, lead))
+      (refl, first_truncated first lead fits) refl) position in
+      -- For a performer that keeps all events (`recorded-at`), the same says that the first byte reported nothing.
+      let silent = reads-byte_at {call = keeping call.limit call.bytes} may_read.within may_read.looked_at
+      (λ does. absurd (false≢true does))
+      (takes_bytes-opened {step = keep} may_read.begun (λ is_escape. omega (arith, is_escape, lead))
+      (refl, first_truncated first lead fits) refl)
+      (recorded-at position) in
+      -- So what the character reports is what `completes` adds.
+      let reported = completes.adds value stream (in_text parser (One first)) refl inside in
+      -- Either this is outside runs by itself, or it is a whole character.
+      adds-character reported (added-inside {parser = in_text parser (One first)} silent) (elim reported.events_are [
+        | inl others ↦ others
+        | inr whole ↦
+            let cut : take (whole.n + 1) (drop i call.bytes) ≡ first ∷ take whole.n (drop (i + 1) call.bytes) =
+            ap (λ n. take n (drop i call.bytes)) (let same : whole.n + 1 ≡ suc whole.n = omega arith in same)
+            ∙ ap (take (suc whole.n)) (drop_more call.bytes i 0 may_read.within)
+            ∙ ap (λ byte. byte ∷ take whole.n (drop (i + 1) call.bytes)) (sym may_read.looked_at) in
+            -- As no run begins here, a well-formed sequence that begins here spells a control.
+            let control =
+            rw cut at (given.1 (whole.n + 1) (omega (arith, whole.in_bytes)) (rw cut whole.well_formed)) in
+            subst (All IsOutsideRuns) (sym whole.event_is) (outside_runs-control _ control)
+      ]);
+}

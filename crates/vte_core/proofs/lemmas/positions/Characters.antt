@@ -1,0 +1,324 @@
+-- A call inside a character, over any number of its bytes: it reports nothing while the character goes on (`GoesOn`),
+-- and then completes it (`completes-all`, `completes-whole`, `completes-broken`), a byte at a time.
+use Rattle.vte_core.proofs.Common.{◌≡◌, ◌≢◌, ℕ, ◌+◌, ◌<◌, inl, inr, true, Option, List, [], ◌∷◌, ◌++◌, length, refl, ap, sym, subst, ◌∙◌, slice_index, Machine, Text, Nothing, Print, replacement, ProgressInside, IsAtPosition, IsInsidePosition, IsAtPlace, IsPlaceOfState, Place, InText, bytes_of, may_continue, Carries, character_event, is_truncated, scalar_of, Unfinished, HasReadWithLimit, open_character, ChunkCall, ◌≤◌, arith, One, Two, Three, Event, second_range, from_to, is_in, is_well_formed, added, All-cons, All-nil, IsOutsideRuns, append-nil, append_assoc, drop, drop_more, take, take-add, rules}
+use Rattle.vte_core.specs.declared.utf8.Carried.TheVariants.{Unfinished as StillUnfinished, Whole, Broken}
+use Rattle.vte_core.proofs.lemmas.fields.PlaceOfState.{may_continue-truncated, is_at-by, is_at-in, is_at-place}
+use Rattle.vte_core.proofs.lemmas.places.PlaceLeads.{text-unfinished, text-well_formed}
+use Rattle.vte_core.proofs.lemmas.streams.After.{carried_is_no_escape, after-open_character}
+use Rattle.vte_core.proofs.lemmas.shapes.BrokenCharacters.{breaks-broken, breaks-unfinished, breaks-well_formed}
+use Rattle.vte_core.proofs.lemmas.positions.Progress.{progress-settled, progress-broken, progress-carried, inside-all, inside-moved}
+use Rattle.vte_core.proofs.lemmas.places.BytesInStream.{bytes_lead-byte}
+use Rattle.vte_core.proofs.lemmas.bytes.Scalars.{second-open, third-open}
+use Rattle.vte_core.specs.private.Progress.{Completes}
+use Rattle.vte_core.proofs.lemmas.streams.StreamSteps.{length-longer}
+use Rattle.vte_core.proofs.lemmas.positions.AddedEvents.{added-inside, recorded-inside, reported-at, keeping}
+use Rattle.std.proofs.lemmas.List.{drop-drop}
+
+-- ---- a byte
+
+-- The character goes on with it, is whole, or is broken before it (`carried-more`, `carried-whole`, `carried-broken`).
+-- The place is a text with these bytes open, so `places/PlaceLeads` and `shapes` say what the byte reports.
+
+is_at-in_text : {B : Type 0} {limit : Option ℕ} {parser : Machine B} {longer : Unfinished} {opened : List ℕ}
+    → parser.state ≡ Text longer → bytes_of longer ≡ opened
+    → may_continue opened ≡ true → IsAtPlace limit parser (InText opened)
+is_at-in_text begun same more = is_at-by begun (same, more)
+
+-- The parser, inside a character of these bytes.
+abbrev pub in_text : {B : Type 0} → Machine B → Unfinished → Machine B
+in_text parser unfinished = record { state = Text unfinished; collected = parser.collected; command = parser.command }
+
+record AtText (unfinished : Unfinished) (place : Place) : Type 0 where
+  same : place ≡ InText (bytes_of unfinished)
+  begun : may_continue (bytes_of unfinished) ≡ true
+
+text-by_place : {B : Type 0} (limit : Option ℕ) (parser : Machine B) {unfinished : Unfinished} {place : Place}
+    → IsPlaceOfState limit (Text unfinished) parser place → AtText unfinished place
+text-by_place limit parser fields = search (rules, arith)
+
+-- An unfinished character isn't empty.
+pub unfinished-some : (first : ℕ) (rest : List ℕ) → first ∷ rest ≢ []
+unfinished-some first rest empty = cc
+
+truncated-some : (opened : List ℕ) → is_truncated opened ≡ true → opened ≢ []
+unfolding is_truncated
+truncated-some [] more empty = cc
+truncated-some (b ∷ opened) more empty = cc
+
+module _ {V B : Type 0} {call : ChunkCall V} {old mid : V} {stream : List ℕ} where
+  inside-open : {i : ℕ} {unfinished : Unfinished} {parser : Machine B} → parser.state ≡ Text unfinished
+      → IsInsidePosition call old mid stream i parser → may_continue (bytes_of unfinished) ≡ true
+  inside-open {unfinished} {parser} begun inside = (text-by_place call.limit parser (is_at-in begun inside.is_at)).begun
+
+  -- A byte that continues a character leads to the next position inside it.
+  carried-more : {i b : ℕ} {unfinished longer : Unfinished} {parser next : Machine B} → parser.state ≡ Text unfinished
+      → is_truncated (bytes_of unfinished) ≡ true → Carries (bytes_of unfinished) b (StillUnfinished longer)
+      → next.state ≡ Text longer
+      → IsInsidePosition call old mid stream i parser → i < length call.bytes → b ≡ slice_index call.bytes i
+      → IsInsidePosition call old mid stream (i + 1) next
+  carried-more {i} {b} {unfinished} {longer} {parser} {next} begun opened carries state inside within byte_is =
+      let at_text = text-by_place call.limit parser (is_at-in begun inside.is_at) in
+      let more : is_truncated (bytes_of unfinished ++ b ∷ []) ≡ true =
+      subst (λ bytes. is_truncated bytes ≡ true) carries.0 carries.1 in
+      record {
+        place = InText (bytes_of unfinished ++ b ∷ []);
+        is_at =
+            is_at-in_text state carries.0
+            (may_continue-truncated (bytes_of unfinished ++ b ∷ []) more);
+        progress =
+            progress-carried {these = []} at_text.begun within byte_is (truncated-some (bytes_of unfinished) opened)
+            (breaks-unfinished (bytes_of unfinished) b more)
+            (bytes_lead-byte
+            (carried_is_no_escape (bytes_of unfinished) b opened (inr more))
+            text-unfinished) refl (may_continue-truncated (bytes_of unfinished ++ b ∷ []) more)
+            (subst (ProgressInside call old mid stream i) at_text.same inside.progress);
+      }
+
+  -- A byte that ends a character leads to the position after it.
+  carried-whole : {new : V} {i j b scalar : ℕ} {unfinished : Unfinished} {parser next : Machine B}
+      → parser.state ≡ Text unfinished
+      → is_truncated (bytes_of unfinished) ≡ true → Carries (bytes_of unfinished) b (Whole scalar)
+      → next.state ≡ Text Nothing
+      → new ≡ call.step mid (character_event scalar) → IsInsidePosition call old mid stream i parser
+      → i < length call.bytes
+      → b ≡ slice_index call.bytes i → j ≡ i + 1 → IsAtPosition call old new stream j next
+  carried-whole {new} {i} {b} {unfinished} {parser}
+      {next} begun opened carries state performed inside within byte_is later =
+      let at_text = text-by_place call.limit parser (is_at-in begun inside.is_at) in
+      let come =
+      progress-carried {new = new} {next = InText []}
+      {these = character_event (scalar_of (bytes_of unfinished ++ b ∷ [])) ∷ []} at_text.begun within byte_is
+      (truncated-some (bytes_of unfinished) opened)
+      (breaks-well_formed (bytes_of unfinished) b carries.0)
+      (bytes_lead-byte
+      (carried_is_no_escape (bytes_of unfinished) b opened (inl carries.0)) (text-well_formed carries.0))
+      (performed ∙ ap (λ n. call.step mid (character_event n)) carries.1) refl
+      (subst (ProgressInside call old mid stream i) at_text.same inside.progress) in
+      subst (λ n. IsAtPosition call old new stream n next) (sym later)
+      (record {
+        place = InText [];
+        is_at = is_at-in_text state refl refl;
+        settled = λ _. refl;
+        progress = progress-settled refl refl come;
+      })
+
+  -- A byte that breaks a character is still to be read.
+  carried-broken : {new : V} {i b : ℕ} {unfinished : Unfinished} {parser next : Machine B}
+      → parser.state ≡ Text unfinished
+      → is_truncated (bytes_of unfinished) ≡ true → Carries (bytes_of unfinished) b Broken → next.state ≡ Text Nothing
+      → new ≡ call.step mid (Print replacement) → IsInsidePosition call old mid stream i parser → i < length call.bytes
+      → b ≡ slice_index call.bytes i → IsAtPosition call old new stream i next
+  carried-broken {i} {b} {unfinished} {parser} {next} begun opened carries state performed inside within byte_is =
+      let at_text = text-by_place call.limit parser (is_at-in begun inside.is_at) in
+      record {
+        place = InText [];
+        is_at = is_at-in_text state refl refl;
+        settled = λ _. refl;
+        progress =
+            progress-broken at_text.begun within byte_is
+            (breaks-broken (bytes_of unfinished) b opened carries.0 carries.1) performed
+            (subst (ProgressInside call old mid stream i) at_text.same inside.progress);
+      }
+
+-- In a text with an unfinished character, the stream leaves it open.
+pub opens-text : {B : Type 0} {limit : Option ℕ} {stream : List ℕ} {unfinished : Unfinished} (parser : Machine B)
+    → parser.state ≡ Text unfinished → bytes_of unfinished ≢ [] → HasReadWithLimit limit parser stream
+    → open_character stream ≡ [] → ⊥
+opens-text {limit} {stream} {unfinished} parser begun has_begun has_read closed =
+    search (rules, arith, text-by_place, is_at-in, after-open_character, is_at-place)
+
+-- ---- any number of bytes
+
+-- The next m bytes extend the bytes of a character.
+character-bytes : (bytes : List ℕ) (i j n m : ℕ) (begun : List ℕ) {opened : List ℕ} → j ≡ i + n
+    → opened ≡ begun ++ take n (drop i bytes)
+    → opened ++ take m (drop j bytes) ≡ begun ++ take (n + m) (drop i bytes)
+character-bytes bytes i j n m begun far bytes_are = search (rules, arith, append_assoc, drop-drop, take-add)
+
+character-byte : (bytes : List ℕ) (i n : ℕ) (begun : List ℕ) {j b : ℕ} {opened : List ℕ} → j < length bytes → j ≡ i + n
+    → b ≡ slice_index bytes j → opened ≡ begun ++ take n (drop i bytes)
+    → opened ++ b ∷ [] ≡ begun ++ take (n + 1) (drop i bytes)
+character-byte bytes i n begun {j} {opened} within far byte_is bytes_are =
+    ap (λ (xs : List ℕ). opened ++ xs) (ap (λ (b : ℕ). b ∷ []) byte_is ∙ sym (ap (take 1) (drop_more bytes j 0 within)))
+    ∙ character-bytes bytes i j n 1 begun far bytes_are
+
+-- From position i, inside a character of the bytes `begun`, a call has come to position j, inside a character of the
+-- bytes `unfinished`, and reported nothing.
+pub record GoesOn {V B : Type 0} (call : ChunkCall V) (value : V) (i j : ℕ) (begun unfinished : Unfinished)
+    (next : Machine B) : Type 0 where
+  pub inside : (old : V) (stream : List ℕ) (parser : Machine B) → parser.state ≡ Text begun
+      → IsInsidePosition call old value stream i parser
+      → IsInsidePosition call old value stream j (in_text next unfinished)
+  -- The same holds for a performer that keeps all events.
+  pub kept : (stream : List ℕ) (parser : Machine B) → parser.state ≡ Text begun
+      → IsInsidePosition (keeping call.limit call.bytes) []
+      (added call.limit stream (take i call.bytes)) stream i parser
+      → IsInsidePosition (keeping call.limit call.bytes) [] (added call.limit stream (take i call.bytes)) stream j
+      (in_text next unfinished)
+  pub more : may_continue (bytes_of begun) ≡ true → is_truncated (bytes_of unfinished) ≡ true
+  pub n : ℕ
+  pub far : j ≡ i + n
+  pub bytes_are : may_continue (bytes_of begun) ≡ true
+      → bytes_of unfinished ≡ bytes_of begun ++ take n (drop i call.bytes)
+
+module _ {V B : Type 0} {call : ChunkCall V} {value : V} {i : ℕ} {begun : Unfinished} where
+  pub goes-nowhere : (next : Machine B) → bytes_of begun ≢ [] → GoesOn call value i i begun begun next
+  goes-nowhere next has_begun = search (rules, arith)
+
+  pub goes-more : {j b : ℕ} {unfinished longer : Unfinished} {parser next : Machine B}
+      → GoesOn call value i j begun unfinished parser
+      → (is_truncated (bytes_of unfinished) ≡ true → Carries (bytes_of unfinished) b (StillUnfinished longer))
+      → j < length call.bytes
+      → b ≡ slice_index call.bytes j → GoesOn call value i (j + 1) begun longer next
+  goes-more goes carries within byte_is = record {
+    inside = λ old stream parser is_text inside. let more = goes.more (inside-open is_text inside) in
+        carried-more refl more (carries more) refl (goes.inside old stream parser is_text inside) within byte_is;
+    kept = λ stream parser is_text inside. let more = goes.more (inside-open is_text inside) in
+        carried-more refl more (carries more) refl (goes.kept stream parser is_text inside) within byte_is;
+    more = λ opened. (carries (goes.more opened)).1;
+    n = goes.n + 1;
+    far = omega (arith, goes.far);
+    bytes_are =
+        λ opened. (carries (goes.more opened)).0
+        ∙ character-byte call.bytes i goes.n (bytes_of begun) within goes.far byte_is (goes.bytes_are opened);
+  }
+
+  -- If all bytes are read, the character stays open.
+  pub completes-all : {j k : ℕ} {unfinished : Unfinished} {next : Machine B}
+      → GoesOn call value i j begun unfinished next → j ≡ k
+      → length call.bytes ≤ k → Completes call value value i k begun (in_text next unfinished)
+  completes-all goes end all = record {
+    is_at_position =
+        λ old stream parser is_text inside. inside-all
+        (inside-moved end (goes.inside old stream parser is_text inside)) all;
+    text = λ within. absurd (omega arith);
+    adds = λ old stream parser is_text inside. record {
+      events = [];
+      parts =
+          sym (reported-at
+          (inside-all (inside-moved end (goes.kept stream parser is_text (recorded-inside inside))) all))
+          ∙ sym (append-nil (added call.limit stream (take i call.bytes)));
+      events_are = inl (All-nil IsOutsideRuns);
+    };
+  }
+
+  -- A byte that ends the character completes it.
+  pub completes-whole : {new : V} {j k b scalar : ℕ} {unfinished : Unfinished} {parser next : Machine B}
+      → GoesOn call value i j begun unfinished parser
+      → (is_truncated (bytes_of unfinished) ≡ true → Carries (bytes_of unfinished) b (Whole scalar))
+      → next.state ≡ Text Nothing → new ≡ call.step value (character_event scalar) → j < length call.bytes
+      → b ≡ slice_index call.bytes j → k ≡ j + 1 → Completes call value new i k begun next
+  completes-whole {scalar} {unfinished} {next} goes carries state performed within byte_is later = record {
+    is_at_position = λ old stream parser is_text inside. let more = goes.more (inside-open is_text inside) in
+        carried-whole refl more (carries more) state performed
+        (goes.inside old stream parser is_text inside) within byte_is later;
+    text = λ _. state;
+    adds = λ old stream parser is_text inside.
+        let opened = inside-open is_text inside in
+        let more = goes.more opened in
+        let whole = carries more in
+        let same =
+        character-byte call.bytes i goes.n (bytes_of begun) within goes.far byte_is (goes.bytes_are opened) in
+        record {
+          events = character_event scalar ∷ [];
+          parts =
+              sym (reported-at
+              (carried-whole {next = next} refl more whole state refl
+              (goes.kept stream parser is_text (recorded-inside inside)) within byte_is later));
+          events_are = inr (record {
+            n = goes.n + 1;
+            in_bytes = omega (arith, goes.far, within);
+            well_formed = subst (λ (bytes : List ℕ). is_well_formed bytes ≡ true) same whole.0;
+            several_bytes =
+                subst (λ (bytes : List ℕ). 1 < length bytes) same
+                (length-longer _ _ (truncated-some (bytes_of unfinished) more));
+            event_is = ap (λ n. character_event n ∷ []) (whole.1 ∙ ap scalar_of same);
+          });
+        };
+  }
+
+  -- A byte that breaks the character completes it too, and is still to be read.
+  pub completes-broken : {new : V} {j b : ℕ} {unfinished : Unfinished} {parser next : Machine B}
+      → GoesOn call value i j begun unfinished parser
+      → (is_truncated (bytes_of unfinished) ≡ true → Carries (bytes_of unfinished) b Broken)
+      → next.state ≡ Text Nothing → new ≡ call.step value (Print replacement) → j < length call.bytes
+      → b ≡ slice_index call.bytes j → Completes call value new i j begun next
+  completes-broken {next} goes carries state performed within byte_is = record {
+    is_at_position = λ old stream parser is_text inside. let more = goes.more (inside-open is_text inside) in
+        carried-broken refl more (carries more) state performed
+        (goes.inside old stream parser is_text inside) within byte_is;
+    text = λ _. state;
+    adds = λ old stream parser is_text inside.
+        let more = goes.more (inside-open is_text inside) in
+        record {
+          events = Print replacement ∷ [];
+          parts =
+              sym (reported-at
+              (carried-broken {next = next} refl more (carries more) state refl
+              (goes.kept stream parser is_text (recorded-inside inside)) within byte_is));
+          events_are = inl (All-cons IsOutsideRuns (Print replacement) [] refl (All-nil IsOutsideRuns));
+        };
+  }
+
+  -- Another function can complete the character that this one goes on with.
+  pub completes-then : {new : V} {j k : ℕ} {unfinished : Unfinished} {parser next : Machine B}
+      → GoesOn call value i j begun unfinished parser → Completes call value new j k unfinished next
+      → Completes call value new i k begun next
+  completes-then {j} {unfinished} {parser} goes completes = record {
+    is_at_position =
+        λ old stream begun is_text inside. completes.is_at_position old stream (in_text parser unfinished) refl
+        (goes.inside old stream begun is_text inside);
+    text = completes.text;
+    adds = λ old stream begun_parser is_text inside.
+        let opened = inside-open is_text inside in
+        let reported =
+        completes.adds old stream (in_text parser unfinished) refl
+        (goes.inside old stream begun_parser is_text inside) in
+        let silent = added-inside (goes.kept stream begun_parser is_text (recorded-inside inside)) in
+        record {
+          events = reported.events;
+          parts = reported.parts ∙ ap (λ (events : List Event). events ++ reported.events) (sym silent);
+          events_are = elim reported.events_are [
+            | inl others ↦ inl others
+            | inr whole ↦
+                let same : bytes_of unfinished ++ take whole.n (drop j call.bytes)
+                ≡ bytes_of begun ++ take (goes.n + whole.n) (drop i call.bytes) =
+                character-bytes call.bytes i j goes.n whole.n (bytes_of begun) goes.far (goes.bytes_are opened) in
+                inr (record {
+                  n = goes.n + whole.n;
+                  in_bytes = omega (arith, goes.far, whole.in_bytes);
+                  well_formed = subst (λ (bytes : List ℕ). is_well_formed bytes ≡ true) same whole.well_formed;
+                  several_bytes = subst (λ (bytes : List ℕ). 1 < length bytes) same whole.several_bytes;
+                  event_is = whole.event_is ∙ ap (λ (bytes : List ℕ). character_event (scalar_of bytes) ∷ []) same;
+                })
+          ];
+        };
+  }
+
+module _ {V B : Type 0} {call : ChunkCall V} {value : V} {i first second : ℕ} where
+  -- A character of three or four bytes goes on with its second byte.
+  pub goes-second : (next : Machine B) → 0xe0 ≤ first → is_in (second_range first) second ≡ true → i < length call.bytes
+      → second ≡ slice_index call.bytes i → GoesOn call value i (i + 1) (One first) (Two first second) next
+  goes-second next low fits within second_is =
+      goes-more (goes-nowhere next (unfinished-some first [])) (λ more. second-open first second more fits low) within
+      second_is
+
+  -- A character of four bytes goes on with its second and its third byte.
+  pub goes-third : {third : ℕ} (next : Machine B) → 0xf0 ≤ first → is_in (second_range first) second ≡ true
+      → is_in (from_to 0x80 0xbf) third ≡ true → i + 2 < length call.bytes → second ≡ slice_index call.bytes i
+      → third ≡ slice_index call.bytes (i + 1)
+      → GoesOn call value i (i + 2) (One first) (Three first second third) next
+  goes-third {third} next low second_fits third_fits within second_is third_is =
+      let goes =
+      goes-more {next = next} (goes-second next (omega arith) second_fits (omega arith) second_is)
+      (λ more. third-open first second third more third_fits low) (omega arith) third_is in
+      record {
+        inside =
+            λ old stream parser is_text inside. inside-moved (omega arith)
+            (goes.inside old stream parser is_text inside);
+        kept = λ stream parser is_text inside. inside-moved (omega arith) (goes.kept stream parser is_text inside);
+        more = goes.more;
+        n = goes.n;
+        far = omega (arith, goes.far);
+        bytes_are = goes.bytes_are;
+      }

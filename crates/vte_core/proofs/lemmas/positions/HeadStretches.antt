@@ -1,0 +1,251 @@
+-- The bytes of a head, and the byte that ends it. A function that reads several of them goes on by each; `ReadsHead`
+-- says which, without the performer, which learns of a head only at its end. So both shapes, a control sequence's and
+-- a device control string's, share it (`advances-head`, `advances-past_head`).
+use Rattle.vte_core.specs.declared.head.HeadEnd.{HeadEnd}
+use Rattle.vte_core.specs.private.ParserFields.{ReadsHeadUpTo}
+use Rattle.vte_core.specs.private.Progress.{MayRead}
+use Rattle.vte_core.specs.private.ToRun.{IsOutsideRunsInState}
+use Rattle.vte_core.proofs.Common.{◌≡◌, ℕ, zero, suc, ◌+◌, ◌-◌, ◌<◌, ◌≤◌, ◌⊎◌, Option, List, [], ◌∷◌, ◌++◌, true, false, length, take, drop, refl, sym, subst, append_assoc, arith, append-nil, drop-drop, drop_more, take-add, slice_index, MatchOption, class_of, is_final, is_head_byte, is_parameter_text, AreInClass, Collected, HeadProgress, Entry, Parameters, Machine, State, ControlSequence, DeviceControl, Event, ChunkCall, Leads, CountsNumbers, SameIntermediates, IsAtPlace, IsPlaceOfState, HasReadHead, Place, InControlSequence, InDeviceControl, IsSettledPlace, Advances, ProgressAt, IsAtPosition, IsSettled, MayGoOn, TakesBytes, TakesByte, ends_body, progress_after, ReadsHead, Some, None, false≢true, rules}
+use Rattle.vte_core.proofs.lemmas.bytes.Classes.{head_ends_nothing, AreInClass-append, final_ends_nothing, parameter_is_head}
+use Rattle.vte_core.proofs.lemmas.positions.Progress.{progress-settled, progress-byte, settled-same_state}
+use Rattle.vte_core.proofs.lemmas.positions.Stretches.{takes_bytes-in, advances-byte, advances-to_same, advances-given, advances-then}
+use Rattle.vte_core.proofs.lemmas.fields.Heads.{holds-parameter}
+use Rattle.vte_core.proofs.lemmas.fields.PlaceOfState.{IsPlace, is_at-in}
+use Rattle.vte_core.proofs.lemmas.places.PlaceLeads.{control-head, device-head}
+use Rattle.vte_core.proofs.lemmas.positions.AddedEvents.{adds-same, recorded-at, reported-at}
+use Rattle.vte_core.proofs.lemmas.bytes.Runs.{one_byte}
+use Rattle.vte_core.proofs.lemmas.places.BytesInStream.{no_escape, bytes_lead-byte}
+
+-- ---- `ReadsHead` of no bytes, of two stretches, of a byte
+
+slice-then : (bytes : List ℕ) (i j k : ℕ) → i ≤ j → j ≤ k
+    → take (k - i) (drop i bytes) ≡ take (j - i) (drop i bytes) ++ take (k - j) (drop j bytes)
+slice-then bytes i j k low high =
+    let whole : k - i ≡ (j - i) + (k - j) = omega (arith, low, high) in
+    let here : i + (j - i) ≡ j = omega (arith, low) in
+    rw (whole, take-add (j - i) (k - j) (drop i bytes), drop-drop (j - i) i bytes, here) refl
+
+pub reads_head-nothing : {bytes : List ℕ} {i : ℕ} {progress : HeadProgress} {held : Collected} → i ≤ length bytes
+    → ReadsHead bytes i i progress progress held held
+reads_head-nothing {bytes} {i} {progress} {held} within = search (rules, arith)
+
+pub reads_head-then : {bytes : List ℕ} {i j k : ℕ} {reached progress next : HeadProgress} {old mid new : Collected}
+    → ReadsHead bytes i j reached progress old mid → ReadsHead bytes j k progress next mid new
+    → ReadsHead bytes i k reached next old new
+reads_head-then {bytes} {i} {j} {k} reads rest =
+    let whole = slice-then bytes i j k reads.low rest.low in
+    record {
+      low = omega (arith, reads.low, rest.low);
+      high = rest.high;
+      head_bytes = rw whole (AreInClass-append is_head_byte _ _ reads.head_bytes rest.head_bytes);
+      leads =
+          λ head has_read. rw (whole, ← append_assoc head (take (j - i) (drop i bytes)) (take (k - j) (drop j bytes)))
+          (rest.leads _ (reads.leads head has_read));
+    }
+
+pub reads_head-byte : {bytes : List ℕ} {i b : ℕ} {progress next : HeadProgress} {old new : Collected} → i < length bytes
+    → b ≡ slice_index bytes i → is_head_byte (class_of b) ≡ true
+    → ((head : List ℕ) → HasReadHead old progress head → HasReadHead new next (head ++ b ∷ []))
+    → ReadsHead bytes i (i + 1) progress next old new
+reads_head-byte {bytes} {i} {b} within byte_is is_head leads = search (rules, arith, one_byte)
+
+-- If no byte follows, the case for `None` holds.
+pub match-none : {A : Type 0} (B : ℕ → Type 0) (next : Option ℕ) → ((b : ℕ) → next ≡ Some b → ⊥) → MatchOption next A B
+    → A
+match-none B None no_byte all = all
+match-none B (Some b) no_byte all = absurd (no_byte b refl)
+
+-- ---- a parameter byte, and the part of the head that it leads to
+
+pub progress_after-none : (reached : HeadProgress) {from to : ℕ} → from ≡ to → progress_after reached from to ≡ reached
+progress_after-none reached {from} {to} same = search (rules, arith)
+
+pub progress_after-more : (reached : HeadProgress) (from to : ℕ) → from < to
+    → progress_after reached from to ≡ Parameters
+progress_after-more reached from to more = search (rules, arith)
+
+progress_after-may : (reached : HeadProgress) (from to : ℕ) → (reached ≡ Entry) ⊎ (reached ≡ Parameters)
+    → (progress_after reached from to ≡ Entry) ⊎ (progress_after reached from to ≡ Parameters)
+progress_after-may reached from to may = search (rules, arith)
+
+-- A head is read further by a digit or a separator.
+pub reads_head-parameter : {bytes : List ℕ} {from i b : ℕ} {reached : HeadProgress} {first old new : Collected}
+    → (reached ≡ Entry) ⊎ (reached ≡ Parameters)
+    → i < length bytes → b ≡ slice_index bytes i → is_parameter_text (class_of b) ≡ true → SameIntermediates old new
+    → ((text : List ℕ) → CountsNumbers old text → CountsNumbers new (text ++ b ∷ []))
+    → ReadsHead bytes from i reached (progress_after reached from i) first old
+    → ReadsHead bytes from (i + 1) reached (progress_after reached from (i + 1)) first new
+reads_head-parameter {from} {i} {b} {reached} {old} {new} may within byte_is is_parameter keeps counts before =
+    rw (progress_after-more reached from (i + 1) (omega (arith, before.low)))
+    (reads_head-then before (reads_head-byte within byte_is (parameter_is_head (class_of b) is_parameter)
+    (λ head has_read.
+    holds-parameter head b (progress_after-may reached from i may) has_read is_parameter keeps counts)))
+
+-- ---- the shapes that have a head
+
+-- Control sequences and device control strings differ only in state and place (`state_of`, `in_head`), so one lemma
+-- advances past the bytes of both heads (`advances-head`).
+
+pub data Shape : Type 0 where
+  ControlHead : Shape
+  DeviceHead : Shape
+
+abbrev state_of : Shape → HeadProgress → State
+state_of ControlHead progress = ControlSequence progress
+state_of DeviceHead progress = DeviceControl progress
+
+abbrev in_head : Shape → List ℕ → Place
+in_head ControlHead head = InControlSequence head
+in_head DeviceHead head = InDeviceControl head
+
+record InHeadAt (shape : Shape) (held : Collected) (progress : HeadProgress) (place : Place) : Type 0 where
+  head : List ℕ
+  same : place ≡ in_head shape head
+  is_at : HasReadHead held progress head
+
+head-place : {B : Type 0} (shape : Shape) (limit : Option ℕ) (progress : HeadProgress) (parser : Machine B)
+    (place : Place)
+    → IsPlaceOfState limit (state_of shape progress) parser place
+    → InHeadAt shape parser.collected progress place
+head-place shape limit progress parser place fields = search (rules, arith)
+
+head-is_at : {B : Type 0} (shape : Shape) {limit : Option ℕ} (progress : HeadProgress) {parser : Machine B}
+    (head : List ℕ)
+    → parser.state ≡ state_of shape progress
+    → HasReadHead parser.collected progress head → IsAtPlace limit parser (in_head shape head)
+head-is_at shape progress head begun has_read = search (rules, arith)
+
+head-leads : (shape : Shape) {limit : Option ℕ} (head : List ℕ) {b : ℕ} → is_head_byte (class_of b) ≡ true
+    → Leads limit (in_head shape head) b [] (in_head shape (head ++ b ∷ []))
+head-leads ControlHead head is_head = control-head is_head
+head-leads DeviceHead head is_head = device-head is_head
+
+head-is_place : (shape : Shape) (head : List ℕ) → IsPlace (in_head shape head)
+head-is_place ControlHead head = tt
+head-is_place DeviceHead head = tt
+
+head-settled_place : (shape : Shape) (head : List ℕ) → IsSettledPlace (in_head shape head)
+head-settled_place ControlHead head = tt
+head-settled_place DeviceHead head = tt
+
+head-outside_runs : (shape : Shape) (progress : HeadProgress) (b : ℕ) → IsOutsideRunsInState (state_of shape progress) b
+head-outside_runs ControlHead progress b = tt
+head-outside_runs DeviceHead progress b = tt
+
+head-settled : (shape : Shape) (progress : HeadProgress) → IsSettled (state_of shape progress)
+head-settled ControlHead progress = tt
+head-settled DeviceHead progress = tt
+
+module _ {V : Type 0} {call : ChunkCall V} where
+  -- A call makes progress over n bytes of a head.
+  progress-head : {old value : V} {stream : List ℕ} {i : ℕ} (shape : Shape) (n : ℕ) (head : List ℕ)
+      → i + n ≤ length call.bytes → AreInClass is_head_byte (take n (drop i call.bytes)) → MayGoOn call value
+      → ProgressAt call old value stream i (in_head shape head)
+      → ProgressAt call old value stream (i + n) (in_head shape (head ++ take n (drop i call.bytes)))
+  progress-head {i} shape zero head within more may_go_on progress =
+      let same : i + 0 ≡ i = omega arith in rw (append-nil head, same) progress
+  progress-head {i} shape (suc n) head within more may_go_on progress =
+      let here : i < length call.bytes = omega (arith, within) in
+      let b : ℕ = slice_index call.bytes i in
+      let cut : drop i call.bytes ≡ b ∷ drop (i + 1) call.bytes = drop_more call.bytes i 0 here in
+      let both : AreInClass is_head_byte (b ∷ take n (drop (i + 1) call.bytes)) = rw cut at more in
+      let place = head-is_place shape (head ++ b ∷ []) in
+      let reads =
+      bytes_lead-byte
+      (no_escape b (head_ends_nothing (class_of b) both.0)) (head-leads shape head both.0) in
+      let one =
+      progress-settled place (head-settled_place shape (head ++ b ∷ []))
+      (progress-byte here refl may_go_on reads refl place progress) in
+      let rest = progress-head {i = i + 1} shape n (head ++ b ∷ []) (omega (arith, within)) both.1 may_go_on one in
+      let far : i + suc n ≡ i + 1 + n = omega arith in
+      rw (far, cut) (rw (append_assoc head (b ∷ []) (take n (drop (i + 1) call.bytes))) at rest)
+
+  -- The bytes of a part of a head lead from position i to position j.
+  is_at-head : {B : Type 0} {old value : V} {stream : List ℕ} {i j : ℕ} {reached progress : HeadProgress}
+      {parser next : Machine B} (shape : Shape) → parser.state ≡ state_of shape reached
+      → ReadsHead call.bytes i j reached progress parser.collected next.collected → MayGoOn call value
+      → next.state ≡ state_of shape progress → IsAtPosition call old value stream i parser
+      → IsAtPosition call old value stream j next
+  is_at-head {old} {value} {stream} {i} {j} {reached} {progress}
+      {parser} {next} shape begun reads may_go_on state position =
+      let at_head = head-place shape call.limit reached parser position.place (is_at-in begun position.is_at) in
+      let here : ProgressAt call old value stream i (in_head shape at_head.head) =
+      subst (ProgressAt call old value stream i) at_head.same position.progress in
+      let end : i + (j - i) ≡ j = omega (arith, reads.low) in
+      let run : List ℕ = take (j - i) (drop i call.bytes) in
+      record {
+        place = in_head shape (at_head.head ++ run);
+        is_at = head-is_at shape progress (at_head.head ++ run) state (reads.leads at_head.head at_head.is_at);
+        settled = λ _. head-settled_place shape (at_head.head ++ run);
+        progress = rw end at
+            (progress-head shape (j - i) at_head.head (omega (arith, reads.high, end)) reads.head_bytes may_go_on here);
+      }
+
+module _ {V : Type 0} {call : ChunkCall V} where
+  pub advances-head : {outside B : Type 0} {value : V} {i j : ℕ} {reached progress : HeadProgress}
+      {parser next : Machine B}
+      (shape : Shape) → parser.state ≡ state_of shape reached
+      → ReadsHead call.bytes i j reached progress parser.collected next.collected → MayGoOn call value
+      → next.state ≡ state_of shape progress → Advances outside call value value i j parser next
+  advances-head {progress} {next} shape begun reads may_go_on state = record {
+    goes_on = λ old stream position. is_at-head shape begun reads may_go_on state position;
+    settled = λ _. settled-same_state state (head-settled shape progress);
+    outside_runs = λ _ old stream position.
+        adds-same (reported-at
+        (is_at-head {next = next} shape begun reads (λ does. absurd (false≢true does)) state (recorded-at position)));
+  }
+
+  -- A call reads a part of a head and the byte after it, if the caller says what that byte does.
+  pub advances-past_head : {outside B : Type 0} {old new : V} {i j b : ℕ} {reached progress : HeadProgress}
+      {parser next : Machine B}
+      {held : Collected} (shape : Shape) → parser.state ≡ state_of shape reached
+      → ReadsHead call.bytes i j reached progress parser.collected held
+      → (j < length call.bytes) × (b ≡ slice_index call.bytes j) → MayGoOn call old
+      → ((place : Place) → IsAtPlace {B = B} call.limit
+      (record { state = state_of shape progress; collected = held; command = parser.command }) place
+      → IsSettledPlace place
+      → TakesBytes call.step old new call.limit place (b ∷ []) next) → IsSettled next.state
+      → Advances outside call old new i (j + 1) parser next
+  advances-past_head {B} {progress} {parser} {held} shape begun reads next_byte may_go_on performs settled =
+      let head : Machine B = record { state = state_of shape progress; collected = held; command = parser.command } in
+      advances-then (advances-head {next = head} shape begun reads may_go_on refl)
+      (advances-given (head-outside_runs shape progress _)
+      (advances-byte next_byte.0 next_byte.1 may_go_on performs settled))
+
+-- For a byte of a head other than CAN, SUB and ESC, it is enough to say what it does after each such head.
+pub takes_bytes-head : {V B : Type 0} {step : V → Event → V} {old new : V} {limit : Option ℕ} {b : ℕ}
+    {parser next : Machine B} (shape : Shape) (progress : HeadProgress)
+    → parser.state ≡ state_of shape progress → ends_body (class_of b) ≡ false
+    → ((head : List ℕ) → HasReadHead parser.collected progress head
+    → TakesByte step old new limit (in_head shape head) b next)
+    → (place : Place) → IsAtPlace limit parser place → IsSettledPlace place
+    → TakesBytes step old new limit place (b ∷ []) next
+takes_bytes-head {step} {old} {new} {limit} {b} {parser}
+    {next} shape progress begun ordinary takes = takes_bytes-in begun ordinary (λ place is_at.
+    let at_head = head-place shape limit progress parser place is_at in
+    subst (λ p. TakesByte step old new limit p b next) (sym at_head.same) (takes at_head.head at_head.is_at))
+
+-- A call reads the rest of a head and the final byte of a control sequence.
+pub advances-control_sequence : {V B outside : Type 0} {call : ChunkCall V} {old new : V} {i j k b : ℕ}
+    {reached progress : HeadProgress} {parser next : Machine B} {held : Collected}
+    → parser.state ≡ ControlSequence reached
+    → ReadsHead call.bytes i j reached progress parser.collected held
+    → (j < length call.bytes) × (b ≡ slice_index call.bytes j) → MayGoOn call old → is_final (class_of b) ≡ true
+    → ((head : List ℕ) → HasReadHead held progress head
+    → TakesByte call.step old new call.limit (InControlSequence head) b next)
+    → IsSettled next.state → k ≡ j + 1 → Advances outside call old new i k parser next
+advances-control_sequence {progress} begun reads next_byte may_go_on final takes settled end =
+    advances-to_same (sym end)
+    (advances-past_head ControlHead begun reads next_byte may_go_on
+    (takes_bytes-head ControlHead progress refl (final_ends_nothing _ final) takes) settled)
+
+-- The same holds if the head is read up to its end (`ReadsHeadUpTo`), and the final byte is there.
+pub advances-final_byte : {V B outside : Type 0} {call : ChunkCall V} {old new : V} {i k b : ℕ}
+    {reached : HeadProgress} {end : HeadEnd} {parser next : Machine B} {held : Collected}
+    → MayRead call old (ControlSequence reached) parser i
+    → ReadsHeadUpTo call.bytes i reached end parser.collected held → end.next ≡ Some b → is_final (class_of b) ≡ true
+    → ((head : List ℕ) → HasReadHead held end.progress head
+    → TakesByte call.step old new call.limit (InControlSequence head) b next)
+    → IsSettled next.state → k ≡ end.position + 1 → Advances outside call old new i k parser next
+advances-final_byte may_read reads next_is =
+    advances-control_sequence may_read.begun reads.head (rw next_is at reads.next) may_read.may_go_on

@@ -1,0 +1,205 @@
+-- A place is after a stream if any further bytes add the same events to both (`IsAfter`). If bytes lead from it to
+-- another place, that one is after the longer stream, and their events are added (`after-reads`).
+--
+-- `added-X` says what `added` is in the case X, and `after-X` what `IsAfter` says of X.
+use Rattle.vte_core.proofs.Common.{◌≡◌, ℕ, ◌⊎◌, inl, inr, cases_Bool, true, false, eqb, Option, List, [], ◌∷◌, ◌++◌, refl, ap, sym, ◌∙◌, arith, Machine, Event, Print, replacement, report, after, Place, InText, AtEscape, closing_events_at, outcome_from, events, escape, TakesByte, TakesBytes, is_truncated, is_well_formed, Bool, None, SequenceKind, sequence_kind, body_rest, body_outcome, sequence_outcome, class_of, is_cancel, is_key, Outcome, ToClose, CommandToClose, open_bytes, from_first, cut_at_escape, with_bodies, outcome, open_character, system_command_outcome, text_outcome, append_assoc, append-nil, drop_all, drop-append_seam, IsAtPlace, HasReadWithLimit, added, IsAfter, open_at, left_at, events_from, BytesLead, rules}
+use Rattle.std.proofs.Common.{eqb-true}
+use Rattle.vte_core.proofs.lemmas.bytes.Utf8.{Tests, ascii-breaks}
+use Rattle.vte_core.proofs.lemmas.shapes.Outcomes.{report-append}
+use Rattle.vte_core.proofs.lemmas.shapes.FirstSegment.{text_outcome-broken}
+use Rattle.vte_core.proofs.lemmas.fields.PlaceOfState.{may_continue-truncated, events_from-nothing, IsPlace, outcome_from-nothing, open_bytes-at}
+use Rattle.vte_core.proofs.lemmas.places.BytesInStream.{events-after_nothing, bytes_lead-byte, waits-byte, outcome_from-escape}
+use Rattle.vte_core.specs.Open.{kind_to_close, open_at_end}
+
+-- ---- from a byte to bytes, and from a place to what a parser has read
+
+-- `TakesByte` of a byte is `TakesBytes` of one.
+
+pub after_events-append : {V : Type 0} (step : V → Event → V) (value : V) (events others : List Event)
+    → after step value (events ++ others) ≡ after step (after step value events) others
+after_events-append step value [] others = refl
+after_events-append step value (event ∷ events) others = after_events-append step (step value event) events others
+
+-- A single byte other than ESC is taken as `TakesByte` says.
+pub takes_bytes-one : {V B : Type 0} {step : V → Event → V} {old new : V} {limit : Option ℕ} {place : Place} {byte : ℕ}
+    {parser : Machine B} → eqb byte escape ≡ false
+    → TakesByte step old new limit place byte parser → TakesBytes step old new limit place (byte ∷ []) parser
+takes_bytes-one is_no_escape takes = record {
+  reported = takes.reported;
+  next = takes.next;
+  performed = takes.performed;
+  is_at = takes.is_at;
+  reads = bytes_lead-byte is_no_escape takes.leads;
+}
+
+-- ---- a byte that is offered to an open character
+
+-- A byte that belongs to an open character is no ESC.
+pub carried_is_no_escape : (opened : List ℕ) (b : ℕ) → is_truncated opened ≡ true
+    → (is_well_formed (opened ++ b ∷ []) ≡ true) ⊎ (is_truncated (opened ++ b ∷ []) ≡ true) → eqb b escape ≡ false
+carried_is_no_escape opened b truncated carried = elim (cases_Bool (eqb b escape)) [
+  | inl is_escape ↦
+      let same : b ≡ escape = eqb-true b escape is_escape in
+      let tests : Tests (opened ++ b ∷ []) false false = ascii-breaks opened b truncated (omega arith) in
+      elim carried [
+        | inl well_formed ↦ cc (well_formed, tests.is_whole)
+        | inr unfinished ↦ cc (unfinished, tests.is_open)
+      ]
+  | inr other ↦ other
+]
+
+closing-unfinished : (limit : Option ℕ) (opened : List ℕ) → is_truncated opened ≡ true
+    → closing_events_at limit (InText opened) ≡ Print replacement ∷ []
+unfolding is_truncated
+closing-unfinished limit [] truncated = cc
+closing-unfinished limit (a ∷ opened) truncated = refl
+
+-- A byte that breaks a character is still to be read, even ESC.
+pub waits-broken : (limit : Option ℕ) (opened : List ℕ) (b : ℕ) (more : List ℕ) → is_truncated opened ≡ true
+    → is_well_formed (opened ++ b ∷ []) ≡ false → is_truncated (opened ++ b ∷ []) ≡ false
+    → outcome_from limit (InText opened) (b ∷ more)
+    ≡ report (Print replacement ∷ []) (outcome_from limit (InText []) (b ∷ more))
+waits-broken limit opened b more truncated not_well_formed_after not_truncated_after =
+    elim (cases_Bool (eqb b escape)) [
+      | inr other ↦
+          waits-byte limit (InText opened) (InText []) b (Print replacement ∷ []) more other
+          (text_outcome-broken opened b truncated not_well_formed_after not_truncated_after)
+      | inl same ↦
+          let is_escape : b ≡ escape = eqb-true b escape same in
+          let there : outcome_from limit (InText []) (escape ∷ more) ≡ outcome_from limit AtEscape more =
+          outcome_from-escape limit (InText []) more refl in
+          rw is_escape (
+          outcome_from-escape limit (InText opened) more (may_continue-truncated opened truncated)
+          ∙ ap (λ events. report events (outcome_from limit AtEscape more)) (closing-unfinished limit opened truncated)
+          ∙ ap (report (Print replacement ∷ [])) (sym there)
+          )
+    ]
+
+pub events-empty : (limit : Option ℕ) → events limit [] ≡ []
+events-empty limit = events-after_nothing limit [] ∙ events_from-nothing limit (InText []) refl
+
+-- ---- what is unfinished, whatever the limit
+
+-- By the definitions, part by part, only what is kept of a command depends on the size of the store.
+
+-- A view of what is open that is the same whatever is kept of a command.
+module _ {A : Type 0} (view : ToClose → A)
+    (same : (pieces others : List (List ℕ)) (lost other : Bool)
+    → view (CommandToClose pieces lost) ≡ view (CommandToClose others other)) where
+  view-shape : (limit : Option ℕ) (kind : SequenceKind) (key : ℕ) (bytes : List ℕ)
+      → view (sequence_outcome limit kind key bytes).left ≡ view (sequence_outcome None kind key bytes).left
+  unfolding system_command_outcome
+  view-shape limit kind key bytes = search (rules, arith)
+
+  view-rest : (limit : Option ℕ) (rest : List ℕ)
+      → view (body_rest limit rest).left ≡ view (body_rest None rest).left
+  view-rest limit [] = refl
+  view-rest limit (key ∷ bytes) =
+      elim (cases_Bool (is_cancel (class_of key))) [
+        | inl cancels ↦ rw cancels refl
+        | inr other ↦ rw other (view-shape limit (sequence_kind key) key bytes)
+      ]
+
+  view-body : (limit : Option ℕ) (body : List ℕ)
+      → view (body_outcome limit body).left ≡ view (body_outcome None body).left
+  unfolding body_outcome
+  view-body limit body = view-rest limit (from_first (λ b. is_key (class_of b)) body)
+
+  view-bodies : (limit : Option ℕ) (part other : Outcome) (bodies : List (List ℕ))
+      → view part.left ≡ view other.left
+      → view (with_bodies limit part bodies).left ≡ view (with_bodies None other bodies).left
+  view-bodies limit part other [] agree = agree
+  view-bodies limit part other (body ∷ bodies) agree =
+      view-bodies limit (body_outcome limit body) (body_outcome None body) bodies (view-body limit body)
+
+  view-any : (limit : Option ℕ) (stream : List ℕ)
+      → view (outcome limit stream).left ≡ view (outcome None stream).left
+  unfolding outcome
+  view-any limit stream =
+      let cut = cut_at_escape stream in
+      view-bodies limit (text_outcome cut.text) (text_outcome cut.text) cut.bodies refl
+
+open_bytes-any : (limit : Option ℕ) (stream : List ℕ)
+    → open_bytes (outcome limit stream).left ≡ open_character stream
+unfolding open_character
+open_bytes-any limit stream = view-any open_bytes (λ _ _ _ _. refl) limit stream
+
+pub open_at_end-any : (limit : Option ℕ) (stream : List ℕ)
+    → kind_to_close (outcome limit stream).left ≡ open_at_end stream
+unfolding open_at_end
+open_at_end-any limit stream = view-any kind_to_close (λ _ _ _ _. refl) limit stream
+
+-- ---- what further bytes add, from the place after the stream
+
+pub added-nothing : (limit : Option ℕ) (stream : List ℕ) → added limit stream [] ≡ []
+added-nothing limit stream = search (rules, arith, append-nil, drop_all)
+
+pub events-reported : (limit : Option ℕ) (stream : List ℕ) → events limit stream ≡ (outcome limit stream).reported
+unfolding events
+events-reported limit stream = refl
+
+pub after-nothing : {limit : Option ℕ} → IsAfter limit [] (InText [])
+unfolding outcome events outcome_from text_outcome
+after-nothing {limit} = search (rules, arith)
+
+pub after-events : {limit : Option ℕ} {stream : List ℕ} (more : List ℕ) {place : Place} → IsAfter limit stream place
+    → events limit (stream ++ more) ≡ events limit stream ++ events_from limit place more
+unfolding events
+after-events {limit} {stream} more is_after = search (rules, arith)
+
+-- What the stream leaves open is open at the place.
+pub after-left : {limit : Option ℕ} {stream : List ℕ} {place : Place} → IsAfter limit stream place → IsPlace place
+    → (outcome limit stream).left ≡ left_at limit place
+after-left {limit} {stream} {place} is_after is_place =
+    ap (λ s. (outcome limit s).left) (sym (append-nil stream)) ∙ ap (λ o. o.left) (is_after.goes_on [])
+    ∙ ap (λ o. o.left) (outcome_from-nothing limit place is_place)
+
+pub after-open_character : {limit : Option ℕ} {stream : List ℕ} {place : Place} → IsAfter limit stream place
+    → IsPlace place
+    → open_character stream ≡ open_at place
+after-open_character {limit} {stream} {place} is_after is_place =
+    sym (open_bytes-any limit stream) ∙ ap open_bytes (after-left is_after is_place) ∙ open_bytes-at limit place
+
+-- If the bytes after a stream lead from its place to a next one, the longer stream leads to that place.
+pub after-reads : {limit : Option ℕ} {stream bytes : List ℕ} {place next : Place} {these : List Event}
+    → IsAfter limit stream place → BytesLead limit place bytes these next → IsPlace next
+    → IsAfter limit (stream ++ bytes) next
+after-reads {limit} {stream} {bytes} {next} {these} is_after reads is_place = record {
+  goes_on = λ more. outcome_reads more ∙ ap (λ events. report events (outcome_from limit next more)) (sym events_read);
+}
+  where
+    outcome_reads : (more : List ℕ)
+        → outcome limit ((stream ++ bytes) ++ more)
+        ≡ report (events limit stream ++ these) (outcome_from limit next more)
+    outcome_reads more =
+        ap (outcome limit) (append_assoc stream bytes more)
+        ∙ is_after.goes_on (bytes ++ more)
+        ∙ ap (report (events limit stream)) (reads.reads more)
+        ∙ sym (report-append (events limit stream) these (outcome_from limit next more))
+
+    events_read : events limit (stream ++ bytes) ≡ events limit stream ++ these
+    events_read =
+        ap (events limit) (sym (append-nil (stream ++ bytes)))
+        ∙ events-reported limit ((stream ++ bytes) ++ [])
+        ∙ ap (λ o. o.reported) (outcome_reads [])
+        ∙ ap (λ es. (events limit stream ++ these) ++ es) (events_from-nothing limit next is_place)
+        ∙ append-nil (events limit stream ++ these)
+
+-- What is added to a stream is what follows its place.
+pub added-after : {limit : Option ℕ} {stream : List ℕ} (bytes : List ℕ) {place : Place} → IsAfter limit stream place
+    → added limit stream bytes ≡ events_from limit place bytes
+added-after {limit} {stream} bytes {place} is_after = search (rules, arith, after-events, drop-append_seam)
+
+-- What bytes that lead to a place add is what they report.
+pub added-reads : {limit : Option ℕ} {stream bytes : List ℕ} {place next : Place} {these : List Event}
+    → IsAfter limit stream place → BytesLead limit place bytes these next → IsPlace next
+    → added limit stream bytes ≡ these
+added-reads {limit} {bytes} {place} {next} {these} is_after reads is_place =
+    added-after bytes is_after
+    ∙ ap (events_from limit place) (sym (append-nil bytes)) ∙ ap (λ o. o.reported) (reads.reads [])
+    ∙ ap (λ events. these ++ events) (events_from-nothing limit next is_place) ∙ append-nil these
+
+-- A parser between characters of a text has read what gives no events.
+pub has_read-nothing : {B : Type 0} {limit : Option ℕ} {parser : Machine B} → IsAtPlace limit parser (InText [])
+    → HasReadWithLimit limit parser []
+has_read-nothing is_at = record { place = InText []; is_at = is_at; is_after = after-nothing }

@@ -10,7 +10,7 @@
 //! pass.
 #![tactic(auto)]
 
-ghost use Rattle.std.specs.Prelude.{◌<◌, IfOk};
+ghost use Rattle.std.specs.Prelude.{IfOk, ◌<◌};
 
 mod call_checksum;
 mod checksum;

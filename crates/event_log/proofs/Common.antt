@@ -1,6 +1,6 @@
 -- Words from std, specs/ and `vte_core` for the files of proofs, so that a file imports one list from here instead of
 -- one line for each module.
-pub use Rattle.std.proofs.Common.{Bool, Bor, Err, IfSome, IsTrue, List, None, Ok, OnOk, Option, Result, Some, [], ap, append-nil, append_assoc, arith, codes, drop, false, get_or, if◌then◌else◌, inl, inr, is_err, length, length-append, map, max, refl, rules, suc, sym, take, true, zero, ℕ, ◌%◌, ◌&&◌, ◌*◌, ◌++◌, ◌+◌, ◌-◌, ◌/◌, ◌<◌, ◌^◌, ◌∙◌, ◌∷◌, ◌≡◌, ◌≤◌, ◌⊎◌}
+pub use Rattle.std.proofs.Common.{ap, append-nil, append_assoc, arith, Bool, Bor, codes, drop, Err, false, get_or, IfSome, if◌then◌else◌, inl, inr, is_err, IsTrue, length, length-append, List, map, max, None, Ok, OnOk, Option, refl, Result, rules, Some, suc, sym, take, true, zero, ℕ, [], ◌%◌, ◌&&◌, ◌*◌, ◌++◌, ◌+◌, ◌-◌, ◌/◌, ◌<◌, ◌^◌, ◌∙◌, ◌∷◌, ◌≡◌, ◌≤◌, ◌⊎◌}
 pub use Rattle.std.proofs.Math.Seq.{take-append_seam}
 pub use Rattle.std.proofs.lemmas.Bool.{cases_Bool, le-leb}
 pub use Rattle.std.proofs.lemmas.Bool.Decides.{Decides-below_and, nat_tests}
@@ -11,13 +11,13 @@ pub use Rattle.std.proofs.lemmas.List.Elements.{All-head, All-tail}
 pub use Rattle.std.proofs.lemmas.Str.{encode_ascii, encodes-chars, len_utf8_bounds, length-encode}
 pub use Rattle.std.specs.Fmt.{decimal}
 pub use Rattle.std.specs.List.{All, concat, flat_map, join_with_byte}
-pub use Rattle.std.specs.Str.{IsUtf8, bytes_eq, chars}
+pub use Rattle.std.specs.Str.{bytes_eq, chars, IsUtf8}
 pub use Rattle.vte_core.proofs.lemmas.ParameterTexts.{after_colon, after_semicolon, group_text, group_written, groups_written, shown-nil}
-pub use Rattle.vte_core.specs.EventBounds.{IsBounded, AreFromOneByte}
-pub use Rattle.vte_core.specs.EarlyStop.{IsStart, StopsExactly, breaks_at, resumed_stream}
+pub use Rattle.vte_core.specs.EventBounds.{AreFromOneByte, IsBounded}
+pub use Rattle.vte_core.specs.EarlyStop.{breaks_at, IsStart, resumed_stream, StopsExactly}
 unfoldable pub use Rattle.vte_core.specs.EarlyStop.{reported_before}
-pub use Rattle.vte_core.specs.Event.{CsiDispatch, EscDispatch, Event, Execute, Hook, OscDispatch, Print, replacement, after}
-pub use Rattle.vte_core.specs.Parameters.{AreGroups, count_of, greatest_number, semicolon, IsFilled, AreSmall, IsSmallNumber}
+pub use Rattle.vte_core.specs.Event.{after, CsiDispatch, EscDispatch, Event, Execute, Hook, OscDispatch, Print, replacement}
+pub use Rattle.vte_core.specs.Parameters.{AreGroups, AreSmall, count_of, greatest_number, IsFilled, IsSmallNumber, semicolon}
 unfoldable pub use Rattle.vte_core.specs.Parameters.{shown}
 pub use Rattle.vte_core.specs.Parser.{HasRead}
 pub use Rattle.vte_core.specs.EarlyStopLaws.{GoesOnFromPositions, ReportsUnits}
@@ -29,6 +29,6 @@ unfoldable pub use Rattle.event_log.specs.Lines.{flag_field, hex_byte, hex_chara
 unfoldable pub use Rattle.event_log.specs.Plain.{plain_text_of}
 pub use Rattle.event_log.specs.private.Progress.{AddsUpTo, HasKept, HasReadSome, HasWritten}
 pub use Rattle.event_log.specs.private.Line.{BeginsLine, EndsLine, ExtendsLine}
-pub use Rattle.event_log.specs.Record.{Record, empty_record, has_room_after, record_in, is_to_be_written, capacity, record_with_event}
+pub use Rattle.event_log.specs.Record.{capacity, empty_record, has_room_after, is_to_be_written, Record, record_in, record_with_event}
 unfoldable pub use Rattle.event_log.specs.Record.{record_with_text}
 pub use Rattle.event_log.specs.declared.lines.Lines.{Lines}

@@ -1,5 +1,5 @@
 -- What is known of the bytes of a device, before and after a call.
-use Rattle.std.specs.Prelude.{◌≡◌, ℕ, Bool, List, Option, Some, None, ⊤, if◌then◌else◌, is_some}
+use Rattle.std.specs.Prelude.{Bool, if◌then◌else◌, is_some, List, None, Option, Some, ℕ, ⊤, ◌≡◌}
 use Rattle.event_log.specs.declared.device.Device.{Device}
 
 -- If the bytes are known before and after, they are the same.

@@ -1,8 +1,8 @@
 -- The line of each event.
-use Rattle.std.specs.Prelude.{ℕ, ◌+◌, ◌-◌, ◌/◌, ◌%◌, max, Bool, List, [], ◌∷◌, ◌++◌, length, drop, codes, if◌then◌else◌, nat_lt}
+use Rattle.std.specs.Prelude.{Bool, codes, drop, if◌then◌else◌, length, List, max, nat_lt, ℕ, [], ◌%◌, ◌++◌, ◌+◌, ◌-◌, ◌/◌, ◌∷◌}
 use Rattle.std.specs.List.{flat_map}
 use Rattle.std.specs.Fmt.{decimal}
-use Rattle.vte_core.specs.Event.{Event, Print, Execute, Hook, Put, Unhook, OscDispatch, CsiDispatch, EscDispatch}
+use Rattle.vte_core.specs.Event.{CsiDispatch, EscDispatch, Event, Execute, Hook, OscDispatch, Print, Put, Unhook}
 use Rattle.vte_core.specs.Parameters.{shown}
 
 -- A lowercase hex digit.

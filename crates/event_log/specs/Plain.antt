@@ -1,8 +1,8 @@
 -- The text that remains of events when the sequences are removed.
 use Rattle.std.specs.Char.{encode_utf8}
-use Rattle.std.specs.Prelude.{ℕ, List, [], ◌∷◌, if◌then◌else◌}
+use Rattle.std.specs.Prelude.{if◌then◌else◌, List, ℕ, [], ◌∷◌}
 use Rattle.std.specs.List.{flat_map}
-use Rattle.vte_core.specs.Event.{Event, Print, Execute}
+use Rattle.vte_core.specs.Event.{Event, Execute, Print}
 use Rattle.vte_core.specs.Text.{is_layout}
 
 -- The UTF-8 of a character, a layout control itself, and nothing for any other event.

@@ -1,5 +1,5 @@
 -- What a collector holds, and what an event adds to it.
-use Rattle.std.specs.Prelude.{ℕ, ◌+◌, ◌/◌, Bool, true, false, List, [], ◌++◌, length, if◌then◌else◌, nat_lt, nat_le}
+use Rattle.std.specs.Prelude.{Bool, false, if◌then◌else◌, length, List, nat_le, nat_lt, true, ℕ, [], ◌++◌, ◌+◌, ◌/◌}
 use Rattle.vte_core.specs.Event.{Event}
 use Rattle.event_log.specs.declared.lines.Lines.{Lines}
 

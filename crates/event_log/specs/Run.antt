@@ -1,5 +1,5 @@
 -- What a run reads and writes.
-use Rattle.std.specs.Prelude.{◌≡◌, ◌≤◌, ◌⊎◌, ◌^◌, ◌-◌, ℕ, Bool, true, List, [], ◌++◌, length, Option, Some, Ok, Err, Result, IfSome, ⊤}
+use Rattle.std.specs.Prelude.{Bool, Err, IfSome, length, List, Ok, Option, Result, Some, true, ℕ, [], ⊤, ◌++◌, ◌-◌, ◌^◌, ◌≡◌, ◌≤◌, ◌⊎◌}
 use Rattle.vte_core.specs.Stream.{events, usual_limit}
 use Rattle.event_log.specs.Lines.{lines_of}
 use Rattle.event_log.specs.Plain.{plain_text}

@@ -1,8 +1,8 @@
 //! Performers that collect text until it is written.
-ghost use Rattle.std.specs.Prelude.{◌≡◌, ◌<◌, ℕ, List, [], length};
+ghost use Rattle.std.specs.Prelude.{length, List, ℕ, [], ◌<◌, ◌≡◌};
 ghost use Rattle.vte_core.specs.Event.{Event};
 ghost use Rattle.event_log.specs.private.Progress.{AddsUpTo, HasKept, HasReadSome};
-ghost use Rattle.event_log.specs.Record.{Record, empty_record};
+ghost use Rattle.event_log.specs.Record.{empty_record, Record};
 
 use vte_core::Parser;
 

@@ -1,7 +1,7 @@
 //! Readers and writers.
-ghost use Rattle.std.specs.Prelude.{◌≡◌, ◌<◌, ◌≤◌, ℕ, Bool, List, Option, IsTrue, IfOk, OnOk, OnErr, is_err, is_some, length, take, false};
-ghost use Rattle.std.specs.Io.KnownBytes.{Consumes, Appends, Keeps, IsAtEnd};
-ghost use Rattle.event_log.specs.Device.{KeepsWhereKnown, device_inner, device_failed, known_unless};
+ghost use Rattle.std.specs.Prelude.{Bool, false, IfOk, is_err, is_some, IsTrue, length, List, OnErr, OnOk, Option, take, ℕ, ◌<◌, ◌≡◌, ◌≤◌};
+ghost use Rattle.std.specs.Io.KnownBytes.{Appends, Consumes, IsAtEnd, Keeps};
+ghost use Rattle.event_log.specs.Device.{device_failed, device_inner, KeepsWhereKnown, known_unless};
 
 use std::io::{self, Read, Write};
 

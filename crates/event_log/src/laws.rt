@@ -1,5 +1,5 @@
 //! A law of the text that is left. Its function does nothing: the contract is the law.
-ghost use Rattle.std.specs.Prelude.{◌≡◌, ℕ, List, Option};
+ghost use Rattle.std.specs.Prelude.{List, Option, ℕ, ◌≡◌};
 ghost use Rattle.std.specs.List.{flat_map};
 ghost use Rattle.event_log.specs.Plain.{plain_text};
 ghost use Rattle.vte_core.specs.Parts.{AreCuts, parts_at};

@@ -1,5 +1,5 @@
 //! Lines of text, each appended whole or not at all.
-ghost use Rattle.std.specs.Prelude.{◌≡◌, ◌+◌, [], false, length};
+ghost use Rattle.std.specs.Prelude.{false, length, [], ◌+◌, ◌≡◌};
 ghost use Rattle.event_log.specs.Record.{capacity, empty_record, is_to_be_written, record_in, record_with_text};
 ghost use Rattle.event_log.specs.private.Line.{BeginsLine, EndsLine, ExtendsLine};
 

@@ -1,5 +1,5 @@
 //! Runs from a reader to a writer.
-ghost use Rattle.std.specs.Prelude.{◌≡◌, ◌<◌, ℕ, List, [], ◌++◌, false, true, Some, Err, IfOk, OnOk, is_err, length};
+ghost use Rattle.std.specs.Prelude.{Err, false, IfOk, is_err, length, List, OnOk, Some, true, ℕ, [], ◌++◌, ◌<◌, ◌≡◌};
 ghost use Rattle.std.specs.Io.KnownBytes.{Appends};
 ghost use Rattle.std.specs.List.{flat_map};
 ghost use Rattle.vte_core.specs.Stream.{events, usual_limit};

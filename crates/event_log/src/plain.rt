@@ -1,7 +1,7 @@
 //! The performer that keeps only text.
-ghost use Rattle.std.specs.Prelude.{◌≡◌, true};
+ghost use Rattle.std.specs.Prelude.{true, ◌≡◌};
 ghost use Rattle.event_log.specs.Plain.{plain_text_of};
-ghost use Rattle.event_log.specs.Record.{Record, empty_record, record_in, is_to_be_written, record_with_event};
+ghost use Rattle.event_log.specs.Record.{empty_record, is_to_be_written, Record, record_in, record_with_event};
 
 use crate::collector::{Collector, RunParser};
 use crate::lines::Lines;

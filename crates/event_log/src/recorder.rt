@@ -1,7 +1,7 @@
 //! The performer that writes lines.
-ghost use Rattle.std.specs.Prelude.{◌≡◌, ◌++◌};
+ghost use Rattle.std.specs.Prelude.{◌++◌, ◌≡◌};
 ghost use Rattle.event_log.specs.Lines.{line_feed, line_of, sequence_fields};
-ghost use Rattle.event_log.specs.Record.{Record, empty_record, record_in, is_to_be_written, record_with_event, record_with_text};
+ghost use Rattle.event_log.specs.Record.{empty_record, is_to_be_written, Record, record_in, record_with_event, record_with_text};
 
 use crate::collector::{Collector, RunParser};
 use crate::lines::{Lines, line_of_execute, line_of_put};

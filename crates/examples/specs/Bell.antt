@@ -1,5 +1,5 @@
 -- Whether the bell has rung.
-use Rattle.std.specs.Prelude.{ℕ, Bool, true, ◌||◌, ◌==◌}
+use Rattle.std.specs.Prelude.{Bool, true, ℕ, ◌==◌, ◌||◌}
 use Rattle.vte_core.specs.Event.{Event, Execute}
 
 -- The answer after one more event.

@@ -1,5 +1,5 @@
 -- How long the text of a command was.
-use Rattle.std.specs.Prelude.{ℕ, List, [], ◌∷◌, length}
+use Rattle.std.specs.Prelude.{length, List, ℕ, [], ◌∷◌}
 use Rattle.vte_core.specs.Event.{Event, OscDispatch}
 
 -- The length of the piece after the first `;`.

@@ -1,7 +1,7 @@
 -- Which character was printed last.
-use Rattle.std.specs.Prelude.{◌≡◌, ℕ, List, Option, None, Some}
+use Rattle.std.specs.Prelude.{List, None, Option, Some, ℕ, ◌≡◌}
 use Rattle.examples.specs.declared.last_printed.Watcher.{Watcher}
-use Rattle.vte_core.specs.Event.{Event, Print, after}
+use Rattle.vte_core.specs.Event.{after, Event, Print}
 use Rattle.vte_core.specs.Parser.{HasRead}
 use Rattle.vte_core.specs.Stream.{events, usual_limit}
 

@@ -1,6 +1,6 @@
 -- The value of a page: whether the terminal should ring.
 use Rattle.std.specs.Prelude.{Bool, true}
-use Rattle.vte.specs.Call.{Call, Bell}
+use Rattle.vte.specs.Call.{Bell, Call}
 
 abbrev pub rung_after : Bool → Call → Bool
 rung_after rung Bell = true

@@ -1,9 +1,9 @@
 -- Whether a session's terminal was to ring.
-use Rattle.std.specs.Prelude.{◌≡◌, ℕ, Bool, false, List, [], ◌++◌, length}
+use Rattle.std.specs.Prelude.{Bool, false, length, List, ℕ, [], ◌++◌, ◌≡◌}
 use Rattle.examples.specs.Page.{rung_after}
 use Rattle.examples.specs.declared.session.Session.{Session}
 use Rattle.vte.specs.Handler.{after}
-use Rattle.vte.specs.Processor.{AreInOrder, Meaning, State, TakesSteps, calls_with_stops}
+use Rattle.vte.specs.Processor.{AreInOrder, calls_with_stops, Meaning, State, TakesSteps}
 use Rattle.vte.specs.ProcessorCalls.{HasParsedAndHolds, IsAt}
 use Rattle.vte.specs.StdSyncHandler.{pending_meaning}
 use Rattle.vte.specs.Stream.{usual_limit}

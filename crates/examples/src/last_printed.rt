@@ -1,6 +1,6 @@
 //! A struct that keeps a parser, and knows over several calls which character was printed last.
-ghost use Rattle.examples.specs.LastPrinted.{Watches, last_after};
-ghost use Rattle.std.specs.Prelude.{◌≡◌, ◌++◌, ℕ, List, [], None};
+ghost use Rattle.examples.specs.LastPrinted.{last_after, Watches};
+ghost use Rattle.std.specs.Prelude.{List, None, ℕ, [], ◌++◌, ◌≡◌};
 ghost use Rattle.vte_core.specs.Event.{after};
 ghost use Rattle.vte_core.specs.Stream.{events, usual_limit};
 

@@ -1,6 +1,6 @@
 //! The lines of a stream in memory, by `run` of `event_log`, with a sink of our own.
 ghost use Rattle.event_log.specs.Lines.{lines_of};
-ghost use Rattle.std.specs.Prelude.{◌≡◌, IfSome};
+ghost use Rattle.std.specs.Prelude.{IfSome, ◌≡◌};
 ghost use Rattle.vte_core.specs.Stream.{events, usual_limit};
 
 use event_log::{Device, Sink, run};

@@ -1,6 +1,6 @@
 //! A handler of a few calls: keeps the text of a stream and its titles, and whether it rings.
 ghost use Rattle.examples.specs.Page.{rung_after};
-ghost use Rattle.std.specs.Prelude.{◌≡◌, IfOk, false};
+ghost use Rattle.std.specs.Prelude.{false, IfOk, ◌≡◌};
 ghost use Rattle.vte.specs.Calls.{calls};
 ghost use Rattle.vte.specs.Handler.{after};
 ghost use Rattle.vte.specs.Stream.{events, usual_limit};

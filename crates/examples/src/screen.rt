@@ -1,5 +1,5 @@
 //! The grid and the cursor.
-ghost use Rattle.std.specs.Prelude.{◌≡◌, ◌<◌, ◌≤◌, length};
+ghost use Rattle.std.specs.Prelude.{length, ◌<◌, ◌≡◌, ◌≤◌};
 ghost use Rattle.examples.specs.declared.screen.TheConstants.{COLUMNS, ROWS};
 
 use crate::cell::{Cell, Style};

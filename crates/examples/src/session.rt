@@ -1,7 +1,7 @@
 //! A struct that keeps a processor and its handler, and knows over several calls whether the
 //! terminal was to ring.
 ghost use Rattle.examples.specs.Session.{HasMade, RangBy};
-ghost use Rattle.std.specs.Prelude.{List, [], ◌++◌, ◌∷◌, IfOk};
+ghost use Rattle.std.specs.Prelude.{IfOk, List, [], ◌++◌, ◌∷◌};
 ghost use Rattle.vte.specs.Processor.{given_bytes};
 ghost use Rattle.vte.specs.ProcessorCalls.{held_in};
 ghost use Rattle.vte.specs.declared.ansi.laws.replays.Step.{Step};

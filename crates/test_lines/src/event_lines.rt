@@ -1,6 +1,6 @@
 //! A performer that writes one line per event.
 
-ghost use Rattle.std.specs.Prelude.{◌≡◌, false};
+ghost use Rattle.std.specs.Prelude.{false, ◌≡◌};
 
 use crate::hex::Hex;
 use std::alloc::Global;

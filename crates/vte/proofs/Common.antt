@@ -1,6 +1,6 @@
 -- Words from std, specs/ and the crates below for the files of proofs, so that a file imports one list from here
 -- instead of one line for each module.
-pub use Rattle.std.proofs.Common.{All, Bool, Bor, Err, List, MatchResult, None, Ok, Option, Result, Some, [], add-zero, ap, append_assoc, arith, codes, drop, eqb, false, get_or, inl, inr, length, length-append, length-drop, length-take, map, nat_le, nat_lt, refl, rules, subst, suc, suc-add, sym, take, true, zero, zero-add, ℕ, ◌%◌, ◌++◌, ◌+◌, ◌-◌, ◌/◌, ◌<◌, ◌==◌, ◌^◌, ◌||◌, ◌∙◌, ◌∷◌, ◌≡◌, ◌≤◌, ◌⊎◌}
+pub use Rattle.std.proofs.Common.{add-zero, All, ap, append_assoc, arith, Bool, Bor, codes, drop, eqb, Err, false, get_or, inl, inr, length, length-append, length-drop, length-take, List, map, MatchResult, nat_le, nat_lt, None, Ok, Option, refl, Result, rules, Some, subst, suc, suc-add, sym, take, true, zero, zero-add, ℕ, [], ◌%◌, ◌++◌, ◌+◌, ◌-◌, ◌/◌, ◌<◌, ◌==◌, ◌^◌, ◌||◌, ◌∙◌, ◌∷◌, ◌≡◌, ◌≤◌, ◌⊎◌}
 pub use Rattle.std.proofs.Math.Bool.{and-false, or-false}
 pub use Rattle.std.proofs.Math.Seq.{drop-append-add, drop-append_seam, take-add, take-append-add, take-append_seam}
 pub use Rattle.std.proofs.lemmas.Bool.{cases_Bool, cases_lt, false_from_ne_true, false≢true}
@@ -16,11 +16,11 @@ pub use Rattle.std.specs.Option.{ok_or, option_or}
 pub use Rattle.std.specs.Prelude.{replicate, slice_index_or}
 pub use Rattle.std.specs.Str.{IsCharBoundary, IsUtf8}
 unfoldable pub use Rattle.std.specs.Str.{chars, is_utf8, trim_end, trim_start}
-pub use Rattle.vte_core.proofs.lemmas.shapes.BrokenCharacters.{starts-settled, resumed_stream-settled, reported-settled}
+pub use Rattle.vte_core.proofs.lemmas.shapes.BrokenCharacters.{reported-settled, resumed_stream-settled, starts-settled}
 pub use Rattle.vte_core.proofs.lemmas.EarlyStops.{added-append}
 pub use Rattle.vte_core.proofs.lemmas.streams.After.{added-nothing}
 pub use Rattle.vte_core.proofs.lemmas.streams.StreamSteps.{counts_data, events_are_bounded, events_grow, opens_silently}
-pub use Rattle.vte_core.specs.EarlyStop.{StopsExactly, breaks_at, resumed_stream, reported_before}
+pub use Rattle.vte_core.specs.EarlyStop.{breaks_at, reported_before, resumed_stream, StopsExactly}
 pub use Rattle.vte_core.specs.Event.{Event, OscDispatch, Print, replacement}
 pub use Rattle.vte_core.specs.Stream.{added, open_character, usual_limit}
 unfoldable pub use Rattle.vte_core.specs.Stream.{events, outcome}
@@ -28,26 +28,26 @@ pub use Rattle.vte_core.specs.declared.parser.long.LongParser.{LongParser}
 pub use Rattle.vte_core.specs.declared.parser.refused.Refused.{Refused}
 pub use Rattle.vte_handler.specs.Call.{Call, Input, ResetColor}
 pub use Rattle.vte_handler.specs.Handler.{after}
-pub use Rattle.vte_handler.specs.Timeout.{AllowsOnly, IsSteady, TimeoutMeaning, timeout_meaning}
-pub use Rattle.vte.specs.Processor.{EndsInBegin, HoldsWellAt, IsInsideUpdate, IsOutsideUpdate, Meaning, TakesSteps, State, TakesAllTurns, TakesTurns, all_bytes, prefix_to_begin, given_bytes, AreInOrder, added_calls, calls_between, calls_with_stops, done, extend, hold_turn, turn_kind_of, ParsingTurn, ExpiredTurn, release, meaning_of, max_held, parsing_turn, parse, set_times, stop, turn, turns, update_nanos, with_held}
-pub use Rattle.vte.specs.Refusal.{ParsingTurnIsRefused, HasTaken, TakesTurnsUntilRefused, TurnIsRefused, between_turns, inside_turn}
-pub use Rattle.vte.specs.Synchronized.{begin_count, begins_in_event, is_update_group, update_group_count, begin_update, begins_ending_in_last, begins_with, after_last_end, end_update, from_begin_update, part_after_last_end}
-pub use Rattle.vte.specs.Calls.{calls_after, calls, calls_from, calls_of, last_printed_after, last_printed, last_printed_from}
+pub use Rattle.vte_handler.specs.Timeout.{AllowsOnly, IsSteady, timeout_meaning, TimeoutMeaning}
+pub use Rattle.vte.specs.Processor.{added_calls, all_bytes, AreInOrder, calls_between, calls_with_stops, done, EndsInBegin, ExpiredTurn, extend, given_bytes, hold_turn, HoldsWellAt, IsInsideUpdate, IsOutsideUpdate, max_held, Meaning, meaning_of, parse, parsing_turn, ParsingTurn, prefix_to_begin, release, set_times, State, stop, TakesAllTurns, TakesSteps, TakesTurns, turn, turn_kind_of, turns, update_nanos, with_held}
+pub use Rattle.vte.specs.Refusal.{between_turns, HasTaken, inside_turn, ParsingTurnIsRefused, TakesTurnsUntilRefused, TurnIsRefused}
+pub use Rattle.vte.specs.Synchronized.{after_last_end, begin_count, begin_update, begins_ending_in_last, begins_in_event, begins_with, end_update, from_begin_update, is_update_group, part_after_last_end, update_group_count}
+pub use Rattle.vte.specs.Calls.{calls, calls_after, calls_from, calls_of, last_printed, last_printed_after, last_printed_from}
 pub use Rattle.vte.specs.ControlCalls.{change_calls}
 pub use Rattle.vte.specs.Colors.{kind_reading}
-pub use Rattle.vte.specs.CommandCalls.{dynamic_calls, id_of, link_to, palette_entry_calls, palette_entries_calls, joined_texts, text_in}
+pub use Rattle.vte.specs.CommandCalls.{dynamic_calls, id_of, joined_texts, link_to, palette_entries_calls, palette_entry_calls, text_in}
 unfoldable pub use Rattle.vte.specs.CommandCalls.{all_reset}
-pub use Rattle.vte.specs.private.Performer.{first_component, FitsText, PerformerValue, performer_with_event, FitsTextSize, fits_text_size, joined_size, parts_left, text_to_join}
+pub use Rattle.vte.specs.private.Performer.{first_component, fits_text_size, FitsText, FitsTextSize, joined_size, parts_left, performer_with_event, PerformerValue, text_to_join}
 pub use Rattle.vte.specs.private.Hold.{Adds, IsAdded, IsHeldTail, released_of, still_held}
-pub use Rattle.vte.specs.ProcessorCalls.{StopsSync, HasAdvanced, HasParsedAll, HasParsedAndHolds, IsAt, ReadsInTurns, HasReplayed, HasDelivered, Replays, ProcessorPredicate, held_of}
+pub use Rattle.vte.specs.ProcessorCalls.{HasAdvanced, HasDelivered, HasParsedAll, HasParsedAndHolds, HasReplayed, held_of, IsAt, ProcessorPredicate, ReadsInTurns, Replays, StopsSync}
 pub use Rattle.vte.specs.private.Performing.{AdvancesAll, AdvancesUntilStop, performer_value, with_private_mode, with_private_modes}
 pub use Rattle.vte.specs.BoundedProcessor.{HasParsedAndHoldsBounded}
-pub use Rattle.vte.specs.LongProcessor.{EngineReads, EngineStops, HasParsedAndHoldsLong, LacksMemoryForSome, LacksMemoryLong, AdvancesLong, Reserves}
-pub use Rattle.vte.specs.Memory.{HasMemory, HasTextMemory, ParserHasMemory, KeepsMemory}
+pub use Rattle.vte.specs.LongProcessor.{AdvancesLong, EngineReads, EngineStops, HasParsedAndHoldsLong, LacksMemoryForSome, LacksMemoryLong, Reserves}
+pub use Rattle.vte.specs.Memory.{HasMemory, HasTextMemory, KeepsMemory, ParserHasMemory}
 pub use Rattle.vte.specs.Numbers.{decimal_number, first_number, first_numbers}
 pub use Rattle.vte.specs.Split.{first_after, split_by}
-pub use Rattle.vte.specs.private.Engine.{EngineIsAt, EngineIsAtKeepingMemory, EndsParsingTurn, EndsTurn, HasBeenRefused, HasParsedPrefix, HasParsedWithoutBegin, ArePartsAt, ArePartsAtKeepingMemory, ArePartsAtWithMemory, HasTakenParsingTurn, HasTurned}
-pub use Rattle.vte.specs.Views.{EngineHasMemory, EngineHasParsedAndHolds, ParserView, EngineView, bounded_engine_view, long_parser_view, engine_view, limited_parser_view, long_engine_view}
+pub use Rattle.vte.specs.private.Engine.{ArePartsAt, ArePartsAtKeepingMemory, ArePartsAtWithMemory, EndsParsingTurn, EndsTurn, EngineIsAt, EngineIsAtKeepingMemory, HasBeenRefused, HasParsedPrefix, HasParsedWithoutBegin, HasTakenParsingTurn, HasTurned}
+pub use Rattle.vte.specs.Views.{bounded_engine_view, engine_view, EngineHasMemory, EngineHasParsedAndHolds, EngineView, limited_parser_view, long_engine_view, long_parser_view, ParserView}
 pub use Rattle.vte.specs.Rendition.{attribute_calls, attributes_from}
 pub use Rattle.vte_types.specs.Words.{after_word}
 pub use Rattle.vte.specs.declared.ansi.laws.replays.Step.{Step}

@@ -1,10 +1,10 @@
 -- What calls of a processor with a limit of its own ensure: the same as those of `Processor`, whose
 -- limit is 1,024.
-use Rattle.std.specs.Prelude.{ℕ, List}
+use Rattle.std.specs.Prelude.{List, ℕ}
 use Rattle.vte_core.specs.declared.parser.Parser.{Parser}
 use Rattle.vte.specs.Memory.{HasTextMemory}
 use Rattle.vte.specs.ProcessorCalls.{held_of}
-use Rattle.vte.specs.Views.{EngineHasParsedAndHolds, bounded_engine_view}
+use Rattle.vte.specs.Views.{bounded_engine_view, EngineHasParsedAndHolds}
 use Rattle.vte.specs.declared.ansi.bounded_processor.BoundedProcessor.{BoundedProcessor}
 
 abbrev pub held_in_bounded : {T A : Type 0} {N : ℕ} → BoundedProcessor T A N → List ℕ

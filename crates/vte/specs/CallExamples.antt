@@ -1,6 +1,6 @@
 -- Examples worked out by hand: streams and all their calls. The prover compares them with the
 -- definitions, not with code.
-use Rattle.std.specs.Prelude.{◌≡◌, ℕ, pos, true, false, List, [], ◌∷◌, ◌++◌, map, Option, Some, None, codes}
+use Rattle.std.specs.Prelude.{codes, false, List, map, None, Option, pos, Some, true, ℕ, [], ◌++◌, ◌∷◌, ◌≡◌}
 use Rattle.std.specs.List.{range_with_len}
 use Rattle.vte_core.specs.Stream.{events, usual_limit}
 use Rattle.vte_handler.specs.Call.{Call}
@@ -16,14 +16,14 @@ use Rattle.vte_types.specs.declared.color.Color.TheVariants as color
 use Rattle.vte_types.specs.declared.color.NamedColor.TheVariants as named
 use Rattle.vte_types.specs.declared.color.Rgb.{Rgb}
 use Rattle.vte_types.specs.declared.cursor_icon.CursorIcon.TheVariants as icon
-use Rattle.vte_types.specs.declared.keyboard.KeyboardModesApplyBehavior.TheVariants.{Replace, Union, Difference}
+use Rattle.vte_types.specs.declared.keyboard.KeyboardModesApplyBehavior.TheVariants.{Difference, Replace, Union}
 use Rattle.vte_types.specs.declared.keyboard.ModifyOtherKeys.TheVariants as keys
 use Rattle.vte_types.specs.declared.mode.Mode.TheVariants as mode
 use Rattle.vte_types.specs.declared.mode.NamedMode.TheVariants.{Insert, LineFeedNewLine}
 use Rattle.vte_types.specs.declared.mode.NamedPrivateMode.TheVariants.{CursorKeys, ShowCursor, SyncUpdate}
 use Rattle.vte_types.specs.declared.mode.PrivateMode.TheVariants as private
 use Rattle.vte_types.specs.declared.screen.ClearMode.TheVariants as screen
-use Rattle.vte_types.specs.declared.screen.CursorShape.TheVariants.{Block, Underline, Beam}
+use Rattle.vte_types.specs.declared.screen.CursorShape.TheVariants.{Beam, Block, Underline}
 use Rattle.vte_types.specs.declared.screen.LineClearMode.TheVariants as line
 use Rattle.vte_types.specs.declared.screen.ScpCharPath.TheVariants as path
 use Rattle.vte_types.specs.declared.screen.ScpUpdateMode.TheVariants as update

@@ -1,9 +1,9 @@
 -- The calls of events.
-use Rattle.std.specs.Prelude.{ℕ, Bool, true, false, List, [], ◌∷◌, ◌++◌, length, drop, Option, Some, None}
+use Rattle.std.specs.Prelude.{Bool, drop, false, length, List, None, Option, Some, true, ℕ, [], ◌++◌, ◌∷◌}
 use Rattle.vte.specs.CommandCalls.{system_command_calls}
 use Rattle.vte.specs.ControlCalls.{control_calls}
-use Rattle.vte.specs.EscapeCalls.{execute_calls, escape_calls}
-use Rattle.vte_core.specs.Event.{Event, Print, Execute, OscDispatch, CsiDispatch, EscDispatch}
+use Rattle.vte.specs.EscapeCalls.{escape_calls, execute_calls}
+use Rattle.vte_core.specs.Event.{CsiDispatch, EscDispatch, Event, Execute, OscDispatch, Print}
 use Rattle.vte_handler.specs.Call.{Call}
 use Rattle.vte_handler.specs.Call as call
 

@@ -1,10 +1,10 @@
 -- Colours as numbers and as texts.
-use Rattle.std.specs.Prelude.{ℕ, Bool, List, [], ◌∷◌, length, take, drop, take_while, nat_lt, if◌then◌else◌, ◌==◌, Option, Some, None, suc, ◌&&◌, ◌*◌, ◌-◌, ◌/◌, ◌^◌, nat_le, codes, option_map}
-use Rattle.vte_types.specs.Words.{Row, entry_of, read_by}
+use Rattle.std.specs.Prelude.{Bool, codes, drop, if◌then◌else◌, length, List, nat_le, nat_lt, None, Option, option_map, Some, suc, take, take_while, ℕ, [], ◌&&◌, ◌*◌, ◌-◌, ◌/◌, ◌==◌, ◌^◌, ◌∷◌}
+use Rattle.vte_types.specs.Words.{entry_of, read_by, Row}
 use Rattle.vte_types.specs.declared.color.Color.{Color}
-use Rattle.vte_types.specs.declared.color.Color.TheVariants.{Spec, Indexed}
+use Rattle.vte_types.specs.declared.color.Color.TheVariants.{Indexed, Spec}
 use Rattle.vte.specs.Split.{split_by}
-use Rattle.vte_types.specs.Rgb.{hex_number, color_by}
+use Rattle.vte_types.specs.Rgb.{color_by, hex_number}
 use Rattle.vte_types.specs.declared.color.Rgb.{Rgb}
 
 -- ---- as numbers

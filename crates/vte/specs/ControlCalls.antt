@@ -1,15 +1,15 @@
 -- The calls of a control sequence, by its final byte and intermediates (ECMA-48, the VT500, xterm).
-use Rattle.std.specs.Prelude.{ℕ, List, map, pos, [], ◌∷◌, if◌then◌else◌, ◌==◌, ◌&&◌, ◌-◌, Option, Some, None, drop, replicate, unwrap_or}
+use Rattle.std.specs.Prelude.{drop, if◌then◌else◌, List, map, None, Option, pos, replicate, Some, unwrap_or, ℕ, [], ◌&&◌, ◌-◌, ◌==◌, ◌∷◌}
 use Rattle.vte.specs.declared.ansi.calls.control.ModeChange.{ModeChange}
 use Rattle.vte.specs.declared.ansi.calls.control.ModeChange.TheVariants as change
 use Rattle.vte_handler.specs.Call.{Call}
 use Rattle.vte_handler.specs.Call as call
 use Rattle.vte_types.specs.Mode.{mode_of, private_mode_of}
-use Rattle.vte.specs.Numbers.{first_of, first_nonzero_or, first_numbers, asks_for_modify_other_keys}
+use Rattle.vte.specs.Numbers.{asks_for_modify_other_keys, first_nonzero_or, first_numbers, first_of}
 use Rattle.vte.specs.Rendition.{attribute_calls}
 use Rattle.vte.specs.OptionalCalls.{for_both, for_some}
-use Rattle.vte_types.specs.Words.{Row, entry_of}
-use Rattle.vte.specs.SelectedValues.{behavior_of, bottom_of, cursor_rows, keyboard_modes, keys_rows, line_rows, path_rows, screen_rows, tab_rows, scp_update_rows}
+use Rattle.vte_types.specs.Words.{entry_of, Row}
+use Rattle.vte.specs.SelectedValues.{behavior_of, bottom_of, cursor_rows, keyboard_modes, keys_rows, line_rows, path_rows, scp_update_rows, screen_rows, tab_rows}
 
 -- ---- changes of modes
 

@@ -1,6 +1,6 @@
 -- The calls of executed bytes and of escape sequences.
-use Rattle.std.specs.Prelude.{ℕ, List, [], ◌∷◌, if◌then◌else◌, ◌==◌, Option, Some, None, unwrap_or}
-use Rattle.vte_types.specs.Words.{Row, entry_of}
+use Rattle.std.specs.Prelude.{if◌then◌else◌, List, None, Option, Some, unwrap_or, ℕ, [], ◌==◌, ◌∷◌}
+use Rattle.vte_types.specs.Words.{entry_of, Row}
 use Rattle.vte_handler.specs.Call.{Call}
 use Rattle.vte_handler.specs.Call as call
 use Rattle.vte_types.specs.declared.charset.CharsetIndex.{CharsetIndex}

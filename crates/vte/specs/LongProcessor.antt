@@ -1,10 +1,10 @@
 -- What calls of a processor without a limit ensure: the same as those of `Processor`, unless memory
 -- is refused. It is said of its engine, by a view of the engine's parts.
-use Rattle.std.specs.Prelude.{◌≡◌, ◌⊎◌, ℕ, ◌+◌, ◌-◌, ◌<◌, ◌≤◌, Bool, true, false, List, length, IsOk, IfErr, IfOk, Result, Ok, Err}
+use Rattle.std.specs.Prelude.{Bool, Err, false, IfErr, IfOk, IsOk, length, List, Ok, Result, true, ℕ, ◌+◌, ◌-◌, ◌<◌, ◌≡◌, ◌≤◌, ◌⊎◌}
 use Rattle.vte_core.specs.declared.parser.refused.Refused.{Refused}
 use Rattle.vte.specs.Memory.{HasMemory, KeepsMemory}
-use Rattle.vte.specs.Processor.{Meaning, State, max_held}
-use Rattle.vte.specs.ProcessorCalls.{IsAt, ReadsInTurns, ProcessorPredicate, StopsSync, held_of}
+use Rattle.vte.specs.Processor.{max_held, Meaning, State}
+use Rattle.vte.specs.ProcessorCalls.{held_of, IsAt, ProcessorPredicate, ReadsInTurns, StopsSync}
 use Rattle.vte.specs.Refusal.{HasTaken}
 use Rattle.vte.specs.Views.{EngineHasMemory, EngineHasParsedAndHolds, EngineView, long_engine_view}
 use Rattle.vte.specs.declared.ansi.updates.engine.Engine.{Engine}

@@ -1,5 +1,5 @@
 -- The memory of processors: for how many bytes they have enough.
-use Rattle.std.specs.Prelude.{◌≡◌, ℕ, ◌+◌, ◌<◌, ◌≤◌, ◌^◌, List, string_capacity}
+use Rattle.std.specs.Prelude.{List, string_capacity, ℕ, ◌+◌, ◌<◌, ◌^◌, ◌≡◌, ◌≤◌}
 use Rattle.vte_core.specs.LongParser.{memory_of, open_command_size}
 use Rattle.vte_core.specs.declared.parser.long.LongParser.{LongParser}
 use Rattle.vte.specs.ProcessorCalls.{held_of}

@@ -1,5 +1,5 @@
 -- The numbers of a control sequence, read from its groups, and decimal numbers in commands.
-use Rattle.std.specs.Prelude.{ℕ, Bool, false, List, [], ◌∷◌, ◌==◌, ◌&&◌, Option, Some, None, map, nat_lt, if◌then◌else◌}
+use Rattle.std.specs.Prelude.{Bool, false, if◌then◌else◌, List, map, nat_lt, None, Option, Some, ℕ, [], ◌&&◌, ◌==◌, ◌∷◌}
 use Rattle.std.specs.Str.{all_ascii_digits}
 use Rattle.std.specs.Str.Parse.{digits_value}
 

@@ -1,5 +1,5 @@
 -- Calls that are made only if there is a value to pass.
-use Rattle.std.specs.Prelude.{List, [], ◌∷◌, Option, Some, None}
+use Rattle.std.specs.Prelude.{List, None, Option, Some, [], ◌∷◌}
 use Rattle.vte_handler.specs.Call.{Call}
 
 abbrev pub for_some : {X : Type 0} → (X → Call) → Option X → List Call

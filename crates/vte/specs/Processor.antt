@@ -1,12 +1,12 @@
 -- What a processor does, to be read from top to bottom: from what its parts mean to the calls that
 -- a handler receives. In all files, `V` is the type of the handler's value, and `W` that of the
 -- timeout's value.
-use Rattle.std.specs.Prelude.{ℕ, zero, suc, Bool, Option, ◌++◌, List, ◌≡◌, ◌+◌, ◌-◌, ◌^◌, ◌<◌, false, [], ◌∷◌, length, take, drop, if◌then◌else◌, nat_lt, nat_le, ◌⊎◌, ◌≤◌, true, Some, None}
-use Rattle.vte_core.specs.Stream.{events, added}
+use Rattle.std.specs.Prelude.{Bool, drop, false, if◌then◌else◌, length, List, nat_le, nat_lt, None, Option, Some, suc, take, true, zero, ℕ, [], ◌++◌, ◌+◌, ◌-◌, ◌<◌, ◌^◌, ◌∷◌, ◌≡◌, ◌≤◌, ◌⊎◌}
+use Rattle.vte_core.specs.Stream.{added, events}
 use Rattle.vte_handler.specs.Call.{Call}
 use Rattle.vte_handler.specs.Handler.{after}
-use Rattle.vte_handler.specs.Timeout.{TimeoutMeaning, timeout_meaning, AllowsOnly, IsSteady}
-use Rattle.vte.specs.Synchronized.{begin_count, begins_ending_in_last, part_after_last_end, update_ended_call, begin_update, begins_with, after_last_end, from_begin_update}
+use Rattle.vte_handler.specs.Timeout.{AllowsOnly, IsSteady, timeout_meaning, TimeoutMeaning}
+use Rattle.vte.specs.Synchronized.{after_last_end, begin_count, begin_update, begins_ending_in_last, begins_with, from_begin_update, part_after_last_end, update_ended_call}
 use Rattle.vte.specs.Calls.{calls_after}
 use Rattle.vte.specs.declared.ansi.laws.replays.Step.{Step}
 use Rattle.vte.specs.declared.ansi.laws.replays.Step.TheVariants.{Advance, StopSync}

@@ -1,15 +1,15 @@
 -- What calls of a processor ensure, in the words of `Processor`: what they tell the handler, where
 -- the processor is, what is true after one call and after a list of calls, and then what each
 -- function promises.
-use Rattle.std.specs.Prelude.{◌≡◌, ℕ, List, ◌++◌, length, drop, [], ◌∷◌, Bool, false, ◌≤◌, None, Option, Result, IfOk, MatchResult, ⊤}
+use Rattle.std.specs.Prelude.{Bool, drop, false, IfOk, length, List, MatchResult, None, Option, Result, ℕ, [], ⊤, ◌++◌, ◌∷◌, ◌≡◌, ◌≤◌}
 use Rattle.vte_core.specs.Outcome.{SaysLoss}
 use Rattle.vte_core.specs.Parser.{HasRead, Reading}
 use Rattle.vte_core.specs.Stream.{events, outcome, usual_limit}
 use Rattle.vte_core.specs.declared.parser.Parser.{Parser}
 use Rattle.vte_handler.specs.Handler.{after}
 use Rattle.vte_handler.specs.Timeout.{AllowsOnly, IsSteady, TimeoutMeaning}
-use Rattle.vte.specs.Calls.{last_printed, calls}
-use Rattle.vte.specs.Processor.{HoldsWell, HoldsWellAt, Meaning, TakesSteps, State, TakesAllTurns, all_bytes, given_bytes, calls_with_stops, AreInOrder, max_held, stop}
+use Rattle.vte.specs.Calls.{calls, last_printed}
+use Rattle.vte.specs.Processor.{all_bytes, AreInOrder, calls_with_stops, given_bytes, HoldsWell, HoldsWellAt, max_held, Meaning, State, stop, TakesAllTurns, TakesSteps}
 use Rattle.vte.specs.Synchronized.{after_last_end}
 use Rattle.vte.specs.declared.ansi.updates.hold.SyncState.{SyncState}
 use Rattle.vte.specs.declared.ansi.laws.replays.Step.{Step}

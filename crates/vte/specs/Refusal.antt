@@ -1,9 +1,9 @@
 -- What a turn, a call and a list of calls have done when memory is refused, which happens only to a
 -- `LongProcessor`: some whole turns and, if the refusal came inside a turn, a part of that one.
-use Rattle.std.specs.Prelude.{◌≡◌, ℕ, ◌-◌, ◌<◌, ◌++◌, Bool, List, ◌∷◌, length, take, drop}
+use Rattle.std.specs.Prelude.{Bool, drop, length, List, take, ℕ, ◌++◌, ◌-◌, ◌<◌, ◌∷◌, ◌≡◌}
 use Rattle.vte_core.specs.Stream.{added}
 use Rattle.vte.specs.Synchronized.{begin_count}
-use Rattle.vte.specs.Processor.{HoldsWellAt, Meaning, State, TakesTurns, TurnKind, ParsingTurn, ExpiredTurn, HoldTurn, FullTurn, all_bytes, given_bytes, turn_kind_of, parse, stop}
+use Rattle.vte.specs.Processor.{all_bytes, ExpiredTurn, FullTurn, given_bytes, HoldsWellAt, HoldTurn, Meaning, parse, ParsingTurn, State, stop, TakesTurns, turn_kind_of, TurnKind}
 use Rattle.vte.specs.ProcessorCalls.{HasReplayed}
 use Rattle.vte.specs.declared.ansi.laws.replays.RefusedStep.{RefusedStep}
 use Rattle.vte.specs.declared.ansi.laws.replays.Step.{Step}

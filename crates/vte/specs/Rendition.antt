@@ -1,8 +1,8 @@
 -- Select graphic rendition: the attributes of groups (ECMA-48, section 8.3.117; xterm).
-use Rattle.std.specs.Prelude.{ℕ, List, [], ◌∷◌, ◌++◌, map, if◌then◌else◌, ◌==◌, Option, Some, None, suc, zero, option_map, option_to_list, unwrap_or}
+use Rattle.std.specs.Prelude.{if◌then◌else◌, List, map, None, Option, option_map, option_to_list, Some, suc, unwrap_or, zero, ℕ, [], ◌++◌, ◌==◌, ◌∷◌}
 use Rattle.vte.specs.Colors.{color_reading, without_color_space}
 use Rattle.vte.specs.Numbers.{first_numbers}
-use Rattle.vte_types.specs.Words.{Row, entry_of}
+use Rattle.vte_types.specs.Words.{entry_of, Row}
 use Rattle.vte_handler.specs.Call.{Call, TerminalAttribute}
 use Rattle.vte_types.specs.declared.color.Attr.{Attr}
 use Rattle.vte_types.specs.declared.color.Attr.TheVariants as attr

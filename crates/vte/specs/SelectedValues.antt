@@ -1,15 +1,15 @@
 -- The values that the numbers of control sequences select.
-use Rattle.std.specs.Prelude.{ℕ, true, false, List, [], ◌∷◌, if◌then◌else◌, ◌==◌, ◌%◌, Option, Some, None}
+use Rattle.std.specs.Prelude.{false, if◌then◌else◌, List, None, Option, Some, true, ℕ, [], ◌%◌, ◌==◌, ◌∷◌}
 use Rattle.vte_types.specs.Keyboard.{modes_of_bits}
 use Rattle.vte_types.specs.declared.keyboard.KeyboardModes.{KeyboardModes}
 use Rattle.vte_types.specs.declared.keyboard.KeyboardModesApplyBehavior.{KeyboardModesApplyBehavior}
-use Rattle.vte_types.specs.declared.keyboard.KeyboardModesApplyBehavior.TheVariants.{Replace, Union, Difference}
+use Rattle.vte_types.specs.declared.keyboard.KeyboardModesApplyBehavior.TheVariants.{Difference, Replace, Union}
 use Rattle.vte_types.specs.declared.keyboard.ModifyOtherKeys.{ModifyOtherKeys}
 use Rattle.vte_types.specs.declared.keyboard.ModifyOtherKeys.TheVariants as keys
 use Rattle.vte_types.specs.declared.screen.ClearMode.{ClearMode}
 use Rattle.vte_types.specs.declared.screen.ClearMode.TheVariants as screen
 use Rattle.vte_types.specs.declared.screen.CursorShape.{CursorShape}
-use Rattle.vte_types.specs.declared.screen.CursorShape.TheVariants.{Block, Underline, Beam}
+use Rattle.vte_types.specs.declared.screen.CursorShape.TheVariants.{Beam, Block, Underline}
 use Rattle.vte_types.specs.declared.screen.CursorStyle.{CursorStyle}
 use Rattle.vte_types.specs.declared.screen.LineClearMode.{LineClearMode}
 use Rattle.vte_types.specs.declared.screen.LineClearMode.TheVariants as line

@@ -1,5 +1,5 @@
 -- Prefixes of texts, and parts between separators.
-use Rattle.std.specs.Prelude.{ℕ, List, [], ◌∷◌, ◌==◌, Option, None}
+use Rattle.std.specs.Prelude.{List, None, Option, ℕ, [], ◌==◌, ◌∷◌}
 use Rattle.std.specs.List.{slice_split}
 use Rattle.std.specs.Option.{option_or}
 use Rattle.vte_types.specs.Words.{after_word}

@@ -1,7 +1,7 @@
 -- A timeout over a clock is pending from when it is set until it is cleared.
 use Rattle.std.specs.declared.time.Duration.{Duration}
 use Rattle.std.specs.Duration.{as_nanos, max_nanos}
-use Rattle.std.specs.Prelude.{◌≡◌, ℕ, ◌+◌, Bool, true, false, Option, is_some, min}
+use Rattle.std.specs.Prelude.{Bool, false, is_some, min, Option, true, ℕ, ◌+◌, ◌≡◌}
 use Rattle.vte_handler.specs.Timeout.{TimeoutMeaning}
 use Rattle.vte.specs.declared.ansi.std_sync_handler.StdSyncHandler.{StdSyncHandler}
 

@@ -1,6 +1,6 @@
 -- Examples of synchronized updates, worked out by hand. The prover compares them with the
 -- definitions, not with code.
-use Rattle.std.specs.Prelude.{◌≡◌, ℕ, zero, suc, ◌-◌, Bool, true, false, List, [], ◌∷◌, ◌++◌, length, map, Some, None, codes}
+use Rattle.std.specs.Prelude.{Bool, codes, false, length, List, map, None, Some, suc, true, zero, ℕ, [], ◌++◌, ◌-◌, ◌∷◌, ◌≡◌}
 use Rattle.vte_core.specs.Stream.{usual_limit}
 use Rattle.vte_handler.specs.Call.{Call, Input, SetPrivateMode, TerminalAttribute}
 use Rattle.vte_types.specs.declared.color.Attr.TheVariants.{Bold, Foreground, Underline}
@@ -8,7 +8,7 @@ use Rattle.vte_types.specs.declared.color.Color.TheVariants as color
 use Rattle.vte_types.specs.declared.color.NamedColor.TheVariants.{Red}
 use Rattle.vte_types.specs.declared.mode.NamedPrivateMode.TheVariants.{ShowCursor, SyncUpdate}
 use Rattle.vte_types.specs.declared.mode.PrivateMode.TheVariants.{Named}
-use Rattle.vte.specs.Processor.{Meaning, State, HoldTurn, FullTurn, calls_with_stops, prefix_to_begin, turn_kind_of, max_held, stop, turn}
+use Rattle.vte.specs.Processor.{calls_with_stops, FullTurn, HoldTurn, max_held, Meaning, prefix_to_begin, State, stop, turn, turn_kind_of}
 use Rattle.vte.specs.StdSyncHandler.{pending_meaning}
 use Rattle.vte.specs.Synchronized.{after_last_end, begin_update, begins_ending_in_last, end_update, from_begin_update, update_ended_call}
 use Rattle.vte.specs.declared.ansi.laws.replays.Step.{Step}

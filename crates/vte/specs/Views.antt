@@ -1,7 +1,7 @@
 -- What the parts of an engine mean, of a processor with a limit and of one without, and where it
 -- is. Of the types, `P` is the parser, `B` its buffer for texts, `T` the timeout, `W` the
 -- timeout's value, and `A` the allocator.
-use Rattle.std.specs.Prelude.{◌≡◌, ℕ, ◌<◌, Bool, List, None, Option, Some, length}
+use Rattle.std.specs.Prelude.{Bool, length, List, None, Option, Some, ℕ, ◌<◌, ◌≡◌}
 use Rattle.vte_core.specs.LongParser.{HasReadLong, lost_data_long}
 use Rattle.vte_core.specs.Parser.{HasRead, lost_data}
 use Rattle.vte_core.specs.declared.parser.Parser.{Parser}

@@ -1,6 +1,6 @@
 -- Words from std, specs/ and the crates below for the files of proofs, so that a file imports one list from here
 -- instead of one line for each module.
-pub use Rattle.std.proofs.Common.{Bool, List, Some, [], add-one, ap, append-nil, append_assoc, arith, drop, false, get_or, if◌then◌else◌, inl, inr, length, length-append, length-drop, length-take, map, min, nat_le, nat_lt, refl, rules, set, subst, suc, sym, take, true, zero, ℕ, ◌%◌, ◌&&◌, ◌*◌, ◌++◌, ◌+◌, ◌-◌, ◌/◌, ◌<◌, ◌==◌, ◌∙◌, ◌∷◌, ◌≡◌, ◌≤◌}
+pub use Rattle.std.proofs.Common.{add-one, ap, append-nil, append_assoc, arith, Bool, drop, false, get_or, if◌then◌else◌, inl, inr, length, length-append, length-drop, length-take, List, map, min, nat_le, nat_lt, refl, rules, set, Some, subst, suc, sym, take, true, zero, ℕ, [], ◌%◌, ◌&&◌, ◌*◌, ◌++◌, ◌+◌, ◌-◌, ◌/◌, ◌<◌, ◌==◌, ◌∙◌, ◌∷◌, ◌≡◌, ◌≤◌}
 pub use Rattle.std.proofs.Math.Nat.{add-zero, add_assoc, zero-add}
 pub use Rattle.std.proofs.Math.Seq.{drop-append_seam, drop-drop, map-set_same, take-add, take-append_seam}
 pub use Rattle.std.proofs.lemmas.Bool.{cases_Bool, cases_lt, eqb-true, false≢true, le-leb, or_parts}
@@ -11,13 +11,13 @@ pub use Rattle.std.proofs.lemmas.List.Elements.{All-head, All-tail, filter-appen
 pub use Rattle.std.proofs.lemmas.List.Sums.{sum_by-cons}
 pub use Rattle.std.proofs.lemmas.Str.{encodes-chars, len_utf8_bounds, length-encode}
 pub use Rattle.std.specs.List.{All, concat, flat_map}
-pub use Rattle.std.specs.Str.{IsUtf8, chars}
+pub use Rattle.std.specs.Str.{chars, IsUtf8}
 pub use Rattle.event_log.specs.Plain.{plain_text}
 unfoldable pub use Rattle.event_log.specs.Plain.{plain_text_of}
-pub use Rattle.vte_core.specs.EventBounds.{IsBounded, AreFromOneByte, IsShort}
-pub use Rattle.vte_core.specs.EarlyStop.{ComesTo, IsStart, breaks}
-unfoldable pub use Rattle.vte_core.specs.EarlyStop.{breaks_at, resumed_stream, reported_before}
-pub use Rattle.vte_core.specs.Event.{CsiDispatch, EscDispatch, Event, Execute, Hook, OscDispatch, Print, Put, Unhook, replacement, after}
+pub use Rattle.vte_core.specs.EventBounds.{AreFromOneByte, IsBounded, IsShort}
+pub use Rattle.vte_core.specs.EarlyStop.{breaks, ComesTo, IsStart}
+unfoldable pub use Rattle.vte_core.specs.EarlyStop.{breaks_at, reported_before, resumed_stream}
+pub use Rattle.vte_core.specs.Event.{after, CsiDispatch, EscDispatch, Event, Execute, Hook, OscDispatch, Print, Put, replacement, Unhook}
 pub use Rattle.vte_core.specs.Laws.{OpensSilently}
 pub use Rattle.vte_core.specs.Parameters.{AreGroups, count_of, IsFilled}
 pub use Rattle.vte_core.specs.Parser.{HasRead}
@@ -27,13 +27,13 @@ pub use Rattle.vte_core.specs.Stream.{added, usual_limit}
 unfoldable pub use Rattle.vte_core.specs.Stream.{events, open_character}
 pub use Rattle.vte_core.specs.declared.parser.Parser.{Parser}
 pub use Rattle.vte_core.specs.declared.parser.saved.Saved.{Saved}
-pub use Rattle.vte_c.specs.private.Buffers.{AreCharacters, Holds, Buffers, Starts, has_room_for, is_full, paused_if, resumed, buffers_of, buffers_with_event, with_run, with_taken, with_wanted}
+pub use Rattle.vte_c.specs.private.Buffers.{AreCharacters, Buffers, buffers_of, buffers_with_event, has_room_for, Holds, is_full, paused_if, resumed, Starts, with_run, with_taken, with_wanted}
 unfoldable pub use Rattle.vte_c.specs.private.Buffers.{with_one, with_record}
-pub use Rattle.vte_c.specs.private.Feeding.{AreFirst, Continues, HasFed, ReadsOn, HasReadOn, HasEntries, NoRecordStops, StopsAtNone, has_kind, kinds_of, with_entries}
-pub use Rattle.vte_c.specs.Record.{DataRun, InInput, Entry, RunKind, Single, TextRun, count_byte, data_of, events_in, flag_byte, group_bytes, groups_in, is_at_limit, intermediates_in, entry_data, entry_events, event_kind, may_have_lost, numbers_in, piece_bytes, pieces_in, record_at, records_from, reported, events_of_run, run_kind, run_record, two_bytes, max_added, with_intermediates, with_loss, all_kinds}
+pub use Rattle.vte_c.specs.private.Feeding.{AreFirst, Continues, has_kind, HasEntries, HasFed, HasReadOn, kinds_of, NoRecordStops, ReadsOn, StopsAtNone, with_entries}
+pub use Rattle.vte_c.specs.Record.{all_kinds, count_byte, data_of, DataRun, Entry, entry_data, entry_events, event_kind, events_in, events_of_run, flag_byte, group_bytes, groups_in, InInput, intermediates_in, is_at_limit, max_added, may_have_lost, numbers_in, piece_bytes, pieces_in, record_at, records_from, reported, run_kind, run_record, RunKind, Single, TextRun, two_bytes, with_intermediates, with_loss}
 unfoldable pub use Rattle.vte_c.specs.Record.{event_in, events_of, has, without_loss}
-pub use Rattle.vte_c.specs.private.TextBuffer.{TextBuffer, text_buffer_of, text_buffer_with_event}
+pub use Rattle.vte_c.specs.private.TextBuffer.{text_buffer_of, text_buffer_with_event, TextBuffer}
 unfoldable pub use Rattle.vte_c.specs.private.TextBuffer.{text_buffer_with}
-pub use Rattle.vte_c.specs.Reported.{AreEncoded, NoEventStops, AreReadable, HasGiven, HasReported, NoKindStops, IsRunOfKind, IsRunAt, StopsAtKind, is_stop, no_room, fed_count}
+pub use Rattle.vte_c.specs.Reported.{AreEncoded, AreReadable, fed_count, HasGiven, HasReported, is_stop, IsRunAt, IsRunOfKind, no_room, NoEventStops, NoKindStops, StopsAtKind}
 pub use Rattle.vte_c.specs.declared.event.VteEvent.{VteEvent}
 pub use Rattle.vte_c.specs.declared.events.EventWriter.{EventWriter}

@@ -1,11 +1,11 @@
 -- What the calls of the library ensure.
-use Rattle.std.specs.Prelude.{◌≡◌, ◌<◌, ◌≤◌, ◌+◌, ℕ, false, List, ◌++◌, length, drop, take}
+use Rattle.std.specs.Prelude.{drop, false, length, List, take, ℕ, ◌++◌, ◌+◌, ◌<◌, ◌≡◌, ◌≤◌}
 use Rattle.vte_core.specs.Event.{Event}
 use Rattle.vte_core.specs.Saved.{HasReadSaved}
 use Rattle.vte_core.specs.Stream.{added, usual_limit}
 use Rattle.vte_core.specs.declared.parser.saved.Saved.{Saved}
 use Rattle.vte_c.specs.Record.{data_kind, events_in, kinds_in, min_data, min_events, min_text, text_kind}
-use Rattle.vte_c.specs.Reported.{AreEncoded, NoEventStops, HasStripped, HasReported, NoKindStops, StopsAtKind, is_stop, no_room, fed_count}
+use Rattle.vte_c.specs.Reported.{AreEncoded, fed_count, HasReported, HasStripped, is_stop, no_room, NoEventStops, NoKindStops, StopsAtKind}
 use Rattle.vte_c.specs.declared.event.VteEvent.{VteEvent}
 use Rattle.vte_c.specs.declared.feed.VteCounts.{VteCounts}
 

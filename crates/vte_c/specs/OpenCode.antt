@@ -1,7 +1,7 @@
 -- The numbers of what is open, as vte.h has them.
 use Rattle.std.specs.Prelude.{ℕ}
 use Rattle.vte_core.specs.declared.parser.open.Open.{Open}
-use Rattle.vte_core.specs.declared.parser.open.Open.TheVariants.{Nothing, Character, EscapeSequence, ControlSequence, DeviceControl, SystemCommand, IgnoredString}
+use Rattle.vte_core.specs.declared.parser.open.Open.TheVariants.{Character, ControlSequence, DeviceControl, EscapeSequence, IgnoredString, Nothing, SystemCommand}
 
 abbrev pub open_code : Open → ℕ
 open_code Nothing = 0

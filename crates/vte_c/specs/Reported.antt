@@ -1,5 +1,5 @@
 -- What was reported of a stream to a caller.
-use Rattle.std.specs.Prelude.{◌≡◌, ◌+◌, ◌-◌, ◌^◌, ◌<◌, ◌≤◌, ℕ, Bool, false, ◌&&◌, List, [], ◌∷◌, ◌++◌, length, drop, map, take, if◌then◌else◌, ◌==◌, ⊤}
+use Rattle.std.specs.Prelude.{Bool, drop, false, if◌then◌else◌, length, List, map, take, ℕ, [], ⊤, ◌&&◌, ◌++◌, ◌+◌, ◌-◌, ◌<◌, ◌==◌, ◌^◌, ◌∷◌, ◌≡◌, ◌≤◌}
 use Rattle.std.specs.List.{flat_map}
 use Rattle.std.specs.Str.{IsUtf8}
 use Rattle.event_log.specs.Plain.{plain_text}
@@ -9,7 +9,7 @@ use Rattle.vte_core.specs.Saved.{HasReadSaved}
 use Rattle.vte_core.specs.Stream.{added, events, usual_limit}
 use Rattle.vte_core.specs.Text.{HasNoControls}
 use Rattle.vte_core.specs.declared.parser.saved.Saved.{Saved}
-use Rattle.vte_c.specs.Record.{RunKind, TextRun, DataRun, Entry, Single, InInput, has, entry_data, entry_events, event_kind, records_from, reported, without_loss}
+use Rattle.vte_c.specs.Record.{DataRun, Entry, entry_data, entry_events, event_kind, has, InInput, records_from, reported, RunKind, Single, TextRun, without_loss}
 use Rattle.vte_c.specs.declared.event.VteEvent.{VteEvent}
 
 -- The parser has read the stream except for the unread bytes at its end. What was given of its

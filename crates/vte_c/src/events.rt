@@ -1,9 +1,9 @@
 //! The performer that writes events into the caller's buffers.
-ghost use Rattle.std.specs.Prelude.{◌≡◌, ◌≤◌, ◌<◌, ◌+◌, ◌-◌, ◌^◌, ◌||◌, ℕ, List, false, [], ◌∷◌, if◌then◌else◌, length, map, min, nat_lt};
+ghost use Rattle.std.specs.Prelude.{false, if◌then◌else◌, length, List, map, min, nat_lt, ℕ, [], ◌+◌, ◌-◌, ◌<◌, ◌^◌, ◌||◌, ◌∷◌, ◌≡◌, ◌≤◌};
 ghost use Rattle.std.specs.List.{flat_map};
 ghost use Rattle.vte_core.specs.Event.{OscDispatch, Print};
 ghost use Rattle.vte_core.specs.AdvanceToRun.{run_bytes};
-ghost use Rattle.vte_c.specs.Record.{data_of, group_bytes, has, is_at_limit, min_data, min_events, max_added, record_of, sequence_record};
+ghost use Rattle.vte_c.specs.Record.{data_of, group_bytes, has, is_at_limit, max_added, min_data, min_events, record_of, sequence_record};
 
 mod data;
 mod pause;

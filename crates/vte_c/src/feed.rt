@@ -1,12 +1,12 @@
 //! From bytes to events.
-ghost use Rattle.std.specs.Prelude.{◌≡◌, ◌<◌, ◌≤◌, ◌+◌, ◌^◌, ◌++◌, ℕ, false, List, length, take};
+ghost use Rattle.std.specs.Prelude.{false, length, List, take, ℕ, ◌++◌, ◌+◌, ◌<◌, ◌^◌, ◌≡◌, ◌≤◌};
 ghost use Rattle.vte_core.specs.Parser.{HasRead};
 ghost use Rattle.vte_core.specs.Event.{Event};
 ghost use Rattle.vte_core.specs.Saved.{HasReadSaved};
 ghost use Rattle.vte_core.specs.Stream.{added, usual_limit};
 ghost use Rattle.vte_c.specs.Calls.{Feeds};
-ghost use Rattle.vte_c.specs.private.Buffers.{Starts, is_full, buffers_of};
-ghost use Rattle.vte_c.specs.private.Feeding.{NoEventStopsIn, HasFed, HasReadOn, NoRecordStops, StopsAtNone};
+ghost use Rattle.vte_c.specs.private.Buffers.{buffers_of, is_full, Starts};
+ghost use Rattle.vte_c.specs.private.Feeding.{HasFed, HasReadOn, NoEventStopsIn, NoRecordStops, StopsAtNone};
 ghost use Rattle.vte_c.specs.Reported.{HasReported};
 
 use crate::event::VteEvent;

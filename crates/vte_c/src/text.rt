@@ -1,8 +1,8 @@
 //! From bytes to the text that is left without the sequences.
-ghost use Rattle.std.specs.Prelude.{◌≡◌, ◌<◌, ◌≤◌, ◌+◌, ◌-◌, ◌++◌, ℕ, List, true, false, length};
+ghost use Rattle.std.specs.Prelude.{false, length, List, true, ℕ, ◌++◌, ◌+◌, ◌-◌, ◌<◌, ◌≡◌, ◌≤◌};
 ghost use Rattle.vte_c.specs.Calls.{Strips};
 ghost use Rattle.vte_c.specs.Reported.{HasStripped};
-ghost use Rattle.vte_c.specs.private.TextBuffer.{StartsText, StripsMore, TextBuffer, text_buffer_of, text_buffer_with, text_buffer_with_event};
+ghost use Rattle.vte_c.specs.private.TextBuffer.{StartsText, StripsMore, text_buffer_of, text_buffer_with, text_buffer_with_event, TextBuffer};
 
 use crate::feed::NO_ROOM;
 use vte_core::{Params, Parser, Perform, PerformText, Saved, laws};

@@ -1,9 +1,9 @@
 -- What calls that read bytes ensure.
-use Rattle.std.specs.Prelude.{◌≡◌, ℕ, ◌+◌, ◌*◌, ◌≤◌, List, ◌++◌, length, Bool}
-use Rattle.vte_core.specs.Event.{Event, after}
+use Rattle.std.specs.Prelude.{Bool, length, List, ℕ, ◌*◌, ◌++◌, ◌+◌, ◌≡◌, ◌≤◌}
+use Rattle.vte_core.specs.Event.{after, Event}
 use Rattle.vte_core.specs.Parser.{Reading}
 use Rattle.vte_core.specs.Stream.{added}
-use Rattle.vte_core.specs.EarlyStop.{StopsExactly, resumed_stream}
+use Rattle.vte_core.specs.EarlyStop.{resumed_stream, StopsExactly}
 
 -- `advance` and `advance_text`
 pub record ReadsBytes {V : Type 0} (step : V → Event → V) (old new : V) (bytes : List ℕ)

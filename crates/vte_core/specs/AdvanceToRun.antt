@@ -1,16 +1,16 @@
 -- What `advance_to_run` ensures.
-use Rattle.std.specs.Prelude.{◌≡◌, ℕ, ◌+◌, ◌*◌, ◌<◌, ◌≤◌, Bool, true, false, Option, List, [], ◌++◌, length, take, drop, map, slice_index, ⊤}
+use Rattle.std.specs.Prelude.{Bool, drop, false, length, List, map, Option, slice_index, take, true, ℕ, [], ⊤, ◌*◌, ◌++◌, ◌+◌, ◌<◌, ◌≡◌, ◌≤◌}
 use Rattle.std.specs.Str.{chars}
 use Rattle.vte_core.specs.declared.reader.run.Run.{Run}
 use Rattle.vte_core.specs.declared.reader.run.Taken.{Taken}
-use Rattle.vte_core.specs.declared.reader.run.Taken.TheVariants.{Text, Data, Nothing}
+use Rattle.vte_core.specs.declared.reader.run.Taken.TheVariants.{Data, Nothing, Text}
 use Rattle.vte_core.specs.Class.{IsDeviceData}
 use Rattle.vte_core.specs.EarlyStop.{ComesTo, resumed_stream}
 use Rattle.vte_core.specs.Event.{Event, Print, Put}
 use Rattle.vte_core.specs.OutsideRuns.{ReportsOutsideRuns}
 use Rattle.vte_core.specs.Parser.{Reading}
 use Rattle.vte_core.specs.Stream.{added}
-use Rattle.vte_core.specs.Text.{HasNoRunAt, HasNoControls}
+use Rattle.vte_core.specs.Text.{HasNoControls, HasNoRunAt}
 
 -- The bytes of a run: those of its text, or its data.
 abbrev pub taken_bytes : Taken → List ℕ

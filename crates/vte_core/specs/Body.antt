@@ -1,16 +1,16 @@
 -- A body: the bytes between one ESC and the next.
-use Rattle.std.specs.Prelude.{ℕ, List, [], ◌∷◌, Option, if◌then◌else◌}
-use Rattle.vte_core.specs.SequenceKind.{SequenceKind, ControlSequence, DeviceControl, SystemCommand, IgnoredString, EscapeSequence, sequence_kind}
+use Rattle.std.specs.Prelude.{if◌then◌else◌, List, Option, ℕ, [], ◌∷◌}
+use Rattle.vte_core.specs.SequenceKind.{ControlSequence, DeviceControl, EscapeSequence, IgnoredString, sequence_kind, SequenceKind, SystemCommand}
 use Rattle.vte_core.specs.Class.{class_of, is_cancel, is_key}
 use Rattle.vte_core.specs.ControlSequence.{control_sequence_outcome}
 use Rattle.vte_core.specs.DeviceControl.{device_control_outcome}
 use Rattle.vte_core.specs.Escape.{escape_outcome}
 use Rattle.vte_core.specs.Event.{Execute}
 use Rattle.vte_core.specs.IgnoredString.{ignored_string_outcome}
-use Rattle.vte_core.specs.Outcome.{Outcome, EscapeToClose, leaves, report}
+use Rattle.vte_core.specs.Outcome.{EscapeToClose, leaves, Outcome, report}
 use Rattle.vte_core.specs.CutBefore.{cut_before}
 use Rattle.vte_core.specs.SystemCommand.{system_command_outcome}
-use Rattle.vte_core.specs.Text.{text_outcome, executed_events}
+use Rattle.vte_core.specs.Text.{executed_events, text_outcome}
 
 -- The bytes after the key, read as the kind of sequence that the key selects.
 abbrev pub sequence_outcome : Option ℕ → SequenceKind → ℕ → List ℕ → Outcome

@@ -1,5 +1,5 @@
 -- The classes of bytes outside text (ECMA-48, VT500 parser).
-use Rattle.std.specs.Prelude.{◌≡◌, ℕ, List, [], ◌∷◌, Bool, true, false, if◌then◌else◌, ◌==◌, nat_lt, ⊤}
+use Rattle.std.specs.Prelude.{Bool, false, if◌then◌else◌, List, nat_lt, true, ℕ, [], ⊤, ◌==◌, ◌∷◌, ◌≡◌}
 
 pub data Class : Type 0 where
   -- 00..17, 19, 1C..1F: plain controls, which are C0 except CAN, SUB and ESC

@@ -1,5 +1,5 @@
 -- What is stored of an operating system command, and when memory doesn't suffice for it.
-use Rattle.std.specs.Prelude.{ℕ, ◌+◌, ◌-◌, ◌<◌, ◌≤◌, Bool, List, length, slice_index}
+use Rattle.std.specs.Prelude.{Bool, length, List, slice_index, ℕ, ◌+◌, ◌-◌, ◌<◌, ◌≤◌}
 use Rattle.vte_core.specs.SystemCommand.{IsCommandData}
 
 -- The capacity for data bytes, the data bytes, where the first 16 pieces end, and whether data

@@ -1,11 +1,11 @@
 -- Control sequences (ECMA-48, section 5.4), after ESC [.
-use Rattle.std.specs.Prelude.{ℕ, List, [], ◌∷◌, if◌then◌else◌}
-use Rattle.vte_core.specs.Class.{class_of, is_cancel, ends_head}
-use Rattle.vte_core.specs.Event.{Event, Execute, CsiDispatch}
-use Rattle.vte_core.specs.Head.{head_of, head_bytes, is_well_shaped, sequence_event}
-use Rattle.vte_core.specs.Outcome.{Outcome, ControlSequenceToClose, leaves, report}
+use Rattle.std.specs.Prelude.{if◌then◌else◌, List, ℕ, [], ◌∷◌}
+use Rattle.vte_core.specs.Class.{class_of, ends_head, is_cancel}
+use Rattle.vte_core.specs.Event.{CsiDispatch, Event, Execute}
+use Rattle.vte_core.specs.Head.{head_bytes, head_of, is_well_shaped, sequence_event}
+use Rattle.vte_core.specs.Outcome.{ControlSequenceToClose, leaves, Outcome, report}
 use Rattle.vte_core.specs.CutBefore.{cut_before}
-use Rattle.vte_core.specs.Text.{text_outcome, executed_events}
+use Rattle.vte_core.specs.Text.{executed_events, text_outcome}
 
 -- CAN and SUB are executed. A final byte dispatches a well-shaped head, and gives nothing after any
 -- other.

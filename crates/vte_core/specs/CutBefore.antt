@@ -1,5 +1,5 @@
 -- A list of bytes, cut before the first byte that passes a test.
-use Rattle.std.specs.Prelude.{ℕ, Bool, List, [], ◌∷◌, if◌then◌else◌}
+use Rattle.std.specs.Prelude.{Bool, if◌then◌else◌, List, ℕ, [], ◌∷◌}
 
 -- The bytes before the first that passes, or all bytes if none does.
 abbrev pub before_first : (ℕ → Bool) → List ℕ → List ℕ

@@ -1,11 +1,11 @@
 -- Device control strings (ECMA-48, section 8.3.27), after ESC P.
-use Rattle.std.specs.Prelude.{ℕ, Bool, ◌||◌, List, [], ◌∷◌, map, if◌then◌else◌, ◌==◌}
+use Rattle.std.specs.Prelude.{Bool, if◌then◌else◌, List, map, ℕ, [], ◌==◌, ◌||◌, ◌∷◌}
 use Rattle.std.specs.List.{filter}
-use Rattle.vte_core.specs.Class.{class_of, is_cancel, is_device_data, ends_head}
+use Rattle.vte_core.specs.Class.{class_of, ends_head, is_cancel, is_device_data}
 use Rattle.vte_core.specs.Event.{Event, Execute, Hook, Put, Unhook}
-use Rattle.vte_core.specs.Head.{head_of, head_bytes, is_well_shaped, sequence_event}
+use Rattle.vte_core.specs.Head.{head_bytes, head_of, is_well_shaped, sequence_event}
 use Rattle.vte_core.specs.IgnoredString.{ignored_string_outcome}
-use Rattle.vte_core.specs.Outcome.{Outcome, DeviceHeadToClose, DeviceDataToClose, leaves, report}
+use Rattle.vte_core.specs.Outcome.{DeviceDataToClose, DeviceHeadToClose, leaves, Outcome, report}
 use Rattle.vte_core.specs.CutBefore.{cut_before}
 use Rattle.vte_core.specs.Text.{text_outcome}
 

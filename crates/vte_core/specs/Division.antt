@@ -1,8 +1,8 @@
 -- The right division of a text: each segment is the well-formed sequence that starts there; failing
 -- that, the longest truncated one; failing that, one byte.
-use Rattle.std.specs.Prelude.{◌≡◌, ◌⊎◌, ℕ, ◌≤◌, true, List, [], ◌∷◌, ◌++◌, length, ⊤}
+use Rattle.std.specs.Prelude.{length, List, true, ℕ, [], ⊤, ◌++◌, ◌∷◌, ◌≡◌, ◌≤◌, ◌⊎◌}
 use Rattle.std.specs.List.{concat}
-use Rattle.vte_core.specs.Utf8.{is_well_formed, is_truncated, segments}
+use Rattle.vte_core.specs.Utf8.{is_truncated, is_well_formed, segments}
 
 abbrev pub IsSegment : List ℕ → Type 0
 IsSegment segment =

@@ -1,8 +1,8 @@
 -- Where a call may stop early, and what has been reported by then: at the first start where the
 -- performer is terminated. Its answer changes with events alone, so where nothing was reported it
 -- need not be asked again.
-use Rattle.std.specs.Prelude.{◌≡◌, ◌⊎◌, ℕ, ◌<◌, ◌≤◌, Bool, true, false, ◌&&◌, not, List, [], ◌∷◌, ◌++◌, length, take, drop, Option, if◌then◌else◌}
-use Rattle.vte_core.specs.Event.{Event, Print, replacement, after}
+use Rattle.std.specs.Prelude.{Bool, drop, false, if◌then◌else◌, length, List, not, Option, take, true, ℕ, [], ◌&&◌, ◌++◌, ◌<◌, ◌∷◌, ◌≡◌, ◌≤◌, ◌⊎◌}
+use Rattle.vte_core.specs.Event.{after, Event, Print, replacement}
 use Rattle.vte_core.specs.Stream.{added, open_character}
 use Rattle.vte_core.specs.Text.{run_event}
 use Rattle.vte_core.specs.Utf8.{is_truncated, is_well_formed}

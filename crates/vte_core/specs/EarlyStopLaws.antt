@@ -1,5 +1,5 @@
 -- Laws of early stops, which functions of `laws` state as contracts.
-use Rattle.std.specs.Prelude.{◌≡◌, ◌⊎◌, ℕ, ◌<◌, ◌≤◌, List, [], ◌++◌, length, drop, Option}
+use Rattle.std.specs.Prelude.{drop, length, List, Option, ℕ, [], ◌++◌, ◌<◌, ◌≡◌, ◌≤◌, ◌⊎◌}
 use Rattle.vte_core.specs.EventBounds.{AreFromOneByte}
 use Rattle.vte_core.specs.EarlyStop.{IsStart, reported_before, resumed_stream}
 use Rattle.vte_core.specs.Event.{Event}

@@ -1,5 +1,5 @@
 -- What a parser reports, and the value of a performer after it.
-use Rattle.std.specs.Prelude.{ℕ, Bool, List, [], ◌∷◌}
+use Rattle.std.specs.Prelude.{Bool, List, ℕ, [], ◌∷◌}
 
 pub data Event : Type 0 where
   -- a character of text

@@ -1,10 +1,10 @@
 -- The limits of events, and what one byte adds to a stream: at most two events, of which only the
 -- first may be long.
 use Rattle.std.specs.Char.{IsScalar}
-use Rattle.std.specs.Prelude.{◌≡◌, ℕ, ◌<◌, ◌≤◌, true, false, List, [], ◌∷◌, length, Option, Some, None, ⊤}
+use Rattle.std.specs.Prelude.{false, length, List, None, Option, Some, true, ℕ, [], ⊤, ◌<◌, ◌∷◌, ◌≡◌, ◌≤◌}
 use Rattle.std.specs.List.{concat}
 use Rattle.vte_core.specs.Class.{IsDeviceData}
-use Rattle.vte_core.specs.Event.{Event, Print, Execute, Hook, Put, Unhook, OscDispatch, CsiDispatch, EscDispatch}
+use Rattle.vte_core.specs.Event.{CsiDispatch, EscDispatch, Event, Execute, Hook, OscDispatch, Print, Put, Unhook}
 use Rattle.vte_core.specs.Intermediates.{max_intermediates}
 use Rattle.vte_core.specs.Parameters.{AreGroups}
 use Rattle.vte_core.specs.SystemCommand.{max_pieces}

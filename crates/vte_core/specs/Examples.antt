@@ -1,13 +1,13 @@
 -- Examples worked out by hand: streams and all their events. The prover compares them with the
 -- definitions, not with code.
-use Rattle.std.specs.Prelude.{replicate, ◌≡◌, ℕ, true, false, List, [], ◌∷◌, ◌++◌, map, Option, codes}
+use Rattle.std.specs.Prelude.{codes, false, List, map, Option, replicate, true, ℕ, [], ◌++◌, ◌∷◌, ◌≡◌}
 use Rattle.std.specs.List.{repeat}
-use Rattle.vte_core.specs.EarlyStop.{resumed_stream, reported_before}
+use Rattle.vte_core.specs.EarlyStop.{reported_before, resumed_stream}
 use Rattle.vte_core.specs.declared.parser.open.Open.{Open}
-use Rattle.vte_core.specs.declared.parser.open.Open.TheVariants.{Nothing, Character, EscapeSequence, ControlSequence, DeviceControl, SystemCommand, IgnoredString}
-use Rattle.vte_core.specs.Event.{Event, Print, Execute, Hook, Put, Unhook, OscDispatch, CsiDispatch, EscDispatch}
+use Rattle.vte_core.specs.declared.parser.open.Open.TheVariants.{Character, ControlSequence, DeviceControl, EscapeSequence, IgnoredString, Nothing, SystemCommand}
+use Rattle.vte_core.specs.Event.{CsiDispatch, EscDispatch, Event, Execute, Hook, OscDispatch, Print, Put, Unhook}
 use Rattle.vte_core.specs.Open.{open_at_end}
-use Rattle.vte_core.specs.Outcome.{ToClose, CommandToClose}
+use Rattle.vte_core.specs.Outcome.{CommandToClose, ToClose}
 use Rattle.vte_core.specs.OutsideRuns.{ReportsOutsideRuns}
 use Rattle.vte_core.specs.Parts.{parts_of}
 use Rattle.vte_core.specs.Stream.{events, outcome}

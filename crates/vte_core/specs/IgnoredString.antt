@@ -1,8 +1,8 @@
 -- Ignored strings: SOS, PM, APC, and a device control string after an ill-shaped head.
-use Rattle.std.specs.Prelude.{ℕ, List, [], ◌∷◌}
+use Rattle.std.specs.Prelude.{List, ℕ, [], ◌∷◌}
 use Rattle.vte_core.specs.Class.{class_of, is_cancel}
 use Rattle.vte_core.specs.Event.{Execute}
-use Rattle.vte_core.specs.Outcome.{Outcome, IgnoredStringToClose, leaves, report}
+use Rattle.vte_core.specs.Outcome.{IgnoredStringToClose, leaves, Outcome, report}
 use Rattle.vte_core.specs.CutBefore.{from_first}
 use Rattle.vte_core.specs.Text.{text_outcome}
 

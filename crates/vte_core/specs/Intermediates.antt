@@ -1,5 +1,5 @@
 -- The intermediates that a dispatch reports (the VT500 parser collects two).
-use Rattle.std.specs.Prelude.{ℕ, Bool, List, length, take, nat_lt}
+use Rattle.std.specs.Prelude.{Bool, length, List, nat_lt, take, ℕ}
 
 abbrev pub max_intermediates : ℕ
 max_intermediates = 2

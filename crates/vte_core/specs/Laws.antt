@@ -1,14 +1,14 @@
 -- Laws of the definitions, which functions of `laws` state as contracts.
-use Rattle.std.specs.Char.{IsScalar, encode_utf8}
-use Rattle.std.specs.Prelude.{◌≡◌, ◌≢◌, ◌⊎◌, ℕ, ◌+◌, ◌<◌, ◌≤◌, true, false, List, [], ◌∷◌, ◌++◌, length, map, All, Option, Some, None}
+use Rattle.std.specs.Char.{encode_utf8, IsScalar}
+use Rattle.std.specs.Prelude.{All, false, length, List, map, None, Option, Some, true, ℕ, [], ◌++◌, ◌+◌, ◌<◌, ◌∷◌, ◌≡◌, ◌≢◌, ◌≤◌, ◌⊎◌}
 use Rattle.std.specs.Str.{chars}
-use Rattle.vte_core.specs.declared.parser.open.Open.TheVariants.{Nothing, Character}
+use Rattle.vte_core.specs.declared.parser.open.Open.TheVariants.{Character, Nothing}
 use Rattle.vte_core.specs.Event.{CsiDispatch, Print, replacement}
 use Rattle.vte_core.specs.EventBounds.{IsBounded}
 use Rattle.vte_core.specs.LongParser.{open_command_size}
 use Rattle.vte_core.specs.Open.{open_at_end}
-use Rattle.vte_core.specs.Parameters.{count_of, shown, AreGroups}
-use Rattle.vte_core.specs.Stream.{events, added, open_character, escape}
+use Rattle.vte_core.specs.Parameters.{AreGroups, count_of, shown}
+use Rattle.vte_core.specs.Stream.{added, escape, events, open_character}
 use Rattle.vte_core.specs.Text.{character_event}
 use Rattle.vte_core.specs.Utf8.{is_well_formed, scalar_of}
 

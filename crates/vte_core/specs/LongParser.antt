@@ -1,12 +1,12 @@
 -- What a `LongParser` has read, and before which bytes it may be refused memory.
-use Rattle.std.specs.Prelude.{◌≡◌, ℕ, Bool, ◌+◌, ◌<◌, List, [], ◌∷◌, ◌++◌, length, None, Result, Ok, Err}
+use Rattle.std.specs.Prelude.{Bool, Err, length, List, None, Ok, Result, ℕ, [], ◌++◌, ◌+◌, ◌<◌, ◌∷◌, ◌≡◌}
 use Rattle.std.specs.List.{concat}
 use Rattle.vte_core.specs.declared.parser.long.LongParser.{LongParser}
 use Rattle.vte_core.specs.declared.parser.refused.Refused.{Refused}
 use Rattle.vte_core.specs.CommandMemory.{LacksMemoryAt}
 use Rattle.vte_core.specs.Looks.{counted}
 use Rattle.vte_core.specs.private.ParserFields.{HasReadWithLimit}
-use Rattle.vte_core.specs.Outcome.{ToClose, CommandToClose}
+use Rattle.vte_core.specs.Outcome.{CommandToClose, ToClose}
 use Rattle.vte_core.specs.Parser.{Reading, reading}
 use Rattle.vte_core.specs.Stream.{outcome}
 use Rattle.vte_core.specs.SystemCommand.{IsCommandData, max_pieces}

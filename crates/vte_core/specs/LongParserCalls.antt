@@ -1,11 +1,11 @@
 -- What the calls of a `LongParser` ensure: the same as those of a `Parser`, unless memory is
 -- refused.
-use Rattle.std.specs.Prelude.{◌≡◌, ℕ, ◌+◌, ◌*◌, ◌<◌, ◌≤◌, Bool, false, None, List, ◌++◌, length, take, slice_index, Result, IfErr, IfOk}
+use Rattle.std.specs.Prelude.{Bool, false, IfErr, IfOk, length, List, None, Result, slice_index, take, ℕ, ◌*◌, ◌++◌, ◌+◌, ◌<◌, ◌≡◌, ◌≤◌}
 use Rattle.vte_core.specs.declared.parser.long.LongParser.{LongParser}
 use Rattle.vte_core.specs.declared.parser.refused.Refused.{Refused}
 use Rattle.vte_core.specs.EarlyStop.{HasPassedBytes}
 use Rattle.vte_core.specs.Event.{Event}
-use Rattle.vte_core.specs.LongParser.{HasReadLong, LacksMemory, MeetsData, StoresPieces, memory_of, open_command_size, reading_of_long}
+use Rattle.vte_core.specs.LongParser.{HasReadLong, LacksMemory, MeetsData, memory_of, open_command_size, reading_of_long, StoresPieces}
 use Rattle.vte_core.specs.Looks.{counted}
 use Rattle.vte_core.specs.Parser.{Reading}
 

@@ -1,8 +1,8 @@
 -- What is open at the end of a stream.
-use Rattle.std.specs.Prelude.{◌≡◌, ◌≢◌, ℕ, Bool, true, false, List, [], Option, None}
+use Rattle.std.specs.Prelude.{Bool, false, List, None, Option, true, ℕ, [], ◌≡◌, ◌≢◌}
 use Rattle.vte_core.specs.declared.parser.open.Open.{Open}
-use Rattle.vte_core.specs.declared.parser.open.Open.TheVariants.{Nothing, Character, EscapeSequence, ControlSequence, DeviceControl, SystemCommand, IgnoredString}
-use Rattle.vte_core.specs.Outcome.{ToClose, NothingToClose, CharacterToClose, EscapeToClose, ControlSequenceToClose, DeviceHeadToClose, DeviceDataToClose, CommandToClose, IgnoredStringToClose}
+use Rattle.vte_core.specs.declared.parser.open.Open.TheVariants.{Character, ControlSequence, DeviceControl, EscapeSequence, IgnoredString, Nothing, SystemCommand}
+use Rattle.vte_core.specs.Outcome.{CharacterToClose, CommandToClose, ControlSequenceToClose, DeviceDataToClose, DeviceHeadToClose, EscapeToClose, IgnoredStringToClose, NothingToClose, ToClose}
 use Rattle.vte_core.specs.Stream.{IsFinished, IsUnfinished, outcome}
 
 abbrev pub kind_to_close : ToClose → Open

@@ -1,6 +1,6 @@
 -- The outcome of a text, a body or a stream: its events, and what is left to close at its end.
-use Rattle.std.specs.Prelude.{◌≡◌, ℕ, Bool, false, List, [], ◌∷◌, ◌++◌, ⊤}
-use Rattle.vte_core.specs.Event.{Event, Print, Unhook, OscDispatch, replacement}
+use Rattle.std.specs.Prelude.{Bool, false, List, ℕ, [], ⊤, ◌++◌, ◌∷◌, ◌≡◌}
+use Rattle.vte_core.specs.Event.{Event, OscDispatch, Print, replacement, Unhook}
 
 -- What an ESC that follows closes, with or without an event.
 pub data ToClose : Type 0 where

@@ -1,5 +1,5 @@
 -- Events other than those of runs.
-use Rattle.std.specs.Prelude.{◌≡◌, ℕ, ◌≤◌, Option, List, [], ◌++◌, drop, ⊤}
+use Rattle.std.specs.Prelude.{drop, List, Option, ℕ, [], ⊤, ◌++◌, ◌≡◌, ◌≤◌}
 use Rattle.std.specs.List.{All}
 use Rattle.vte_core.specs.EarlyStop.{reported_before}
 use Rattle.vte_core.specs.Event.{Event, Print, Put, replacement}

@@ -1,5 +1,5 @@
 -- What a parser has read.
-use Rattle.std.specs.Prelude.{◌≡◌, ℕ, Bool, Option, Some, List}
+use Rattle.std.specs.Prelude.{Bool, List, Option, Some, ℕ, ◌≡◌}
 use Rattle.vte_core.specs.declared.parser.machine.Machine.{Machine}
 use Rattle.vte_core.specs.declared.parser.Parser.{Parser}
 use Rattle.vte_core.specs.Looks.{counted}

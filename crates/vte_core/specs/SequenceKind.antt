@@ -1,5 +1,5 @@
 -- The key: the byte that selects the kind of a sequence.
-use Rattle.std.specs.Prelude.{ℕ, Bool, ◌||◌, if◌then◌else◌, ◌==◌}
+use Rattle.std.specs.Prelude.{Bool, if◌then◌else◌, ℕ, ◌==◌, ◌||◌}
 
 pub data SequenceKind : Type 0 where
   -- [

@@ -1,9 +1,9 @@
 -- The events of a stream, which is cut at each ESC.
-use Rattle.std.specs.Prelude.{◌≡◌, ◌≢◌, ℕ, List, [], ◌∷◌, ◌++◌, length, drop, Option, Some, None}
+use Rattle.std.specs.Prelude.{drop, length, List, None, Option, Some, ℕ, [], ◌++◌, ◌∷◌, ◌≡◌, ◌≢◌}
 use Rattle.std.specs.Prelude.{if◌then◌else◌, ◌==◌}
 use Rattle.vte_core.specs.Body.{body_outcome}
 use Rattle.vte_core.specs.Event.{Event, Print}
-use Rattle.vte_core.specs.Outcome.{Outcome, open_bytes, report, events_before_escape}
+use Rattle.vte_core.specs.Outcome.{events_before_escape, open_bytes, Outcome, report}
 use Rattle.vte_core.specs.Text.{text_outcome}
 
 abbrev pub escape : ℕ

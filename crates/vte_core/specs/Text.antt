@@ -1,11 +1,11 @@
 -- The events of a text.
-use Rattle.std.specs.Prelude.{◌≡◌, ℕ, ◌+◌, ◌≤◌, Bool, true, false, not, ◌&&◌, ◌||◌, List, [], ◌∷◌, length, map, take, drop, if◌then◌else◌, ◌==◌, nat_lt, nat_le}
+use Rattle.std.specs.Prelude.{Bool, drop, false, if◌then◌else◌, length, List, map, nat_le, nat_lt, not, take, true, ℕ, [], ◌&&◌, ◌+◌, ◌==◌, ◌||◌, ◌∷◌, ◌≡◌, ◌≤◌}
 use Rattle.std.specs.List.{All, filter}
 use Rattle.std.specs.Str.{chars}
 use Rattle.vte_core.specs.Class.{class_of, is_plain_control}
-use Rattle.vte_core.specs.Event.{Event, Print, Execute, replacement}
-use Rattle.vte_core.specs.Outcome.{Outcome, NothingToClose, CharacterToClose, leaves, report}
-use Rattle.vte_core.specs.Utf8.{is_well_formed, is_truncated, scalar_of, segments}
+use Rattle.vte_core.specs.Event.{Event, Execute, Print, replacement}
+use Rattle.vte_core.specs.Outcome.{CharacterToClose, leaves, NothingToClose, Outcome, report}
+use Rattle.vte_core.specs.Utf8.{is_truncated, is_well_formed, scalar_of, segments}
 
 -- C0 and C1: U+0000..U+001F and U+0080..U+009F.
 abbrev pub is_control_character : ℕ → Bool

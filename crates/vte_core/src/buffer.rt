@@ -1,6 +1,6 @@
 //! The buffer for the data bytes of an operating system command.
-ghost use Rattle.std.specs.Prelude.{◌≡◌, ◌+◌, ◌-◌, ◌<◌, ◌≤◌, ◌++◌, ℕ, true, false, List, [], Option, Some, None, not, length, drop, option_map, take, unwrap_or, vec_capacity};
-ghost use Rattle.vte_core.specs.private.Prelude.{HasCapacity, IsRange, ReservesCapacity, LooksAtMost, fitting, has_room};
+ghost use Rattle.std.specs.Prelude.{drop, false, length, List, None, not, Option, option_map, Some, take, true, unwrap_or, vec_capacity, ℕ, [], ◌++◌, ◌+◌, ◌-◌, ◌<◌, ◌≡◌, ◌≤◌};
+ghost use Rattle.vte_core.specs.private.Prelude.{fitting, has_room, HasCapacity, IsRange, LooksAtMost, ReservesCapacity};
 
 use crate::reader::{Input, Reader};
 use arrayvec::ArrayVec;

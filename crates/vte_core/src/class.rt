@@ -1,8 +1,8 @@
 //! The classes of bytes.
 #![tactic(auto, unfolding(crate::specs::Class::class_of))]
 
-ghost use Rattle.std.specs.Prelude.{◌≡◌, ◌-◌, ◌<◌, ◌≤◌, true, false, MatchOption};
-ghost use Rattle.vte_core.specs.private.Prelude.{IsCommandData, begins_ignored_string, class_of, dispatches_escape, ends_body, is_plain_control, is_device_data, is_final, is_head_byte, is_intermediate, is_layout, is_parameter_text, is_separator};
+ghost use Rattle.std.specs.Prelude.{false, MatchOption, true, ◌-◌, ◌<◌, ◌≡◌, ◌≤◌};
+ghost use Rattle.vte_core.specs.private.Prelude.{begins_ignored_string, class_of, dispatches_escape, ends_body, is_device_data, is_final, is_head_byte, is_intermediate, is_layout, is_parameter_text, is_plain_control, is_separator, IsCommandData};
 
 /// CAN: ends whatever is open.
 const CANCEL: u8 = 0x18;

@@ -1,7 +1,7 @@
 //! What is collected of an escape sequence, and of the head of a control sequence or a device
 //! control string.
-ghost use Rattle.std.specs.Prelude.{◌≡◌, ◌≤◌, ◌+◌, ◌↔◌, ◌⊎◌, min, IsTrue, List, ℕ, true, false, [], ◌∷◌, ◌++◌, length, IfSome};
-ghost use Rattle.vte_core.specs.private.Prelude.{CountsNumbers, HoldsIntermediates, HoldsHead, IsReady, SameIntermediates, SameNumbers, ReadsHeadUpTo, HoldsNumbers, HasReadHead, class_of, is_head_byte, is_parameter_text};
+ghost use Rattle.std.specs.Prelude.{false, IfSome, IsTrue, length, List, min, true, ℕ, [], ◌++◌, ◌+◌, ◌↔◌, ◌∷◌, ◌≡◌, ◌≤◌, ◌⊎◌};
+ghost use Rattle.vte_core.specs.private.Prelude.{class_of, CountsNumbers, HasReadHead, HoldsHead, HoldsIntermediates, HoldsNumbers, is_head_byte, is_parameter_text, IsReady, ReadsHeadUpTo, SameIntermediates, SameNumbers};
 ghost use Rattle.vte_core.specs.private.Prelude.{looked, with_open_number};
 
 use crate::class::{digit_of, is_head_byte, is_intermediate, is_parameter_text};

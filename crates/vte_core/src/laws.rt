@@ -1,15 +1,15 @@
 //! Laws of the definitions. The functions do nothing, but for `replay`, which reads a stream: their
 //! contracts are the laws.
-ghost use Rattle.std.specs.Prelude.{◌≡◌, ◌+◌, ◌≤◌, ◌^◌, List, [], ◌∷◌, ℕ, Option, Some, None, All, map, true, IsUtf8, chars};
-ghost use Rattle.std.specs.Char.{IsScalar, encode_utf8};
+ghost use Rattle.std.specs.Prelude.{All, chars, IsUtf8, List, map, None, Option, Some, true, ℕ, [], ◌+◌, ◌^◌, ◌∷◌, ◌≡◌, ◌≤◌};
+ghost use Rattle.std.specs.Char.{encode_utf8, IsScalar};
 ghost use Rattle.std.specs.List.{concat, flat_map};
-ghost use Rattle.vte_core.specs.EventBounds.{IsBounded, AreFromOneByte};
+ghost use Rattle.vte_core.specs.EventBounds.{AreFromOneByte, IsBounded};
 ghost use Rattle.vte_core.specs.Division.{AreRightSegments, IsAllDivided};
-ghost use Rattle.vte_core.specs.Examples.{AreRight, text_examples, escape_examples, control_sequence_examples, device_control_examples, system_command_examples, full_store_examples};
-ghost use Rattle.vte_core.specs.Examples.{store_of_five_examples, store_of_two_examples, empty_store_examples, ignored_string_examples};
+ghost use Rattle.vte_core.specs.Examples.{AreRight, control_sequence_examples, device_control_examples, escape_examples, full_store_examples, system_command_examples, text_examples};
+ghost use Rattle.vte_core.specs.Examples.{empty_store_examples, ignored_string_examples, store_of_five_examples, store_of_two_examples};
 ghost use Rattle.vte_core.specs.Examples.{AreDivided, AreLeft, AreStops, LeavesTextToRun, open_command_examples, parts_examples, stop_examples};
-ghost use Rattle.vte_core.specs.Examples.{AreOpen, text_end_examples, sequence_end_examples, string_end_examples};
-ghost use Rattle.vte_core.specs.Laws.{AreParameters, AreWellFormed, Resyncs, CountsData, DispatchesShown, GivesCharacters, Grows, IsDecoded, IsEncoding, OpensLate, OpensSilently};
+ghost use Rattle.vte_core.specs.Examples.{AreOpen, sequence_end_examples, string_end_examples, text_end_examples};
+ghost use Rattle.vte_core.specs.Laws.{AreParameters, AreWellFormed, CountsData, DispatchesShown, GivesCharacters, Grows, IsDecoded, IsEncoding, OpensLate, OpensSilently, Resyncs};
 ghost use Rattle.vte_core.specs.Event.{after};
 ghost use Rattle.vte_core.specs.EarlyStopLaws.{GoesOnFromPositions, ReportsUnits};
 ghost use Rattle.vte_core.specs.Parts.{AreCuts, EndsWithEscape, GiveEvents, parts_at};

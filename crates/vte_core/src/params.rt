@@ -1,11 +1,11 @@
 //! The parameters of a control sequence.
-ghost use Rattle.std.specs.Prelude.{◌≡◌, ◌<◌, ◌≤◌, ◌↔◌, ◌==◌, ◌++◌, List, ℕ, [], ◌∷◌, length, map, IsTrue, IfSome, Some};
+ghost use Rattle.std.specs.Prelude.{IfSome, IsTrue, length, List, map, Some, ℕ, [], ◌++◌, ◌<◌, ◌==◌, ◌↔◌, ◌∷◌, ◌≡◌, ◌≤◌};
 ghost use Rattle.std.specs.Fmt.{decimal, WritesOnOk};
-ghost use Rattle.std.specs.Iterator.{YieldsFirstRef, item_count, at_most, UpTo};
+ghost use Rattle.std.specs.Iterator.{at_most, item_count, UpTo, YieldsFirstRef};
 ghost use Rattle.std.specs.Iterator.SizeHint.{IsWithinCount};
 ghost use Rattle.std.specs.List.{join_with_byte};
-ghost use Rattle.vte_core.specs.private.Store.{AreParts, AreFlatGroups, IsTakenOff};
-ghost use Rattle.vte_core.specs.Parameters.{with_number, count_of, colon, shown, AreGroups, max_numbers};
+ghost use Rattle.vte_core.specs.private.Store.{AreFlatGroups, AreParts, IsTakenOff};
+ghost use Rattle.vte_core.specs.Parameters.{AreGroups, colon, count_of, max_numbers, shown, with_number};
 
 use arrayvec::ArrayVec;
 use std::fmt;

@@ -1,5 +1,5 @@
 //! The parser with a limit, and what it is made of. The calls that read are in `reader/advance`.
-ghost use Rattle.std.specs.Prelude.{◌≡◌, true, false, ℕ, List, [], Some, ⊤};
+ghost use Rattle.std.specs.Prelude.{false, List, Some, true, ℕ, [], ⊤, ◌≡◌};
 ghost use Rattle.vte_core.specs.Advance.{ReadsBytes, ReadsUntilTerminated};
 ghost use Rattle.vte_core.specs.EarlyStop.{NoCharacterStops};
 ghost use Rattle.vte_core.specs.Open.{SaysOpen, SaysWhetherOpen};

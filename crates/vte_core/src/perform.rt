@@ -1,7 +1,7 @@
 //! The events of a stream, and what receives them.
-ghost use Rattle.std.specs.Prelude.{◌≡◌, ◌<◌, Bool, length, map, chars};
+ghost use Rattle.std.specs.Prelude.{Bool, chars, length, map, ◌<◌, ◌≡◌};
 ghost use Rattle.vte_core.specs.EarlyStop.{NoCharacterStops};
-ghost use Rattle.vte_core.specs.Event.{Event, Print, Execute, Hook, Put, Unhook, OscDispatch, CsiDispatch, EscDispatch, after};
+ghost use Rattle.vte_core.specs.Event.{after, CsiDispatch, EscDispatch, Event, Execute, Hook, OscDispatch, Print, Put, Unhook};
 ghost use Rattle.vte_core.specs.Text.{IsRunText, run_event};
 
 use crate::params::Params;

@@ -4,8 +4,8 @@
 // its [`Input`], and a [`CountedPerform`] takes events with a reader alone. No other module can
 // make one of these. Bytes leave this module one by one, in blocks, as a copy in a buffer, or as
 // text or data: for a performer, or in a [`Run`] for the caller.
-ghost use Rattle.std.specs.Prelude.{◌≡◌, ◌+◌, ◌-◌, ◌<◌, ◌≤◌, ℕ, [], ◌∷◌, ◌++◌, false, true, length, drop, map, take, slice_index, vec_capacity, MatchOption, IsUtf8};
-ghost use Rattle.vte_core.specs.private.Prelude.{AreOfKind, ArePut, IsRange, IsRun, IsTaken, IsWindow, PrintsRun, Put, Reports, after, character_event, counted, is_in, looked, malformed_event, from_to};
+ghost use Rattle.std.specs.Prelude.{drop, false, IsUtf8, length, map, MatchOption, slice_index, take, true, vec_capacity, ℕ, [], ◌++◌, ◌+◌, ◌-◌, ◌<◌, ◌∷◌, ◌≡◌, ◌≤◌};
+ghost use Rattle.vte_core.specs.private.Prelude.{after, AreOfKind, ArePut, character_event, from_to, is_in, IsRange, IsRun, IsTaken, IsWindow, looked, malformed_event, PrintsRun, Put, Reports};
 
 mod advance;
 // cargo: #[cfg(any(feature = "std", feature = "ansi"))]

@@ -1,7 +1,7 @@
 //! The store of an operating system command.
-ghost use Rattle.std.specs.Prelude.{◌≡◌, ◌≢◌, ◌+◌, ◌-◌, ◌≤◌, ◌<◌, List, ℕ, [], ◌∷◌, ◌++◌, length, drop, take, false, ◌↔◌, IsTrue, All};
+ghost use Rattle.std.specs.Prelude.{All, drop, false, IsTrue, length, List, take, ℕ, [], ◌++◌, ◌+◌, ◌-◌, ◌<◌, ◌↔◌, ◌∷◌, ◌≡◌, ◌≢◌, ◌≤◌};
 ghost use Rattle.std.specs.List.Sorted.{IsNonDecreasing};
-ghost use Rattle.vte_core.specs.private.Prelude.{ArePieceEnds, HasCapacity, Stored, IsRange, HoldsItems, OscDispatch, ReservesCapacity, SameItems, LooksAtMost, Reports, cut_pieces, max_pieces};
+ghost use Rattle.vte_core.specs.private.Prelude.{ArePieceEnds, cut_pieces, HasCapacity, HoldsItems, IsRange, LooksAtMost, max_pieces, OscDispatch, Reports, ReservesCapacity, SameItems, Stored};
 
 use crate::buffer::Buffer;
 use crate::reader::{CountedPerform, Granularity, Input, Reader};

@@ -1,5 +1,5 @@
 //! Parts of a stream that can be read side by side.
-ghost use Rattle.std.specs.Prelude.{◌≡◌, ℕ, Option};
+ghost use Rattle.std.specs.Prelude.{Option, ℕ, ◌≡◌};
 ghost use Rattle.vte_core.specs.Parts.{GiveEvents, parts_of};
 
 pub(crate) mod iter;

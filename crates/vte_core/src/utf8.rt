@@ -1,7 +1,7 @@
 //! Characters of UTF-8, byte by byte.
-ghost use Rattle.std.specs.Prelude.{◌≡◌, ◌+◌, ◌*◌, ◌%◌, ◌<◌, ◌↔◌, IsTrue, [], ◌∷◌, true};
+ghost use Rattle.std.specs.Prelude.{IsTrue, true, [], ◌%◌, ◌*◌, ◌+◌, ◌<◌, ◌↔◌, ◌∷◌, ◌≡◌};
 ghost use Rattle.std.specs.Char.{InScalarRange};
-ghost use Rattle.vte_core.specs.private.Prelude.{BeginsFour, BeginsThree, BeginsTwo, Carries, bytes_of, is_in, is_truncated, scalar_of, second_range, from_to};
+ghost use Rattle.vte_core.specs.private.Prelude.{BeginsFour, BeginsThree, BeginsTwo, bytes_of, Carries, from_to, is_in, is_truncated, scalar_of, second_range};
 
 /// The bytes of an unfinished character, at most three.
 #[derive(Clone, Copy)]

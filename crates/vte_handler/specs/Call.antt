@@ -1,5 +1,5 @@
 -- The calls that a handler receives, one kind for each of its methods.
-use Rattle.std.specs.Prelude.{ℕ, ℤ, List, Option}
+use Rattle.std.specs.Prelude.{List, Option, ℕ, ℤ}
 use Rattle.vte_types.specs.declared.charset.CharsetIndex.{CharsetIndex}
 use Rattle.vte_types.specs.declared.charset.StandardCharset.{StandardCharset}
 use Rattle.vte_types.specs.declared.color.Attr.{Attr}

@@ -1,5 +1,5 @@
 -- The texts of a link.
-use Rattle.std.specs.Prelude.{ℕ, List, Option, option_map}
+use Rattle.std.specs.Prelude.{List, Option, option_map, ℕ}
 use Rattle.vte_handler.specs.declared.hyperlink.Hyperlink.{Hyperlink}
 
 pub record Link : Type 0 where

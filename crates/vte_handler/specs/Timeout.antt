@@ -1,5 +1,5 @@
 -- What a timeout means, and when it is steady.
-use Rattle.std.specs.Prelude.{◌≡◌, ℕ, Bool, true, false}
+use Rattle.std.specs.Prelude.{Bool, false, true, ℕ, ◌≡◌}
 
 -- The value after it is set for this many nanoseconds and after it is cleared, and the answers that
 -- a value allows.

@@ -1,6 +1,6 @@
 //! Timeouts of synchronized updates.
 ghost use Rattle.std.specs.Duration.{as_nanos};
-ghost use Rattle.std.specs.Prelude.{◌≡◌, ℕ, Bool};
+ghost use Rattle.std.specs.Prelude.{Bool, ℕ, ◌≡◌};
 
 use std::time::Duration;
 

@@ -1,9 +1,9 @@
 -- The keywords of cursor icons (CSS, property `cursor`).
-use Rattle.std.specs.Prelude.{ℕ, List, [], ◌∷◌, Option, codes}
+use Rattle.std.specs.Prelude.{codes, List, Option, ℕ, [], ◌∷◌}
 use Rattle.vte_types.specs.declared.cursor_icon.CursorIcon.{CursorIcon}
-use Rattle.vte_types.specs.declared.cursor_icon.CursorIcon.TheVariants.{Default, ContextMenu, Help, Pointer, Progress, Wait, Cell, Crosshair, Text, VerticalText, Alias, Copy, Move, NoDrop}
-use Rattle.vte_types.specs.declared.cursor_icon.CursorIcon.TheVariants.{NotAllowed, Grab, Grabbing, EResize, NResize, NeResize, NwResize, SResize, SeResize, SwResize, WResize, EwResize, NsResize}
-use Rattle.vte_types.specs.declared.cursor_icon.CursorIcon.TheVariants.{NeswResize, NwseResize, ColResize, RowResize, AllScroll, ZoomIn, ZoomOut}
+use Rattle.vte_types.specs.declared.cursor_icon.CursorIcon.TheVariants.{Alias, Cell, ContextMenu, Copy, Crosshair, Default, Help, Move, NoDrop, Pointer, Progress, Text, VerticalText, Wait}
+use Rattle.vte_types.specs.declared.cursor_icon.CursorIcon.TheVariants.{EResize, EwResize, Grab, Grabbing, NeResize, NotAllowed, NResize, NsResize, NwResize, SeResize, SResize, SwResize, WResize}
+use Rattle.vte_types.specs.declared.cursor_icon.CursorIcon.TheVariants.{AllScroll, ColResize, NeswResize, NwseResize, RowResize, ZoomIn, ZoomOut}
 use Rattle.vte_types.specs.Words.{entry_of_word}
 
 abbrev pub icons : List (List ℕ × CursorIcon)

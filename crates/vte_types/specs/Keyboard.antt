@@ -1,5 +1,5 @@
 -- Keyboard modes and their bits (the kitty keyboard protocol).
-use Rattle.std.specs.Prelude.{ℕ, List, [], ◌∷◌, ◌-◌, codes}
+use Rattle.std.specs.Prelude.{codes, List, ℕ, [], ◌-◌, ◌∷◌}
 use Rattle.std.specs.Int.RustNames.{bit_and}
 use Rattle.vte_types.specs.declared.keyboard.KeyboardModes.{KeyboardModes}
 

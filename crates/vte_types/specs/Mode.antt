@@ -1,6 +1,6 @@
 -- Modes and their numbers (ECMA-48; private modes of DEC, xterm and others).
-use Rattle.std.specs.Prelude.{ℕ, List, [], ◌∷◌, map, Option, Some, None}
-use Rattle.vte_types.specs.Words.{Row, entry_of}
+use Rattle.std.specs.Prelude.{List, map, None, Option, Some, ℕ, [], ◌∷◌}
+use Rattle.vte_types.specs.Words.{entry_of, Row}
 use Rattle.vte_types.specs.declared.mode.Mode.{Mode}
 use Rattle.vte_types.specs.declared.mode.Mode.TheVariants as mode
 use Rattle.vte_types.specs.declared.mode.NamedMode.{NamedMode}
@@ -8,7 +8,7 @@ use Rattle.vte_types.specs.declared.mode.NamedMode.TheVariants.{Insert, LineFeed
 use Rattle.vte_types.specs.declared.mode.PrivateMode.{PrivateMode}
 use Rattle.vte_types.specs.declared.mode.PrivateMode.TheVariants as private
 use Rattle.vte_types.specs.declared.mode.NamedPrivateMode.{NamedPrivateMode}
-use Rattle.vte_types.specs.declared.mode.NamedPrivateMode.TheVariants.{CursorKeys, ColumnMode, Origin, LineWrap, BlinkingCursor, ShowCursor, ReportMouseClicks, ReportCellMouseMotion, ReportAllMouseMotion, ReportFocusInOut, Utf8Mouse, SgrMouse, AlternateScroll, UrgencyHints, SwapScreenAndSetRestoreCursor, BracketedPaste, SyncUpdate}
+use Rattle.vte_types.specs.declared.mode.NamedPrivateMode.TheVariants.{AlternateScroll, BlinkingCursor, BracketedPaste, ColumnMode, CursorKeys, LineWrap, Origin, ReportAllMouseMotion, ReportCellMouseMotion, ReportFocusInOut, ReportMouseClicks, SgrMouse, ShowCursor, SwapScreenAndSetRestoreCursor, SyncUpdate, UrgencyHints, Utf8Mouse}
 
 -- The number of each named mode.
 abbrev pub number_of_named : NamedMode → ℕ

@@ -1,7 +1,7 @@
 -- The numbers of named colours, their index in a palette, or 256 and up; and their shades.
-use Rattle.std.specs.Prelude.{ℕ, Bool, List, [], ◌∷◌, ◌==◌, if◌then◌else◌}
+use Rattle.std.specs.Prelude.{Bool, if◌then◌else◌, List, ℕ, [], ◌==◌, ◌∷◌}
 use Rattle.vte_types.specs.declared.color.NamedColor.{NamedColor}
-use Rattle.vte_types.specs.declared.color.NamedColor.TheVariants.{Black, Red, Green, Yellow, Blue, Magenta, Cyan, White, BrightBlack, BrightRed, BrightGreen, BrightYellow, BrightBlue, BrightMagenta, BrightCyan, BrightWhite, Foreground, Background, Cursor, DimBlack, DimRed, DimGreen, DimYellow, DimBlue, DimMagenta, DimCyan, DimWhite, BrightForeground, DimForeground}
+use Rattle.vte_types.specs.declared.color.NamedColor.TheVariants.{Background, Black, Blue, BrightBlack, BrightBlue, BrightCyan, BrightForeground, BrightGreen, BrightMagenta, BrightRed, BrightWhite, BrightYellow, Cursor, Cyan, DimBlack, DimBlue, DimCyan, DimForeground, DimGreen, DimMagenta, DimRed, DimWhite, DimYellow, Foreground, Green, Magenta, Red, White, Yellow}
 use Rattle.std.specs.List.{list_any}
 
 -- ---- numbers

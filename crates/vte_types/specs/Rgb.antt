@@ -1,5 +1,5 @@
 -- Colours by their components: sums and differences, and texts.
-use Rattle.std.specs.Prelude.{◌+◌, ◌-◌, min, ℕ, List, [], ◌∷◌, if◌then◌else◌, ◌*◌, nat_lt, Option, Some, None, ◌++◌, ◌/◌, ◌%◌, codes, false}
+use Rattle.std.specs.Prelude.{codes, false, if◌then◌else◌, List, min, nat_lt, None, Option, Some, ℕ, [], ◌%◌, ◌*◌, ◌++◌, ◌+◌, ◌-◌, ◌/◌, ◌∷◌}
 use Rattle.vte_types.specs.declared.color.Rgb.{Rgb}
 use Rattle.std.specs.Char.{digit_value}
 use Rattle.std.specs.Fmt.{digit_glyph}

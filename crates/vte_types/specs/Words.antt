@@ -1,5 +1,5 @@
 -- Tables: rows that start with a number, and words with what they stand for.
-use Rattle.std.specs.Prelude.{ℕ, List, [], ◌∷◌, if◌then◌else◌, ◌==◌, Option, Some, None, bytes_eq}
+use Rattle.std.specs.Prelude.{bytes_eq, if◌then◌else◌, List, None, Option, Some, ℕ, [], ◌==◌, ◌∷◌}
 
 -- A number, and what it stands for.
 abbrev pub Row : Type 0 → Type 0

@@ -1,6 +1,6 @@
 //! Cursor icons (CSS Basic User Interface Module, the property `cursor`).
 ghost use Rattle.std.specs.Option.{ok_or};
-ghost use Rattle.std.specs.Prelude.{◌≡◌, map};
+ghost use Rattle.std.specs.Prelude.{map, ◌≡◌};
 ghost use Rattle.vte_types.specs.CursorIcon.{icon_of};
 ghost use Rattle.vte_types.specs.Words.{entry_of_word};
 

@@ -1,6 +1,6 @@
 //! Modes of the keyboard (the kitty keyboard protocol; xterm's modifyOtherKeys).
 ghost use Rattle.std.specs.Int.RustNames.{bit_and, bit_or, bit_xor};
-ghost use Rattle.std.specs.Prelude.{⊤, ◌≡◌, ◌≢◌, ◌==◌, ◌↔◌, IsTrue, None, Some, if◌then◌else◌};
+ghost use Rattle.std.specs.Prelude.{if◌then◌else◌, IsTrue, None, Some, ⊤, ◌==◌, ◌↔◌, ◌≡◌, ◌≢◌};
 ghost use Rattle.vte_types.specs.Keyboard.{all_bits, bits_of, keyboard_flags, modes_of_bits, without};
 
 // cargo: pub use crate::adapter::keyboard::KeyboardModes;

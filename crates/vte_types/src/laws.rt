@@ -1,5 +1,5 @@
 //! Laws of the tables. All functions except `defaults` do nothing: their contracts are the laws.
-ghost use Rattle.std.specs.Prelude.{◌≡◌, ◌≢◌, ◌<◌, ℕ, IsTrue, List, ◌++◌, None, Some, bytes_eq, false, fold, length};
+ghost use Rattle.std.specs.Prelude.{bytes_eq, false, fold, IsTrue, length, List, None, Some, ℕ, ◌++◌, ◌<◌, ◌≡◌, ◌≢◌};
 ghost use Rattle.std.specs.Str.{is_utf8};
 ghost use Rattle.vte_types.specs.NamedColor.{bright_of, dim_of, is_bright, is_dim, number_of_color};
 ghost use Rattle.vte_types.specs.CursorIcon.{icon_of};

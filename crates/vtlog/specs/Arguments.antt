@@ -1,5 +1,5 @@
 -- What the arguments ask for.
-use Rattle.std.specs.Prelude.{ℕ, List, [], ◌∷◌, Option, Some, None, codes, bytes_eq, if◌then◌else◌, ◌||◌}
+use Rattle.std.specs.Prelude.{bytes_eq, codes, if◌then◌else◌, List, None, Option, Some, ℕ, [], ◌||◌, ◌∷◌}
 use Rattle.vtlog.specs.declared.Mode.{Mode}
 use Rattle.vtlog.specs.declared.Mode.TheVariants.{Lines, Text}
 use Rattle.vtlog.specs.declared.TheConstants.{HELP, VERSION}

@@ -1,7 +1,7 @@
 -- How the program ends, and what it has read and written.
-use Rattle.std.specs.Prelude.{◌≡◌, ℕ, Bool, true, false, List, [], Option, Some, None, Ok, Err, Result, OnOk, OnErr, is_err, codes}
+use Rattle.std.specs.Prelude.{Bool, codes, Err, false, is_err, List, None, Ok, OnErr, OnOk, Option, Result, Some, true, ℕ, [], ◌≡◌}
 use Rattle.std.specs.Io.KnownBytes.{Appends}
-use Rattle.event_log.specs.Run.{WritesExactly, log_of, stripped_text}
+use Rattle.event_log.specs.Run.{log_of, stripped_text, WritesExactly}
 use Rattle.event_log.specs.declared.fault.Fault.{Fault}
 use Rattle.event_log.specs.declared.fault.Fault.TheVariants.{Read, Write}
 use Rattle.vtlog.specs.Arguments.{chosen_mode, page_of}

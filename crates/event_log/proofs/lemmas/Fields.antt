@@ -1,6 +1,6 @@
 -- The parts of a line. Those that are pushed one after another extend it by all of them (`extends_then`); the digits of
 -- a number and the fields of pieces are such parts.
-use Rattle.event_log.proofs.Common.{◌≡◌, ℕ, ◌+◌, ◌/◌, ◌%◌, ◌^◌, ◌<◌, ◌≤◌, Bool, true, false, ◌&&◌, List, [], ◌∷◌, ◌++◌, length, IsTrue, refl, sym, ap, ◌∙◌, append_assoc, map, length-append, arith, length-map, nat_tests, decimal_digit, decimal_step, decimal, flat_map, blank, hex_field, pieces_fields, has_room_after, ExtendsLine, Lines, zero, suc, ◌*◌, get_or, bytes_eq, Decides-below_and, hex_byte, hex_digit, codes, ◌-◌, max, drop, Print, line_of, hex_character, hex_length, six_hex_digits, line_feed}
+use Rattle.event_log.proofs.Common.{ap, append_assoc, arith, blank, Bool, bytes_eq, codes, Decides-below_and, decimal, decimal_digit, decimal_step, drop, ExtendsLine, false, flat_map, get_or, has_room_after, hex_byte, hex_character, hex_digit, hex_field, hex_length, IsTrue, length, length-append, length-map, line_feed, line_of, Lines, List, map, max, nat_tests, pieces_fields, Print, refl, six_hex_digits, suc, sym, true, zero, ℕ, [], ◌%◌, ◌&&◌, ◌*◌, ◌++◌, ◌+◌, ◌-◌, ◌/◌, ◌<◌, ◌^◌, ◌∙◌, ◌∷◌, ◌≡◌, ◌≤◌}
 use Rattle.std.proofs.lemmas.List.Folds.{flat_map-map}
 use Rattle.std.proofs.lemmas.Slice.Eq.{bytes_eq-Decides}
 use Rattle.event_log.specs.declared.lines.short.TheConstants.{HEX_PAIRS}

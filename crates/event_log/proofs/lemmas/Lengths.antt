@@ -1,11 +1,11 @@
 -- How long the text of an event is, part by part, and how many events bytes add: at most two each. So the text of bytes
 -- is at most eight times as long as they are, and fits where it is collected.
-use Rattle.event_log.proofs.Common.{◌≡◌, ℕ, ◌+◌, ◌-◌, ◌*◌, ◌<◌, ◌≤◌, max, Bool, true, false, if◌then◌else◌, List, [], ◌∷◌, ◌++◌, length, map, refl, usual_limit, length-append, arith, All, flat_map, concat, join_with_byte, decimal, length-decimal-le, All-head, All-tail, length-encode, len_utf8_bounds, IsBounded, AreFromOneByte, Event, Print, Execute, Hook, OscDispatch, CsiDispatch, EscDispatch, AreGroups, semicolon, count_of, shown, added, is_layout, group_text, hex_byte, hex_character, six_hex_digits, hex_length, hex_field, flag_field, pieces_fields, sequence_fields, line_of, plain_text_of, inl, inr, zero, suc, drop, ap, ◌∙◌, cases_Bool, StopsExactly, breaks_at, reported_before, resumed_stream, replacement, HasRead, after, GoesOnFromPositions, ReportsUnits, Parser, hex_digit, AddsUpTo, HasKept, Record, empty_record, is_to_be_written, record_with_event, record_with_text, sym, append_assoc, encode_ascii, encodes-chars, IsUtf8, chars, run_event, capacity, AreSmall, IsSmallNumber, IsFilled}
+use Rattle.event_log.proofs.Common.{added, AddsUpTo, after, All, All-head, All-tail, ap, append_assoc, AreFromOneByte, AreGroups, AreSmall, arith, Bool, breaks_at, capacity, cases_Bool, chars, concat, count_of, CsiDispatch, decimal, drop, empty_record, encode_ascii, encodes-chars, EscDispatch, Event, Execute, false, flag_field, flat_map, GoesOnFromPositions, group_text, HasKept, HasRead, hex_byte, hex_character, hex_digit, hex_field, hex_length, Hook, if◌then◌else◌, inl, inr, is_layout, is_to_be_written, IsBounded, IsFilled, IsSmallNumber, IsUtf8, join_with_byte, len_utf8_bounds, length, length-append, length-decimal-le, length-encode, line_of, List, map, max, OscDispatch, Parser, pieces_fields, plain_text_of, Print, Record, record_with_event, record_with_text, refl, replacement, reported_before, ReportsUnits, resumed_stream, run_event, semicolon, sequence_fields, shown, six_hex_digits, StopsExactly, suc, sym, true, usual_limit, zero, ℕ, [], ◌*◌, ◌++◌, ◌+◌, ◌-◌, ◌<◌, ◌∙◌, ◌∷◌, ◌≡◌, ◌≤◌}
 use Rattle.std.proofs.Common.{length-drop}
 use Rattle.std.proofs.lemmas.List.Sums.{sum_by-cons}
 use Rattle.vte_core.proofs.lemmas.EarlyStops.{added-append}
 use Rattle.vte_core.proofs.lemmas.streams.After.{added-nothing}
-use Rattle.event_log.proofs.lemmas.Records.{IsSmall, max_of_line, max_of_character_line, kept-by_call, room-for_unit, reported-taken, texts-taken, record_of, text-taken_as_events}
+use Rattle.event_log.proofs.lemmas.Records.{IsSmall, kept-by_call, max_of_character_line, max_of_line, record_of, reported-taken, room-for_unit, text-taken_as_events, texts-taken}
 use Rattle.std.proofs.Math.Utf8.{encodes}
 use Rattle.std.specs.Char.{encode_utf8}
 use Rattle.vte_core.proofs.lemmas.bytes.Runs.{layout-is_ascii}

@@ -1,9 +1,9 @@
 -- From what a collector holds to what a run has written: what was collected is appended, and each read that gives
 -- something takes a chunk off the input (`HasReadPart`), until one fails or gives nothing.
-use Rattle.event_log.proofs.Common.{◌≡◌, ℕ, ◌+◌, ◌<◌, ◌≤◌, ◌⊎◌, Bool, true, List, [], ◌++◌, length, Option, Some, None, IfSome, inl, inr, refl, sym, ap, ◌∙◌, usual_limit, append_assoc, append-nil, length-append, arith, flat_map, Event, HasRead, events, Parser, AddsUpTo, HasWritten}
+use Rattle.event_log.proofs.Common.{AddsUpTo, ap, append-nil, append_assoc, arith, Bool, Event, events, flat_map, HasRead, HasWritten, IfSome, inl, inr, length, length-append, List, None, Option, Parser, refl, Some, sym, true, usual_limit, ℕ, [], ◌++◌, ◌+◌, ◌<◌, ◌∙◌, ◌≡◌, ◌≤◌, ◌⊎◌}
 use Rattle.std.specs.Io.KnownBytes.{Appends, Consumes, IsAtEnd, Keeps}
 use Rattle.event_log.specs.Device.{KeepsWhereKnown}
-use Rattle.event_log.specs.Run.{WritesAll, WritesPrefix, max_reads}
+use Rattle.event_log.specs.Run.{max_reads, WritesAll, WritesPrefix}
 use Rattle.vte_core.proofs.lemmas.streams.After.{added-nothing}
 use Rattle.event_log.proofs.lemmas.Records.{adds_up-at_first}
 

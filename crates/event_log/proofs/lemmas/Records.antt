@@ -1,6 +1,6 @@
 -- What a record holds after texts, and a collector from call to call. A record holds the texts of all events if there
 -- is room at each start: from one start to the next (`passed-at`).
-use Rattle.event_log.proofs.Common.{◌≡◌, ℕ, ◌+◌, ◌<◌, ◌≤◌, Bool, false, List, [], ◌∷◌, ◌++◌, length, inl, inr, refl, sym, ap, ◌∙◌, usual_limit, append_assoc, append-nil, length-append, arith, take-append_seam, cases_Bool, le-leb, nat_tests, flat_map-append, flat_map, AreFromOneByte, IsStart, reported_before, Event, after, ReportsUnits, Record, BeginsLine, ExtendsLine, EndsLine, has_room_after, record_in, is_to_be_written, capacity, record_with_event, record_with_text, Lines, ◌-◌, take, HasRead, added, Parser, AddsUpTo, HasKept, HasReadSome}
+use Rattle.event_log.proofs.Common.{added, AddsUpTo, after, ap, append-nil, append_assoc, AreFromOneByte, arith, BeginsLine, Bool, capacity, cases_Bool, EndsLine, Event, ExtendsLine, false, flat_map, flat_map-append, has_room_after, HasKept, HasRead, HasReadSome, inl, inr, is_to_be_written, IsStart, le-leb, length, length-append, Lines, List, nat_tests, Parser, Record, record_in, record_with_event, record_with_text, refl, reported_before, ReportsUnits, sym, take-append_seam, usual_limit, ℕ, [], ◌++◌, ◌+◌, ◌-◌, ◌<◌, ◌∙◌, ◌∷◌, ◌≡◌, ◌≤◌}
 use Rattle.vte_core.proofs.lemmas.EarlyStops.{passed-at}
 use Rattle.vte_core.proofs.lemmas.streams.After.{after_events-append}
 

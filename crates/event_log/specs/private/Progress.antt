@@ -1,5 +1,5 @@
 -- The state of a run between two calls of the parser.
-use Rattle.std.specs.Prelude.{◌≡◌, ℕ, false, List, ◌++◌, Option, Some}
+use Rattle.std.specs.Prelude.{false, List, Option, Some, ℕ, ◌++◌, ◌≡◌}
 use Rattle.std.specs.List.{flat_map}
 use Rattle.vte_core.specs.Event.{Event}
 use Rattle.vte_core.specs.Parser.{HasRead}

@@ -1,5 +1,5 @@
 //! Fields of lines.
-ghost use Rattle.std.specs.Prelude.{◌≡◌, ◌+◌, ◌%◌, ◌<◌, ◌≤◌, ◌++◌, length, map, codes};
+ghost use Rattle.std.specs.Prelude.{codes, length, map, ◌%◌, ◌++◌, ◌+◌, ◌<◌, ◌≡◌, ◌≤◌};
 ghost use Rattle.std.specs.Fmt.{decimal};
 ghost use Rattle.std.specs.List.{join_with_byte};
 ghost use Rattle.vte_core.specs.Parameters.{colon, shown};

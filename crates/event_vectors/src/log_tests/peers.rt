@@ -1,5 +1,5 @@
 //! Readers and writers for the tests.
-ghost use Rattle.std.specs.Prelude.{◌≡◌, is_err, IsTrue};
+ghost use Rattle.std.specs.Prelude.{is_err, IsTrue, ◌≡◌};
 
 use event_log::{Sink, Source};
 use std::alloc::Global;

@@ -1,9 +1,9 @@
 -- From events to calls: what a performer makes of a handler and a timeout. All events together make the calls of their
 -- rows, and set the timeout once per begin of an update; a run of text makes those of its characters.
-use Rattle.vte.proofs.Common.{◌≡◌, ℕ, None, List, [], ◌∷◌, ◌++◌, Option, refl, ap, ◌∙◌, append_assoc, drop-append_seam, Event, added, events, added-append, added-nothing, events_grow, Call, after, added_calls, calls_after, calls, calls_from, last_printed_after, last_printed, last_printed_from, zero, suc, ◌+◌, zero-add, suc-add, Bool, ◌||◌, nat_lt, arith, nat_tests, TimeoutMeaning, set_times, update_nanos, PerformerValue, first_number, with_private_mode, with_private_modes, ◌≤◌, Some, length, get_or, map, sym, add-zero, or-false, take-append_seam, append-nil, get_or-append-add, length-append, IsCharBoundary, IsUtf8, chars, Print, Input, performer_with_event, option_or, rules}
+use Rattle.vte.proofs.Common.{add-zero, added, added-append, added-nothing, added_calls, after, ap, append-nil, append_assoc, arith, Bool, Call, calls, calls_after, calls_from, chars, drop-append_seam, Event, events, events_grow, first_number, get_or, get_or-append-add, Input, IsCharBoundary, IsUtf8, last_printed, last_printed_after, last_printed_from, length, length-append, List, map, nat_lt, nat_tests, None, Option, option_or, or-false, performer_with_event, PerformerValue, Print, refl, rules, set_times, Some, suc, suc-add, sym, take-append_seam, TimeoutMeaning, update_nanos, with_private_mode, with_private_modes, zero, zero-add, ℕ, [], ◌++◌, ◌+◌, ◌||◌, ◌∙◌, ◌∷◌, ◌≡◌, ◌≤◌}
 use Rattle.std.specs.Bool.{if◌then◌else◌}
 use Rattle.std.proofs.Math.Utf8.{encode}
-use Rattle.std.proofs.lemmas.Str.{IsUtf8-drop, IsUtf8-take, chars-append, chars-nil, chars_past_char}
+use Rattle.std.proofs.lemmas.Str.{chars-append, chars-nil, chars_past_char, IsUtf8-drop, IsUtf8-take}
 use Rattle.std.proofs.lemmas.List.{nil_from_length}
 use Rattle.std.specs.Str.Iter.{chars_rest, chars_steps_back}
 use Rattle.vte_core.specs.Event.{after as performed}

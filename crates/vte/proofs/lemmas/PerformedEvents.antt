@@ -1,10 +1,10 @@
 -- A performer's value after the events of bytes. The handler and the state that it was lent come back as they are
 -- after the bytes, and an early stop reads the prefix up to the begin of an update.
-use Rattle.vte.proofs.Common.{◌≡◌, ℕ, List, [], ◌∷◌, ◌++◌, refl, ap, ◌∙◌, Event, added, events, events_grow, after, calls_from, last_printed_after, last_printed, last_printed_from, ◌+◌, Bool, ◌||◌, nat_lt, arith, nat_tests, set_times, PerformerValue, length, sym, or-false, performer_with_event, ◌<◌, inl, inr, false, All, take, cases_lt, false≢true, All-head, All-tail, reported_before, resumed_stream, StopsExactly, starts-settled, resumed_stream-settled, reported-settled, ProcessorState, begin_count, begins_in_event, calls_of, performer_value, Meaning, FitsText, engine_view, ArePartsAt, ArePartsAtKeepingMemory, KeepsMemory, State, parse, prefix_to_begin, ParserView}
+use Rattle.vte.proofs.Common.{added, after, All, All-head, All-tail, ap, ArePartsAt, ArePartsAtKeepingMemory, arith, begin_count, begins_in_event, Bool, calls_from, calls_of, cases_lt, engine_view, Event, events, events_grow, false, false≢true, FitsText, inl, inr, KeepsMemory, last_printed, last_printed_after, last_printed_from, length, List, Meaning, nat_lt, nat_tests, or-false, parse, ParserView, performer_value, performer_with_event, PerformerValue, prefix_to_begin, ProcessorState, refl, reported-settled, reported_before, resumed_stream, resumed_stream-settled, set_times, starts-settled, State, StopsExactly, sym, take, ℕ, [], ◌++◌, ◌+◌, ◌<◌, ◌||◌, ◌∙◌, ◌∷◌, ◌≡◌}
 use Rattle.vte_core.specs.Event.{after as performed}
 use Rattle.vte.specs.declared.ansi.calls.performer.Performer.{Performer}
-use Rattle.vte.proofs.lemmas.updates.Prefixes.{IsPrefix, open_character-prefix, prefix-is, begin_count-reported, breaks_at-prefix}
-use Rattle.vte.proofs.lemmas.EventCalls.{after_calls-append, last_printed-append, added_calls-events, set_times-add}
+use Rattle.vte.proofs.lemmas.updates.Prefixes.{begin_count-reported, breaks_at-prefix, IsPrefix, open_character-prefix, prefix-is}
+use Rattle.vte.proofs.lemmas.EventCalls.{added_calls-events, after_calls-append, last_printed-append, set_times-add}
 
 -- ---- the value after events
 

@@ -1,5 +1,5 @@
 -- The bytes of a hold.
-use Rattle.std.specs.Prelude.{◌≡◌, ℕ, ◌+◌, ◌-◌, ◌<◌, ◌≤◌, ◌&&◌, false, eqb, Option, Some, None, List, ◌++◌, length, take, drop, slice_index}
+use Rattle.std.specs.Prelude.{drop, eqb, false, length, List, None, Option, slice_index, Some, take, ℕ, ◌&&◌, ◌++◌, ◌+◌, ◌-◌, ◌<◌, ◌≡◌, ◌≤◌}
 use Rattle.vte.specs.ProcessorCalls.{held_of}
 use Rattle.vte.specs.Synchronized.{after_last_end, begin_update, begins_ending_in_last, begins_with, end_update, from_begin_update, part_after_last_end}
 use Rattle.vte.specs.declared.ansi.updates.hold.SyncState.{SyncState}

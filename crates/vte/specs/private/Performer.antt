@@ -1,6 +1,6 @@
 -- The value of a performer, the texts that it splits and joins, and what is read of a colour's
 -- components.
-use Rattle.std.specs.Prelude.{ℕ, List, [], ◌∷◌, if◌then◌else◌, Option, Some, None, ◌+◌, ◌≤◌, Bool, true, false, length, nat_le, ◌≡◌, ◌||◌, nat_lt}
+use Rattle.std.specs.Prelude.{Bool, false, if◌then◌else◌, length, List, nat_le, nat_lt, None, Option, Some, true, ℕ, [], ◌+◌, ◌||◌, ◌∷◌, ◌≡◌, ◌≤◌}
 use Rattle.vte.specs.Colors.{is_component}
 use Rattle.std.specs.Borrow.{Bor, GName}
 use Rattle.std.specs.List.{concat}

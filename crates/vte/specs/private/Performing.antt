@@ -1,6 +1,6 @@
 -- The value of a performer, and what a parser that reads bytes for it has performed. Of the types,
 -- `H` is the performer's handler, and `G` the granularity of its text.
-use Rattle.std.specs.Prelude.{◌≡◌, ℕ, ◌+◌, ◌≤◌, ◌||◌, ◌==◌, if◌then◌else◌, Option, List, ◌++◌, length, nat_lt}
+use Rattle.std.specs.Prelude.{if◌then◌else◌, length, List, nat_lt, Option, ℕ, ◌++◌, ◌+◌, ◌==◌, ◌||◌, ◌≡◌, ◌≤◌}
 use Rattle.std.specs.List.{All}
 use Rattle.vte.specs.Synchronized.{update_group_count, update_mode}
 use Rattle.vte.specs.ControlCalls.{change_call, change_calls}
@@ -11,8 +11,8 @@ use Rattle.vte.specs.Numbers.{first_numbers}
 use Rattle.vte.specs.private.Performer.{FitsText, PerformerValue}
 use Rattle.vte.specs.declared.ansi.calls.control.ModeChange.TheVariants.{SetPrivate}
 use Rattle.vte.specs.declared.ansi.calls.performer.Performer.{Performer}
-use Rattle.vte_core.specs.EarlyStop.{StopsExactly, resumed_stream}
-use Rattle.vte_core.specs.Event.{Event, after as performed}
+use Rattle.vte_core.specs.EarlyStop.{resumed_stream, StopsExactly}
+use Rattle.vte_core.specs.Event.{after as performed, Event}
 use Rattle.vte_core.specs.Stream.{added}
 use Rattle.vte_handler.specs.Call.{Call}
 use Rattle.vte_handler.specs.Handler.{after}

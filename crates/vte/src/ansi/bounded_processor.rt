@@ -1,5 +1,5 @@
 //! The processor with a limit of its own.
-ghost use Rattle.std.specs.Prelude.{◌≡◌, [], Some};
+ghost use Rattle.std.specs.Prelude.{Some, [], ◌≡◌};
 ghost use Rattle.vte_core.specs.Parser.{lost_data};
 ghost use Rattle.vte_handler.specs.Timeout.{timeout_meaning};
 ghost use Rattle.vte.specs.BoundedProcessor.{HasParsedAndHoldsBounded, held_in_bounded, parser_in_bounded, timeout_in_bounded};

@@ -1,10 +1,10 @@
 //! The processor without a limit.
-ghost use Rattle.std.specs.Prelude.{◌≡◌, ℕ, ◌+◌, List, [], length, None};
+ghost use Rattle.std.specs.Prelude.{length, List, None, ℕ, [], ◌+◌, ◌≡◌};
 ghost use Rattle.vte_core.specs.LongParser.{lost_data_long, open_command_size, reading_of_long};
 ghost use Rattle.vte_handler.specs.Timeout.{timeout_meaning};
 ghost use Rattle.vte.specs.Processor.{meaning_of};
 ghost use Rattle.vte.specs.LongProcessor.{AdvancesLong, HasParsedAndHoldsLong, ReservesLong, StopsLong};
-ghost use Rattle.vte.specs.Memory.{HasFreedMemory, HasMemory, KeepsMemory, held_in_long, parser_in_long, timeout_in_long};
+ghost use Rattle.vte.specs.Memory.{HasFreedMemory, HasMemory, held_in_long, KeepsMemory, parser_in_long, timeout_in_long};
 ghost use Rattle.vte.specs.ProcessorCalls.{CountsHeld, Creates, IsCopyOfProcessor, SaysParsedLoss};
 
 use crate::ansi::calls::growing_text::GrowingText;

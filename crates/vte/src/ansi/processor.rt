@@ -1,8 +1,8 @@
 //! The processor. A call of `advance` takes turns, and each turn parses bytes or holds them back.
-ghost use Rattle.std.specs.Prelude.{◌≡◌, []};
+ghost use Rattle.std.specs.Prelude.{[], ◌≡◌};
 ghost use Rattle.vte_handler.specs.Timeout.{timeout_meaning};
 ghost use Rattle.vte.specs.Processor.{meaning_of};
-ghost use Rattle.vte.specs.ProcessorCalls.{CountsHeld, Creates, HasParsedAndHolds, IsCopyOfProcessor, ReadsInTurns, SaysParsedLoss, StopsSync, held_in, parser_in, timeout_in};
+ghost use Rattle.vte.specs.ProcessorCalls.{CountsHeld, Creates, HasParsedAndHolds, held_in, IsCopyOfProcessor, parser_in, ReadsInTurns, SaysParsedLoss, StopsSync, timeout_in};
 ghost use Rattle.vte_core.specs.Parser.{lost_data, reading_of};
 ghost use Rattle.vte_core.specs.Stream.{usual_limit};
 

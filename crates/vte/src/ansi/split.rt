@@ -1,5 +1,5 @@
 //! Prefixes of texts, and parts between separators.
-ghost use Rattle.std.specs.Prelude.{◌≡◌, ◌<◌, ◌∷◌, codes, length, option_map, IfSome};
+ghost use Rattle.std.specs.Prelude.{codes, IfSome, length, option_map, ◌<◌, ◌∷◌, ◌≡◌};
 ghost use Rattle.vte.specs.Split.{first_after, split_by};
 ghost use Rattle.vte.specs.private.Performer.{parts_left};
 ghost use Rattle.vte_types.specs.Words.{after_word};

@@ -1,7 +1,7 @@
 -- What events leave in the buffers. Those that aren't full have room for what one byte adds, so each event is written
 -- as one entry (`event-written`), or isn't one of the kinds asked for (`event-passed`); so is all that one byte reports
 -- (`entries-unit_more`), and a run of the input (`entries-run`).
-use Rattle.vte_c.proofs.Common.{All, All-head, All-tail, AreGroups, CsiDispatch, Event, Execute, Hook, IsBounded, IsShort, List, OscDispatch, Print, [], arith, concat, usual_limit, count_of, data_of, flat_map, group_bytes, len_utf8_bounds, length, length-append, length-encode, piece_bytes, refl, sum_by-cons, two_bytes, ℕ, ◌*◌, ◌+◌, ◌<◌, ◌∷◌, ◌≡◌, ◌≤◌, AreReadable, Bool, DataRun, EscDispatch, EventWriter, HasEntries, NoRecordStops, Holds, InInput, AreFromOneByte, IsRunAt, Entry, Put, Buffers, RunKind, Single, StopsAtKind, TextRun, Unhook, VteEvent, add-zero, after, ap, append-nil, append_assoc, cases_Bool, false, filter-append, flag_byte, flat_map-append, has, has_kind, has_room_for, if◌then◌else◌, inl, inr, may_have_lost, is_full, entry_data, event_kind, kinds_of, length-map, map, map-append, max_added, nat_lt, nat_tests, or_parts, record_at, records_from, reported, resumed, buffers_of, run_kind, run_record, subst, sym, take, true, buffers_with_event, with_entries, with_one, with_record, without_loss, ◌%◌, ◌++◌, ◌∙◌, IsFilled}
+use Rattle.vte_c.proofs.Common.{add-zero, after, All, All-head, All-tail, ap, append-nil, append_assoc, AreFromOneByte, AreGroups, AreReadable, arith, Bool, Buffers, buffers_of, buffers_with_event, cases_Bool, concat, count_of, CsiDispatch, data_of, DataRun, Entry, entry_data, EscDispatch, Event, event_kind, EventWriter, Execute, false, filter-append, flag_byte, flat_map, flat_map-append, group_bytes, has, has_kind, has_room_for, HasEntries, Holds, Hook, if◌then◌else◌, InInput, inl, inr, is_full, IsBounded, IsFilled, IsRunAt, IsShort, kinds_of, len_utf8_bounds, length, length-append, length-encode, length-map, List, map, map-append, max_added, may_have_lost, nat_lt, nat_tests, NoRecordStops, or_parts, OscDispatch, piece_bytes, Print, Put, record_at, records_from, refl, reported, resumed, run_kind, run_record, RunKind, Single, StopsAtKind, subst, sum_by-cons, sym, take, TextRun, true, two_bytes, Unhook, usual_limit, VteEvent, with_entries, with_one, with_record, without_loss, ℕ, [], ◌%◌, ◌*◌, ◌++◌, ◌+◌, ◌<◌, ◌∙◌, ◌∷◌, ◌≡◌, ◌≤◌}
 use Rattle.std.proofs.Math.Bool.{or-false, or_assoc}
 use Rattle.std.proofs.lemmas.List.Folds.{list_any-append}
 use Rattle.vte_core.proofs.lemmas.places.PlaceLeads.{short_bounded}

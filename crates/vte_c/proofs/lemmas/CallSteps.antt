@@ -1,14 +1,14 @@
 -- A call goes on (`ReadsOn`) by calls of the parser, whose events are written as long as there is room, and by the runs
 -- that these return. One step after another is a longer one (`goes-then`).
-use Rattle.vte_c.proofs.Common.{AreCharacters, Bool, ComesTo, DataRun, Event, ReadsOn, GoesOnFromPositions, HasReadOn, HasEntries, HasRead, NoRecordStops, InInput, IsRunOfKind, usual_limit, IsRunAt, List, OpensSilently, Parser, Print, Put, Buffers, RunKind, Single, Starts, StopsAtNone, ReportsUnits, TextRun, [], added, after, ap, append-nil, arith, breaks_at, cases_Bool, cases_lt, chars, data_of, drop, drop-drop, false, false≢true, filter-append, flat_map, flat_map-append, has, if◌then◌else◌, inl, inr, is_full, is_stop, entry_events, event_kind, len_utf8_bounds, length, length-append, length-drop, length-encode, map, nat_tests, refl, replacement, reported, resumed, events_of_run, run_kind, run_record, resumed_stream, subst, sym, take, reported_before, true, buffers_with_event, with_entries, with_run, with_taken, with_wanted, zero-add, ℕ, ◌++◌, ◌+◌, ◌-◌, ◌<◌, ◌∙◌, ◌∷◌, ◌≡◌, ◌≤◌}
+use Rattle.vte_c.proofs.Common.{added, after, ap, append-nil, AreCharacters, arith, Bool, breaks_at, Buffers, buffers_with_event, cases_Bool, cases_lt, chars, ComesTo, data_of, DataRun, drop, drop-drop, entry_events, Event, event_kind, events_of_run, false, false≢true, filter-append, flat_map, flat_map-append, GoesOnFromPositions, has, HasEntries, HasRead, HasReadOn, if◌then◌else◌, InInput, inl, inr, is_full, is_stop, IsRunAt, IsRunOfKind, len_utf8_bounds, length, length-append, length-drop, length-encode, List, map, nat_tests, NoRecordStops, OpensSilently, Parser, Print, Put, ReadsOn, refl, replacement, reported, reported_before, ReportsUnits, resumed, resumed_stream, run_kind, run_record, RunKind, Single, Starts, StopsAtNone, subst, sym, take, TextRun, true, usual_limit, with_entries, with_run, with_taken, with_wanted, zero-add, ℕ, [], ◌++◌, ◌+◌, ◌-◌, ◌<◌, ◌∙◌, ◌∷◌, ◌≡◌, ◌≤◌}
 use Rattle.vte_core.proofs.lemmas.streams.After.{added-nothing}
 use Rattle.vte_core.specs.AdvanceToRun.{IsLongestRun, ReturnsRun, run_bytes, run_events, taken_bytes}
 use Rattle.vte_core.specs.declared.reader.run.Run.{Run}
 use Rattle.vte_core.specs.declared.reader.run.Taken.{Taken}
-use Rattle.vte_core.specs.declared.reader.run.Taken.TheVariants.{Text, Data, Nothing}
+use Rattle.vte_core.specs.declared.reader.run.Taken.TheVariants.{Data, Nothing, Text}
 use Rattle.vte_core.proofs.lemmas.EarlyStops.{passed-at}
-use Rattle.vte_c.proofs.lemmas.Continuations.{no_event_stops-entries, no_event_stops-append, no_event_stops-before, no_event_stops-earlier, no_event_stops-front, no_event_stops-reported, no_event_stops-run, continues-added, continues-call, continues-nothing, continues-then}
-use Rattle.vte_c.proofs.lemmas.Buffers.{event-passed, event-written, entries-nothing, entries-run, entries-then, entries-unit_more, entries_of, paused-after_event, resumed-free, resumed-same, no_record_stops-free, free-unpaused}
+use Rattle.vte_c.proofs.lemmas.Continuations.{continues-added, continues-call, continues-nothing, continues-then, no_event_stops-append, no_event_stops-before, no_event_stops-earlier, no_event_stops-entries, no_event_stops-front, no_event_stops-reported, no_event_stops-run}
+use Rattle.vte_c.proofs.lemmas.Buffers.{entries-nothing, entries-run, entries-then, entries-unit_more, entries_of, event-passed, event-written, free-unpaused, no_record_stops-free, paused-after_event, resumed-free, resumed-same}
 
 -- ---- a run of the input
 

@@ -1,6 +1,6 @@
 -- A parser that read a part of a call goes on as one that has read another stream (`Continues`), and so it does after
 -- the next part: what the parts add is joined.
-use Rattle.vte_c.proofs.Common.{AreFirst, Continues, Event, GoesOnFromPositions, List, Print, [], add_assoc, added, ap, append-nil, append_assoc, arith, breaks, usual_limit, breaks_at, cases_Bool, drop, drop-drop, inl, inr, length, length-drop, open_character, refl, replacement, resumed_stream, suc, sym, take, take-add, take-append-drop, reported_before, true, zero, zero-add, ℕ, ◌++◌, ◌+◌, ◌∙◌, ◌∷◌, ◌≡◌, ◌≤◌, NoEventStops, Bool, DataRun, NoKindStops, NoRecordStops, InInput, IsStart, Entry, OpensSilently, Put, RunKind, Single, TextRun, VteEvent, add-one, chars, false, flat_map, get_or, has, has_kind, if◌then◌else◌, is_stop, entry_data, entry_events, event_kind, map, or_parts, records_from, reported, events_of_run, run_kind, take_more, ◌-◌, ◌<◌}
+use Rattle.vte_c.proofs.Common.{add-one, add_assoc, added, ap, append-nil, append_assoc, AreFirst, arith, Bool, breaks, breaks_at, cases_Bool, chars, Continues, DataRun, drop, drop-drop, Entry, entry_data, entry_events, Event, event_kind, events_of_run, false, flat_map, get_or, GoesOnFromPositions, has, has_kind, if◌then◌else◌, InInput, inl, inr, is_stop, IsStart, length, length-drop, List, map, NoEventStops, NoKindStops, NoRecordStops, open_character, OpensSilently, or_parts, Print, Put, records_from, refl, replacement, reported, reported_before, resumed_stream, run_kind, RunKind, Single, suc, sym, take, take-add, take-append-drop, take_more, TextRun, true, usual_limit, VteEvent, zero, zero-add, ℕ, [], ◌++◌, ◌+◌, ◌-◌, ◌<◌, ◌∙◌, ◌∷◌, ◌≡◌, ◌≤◌}
 use Rattle.vte_core.proofs.lemmas.EarlyStops.{added-append}
 use Rattle.vte_core.proofs.lemmas.streams.After.{added-nothing}
 use Rattle.vte_core.proofs.lemmas.shapes.BrokenCharacters.{breaks-next}

@@ -1,9 +1,9 @@
 -- A caller finds in its buffers the records and data of the entries that a call wrote, and reads their events back from
 -- them (`entries-read`, `fed`). More bytes after the input change nothing (`entry_events-later`).
-use Rattle.vte_c.proofs.Common.{AreGroups, AreReadable, Bool, CsiDispatch, DataRun, EscDispatch, Event, Hook, InInput, IsBounded, Entry, List, OscDispatch, Print, Put, RunKind, usual_limit, Single, TextRun, VteEvent, [], add-zero, ap, append_assoc, arith, cases_Bool, concat, count_byte, count_of, data_of, drop, drop-append_seam, drop-drop, eqb-true, event_in, events_of, false, flag_byte, flat_map, get_or, group_bytes, groups_in, inl, inr, intermediates_in, entry_data, entry_events, kinds_of, length, length-append, map, map-set_same, min, numbers_in, piece_bytes, pieces_in, record_at, records_from, refl, events_of_run, run_kind, run_record, set, sum_by-cons, sym, take, take-append-drop, take-append_seam, take-map, true, two_bytes, with_intermediates, with_loss, without_loss, ℕ, ◌%◌, ◌*◌, ◌++◌, ◌+◌, ◌/◌, ◌==◌, ◌∙◌, ◌∷◌, ◌≡◌, ◌≤◌, Execute, HasGiven, HasReadSaved, Saved, Unhook, added, append-nil, events, has, event_kind, nat_tests, no_room, fed_count, reported, ◌<◌, AreEncoded, EventWriter, HasFed, HasReadOn, HasEntries, HasRead, HasReported, NoRecordStops, IsRunAt, Parser, Buffers, Starts, drop-append-le, events_in, filter-append, length-drop, length-map, length-take, buffers_of, take-append-le, all_kinds}
+use Rattle.vte_c.proofs.Common.{add-zero, added, all_kinds, ap, append-nil, append_assoc, AreEncoded, AreGroups, AreReadable, arith, Bool, Buffers, buffers_of, cases_Bool, concat, count_byte, count_of, CsiDispatch, data_of, DataRun, drop, drop-append-le, drop-append_seam, drop-drop, Entry, entry_data, entry_events, eqb-true, EscDispatch, Event, event_in, event_kind, events, events_in, events_of, events_of_run, EventWriter, Execute, false, fed_count, filter-append, flag_byte, flat_map, get_or, group_bytes, groups_in, has, HasEntries, HasFed, HasGiven, HasRead, HasReadOn, HasReadSaved, HasReported, Hook, InInput, inl, inr, intermediates_in, IsBounded, IsRunAt, kinds_of, length, length-append, length-drop, length-map, length-take, List, map, map-set_same, min, nat_tests, no_room, NoRecordStops, numbers_in, OscDispatch, Parser, piece_bytes, pieces_in, Print, Put, record_at, records_from, refl, reported, run_kind, run_record, RunKind, Saved, set, Single, Starts, sum_by-cons, sym, take, take-append-drop, take-append-le, take-append_seam, take-map, TextRun, true, two_bytes, Unhook, usual_limit, VteEvent, with_intermediates, with_loss, without_loss, ℕ, [], ◌%◌, ◌*◌, ◌++◌, ◌+◌, ◌/◌, ◌<◌, ◌==◌, ◌∙◌, ◌∷◌, ◌≡◌, ◌≤◌}
 use Rattle.std.specs.Char.{encode_utf8}
 use Rattle.vte_core.proofs.lemmas.bytes.Runs.{chars-encode}
-use Rattle.vte_c.proofs.lemmas.Buffers.{length-groups, length-two_bytes, length-records}
+use Rattle.vte_c.proofs.lemmas.Buffers.{length-groups, length-records, length-two_bytes}
 use Rattle.vte_core.proofs.lemmas.streams.After.{added-nothing}
 use Rattle.std.specs.Prelude.{◌-◌, ◌^◌}
 

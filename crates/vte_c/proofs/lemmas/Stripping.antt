@@ -1,6 +1,6 @@
 -- Calls of the parser write the text of what they read: a run is written as its characters are, and a chunk that is
 -- short enough has room for its text.
-use Rattle.vte_c.proofs.Common.{Event, HasRead, IsUtf8, List, Parser, TextBuffer, [], add-zero, add_assoc, added, after, ap, append-nil, append_assoc, arith, usual_limit, cases_Bool, chars, encodes-chars, false, flat_map-append, inl, inr, le-leb, length, length-append, map, nat_le, nat_tests, plain_text, plain_text_of, refl, sym, take, true, text_buffer_with, text_buffer_with_event, ℕ, ◌&&◌, ◌*◌, ◌++◌, ◌+◌, ◌<◌, ◌∙◌, ◌∷◌, ◌≡◌, ◌≤◌}
+use Rattle.vte_c.proofs.Common.{add-zero, add_assoc, added, after, ap, append-nil, append_assoc, arith, cases_Bool, chars, encodes-chars, Event, false, flat_map-append, HasRead, inl, inr, IsUtf8, le-leb, length, length-append, List, map, nat_le, nat_tests, Parser, plain_text, plain_text_of, refl, sym, take, text_buffer_with, text_buffer_with_event, TextBuffer, true, usual_limit, ℕ, [], ◌&&◌, ◌*◌, ◌++◌, ◌+◌, ◌<◌, ◌∙◌, ◌∷◌, ◌≡◌, ◌≤◌}
 use Rattle.vte_core.specs.Text.{run_event}
 use Rattle.event_log.proofs.lemmas.Lengths.{text_of-run}
 use Rattle.vte_core.proofs.lemmas.EarlyStops.{added-append}

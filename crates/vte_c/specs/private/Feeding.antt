@@ -1,5 +1,5 @@
 -- How far a call has come.
-use Rattle.std.specs.Prelude.{◌≡◌, ◌+◌, ◌<◌, ◌≤◌, ℕ, Bool, false, ◌||◌, List, ◌++◌, length, drop, map, take}
+use Rattle.std.specs.Prelude.{Bool, drop, false, length, List, map, take, ℕ, ◌++◌, ◌+◌, ◌<◌, ◌||◌, ◌≡◌, ◌≤◌}
 use Rattle.std.specs.List.{flat_map, list_any}
 use Rattle.vte_core.specs.Event.{Event}
 use Rattle.vte_core.specs.Parser.{HasRead}
@@ -7,8 +7,8 @@ use Rattle.vte_core.specs.Stream.{added, usual_limit}
 use Rattle.vte_core.specs.declared.parser.Parser.{Parser}
 use Rattle.vte_core.specs.declared.parser.saved.Saved.{Saved}
 use Rattle.vte_c.specs.private.Buffers.{Buffers, buffers_of}
-use Rattle.vte_c.specs.Record.{Entry, data_kind, events_in, has, entry_data, entry_events, kinds_in, records_from, reported, text_kind}
-use Rattle.vte_c.specs.Reported.{AreEncoded, NoEventStops, AreReadable, HasReported, NoKindStops, StopsAtKind, is_stop}
+use Rattle.vte_c.specs.Record.{data_kind, Entry, entry_data, entry_events, events_in, has, kinds_in, records_from, reported, text_kind}
+use Rattle.vte_c.specs.Reported.{AreEncoded, AreReadable, HasReported, is_stop, NoEventStops, NoKindStops, StopsAtKind}
 use Rattle.vte_c.specs.declared.event.VteEvent.{VteEvent}
 use Rattle.vte_c.specs.declared.events.EventWriter.{EventWriter}
 

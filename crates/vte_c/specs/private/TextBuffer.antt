@@ -1,5 +1,5 @@
 -- The caller's buffer for text, and how an event changes it.
-use Rattle.std.specs.Prelude.{◌≡◌, ◌≤◌, ℕ, ◌+◌, Bool, true, false, ◌&&◌, List, [], ◌++◌, length, drop, take, if◌then◌else◌, nat_le}
+use Rattle.std.specs.Prelude.{Bool, drop, false, if◌then◌else◌, length, List, nat_le, take, true, ℕ, [], ◌&&◌, ◌++◌, ◌+◌, ◌≡◌, ◌≤◌}
 use Rattle.event_log.specs.Plain.{plain_text_of}
 use Rattle.vte_core.specs.Event.{Event}
 use Rattle.vte_core.specs.declared.parser.saved.Saved.{Saved}

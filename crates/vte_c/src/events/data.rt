@@ -1,8 +1,8 @@
 //! The data of events: the groups of a sequence and the pieces of a command, written into the
 //! caller's area.
-ghost use Rattle.std.specs.Prelude.{◌≤◌, ◌++◌, ℕ, List, length, map};
+ghost use Rattle.std.specs.Prelude.{length, List, map, ℕ, ◌++◌, ◌≤◌};
 ghost use Rattle.std.specs.List.{flat_map};
-ghost use Rattle.vte_c.specs.private.Buffers.{Holds, Buffers, buffers_of};
+ghost use Rattle.vte_c.specs.private.Buffers.{Buffers, buffers_of, Holds};
 ghost use Rattle.vte_c.specs.Record.{group_bytes, piece_bytes};
 
 use super::{EventWriter, bytes_of_one};

@@ -1,6 +1,6 @@
 //! The pause after a command that may have lost data, in which the parser is asked.
 ghost use Rattle.std.specs.Prelude.{◌≡◌};
-ghost use Rattle.vte_c.specs.private.Buffers.{paused_if, resumed, buffers_of};
+ghost use Rattle.vte_c.specs.private.Buffers.{buffers_of, paused_if, resumed};
 
 use super::{EventWriter, MAX_ADDED};
 use crate::event;

@@ -1,14 +1,14 @@
 -- Early stops. What is reported before a position, and what goes on from there, is what the whole gives
 -- (`goes_on_from`); from one position to the next at most one unit is reported. By what a byte does to an open
 -- character.
-use Rattle.vte_core.proofs.Common.{ℕ, zero, suc, ◌+◌, ◌<◌, ◌≤◌, inl, inr, Option, List, [], ◌++◌, length, sym, subst, arith, AreFromOneByte, IsStart, reported_before, Event, ◌≡◌, add-one, ◌⊎◌, Bool, true, false, if◌then◌else◌, None, ◌∷◌, take, drop, get_or, refl, ap, ◌∙◌, append_assoc, drop-append_seam, cases_Bool, false≢true, append-nil, take_more, take-append-drop, IsAtMostOneShort, breaks, breaks_at, resumed_stream, Print, replacement, added, open_character, open_at, Place, IsAfter, rules}
-use Rattle.vte_core.specs.EarlyStopLaws.{ReportsUnit, ReportsUnits, GoesOnFromPositions, AreReportedAtStart}
+use Rattle.vte_core.proofs.Common.{add-one, added, ap, append-nil, append_assoc, AreFromOneByte, arith, Bool, breaks, breaks_at, cases_Bool, drop, drop-append_seam, Event, false, false≢true, get_or, if◌then◌else◌, inl, inr, IsAfter, IsAtMostOneShort, IsStart, length, List, None, open_at, open_character, Option, Place, Print, refl, replacement, reported_before, resumed_stream, rules, subst, suc, sym, take, take-append-drop, take_more, true, zero, ℕ, [], ◌++◌, ◌+◌, ◌<◌, ◌∙◌, ◌∷◌, ◌≡◌, ◌≤◌, ◌⊎◌}
+use Rattle.vte_core.specs.EarlyStopLaws.{AreReportedAtStart, GoesOnFromPositions, ReportsUnit, ReportsUnits}
 use Rattle.vte_core.proofs.lemmas.streams.After.{added-nothing, after-open_character}
 use Rattle.vte_core.proofs.lemmas.places.PlaceLeads.{one_short-append}
 use Rattle.vte_core.proofs.lemmas.places.Steps.{text_at}
 use Rattle.vte_core.proofs.lemmas.streams.Parts.{added-broken, resumes-after}
-use Rattle.vte_core.proofs.lemmas.shapes.BrokenCharacters.{breaks_at-byte, breaks_at-settled, starts-settled, starts-broken}
-use Rattle.vte_core.proofs.lemmas.streams.StreamSteps.{added-byte, LeadsTo, leads_to, events_grow, bytes_are_brief, opens_silently}
+use Rattle.vte_core.proofs.lemmas.shapes.BrokenCharacters.{breaks_at-byte, breaks_at-settled, starts-broken, starts-settled}
+use Rattle.vte_core.proofs.lemmas.streams.StreamSteps.{added-byte, bytes_are_brief, events_grow, leads_to, LeadsTo, opens_silently}
 
 -- ---- what is kept from start to start holds wherever a call stops
 

@@ -1,9 +1,9 @@
 -- The automaton that reads text which may hold HT, LF and CR, byte by byte, and what the last three
 -- bytes say of its state. No code has these states.
-use Rattle.std.specs.Prelude.{◌≡◌, ℕ, ◌<◌, ◌≤◌, Bool, false, List, [], ◌∷◌, slice_index, ◌==◌, if◌then◌else◌, nat_le}
+use Rattle.std.specs.Prelude.{Bool, false, if◌then◌else◌, List, nat_le, slice_index, ℕ, [], ◌<◌, ◌==◌, ◌∷◌, ◌≡◌, ◌≤◌}
 use Rattle.vte_core.specs.declared.reader.Window.{Window}
 use Rattle.vte_core.specs.Text.{is_layout}
-use Rattle.vte_core.specs.Utf8.{Range, from_to, is_in}
+use Rattle.vte_core.specs.Utf8.{from_to, is_in, Range}
 
 -- Between two characters; before one, two or three more bytes 80..BF; after a first byte whose
 -- second is bound more closely; and after a byte that fits nowhere, for good.

@@ -1,5 +1,5 @@
 -- How far the function of a state reads, and what that costs: looks at bytes, and memory.
-use Rattle.std.specs.Prelude.{◌≡◌, ℕ, ◌<◌, ◌≤◌, ◌+◌, ◌*◌, List, length, Result, IfOk}
+use Rattle.std.specs.Prelude.{IfOk, length, List, Result, ℕ, ◌*◌, ◌+◌, ◌<◌, ◌≡◌, ◌≤◌}
 use Rattle.vte_core.specs.Looks.{looked}
 use Rattle.vte_core.specs.declared.parser.machine.Machine.{Machine}
 use Rattle.vte_core.specs.declared.parser.refused.Refused.{Refused}

@@ -1,21 +1,21 @@
 -- The place at which a parser is, and what it has read.
-use Rattle.std.specs.Prelude.{◌≡◌, ℕ, ◌<◌, ◌≤◌, Bool, true, false, List, [], ◌∷◌, ◌++◌, if◌then◌else◌, ◌==◌, Option, length, take, ⊤, ◌||◌, ◌-◌, drop, slice_index, MatchOption}
+use Rattle.std.specs.Prelude.{Bool, drop, false, if◌then◌else◌, length, List, MatchOption, Option, slice_index, take, true, ℕ, [], ⊤, ◌++◌, ◌-◌, ◌<◌, ◌==◌, ◌||◌, ◌∷◌, ◌≡◌, ◌≤◌}
 use Rattle.vte_core.specs.declared.utf8.Unfinished.{Unfinished}
-use Rattle.vte_core.specs.declared.utf8.Unfinished.TheVariants.{Nothing, One, Two, Three}
+use Rattle.vte_core.specs.declared.utf8.Unfinished.TheVariants.{Nothing, One, Three, Two}
 use Rattle.vte_core.specs.declared.utf8.Carried.{Carried}
-use Rattle.vte_core.specs.declared.utf8.Carried.TheVariants.{Unfinished as StillUnfinished, Whole, Broken}
-use Rattle.vte_core.specs.Utf8.{Range, from_to, is_truncated, is_well_formed, scalar_of}
+use Rattle.vte_core.specs.declared.utf8.Carried.TheVariants.{Broken, Unfinished as StillUnfinished, Whole}
+use Rattle.vte_core.specs.Utf8.{from_to, is_truncated, is_well_formed, Range, scalar_of}
 use Rattle.vte_core.specs.declared.head.Collected.{Collected}
 use Rattle.vte_core.specs.declared.head.HeadProgress.{HeadProgress}
-use Rattle.vte_core.specs.declared.head.HeadProgress.TheVariants.{Entry, Parameters, Intermediates, IllShaped}
+use Rattle.vte_core.specs.declared.head.HeadProgress.TheVariants.{Entry, IllShaped, Intermediates, Parameters}
 use Rattle.vte_core.specs.declared.parser.machine.Machine.{Machine}
 use Rattle.vte_core.specs.declared.parser.State.{State}
-use Rattle.vte_core.specs.declared.parser.State.TheVariants.{Text, Escape, EscapeIntermediate, ControlSequence, DeviceControl, DeviceData, SystemCommand, IgnoredString}
-use Rattle.vte_core.specs.Class.{is_intermediate, is_marker, is_parameter_text, AreInClass, is_head_byte}
-use Rattle.vte_core.specs.Intermediates.{first_two, are_too_many}
+use Rattle.vte_core.specs.declared.parser.State.TheVariants.{ControlSequence, DeviceControl, DeviceData, Escape, EscapeIntermediate, IgnoredString, SystemCommand, Text}
+use Rattle.vte_core.specs.Class.{AreInClass, is_head_byte, is_intermediate, is_marker, is_parameter_text}
+use Rattle.vte_core.specs.Intermediates.{are_too_many, first_two}
 use Rattle.vte_core.specs.Head.{head_of, is_well_shaped, reported_intermediates}
-use Rattle.vte_core.specs.Parameters.{Number, is_colon, is_separator, number_of, numbers, grouped, groups_of, has_too_many_numbers, max_numbers}
-use Rattle.vte_core.specs.private.Place.{Place, InText, AtEscape, InEscape, InControlSequence, InDeviceControl, InDeviceData, InSystemCommand, InIgnoredString, IsAfter}
+use Rattle.vte_core.specs.Parameters.{grouped, groups_of, has_too_many_numbers, is_colon, is_separator, max_numbers, Number, number_of, numbers}
+use Rattle.vte_core.specs.private.Place.{AtEscape, InControlSequence, InDeviceControl, InDeviceData, InEscape, InIgnoredString, InSystemCommand, InText, IsAfter, Place}
 use Rattle.vte_core.specs.private.Store.{HoldsItems}
 use Rattle.vte_core.specs.declared.head.HeadEnd.{HeadEnd}
 use Rattle.vte_core.specs.declared.parser.open.Open.{Open}

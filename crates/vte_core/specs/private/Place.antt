@@ -1,6 +1,6 @@
 -- Places in a text or a body at which a stream may end, what more bytes give there, and where they
 -- lead, according to the grammar.
-use Rattle.std.specs.Prelude.{◌≡◌, ℕ, List, [], ◌∷◌, ◌++◌, Option, ⊤}
+use Rattle.std.specs.Prelude.{List, Option, ℕ, [], ⊤, ◌++◌, ◌∷◌, ◌≡◌}
 use Rattle.std.specs.List.{filter}
 use Rattle.vte_core.specs.Body.{body_outcome}
 use Rattle.vte_core.specs.Class.{class_of, ends_escape, ends_head, is_intermediate}
@@ -10,10 +10,10 @@ use Rattle.vte_core.specs.Escape.{escape_rest}
 use Rattle.vte_core.specs.Event.{Event}
 use Rattle.vte_core.specs.Head.{head_bytes}
 use Rattle.vte_core.specs.IgnoredString.{ignored_string_outcome}
-use Rattle.vte_core.specs.Outcome.{ToClose, NothingToClose, CharacterToClose, EscapeToClose, ControlSequenceToClose, DeviceHeadToClose, DeviceDataToClose, CommandToClose, IgnoredStringToClose, Outcome, closing_events, report}
+use Rattle.vte_core.specs.Outcome.{CharacterToClose, closing_events, CommandToClose, ControlSequenceToClose, DeviceDataToClose, DeviceHeadToClose, EscapeToClose, IgnoredStringToClose, NothingToClose, Outcome, report, ToClose}
 use Rattle.vte_core.specs.CutBefore.{cut_before}
 use Rattle.vte_core.specs.Stream.{cut_at_escape, events, outcome, with_bodies}
-use Rattle.vte_core.specs.SystemCommand.{loses_data, ends_command, items_of, pieces_of, system_command_rest}
+use Rattle.vte_core.specs.SystemCommand.{ends_command, items_of, loses_data, pieces_of, system_command_rest}
 use Rattle.vte_core.specs.Text.{executed_events, text_outcome}
 
 pub data Place : Type 0 where

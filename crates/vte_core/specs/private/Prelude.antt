@@ -1,7 +1,7 @@
 -- The words that contracts of the parser's functions share.
-pub use Rattle.vte_core.specs.Class.{IsDeviceData, class_of, dispatches_escape, ends_body, is_plain_control, is_device_data, is_final, is_head_byte, is_intermediate, is_parameter_text}
+pub use Rattle.vte_core.specs.Class.{class_of, dispatches_escape, ends_body, is_device_data, is_final, is_head_byte, is_intermediate, is_parameter_text, is_plain_control, IsDeviceData}
 pub use Rattle.vte_core.specs.EarlyStop.{NoCharacterStops}
-pub use Rattle.vte_core.specs.Event.{CsiDispatch, EscDispatch, Event, Execute, Hook, OscDispatch, Print, Put, Unhook, after}
+pub use Rattle.vte_core.specs.Event.{after, CsiDispatch, EscDispatch, Event, Execute, Hook, OscDispatch, Print, Put, Unhook}
 pub use Rattle.vte_core.specs.SequenceKind.{begins_ignored_string}
 pub use Rattle.vte_core.specs.LongParser.{read_count}
 pub use Rattle.vte_core.specs.Looks.{counted, looked}
@@ -11,17 +11,17 @@ pub use Rattle.vte_core.specs.Outcome.{SaysLoss}
 pub use Rattle.vte_core.specs.Stream.{IsFinished, IsUnfinished}
 unfoldable pub use Rattle.vte_core.specs.Stream.{outcome}
 unfoldable pub use Rattle.vte_core.specs.SystemCommand.{loses_data}
-pub use Rattle.vte_core.specs.SystemCommand.{IsCommandData, has_room, max_pieces}
-pub use Rattle.vte_core.specs.Text.{HasNoRunAt, character_event, is_control_character, is_layout, malformed_event, run_event}
-pub use Rattle.vte_core.specs.Utf8.{is_in, is_truncated, scalar_of, from_to}
+pub use Rattle.vte_core.specs.SystemCommand.{has_room, IsCommandData, max_pieces}
+pub use Rattle.vte_core.specs.Text.{character_event, HasNoRunAt, is_control_character, is_layout, malformed_event, run_event}
+pub use Rattle.vte_core.specs.Utf8.{from_to, is_in, is_truncated, scalar_of}
 pub use Rattle.vte_core.specs.declared.parser.State.TheVariants.{DeviceData, Escape, EscapeIntermediate, IgnoredString, SystemCommand, Text}
 pub use Rattle.vte_core.specs.declared.utf8.Unfinished.TheVariants.{Nothing, One}
-pub use Rattle.vte_core.specs.private.Scans.{Each, AreIgnored, ArePut, ArePrintedAscii, IsPrintedAscii, IsRun, IsNonEmptyRun, PrintsRun, FindsEnd, IsRange, IsWindow, Scans, LooksAtMost}
-pub use Rattle.vte_core.specs.private.Progress.{Completes, MayRead, MayReadAt, MayReadByte, Advances, IsSettled, ReadsUpTo, ReadsUntilRefused, IsAtPosition, chunk_call}
+pub use Rattle.vte_core.specs.private.Scans.{AreIgnored, ArePrintedAscii, ArePut, Each, FindsEnd, IsNonEmptyRun, IsPrintedAscii, IsRange, IsRun, IsWindow, LooksAtMost, PrintsRun, Scans}
+pub use Rattle.vte_core.specs.private.Progress.{Advances, chunk_call, Completes, IsAtPosition, IsSettled, MayRead, MayReadAt, MayReadByte, ReadsUntilRefused, ReadsUpTo}
 pub use Rattle.vte_core.specs.private.Costs.{Costs, HandlesByte, MovesWithin, Refuses, SpendsWithin}
-pub use Rattle.vte_core.specs.private.ParserFields.{CountsNumbers, HoldsIntermediates, HoldsHead, HasReadWithLimit, SameIntermediates, SameNumbers, HoldsNumbers, IsAtPlace, HasReadHead, ReadsHeadUpTo, with_open_number, IsReady, BeginsFour, BeginsThree, BeginsTwo, Carries, bytes_of, second_range}
-pub use Rattle.vte_core.specs.private.Place.{AtEscape, InControlSequence, InDeviceControl, IsSettledPlace, Place, closing_events_at}
+pub use Rattle.vte_core.specs.private.ParserFields.{BeginsFour, BeginsThree, BeginsTwo, bytes_of, Carries, CountsNumbers, HasReadHead, HasReadWithLimit, HoldsHead, HoldsIntermediates, HoldsNumbers, IsAtPlace, IsReady, ReadsHeadUpTo, SameIntermediates, SameNumbers, second_range, with_open_number}
+pub use Rattle.vte_core.specs.private.Place.{AtEscape, closing_events_at, InControlSequence, InDeviceControl, IsSettledPlace, Place}
 pub use Rattle.vte_core.specs.CommandMemory.{Stored}
-pub use Rattle.vte_core.specs.private.Store.{ArePieceEnds, HasCapacity, HoldsItems, ReservesCapacity, SameItems, cut_pieces, fitting}
-pub use Rattle.vte_core.specs.private.Takes.{Dispatches, TakesBytes, TakesByte, Reports, ReportsAll}
-pub use Rattle.vte_core.specs.private.ToRun.{AreOfKind, ComesToRun, IsOutsideTextAndData, IsOutsideRunsInState, IsTaken, read_through_range, read_before_range}
+pub use Rattle.vte_core.specs.private.Store.{ArePieceEnds, cut_pieces, fitting, HasCapacity, HoldsItems, ReservesCapacity, SameItems}
+pub use Rattle.vte_core.specs.private.Takes.{Dispatches, Reports, ReportsAll, TakesByte, TakesBytes}
+pub use Rattle.vte_core.specs.private.ToRun.{AreOfKind, ComesToRun, IsOutsideRunsInState, IsOutsideTextAndData, IsTaken, read_before_range, read_through_range}

@@ -1,11 +1,11 @@
 -- A parser saved as plain data.
-use Rattle.std.specs.Prelude.{◌≡◌, ℕ, Bool, not, ◌==◌, List, [], ◌∷◌, take, ⊤}
-use Rattle.vte_core.specs.declared.head.HeadProgress.TheVariants.{Entry, Parameters, Intermediates, IllShaped}
+use Rattle.std.specs.Prelude.{Bool, List, not, take, ℕ, [], ⊤, ◌==◌, ◌∷◌, ◌≡◌}
+use Rattle.vte_core.specs.declared.head.HeadProgress.TheVariants.{Entry, IllShaped, Intermediates, Parameters}
 use Rattle.vte_core.specs.declared.parser.machine.Machine.{Machine}
 use Rattle.vte_core.specs.declared.parser.State.{State}
-use Rattle.vte_core.specs.declared.parser.State.TheVariants.{Text, Escape, EscapeIntermediate, ControlSequence, DeviceControl, DeviceData, SystemCommand, IgnoredString}
+use Rattle.vte_core.specs.declared.parser.State.TheVariants.{ControlSequence, DeviceControl, DeviceData, Escape, EscapeIntermediate, IgnoredString, SystemCommand, Text}
 use Rattle.vte_core.specs.declared.parser.saved.Saved.{Saved}
-use Rattle.vte_core.specs.declared.utf8.Unfinished.TheVariants.{Nothing, One, Two, Three}
+use Rattle.vte_core.specs.declared.utf8.Unfinished.TheVariants.{Nothing, One, Three, Two}
 use Rattle.vte_core.specs.private.Store.{AreParts, ArePieceEnds}
 
 -- The number of a state, and the bytes of an unfinished character.

@@ -1,9 +1,9 @@
 -- Parts of a call's bytes: data, runs of text, how far a search in them goes, and how few looks
 -- are taken.
-use Rattle.std.specs.Prelude.{ℕ, ◌<◌, ◌≤◌, List, slice_index, ◌≡◌, false, ◌-◌, Bool, length, map, take, drop, ◌+◌, min}
-use Rattle.vte_core.specs.Class.{IsDeviceData, class_of, ends_body}
-use Rattle.std.specs.Str.{IsUtf8, chars}
-use Rattle.vte_core.specs.Event.{Event, after}
+use Rattle.std.specs.Prelude.{Bool, drop, false, length, List, map, min, slice_index, take, ℕ, ◌+◌, ◌-◌, ◌<◌, ◌≡◌, ◌≤◌}
+use Rattle.vte_core.specs.Class.{class_of, ends_body, IsDeviceData}
+use Rattle.std.specs.Str.{chars, IsUtf8}
+use Rattle.vte_core.specs.Event.{after, Event}
 use Rattle.vte_core.specs.Text.{IsRunText, run_event}
 use Rattle.vte_core.specs.declared.reader.Reader.{Reader}
 use Rattle.vte_core.specs.declared.reader.Window.{Window}

@@ -1,9 +1,9 @@
 -- The stored part of an operating system command, and of groups.
-use Rattle.std.specs.Prelude.{◌≡◌, ℕ, zero, suc, ◌+◌, ◌-◌, ◌<◌, ◌≤◌, List, [], ◌∷◌, ◌++◌, length, take, drop, Option, Some, None, ⊤, Bool, true, false, if◌then◌else◌, ◌==◌, nat_lt, sum, All, option_to_list}
+use Rattle.std.specs.Prelude.{All, Bool, drop, false, if◌then◌else◌, length, List, nat_lt, None, Option, option_to_list, Some, suc, sum, take, true, zero, ℕ, [], ⊤, ◌++◌, ◌+◌, ◌-◌, ◌<◌, ◌==◌, ◌∷◌, ◌≡◌, ◌≤◌}
 use Rattle.std.specs.List.{filter, slice_range}
 use Rattle.std.specs.List.Sorted.{IsNonDecreasing}
 use Rattle.vte_core.specs.CommandMemory.{Stored}
-use Rattle.vte_core.specs.Parameters.{semicolon, greatest_number, max_numbers}
+use Rattle.vte_core.specs.Parameters.{greatest_number, max_numbers, semicolon}
 use Rattle.vte_core.specs.SystemCommand.{is_data_item, kept_after, max_pieces, pieces_of}
 
 -- For each `;` of a text, how many data bytes come before it, starting from `count`.

@@ -1,20 +1,20 @@
 -- How far a call has come that returns a run.
-use Rattle.std.specs.Prelude.{◌≡◌, ℕ, ◌-◌, ◌<◌, true, false, List, [], ◌++◌, length, map, take, drop, Option, Result, Ok, Err, slice_index, ⊤}
+use Rattle.std.specs.Prelude.{drop, Err, false, length, List, map, Ok, Option, Result, slice_index, take, true, ℕ, [], ⊤, ◌++◌, ◌-◌, ◌<◌, ◌≡◌}
 use Rattle.std.specs.Str.{chars}
 use Rattle.vte_core.specs.declared.reader.run.RunKind.{RunKind}
-use Rattle.vte_core.specs.declared.reader.run.RunKind.TheVariants.{Text as TextKind, Data as DataKind, Nothing as NoKind}
+use Rattle.vte_core.specs.declared.reader.run.RunKind.TheVariants.{Data as DataKind, Nothing as NoKind, Text as TextKind}
 use Rattle.vte_core.specs.declared.reader.run.RunRange.{RunRange}
 use Rattle.vte_core.specs.declared.reader.run.Taken.{Taken}
-use Rattle.vte_core.specs.declared.reader.run.Taken.TheVariants.{Text as TakenText, Data, Nothing}
+use Rattle.vte_core.specs.declared.reader.run.Taken.TheVariants.{Data, Nothing, Text as TakenText}
 use Rattle.vte_core.specs.declared.parser.machine.Machine.{Machine}
 use Rattle.vte_core.specs.declared.parser.refused.Refused.{Refused}
 use Rattle.vte_core.specs.declared.parser.State.{State}
-use Rattle.vte_core.specs.declared.parser.State.TheVariants.{Text, DeviceData}
-use Rattle.vte_core.specs.Class.{IsDeviceData, class_of, is_device_data}
+use Rattle.vte_core.specs.declared.parser.State.TheVariants.{DeviceData, Text}
+use Rattle.vte_core.specs.Class.{class_of, is_device_data, IsDeviceData}
 use Rattle.vte_core.specs.Event.{Event, Print, Put}
 use Rattle.vte_core.specs.private.ParserFields.{HasReadWithLimit}
 use Rattle.vte_core.specs.private.Progress.{ChunkCall, IsAtPosition}
-use Rattle.vte_core.specs.private.Scans.{IsUtf8Run, IsRange}
+use Rattle.vte_core.specs.private.Scans.{IsRange, IsUtf8Run}
 use Rattle.vte_core.specs.Stream.{added}
 use Rattle.vte_core.specs.Text.{HasNoRunAt}
 

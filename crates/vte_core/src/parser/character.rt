@@ -1,6 +1,6 @@
 //! The bytes of a character after the first.
-ghost use Rattle.std.specs.Prelude.{◌≡◌, ◌≢◌, ◌+◌, ◌*◌, ◌<◌, ◌≤◌, false, true, [], length, slice_index};
-ghost use Rattle.vte_core.specs.private.Prelude.{Advances, BeginsFour, BeginsThree, Completes, HasNoRunAt, MayReadByte, MovesWithin, NoCharacterStops, Nothing, One, SpendsWithin, Text, bytes_of, chunk_call, looked};
+ghost use Rattle.std.specs.Prelude.{false, length, slice_index, true, [], ◌*◌, ◌+◌, ◌<◌, ◌≡◌, ◌≢◌, ◌≤◌};
+ghost use Rattle.vte_core.specs.private.Prelude.{Advances, BeginsFour, BeginsThree, bytes_of, chunk_call, Completes, HasNoRunAt, looked, MayReadByte, MovesWithin, NoCharacterStops, Nothing, One, SpendsWithin, Text};
 
 use crate::buffer::Buffer;
 use crate::parser::{Machine, State};

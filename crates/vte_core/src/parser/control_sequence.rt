@@ -1,6 +1,6 @@
 //! Control sequences.
-ghost use Rattle.std.specs.Prelude.{◌≡◌, ◌+◌, ◌<◌, ◌^◌, ℕ, true, false, List, ⊤};
-ghost use Rattle.vte_core.specs.private.Prelude.{Advances, CsiDispatch, Dispatches, HandlesByte, InControlSequence, MayRead, MovesWithin, HasReadHead, TakesByte, chunk_call, class_of, is_final};
+ghost use Rattle.std.specs.Prelude.{false, List, true, ℕ, ⊤, ◌+◌, ◌<◌, ◌^◌, ◌≡◌};
+ghost use Rattle.vte_core.specs.private.Prelude.{Advances, chunk_call, class_of, CsiDispatch, Dispatches, HandlesByte, HasReadHead, InControlSequence, is_final, MayRead, MovesWithin, TakesByte};
 
 use crate::buffer::Buffer;
 use crate::class::{ends_body, is_final, is_plain_control};

@@ -1,6 +1,6 @@
 //! Device control strings.
-ghost use Rattle.std.specs.Prelude.{◌≡◌, ℕ, true, false, List, ⊤};
-ghost use Rattle.vte_core.specs.private.Prelude.{Advances, DeviceData, HandlesByte, InDeviceControl, MayRead, MayReadByte, MovesWithin, HasReadHead, TakesByte, chunk_call, class_of, is_device_data, is_final};
+ghost use Rattle.std.specs.Prelude.{false, List, true, ℕ, ⊤, ◌≡◌};
+ghost use Rattle.vte_core.specs.private.Prelude.{Advances, chunk_call, class_of, DeviceData, HandlesByte, HasReadHead, InDeviceControl, is_device_data, is_final, MayRead, MayReadByte, MovesWithin, TakesByte};
 
 use crate::buffer::Buffer;
 use crate::class::{ends_body, is_device_data, is_final};

@@ -1,6 +1,6 @@
 //! The loop over the bytes of a call.
-ghost use Rattle.std.specs.Prelude.{◌≡◌, ◌<◌, true, List, ℕ, length, IfErr, IfOk};
-ghost use Rattle.vte_core.specs.private.Prelude.{Advances, Costs, HasReadWithLimit, IsOutsideTextAndData, IsSettled, MayReadAt, MovesWithin, NoCharacterStops, ReadsUpTo, Refuses, ReadsUntilRefused, SpendsWithin, IsAtPosition, ReportsOutsideRuns, chunk_call, looked, read_count};
+ghost use Rattle.std.specs.Prelude.{IfErr, IfOk, length, List, true, ℕ, ◌<◌, ◌≡◌};
+ghost use Rattle.vte_core.specs.private.Prelude.{Advances, chunk_call, Costs, HasReadWithLimit, IsAtPosition, IsOutsideTextAndData, IsSettled, looked, MayReadAt, MovesWithin, NoCharacterStops, read_count, ReadsUntilRefused, ReadsUpTo, Refuses, ReportsOutsideRuns, SpendsWithin};
 
 use crate::buffer::Buffer;
 use crate::parser::{Machine, Refused, State};

@@ -1,6 +1,6 @@
 //! ESC, CAN and SUB, which end whatever is open, in every state.
-ghost use Rattle.std.specs.Prelude.{◌≡◌, true, [], ◌∷◌, ⊤};
-ghost use Rattle.vte_core.specs.private.Prelude.{Advances, Escape, HandlesByte, IsSettledPlace, IsOutsideRunsInState, MayReadByte, MovesWithin, TakesBytes, Place, IsAtPlace, LooksAtMost, after, chunk_call, class_of, closing_events_at, ends_body};
+ghost use Rattle.std.specs.Prelude.{true, [], ⊤, ◌∷◌, ◌≡◌};
+ghost use Rattle.vte_core.specs.private.Prelude.{Advances, after, chunk_call, class_of, closing_events_at, ends_body, Escape, HandlesByte, IsAtPlace, IsOutsideRunsInState, IsSettledPlace, LooksAtMost, MayReadByte, MovesWithin, Place, TakesBytes};
 
 use crate::buffer::Buffer;
 use crate::class::ESCAPE;

@@ -1,7 +1,7 @@
 //! Escape sequences, and what ESC begins.
-ghost use Rattle.std.specs.Prelude.{◌≡◌, ◌≢◌, ◌+◌, ◌*◌, ◌<◌, ◌≤◌, true, [], ◌∷◌, slice_index, ⊤};
-ghost use Rattle.vte_core.specs.private.Prelude.{Advances, AtEscape, Dispatches, EscDispatch, Escape, EscapeIntermediate, HandlesByte, IsSettledPlace, MayRead, MayReadAt, MovesWithin, Nothing, TakesBytes, Place};
-ghost use Rattle.vte_core.specs.private.Prelude.{IsAtPlace, TakesByte, Text, chunk_call, class_of, is_final, looked};
+ghost use Rattle.std.specs.Prelude.{slice_index, true, [], ⊤, ◌*◌, ◌+◌, ◌<◌, ◌∷◌, ◌≡◌, ◌≢◌, ◌≤◌};
+ghost use Rattle.vte_core.specs.private.Prelude.{Advances, AtEscape, Dispatches, Escape, EscapeIntermediate, EscDispatch, HandlesByte, IsSettledPlace, MayRead, MayReadAt, MovesWithin, Nothing, Place, TakesBytes};
+ghost use Rattle.vte_core.specs.private.Prelude.{chunk_call, class_of, is_final, IsAtPlace, looked, TakesByte, Text};
 
 use crate::buffer::Buffer;
 use crate::class::{

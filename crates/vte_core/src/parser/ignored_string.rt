@@ -1,6 +1,6 @@
 //! Ignored strings: SOS, PM, APC, and device control strings with an ill-shaped head.
 ghost use Rattle.std.specs.Prelude.{⊤};
-ghost use Rattle.vte_core.specs.private.Prelude.{Advances, IgnoredString, MayReadAt, MovesWithin, chunk_call};
+ghost use Rattle.vte_core.specs.private.Prelude.{Advances, chunk_call, IgnoredString, MayReadAt, MovesWithin};
 
 use crate::buffer::Buffer;
 use crate::parser::machine::Machine;

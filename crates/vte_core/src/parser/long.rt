@@ -1,12 +1,12 @@
 //! The parser that keeps operating system commands of any length.
-ghost use Rattle.std.specs.Prelude.{◌≡◌, ◌+◌, ◌<◌, ◌≤◌, ℕ, true, false, List, [], None, IfErr, IfOk, length};
+ghost use Rattle.std.specs.Prelude.{false, IfErr, IfOk, length, List, None, true, ℕ, [], ◌+◌, ◌<◌, ◌≡◌, ◌≤◌};
 ghost use Rattle.vte_core.specs.LongParser.{HasReadLong, LacksMemoryForMore, lost_data_long, memory_of, reading_of_long};
 ghost use Rattle.vte_core.specs.LongParser.{open_command_size};
 ghost use Rattle.vte_core.specs.Parser.{IsCopyOfParser};
 ghost use Rattle.vte_core.specs.Open.{SaysOpen, SaysWhetherOpen};
 ghost use Rattle.vte_core.specs.Outcome.{SaysLoss};
 ghost use Rattle.vte_core.specs.Stream.{outcome};
-ghost use Rattle.vte_core.specs.private.Prelude.{ComesToRun, Costs, NoCharacterStops, ReadsUntilRefused, ReadsUpTo, ReportsOutsideRuns, chunk_call, counted, read_before_range, read_count, read_through_range};
+ghost use Rattle.vte_core.specs.private.Prelude.{chunk_call, ComesToRun, Costs, counted, NoCharacterStops, read_before_range, read_count, read_through_range, ReadsUntilRefused, ReadsUpTo, ReportsOutsideRuns};
 
 use crate::parser::{Machine, Open, Refused, State};
 use crate::reader::{ByCharacter, Chunk, CountedPerform, Granularity, Looks, RunRange};

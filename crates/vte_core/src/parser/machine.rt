@@ -1,8 +1,8 @@
 //! The state of a parser, and what it has collected.
-ghost use Rattle.std.specs.Prelude.{◌≡◌, ℕ, List, []};
+ghost use Rattle.std.specs.Prelude.{List, ℕ, [], ◌≡◌};
 ghost use Rattle.vte_core.specs.declared.parser.open.Open.TheVariants.{Nothing};
 ghost use Rattle.vte_core.specs.Open.{SaysOpen, SaysWhetherOpen};
-ghost use Rattle.vte_core.specs.private.Prelude.{HasReadWithLimit, SaysLoss, outcome};
+ghost use Rattle.vte_core.specs.private.Prelude.{HasReadWithLimit, outcome, SaysLoss};
 
 use crate::buffer::Buffer;
 use crate::head::Collected;

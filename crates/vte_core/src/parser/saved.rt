@@ -1,5 +1,5 @@
 //! A parser as plain data, for callers that can hold nothing else.
-ghost use Rattle.std.specs.Prelude.{◌≡◌, ◌≤◌, List, ℕ, [], length, take};
+ghost use Rattle.std.specs.Prelude.{length, List, take, ℕ, [], ◌≡◌, ◌≤◌};
 ghost use Rattle.vte_core.specs.Parser.{HasRead};
 ghost use Rattle.vte_core.specs.Saved.{HasReadSaved, IsZero};
 ghost use Rattle.vte_core.specs.declared.parser.State.{State};

@@ -1,6 +1,6 @@
 //! Operating system commands.
 ghost use Rattle.std.specs.Prelude.{IfErr, IfOk, ⊤};
-ghost use Rattle.vte_core.specs.private.Prelude.{Advances, MayReadAt, MovesWithin, Refuses, SystemCommand, chunk_call, read_count};
+ghost use Rattle.vte_core.specs.private.Prelude.{Advances, chunk_call, MayReadAt, MovesWithin, read_count, Refuses, SystemCommand};
 
 use crate::buffer::Buffer;
 use crate::class::ends_body;

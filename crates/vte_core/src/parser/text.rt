@@ -1,6 +1,6 @@
 //! Text: characters, runs of them, and malformed sequences.
-ghost use Rattle.std.specs.Prelude.{◌≡◌, ◌+◌, ◌*◌, ◌<◌, ◌≤◌, false, true, IfSome, None, length, slice_index};
-ghost use Rattle.vte_core.specs.private.Prelude.{Advances, IsPrintedAscii, MayReadAt, MayReadByte, MovesWithin, NoCharacterStops, Nothing, PrintsRun, Text, chunk_call, looked};
+ghost use Rattle.std.specs.Prelude.{false, IfSome, length, None, slice_index, true, ◌*◌, ◌+◌, ◌<◌, ◌≡◌, ◌≤◌};
+ghost use Rattle.vte_core.specs.private.Prelude.{Advances, chunk_call, IsPrintedAscii, looked, MayReadAt, MayReadByte, MovesWithin, NoCharacterStops, Nothing, PrintsRun, Text};
 
 use crate::buffer::Buffer;
 use crate::class::ESCAPE;

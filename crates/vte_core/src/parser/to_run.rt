@@ -1,7 +1,7 @@
 //! Runs of text and data in the input, for callers that take them from there.
-ghost use Rattle.std.specs.Prelude.{◌+◌, ◌*◌, ◌≤◌, true, false, ℕ, List, Some, IfErr, IfOk, ⊤};
+ghost use Rattle.std.specs.Prelude.{false, IfErr, IfOk, List, Some, true, ℕ, ⊤, ◌*◌, ◌+◌, ◌≤◌};
 ghost use Rattle.vte_core.specs.Parser.{HasRead};
-ghost use Rattle.vte_core.specs.private.Prelude.{Advances, ComesToRun, Costs, HasNoRunAt, HasReadWithLimit, MayReadAt, MovesWithin, Nothing, ReadsUntilRefused, ReportsOutsideRuns, Text, chunk_call, counted, looked, read_through_range, read_before_range};
+ghost use Rattle.vte_core.specs.private.Prelude.{Advances, chunk_call, ComesToRun, Costs, counted, HasNoRunAt, HasReadWithLimit, looked, MayReadAt, MovesWithin, Nothing, read_before_range, read_through_range, ReadsUntilRefused, ReportsOutsideRuns, Text};
 
 use crate::buffer::Buffer;
 use crate::class::ESCAPE;

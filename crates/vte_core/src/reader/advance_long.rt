@@ -1,6 +1,6 @@
 //! The calls that read bytes into a [`LongParser`].
 // proof: each makes a [`Chunk`] of its bytes.
-ghost use Rattle.std.specs.Prelude.{ℕ, List, None, IfErr, false};
+ghost use Rattle.std.specs.Prelude.{false, IfErr, List, None, ℕ};
 ghost use Rattle.vte_core.specs.Advance.{ReadsBytes, ReadsUntilTerminated};
 ghost use Rattle.vte_core.specs.AdvanceToRun.{ReadsToRun};
 ghost use Rattle.vte_core.specs.LongParser.{HasReadLong};

@@ -1,7 +1,7 @@
 //! Performers, as the functions of a parser see them.
 // proof: they count each event as it is reported.
-ghost use Rattle.std.specs.Prelude.{◌≡◌, ◌<◌, Bool, false, true, length, map, chars};
-ghost use Rattle.vte_core.specs.private.Prelude.{CsiDispatch, EscDispatch, Event, Execute, Hook, IsNonEmptyRun, OscDispatch, Print, Put, Reports, ReportsAll, Unhook, is_control_character, run_event};
+ghost use Rattle.std.specs.Prelude.{Bool, chars, false, length, map, true, ◌<◌, ◌≡◌};
+ghost use Rattle.vte_core.specs.private.Prelude.{CsiDispatch, EscDispatch, Event, Execute, Hook, is_control_character, IsNonEmptyRun, OscDispatch, Print, Put, Reports, ReportsAll, run_event, Unhook};
 
 use crate::head::Collected;
 use crate::perform::Perform;

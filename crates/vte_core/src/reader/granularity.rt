@@ -1,6 +1,6 @@
 //! How performers take text.
-ghost use Rattle.std.specs.Prelude.{◌≡◌, ◌<◌, Bool, true, false, length, map, chars};
-ghost use Rattle.vte_core.specs.private.Prelude.{Execute, IsNonEmptyRun, Print, Put, after, is_control_character, run_event};
+ghost use Rattle.std.specs.Prelude.{Bool, chars, false, length, map, true, ◌<◌, ◌≡◌};
+ghost use Rattle.vte_core.specs.private.Prelude.{after, Execute, is_control_character, IsNonEmptyRun, Print, Put, run_event};
 
 use crate::class::is_layout;
 use crate::perform::{Perform, PerformText};

@@ -1,5 +1,5 @@
 //! The looks of a parser. Only contracts read them: at run time they have no bytes.
-ghost use Rattle.std.specs.Prelude.{◌≡◌, ◌+◌};
+ghost use Rattle.std.specs.Prelude.{◌+◌, ◌≡◌};
 ghost use Rattle.vte_core.specs.private.Prelude.{counted, looked};
 
 use super::Reader;

@@ -3,9 +3,9 @@
 //! Whether a byte fits depends on the three before it alone. So no test waits for another, and
 //! compilers make vector instructions of a block's tests, if they have no `&&` and `||`. But the
 //! block in which a run ends is wasted, so only long runs come here.
-ghost use Rattle.std.specs.Prelude.{◌≡◌, ◌+◌, ◌-◌, ◌*◌, ◌<◌, ◌≤◌, ℕ, true, length, slice_index};
-ghost use Rattle.vte_core.specs.private.Automaton.{Follows, FollowsAt, StaysBetween, open_count};
-ghost use Rattle.vte_core.specs.private.Prelude.{Each, IsRun, Scans, looked};
+ghost use Rattle.std.specs.Prelude.{length, slice_index, true, ℕ, ◌*◌, ◌+◌, ◌-◌, ◌<◌, ◌≡◌, ◌≤◌};
+ghost use Rattle.vte_core.specs.private.Automaton.{Follows, FollowsAt, open_count, StaysBetween};
+ghost use Rattle.vte_core.specs.private.Prelude.{Each, IsRun, looked, Scans};
 
 use crate::class::is_layout;
 use crate::reader::{Input, Reader, Window};

@@ -3,8 +3,8 @@
 //! A word is eight bytes. No word is tried before a run has begun with single bytes, so that no
 //! byte is read often. Bytes are read by `byte_at`, `get_byte`, `get_block` and `get_window`
 //! alone, which count.
-ghost use Rattle.std.specs.Prelude.{◌≡◌, ◌+◌, ◌*◌, ◌<◌, ◌≤◌, ◌↔◌, true, false, None, MatchOption, IfSome, IsTrue, length, slice_index};
-ghost use Rattle.vte_core.specs.private.Prelude.{ArePrintedAscii, HasNoRunAt, IsPrintedAscii, IsRange, IsRun, Scans, LooksAtMost, is_in, looked, from_to};
+ghost use Rattle.std.specs.Prelude.{false, IfSome, IsTrue, length, MatchOption, None, slice_index, true, ◌*◌, ◌+◌, ◌<◌, ◌↔◌, ◌≡◌, ◌≤◌};
+ghost use Rattle.vte_core.specs.private.Prelude.{ArePrintedAscii, from_to, HasNoRunAt, is_in, IsPrintedAscii, IsRange, IsRun, looked, LooksAtMost, Scans};
 
 use crate::class::is_layout;
 use crate::reader::{CountedPerform, Granularity, Input, Reader};

@@ -2,8 +2,8 @@
 //!
 //! Ignored strings may hold megabytes, so blocks are taken. No block is tried before a string has
 //! begun with single bytes, so that no byte is read often.
-ghost use Rattle.std.specs.Prelude.{◌≡◌, ◌≢◌, ◌+◌, ◌*◌, ◌<◌, ◌≤◌, ℕ, IsTrue, true, length, min, slice_index};
-ghost use Rattle.vte_core.specs.private.Prelude.{AreIgnored, FindsEnd, IsCommandData, IsDeviceData, IsRange, Scans, class_of, ends_body, looked};
+ghost use Rattle.std.specs.Prelude.{IsTrue, length, min, slice_index, true, ℕ, ◌*◌, ◌+◌, ◌<◌, ◌≡◌, ◌≢◌, ◌≤◌};
+ghost use Rattle.vte_core.specs.private.Prelude.{AreIgnored, class_of, ends_body, FindsEnd, IsCommandData, IsDeviceData, IsRange, looked, Scans};
 
 use crate::class::{ESCAPE, cannot_end, ends_body, is_command_data, is_device_data};
 use crate::reader::{Input, Reader};

@@ -1,6 +1,6 @@
 -- A byte is its flags and its other bits, and all flags are set exactly if setting them changes nothing: by laws of std
 -- about bits.
-use Rattle.std.proofs.Common.{◌≡◌, ◌<◌, ◌+◌, ℕ, sym, ◌∙◌, ap, arith}
+use Rattle.std.proofs.Common.{ap, arith, sym, ℕ, ◌+◌, ◌<◌, ◌∙◌, ◌≡◌}
 use Rattle.std.proofs.lemmas.Nat.{and-not, and_comm, and_or_self, or_comm}
 use Rattle.std.specs.Int.Bits.{or_add_and}
 use Rattle.std.specs.Int.RustNames.{bit_and, bit_or}

@@ -1,17 +1,17 @@
 -- A colour that is shown is read back, digit by digit; shades undo each other, and a table reads a named colour back
 -- from its number.
-use Rattle.std.proofs.Common.{◌≡◌, ◌<◌, ◌+◌, ◌*◌, ◌/◌, ◌%◌, ℕ, true, false, Some, None, refl, ap, arith}
+use Rattle.std.proofs.Common.{ap, arith, false, None, refl, Some, true, ℕ, ◌%◌, ◌*◌, ◌+◌, ◌/◌, ◌<◌, ◌≡◌}
 use Rattle.std.proofs.lemmas.Bool.Decides.{nat_tests}
 use Rattle.std.proofs.lemmas.Str.{digit_value-digit_char}
 use Rattle.std.specs.Char.{digit_value}
 use Rattle.std.specs.Fmt.{digit_glyph}
-use Rattle.std.specs.Prelude.{nat_lt, if◌then◌else◌, List, [], ◌∷◌}
-use Rattle.vte_types.specs.Rgb.{hex_number, hex_color_of, shown_byte, shown_color}
+use Rattle.std.specs.Prelude.{if◌then◌else◌, List, nat_lt, [], ◌∷◌}
+use Rattle.vte_types.specs.Rgb.{hex_color_of, hex_number, shown_byte, shown_color}
 use Rattle.vte_types.specs.declared.color.Rgb.{Rgb}
 use Rattle.vte_types.specs.NamedColor.{bright_of, dim_of, is_bright, is_dim, number_of_color}
-use Rattle.vte_types.specs.Words.{Row, entry_of}
+use Rattle.vte_types.specs.Words.{entry_of, Row}
 use Rattle.vte_types.specs.declared.color.NamedColor.{NamedColor}
-use Rattle.vte_types.specs.declared.color.NamedColor.TheVariants.{Black, Red, Green, Yellow, Blue, Magenta, Cyan, White, BrightBlack, BrightRed, BrightGreen, BrightYellow, BrightBlue, BrightMagenta, BrightCyan, BrightWhite, Foreground, Background, Cursor, DimBlack, DimRed, DimGreen, DimYellow, DimBlue, DimMagenta, DimCyan, DimWhite, BrightForeground, DimForeground}
+use Rattle.vte_types.specs.declared.color.NamedColor.TheVariants.{Background, Black, Blue, BrightBlack, BrightBlue, BrightCyan, BrightForeground, BrightGreen, BrightMagenta, BrightRed, BrightWhite, BrightYellow, Cursor, Cyan, DimBlack, DimBlue, DimCyan, DimForeground, DimGreen, DimMagenta, DimRed, DimWhite, DimYellow, Foreground, Green, Magenta, Red, White, Yellow}
 
 -- ---- texts
 

@@ -1,14 +1,14 @@
 -- A text is a word, or begins with it, exactly if a comparison byte by byte says so. In a table, a text has the entry
 -- of this row if the row's word is the text, and otherwise that of the rows that follow.
-use Rattle.std.proofs.Common.{◌≡◌, ◌≢◌, ◌<◌, ◌+◌, ℕ, suc, Bool, true, false, cond, eqb, List, [], ◌∷◌, ◌++◌, length, drop, get_or, drop-cons, Option, None, Some, option_map, refl, sym, ◌∙◌, ap, arith, Bor, MatchOption, zero}
-use Rattle.std.proofs.lemmas.Bool.{false_from_ne_true, and_parts, ltb-true}
+use Rattle.std.proofs.Common.{ap, arith, Bool, Bor, cond, drop, drop-cons, eqb, false, get_or, length, List, MatchOption, None, Option, option_map, refl, Some, suc, sym, true, zero, ℕ, [], ◌++◌, ◌+◌, ◌<◌, ◌∙◌, ◌∷◌, ◌≡◌, ◌≢◌}
+use Rattle.std.proofs.lemmas.Bool.{and_parts, false_from_ne_true, ltb-true}
 use Rattle.std.proofs.lemmas.Bool.Decides.{nat_tests}
 use Rattle.std.proofs.lemmas.Slice.Eq.{bytes_eq-Decides}
-use Rattle.std.specs.Prelude.{map, bytes_eq, nat_lt, ◌&&◌}
+use Rattle.std.specs.Prelude.{bytes_eq, map, nat_lt, ◌&&◌}
 use Rattle.std.specs.Str.{is_utf8, IsAscii}
 use Rattle.vte_types.specs.Words.{after_word, entry_of_word}
-use Rattle.std.proofs.lemmas.Str.{IsUtf8-from_ascii, is_utf8-from_IsUtf8}
-use Rattle.vte_types.specs.CursorIcon.{icons, icon_of}
+use Rattle.std.proofs.lemmas.Str.{is_utf8-from_IsUtf8, IsUtf8-from_ascii}
+use Rattle.vte_types.specs.CursorIcon.{icon_of, icons}
 
 pub bytes_eq-other : (text word : List ℕ) → (text ≡ word → ⊥) → bytes_eq text word ≡ false
 bytes_eq-other text word differ = false_from_ne_true _ (λ equal. differ ((bytes_eq-Decides text word).0 equal))

@@ -1,7 +1,7 @@
 //! Colours as hex digits.
 ghost use Rattle.std.specs.Option.{ok_or};
-ghost use Rattle.std.specs.Prelude.{◌≡◌, ◌∷◌, [], Some, option_map};
-ghost use Rattle.vte_types.specs.Rgb.{hex_number, hex_color_of, color_of_six, shown_color};
+ghost use Rattle.std.specs.Prelude.{option_map, Some, [], ◌∷◌, ◌≡◌};
+ghost use Rattle.vte_types.specs.Rgb.{color_of_six, hex_color_of, hex_number, shown_color};
 ghost use Rattle.vte_types.specs.Words.{after_word};
 
 use super::Rgb;

@@ -1,5 +1,5 @@
 -- The events of the stream are those of its parts (`events_of_parts`), and the text of joined events is joined.
-use Rattle.event_log.proofs.Common.{List, [], ◌∷◌, ◌++◌, ◌≡◌, ℕ, ◌∙◌, ap, flat_map, flat_map-append, refl, sym}
+use Rattle.event_log.proofs.Common.{ap, flat_map, flat_map-append, List, refl, sym, ℕ, [], ◌++◌, ◌∙◌, ◌∷◌, ◌≡◌}
 use Rattle.event_log.specs.Plain.{plain_text, plain_text_of}
 use Rattle.vte_core.specs.Event.{Event}
 use Rattle.vte_core.specs.Stream.{events}

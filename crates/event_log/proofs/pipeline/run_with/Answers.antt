@@ -1,6 +1,6 @@
 -- All that was read is written (`HasReadPart`), so a run that ends has written the text of a prefix of the input, or of
 -- all of it (`Progress`).
-use Rattle.event_log.proofs.Common.{◌≡◌, ◌<◌, inl, inr, refl, Ok, Err, false, is_err, OnOk, Result, length, take, sym, ◌∙◌, arith, length-take-le, usual_limit}
+use Rattle.event_log.proofs.Common.{arith, Err, false, inl, inr, is_err, length, length-take-le, Ok, OnOk, refl, Result, sym, take, usual_limit, ◌<◌, ◌∙◌, ◌≡◌}
 use Rattle.event_log.proofs.lemmas.Progress.{run-begins, run-reads_more, run_ends-at_prefix, run_ends-with_all}
 use Rattle.event_log.proofs.pipeline.run_with.Goals as goal
 

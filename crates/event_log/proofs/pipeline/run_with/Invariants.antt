@@ -1,5 +1,5 @@
 -- After this many reads all that was read is written (`HasReadPart`), and the collector is empty.
-use Rattle.event_log.proofs.Common.{◌≡◌, ℕ, List, Some, HasReadSome, empty_record}
+use Rattle.event_log.proofs.Common.{empty_record, HasReadSome, List, Some, ℕ, ◌≡◌}
 use Rattle.event_log.proofs.lemmas.Progress.{HasReadPart}
 use Rattle.event_log.proofs.pipeline.run_with.Given as goal
 

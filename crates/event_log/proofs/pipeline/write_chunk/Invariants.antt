@@ -1,5 +1,5 @@
 -- What was written, and then the text of what is unread, adds up to the whole text. Each round reads a byte or more.
-use Rattle.event_log.proofs.Common.{◌≡◌, ◌++◌, ℕ, List, [], length, HasReadSome, HasWritten, empty_record}
+use Rattle.event_log.proofs.Common.{empty_record, HasReadSome, HasWritten, length, List, ℕ, [], ◌++◌, ◌≡◌}
 use Rattle.event_log.proofs.pipeline.write_chunk.Given as goal
 
 abbrev pub invariant-loop-unread : goal.invariant-loop-unread

@@ -1,8 +1,8 @@
 -- The call may stop early, but only once the bell has rung, and no further event changes that.
-use Rattle.std.proofs.Common.{◌≡◌, ℕ, Bool, true, false, List, [], ◌∷◌, length, drop, refl, sym, ◌∙◌, ap, arith}
+use Rattle.std.proofs.Common.{ap, arith, Bool, drop, false, length, List, refl, sym, true, ℕ, [], ◌∙◌, ◌∷◌, ◌≡◌}
 use Rattle.examples.specs.Bell.{rung_after}
-use Rattle.vte_core.specs.EarlyStop.{StopsExactly, resumed_stream}
-use Rattle.vte_core.specs.Event.{Event, Execute, after}
+use Rattle.vte_core.specs.EarlyStop.{resumed_stream, StopsExactly}
+use Rattle.vte_core.specs.Event.{after, Event, Execute}
 use Rattle.vte_core.specs.Stream.{added, events, usual_limit}
 use Rattle.examples.proofs.bell.rings.Goals as goal
 

@@ -1,5 +1,5 @@
 -- The devices are new, so they tell their bytes, and the lines that `run` writes are those that the writer holds.
-use Rattle.std.proofs.Common.{◌≡◌, ℕ, Bool, true, false, List, [], Some, Bor, ap, is_some}
+use Rattle.std.proofs.Common.{ap, Bool, Bor, false, is_some, List, Some, true, ℕ, [], ◌≡◌}
 use Rattle.examples.specs.Logged.{bytes_unless}
 use Rattle.examples.proofs.logged.lines.Goals as goal
 

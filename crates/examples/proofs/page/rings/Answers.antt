@@ -1,5 +1,5 @@
 -- Nothing is ever held, so the handler receives the calls of the whole stream.
-use Rattle.std.proofs.Common.{false, [], refl}
+use Rattle.std.proofs.Common.{false, refl, []}
 use Rattle.vte_core.specs.Stream.{usual_limit}
 use Rattle.examples.proofs.page.rings.Goals as goal
 

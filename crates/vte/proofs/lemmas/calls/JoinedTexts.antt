@@ -1,7 +1,7 @@
 -- Texts that are joined one by one: the buffer holds what was joined, the rest adds the others, and they fit (`Joins`).
 -- A title or a link of one piece needs no joining.
-use Rattle.vte.proofs.Common.{◌≡◌, ◌≤◌, ◌<◌, ◌+◌, ℕ, List, [], ◌∷◌, length, map, Option, None, Some, refl, arith, drop, Bor, id_of, link_to, Bool, sym, ◌∙◌, true, false, ◌++◌, ap, get_or, false_from_ne_true, append-nil, drop_more, concat, join_with_byte, is_utf8, IsUtf8, append_assoc, length-append, text_to_join, joined_texts, text_in, filter_map, FitsTextSize, joined_size}
-use Rattle.std.proofs.lemmas.Str.{IsUtf8-from_is_utf8, is_utf8-from_IsUtf8}
+use Rattle.vte.proofs.Common.{ap, append-nil, append_assoc, arith, Bool, Bor, concat, drop, drop_more, false, false_from_ne_true, filter_map, FitsTextSize, get_or, id_of, is_utf8, IsUtf8, join_with_byte, joined_size, joined_texts, length, length-append, link_to, List, map, None, Option, refl, Some, sym, text_in, text_to_join, true, ℕ, [], ◌++◌, ◌+◌, ◌<◌, ◌∙◌, ◌∷◌, ◌≡◌, ◌≤◌}
+use Rattle.std.proofs.lemmas.Str.{is_utf8-from_IsUtf8, IsUtf8-from_is_utf8}
 use Rattle.std.specs.Option.{option_map, unwrap_or}
 
 -- What texts add after others, each with a separator unless it is the first.

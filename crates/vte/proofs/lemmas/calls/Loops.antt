@@ -1,6 +1,6 @@
 -- Loops that make calls one by one: what is left gives what all gave. The invariant is an equation between the value
 -- now and the value after all calls, and each round takes one call off its prefix.
-use Rattle.vte.proofs.Common.{◌≡◌, ◌≤◌, ◌<◌, ◌+◌, ◌-◌, ℕ, zero, suc, List, [], ◌∷◌, length, map, refl, arith, take, drop, Bor, take_all, slice_index_or, palette_entry_calls, palette_entries_calls, attributes_from, decimal_number, Call, after}
+use Rattle.vte.proofs.Common.{after, arith, attributes_from, Bor, Call, decimal_number, drop, length, List, map, palette_entries_calls, palette_entry_calls, refl, slice_index_or, suc, take, take_all, zero, ℕ, [], ◌+◌, ◌-◌, ◌<◌, ◌∷◌, ◌≡◌, ◌≤◌}
 use Rattle.vte.proofs.lemmas.EventCalls.{after_calls-append}
 
 -- At i, one more is left than at i + 1.

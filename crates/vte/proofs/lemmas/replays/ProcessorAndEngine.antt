@@ -1,6 +1,6 @@
 -- The contracts of the three processors, from `EngineReads` and `EngineStops` of their engine: a processor agrees where
 -- its engine does. They differ in whether a call may be refused memory.
-use Rattle.vte.proofs.Common.{ℕ, List, length, Result, Ok, Err, arith, Bor, Refused, EngineView, Meaning, State, usual_limit, HasAdvanced, HasParsedAndHolds, HasTaken, IsAt, ReadsInTurns, EngineReads, ProcessorPredicate, EngineHasParsedAndHolds, ◌≡◌, refl, rules, limited_parser_view, engine_view, HasTextMemory, HasParsedAndHoldsBounded, EngineStops, StopsSync, bounded_engine_view, stop, [], ◌+◌, ◌-◌, ◌<◌, ◌++◌, ap, length-append, counts_data, AdvancesLong, HasMemory, HasParsedAndHoldsLong, LacksMemoryLong, drop, length-drop, long_engine_view}
+use Rattle.vte.proofs.Common.{AdvancesLong, ap, arith, Bor, bounded_engine_view, counts_data, drop, engine_view, EngineHasParsedAndHolds, EngineReads, EngineStops, EngineView, Err, HasAdvanced, HasMemory, HasParsedAndHolds, HasParsedAndHoldsBounded, HasParsedAndHoldsLong, HasTaken, HasTextMemory, IsAt, LacksMemoryLong, length, length-append, length-drop, limited_parser_view, List, long_engine_view, Meaning, Ok, ProcessorPredicate, ReadsInTurns, refl, Refused, Result, rules, State, stop, StopsSync, usual_limit, ℕ, [], ◌++◌, ◌+◌, ◌-◌, ◌<◌, ◌≡◌}
 use Rattle.vte_core.specs.declared.parser.Parser.{Parser}
 use Rattle.vte.proofs.lemmas.replays.WithoutUpdates.{plain_call}
 use Rattle.vte.proofs.lemmas.turns.EngineTurns.{has_advanced, taken-to}

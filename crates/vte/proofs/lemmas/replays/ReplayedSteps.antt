@@ -1,12 +1,12 @@
 -- A list of calls, made call by call (`advance_taken`, `stop_taken`): a loop over calls makes `TakesSteps`, and the
 -- handler has received their calls. A steady timeout allows one answer in each state, so where the list leads is then a
 -- function of its calls (`replay-only_one`).
-use Rattle.vte.proofs.Common.{◌≡◌, ℕ, ◌+◌, ◌-◌, Bool, List, [], ◌∷◌, ◌++◌, length, take, refl, ap, sym, ◌∙◌, arith, append_assoc, append-nil, Step, Advance, StopSync, Meaning, TakesSteps, State, TakesTurnsUntilRefused, stop, done, turns, ◌<◌, drop, get_or, append_cancel_right, take-append-drop, Bor, drop_more, take_more, HasAdvanced, HoldsWellAt, HasReplayed, HasDelivered, HasTaken, IsSteady, TakesAllTurns, given_bytes, rules}
-use Rattle.vte.proofs.lemmas.turns.EachOnce.{progresses-before, progresses-then, progresses-replay}
-use Rattle.vte.proofs.lemmas.turns.HoldFacts.{stop-well, turns-well, turn-well}
+use Rattle.vte.proofs.Common.{Advance, ap, append-nil, append_assoc, append_cancel_right, arith, Bool, Bor, done, drop, drop_more, get_or, given_bytes, HasAdvanced, HasDelivered, HasReplayed, HasTaken, HoldsWellAt, IsSteady, length, List, Meaning, refl, rules, State, Step, stop, StopSync, sym, take, take-append-drop, take_more, TakesAllTurns, TakesSteps, TakesTurnsUntilRefused, turns, ℕ, [], ◌++◌, ◌+◌, ◌-◌, ◌<◌, ◌∙◌, ◌∷◌, ◌≡◌}
+use Rattle.vte.proofs.lemmas.turns.EachOnce.{progresses-before, progresses-replay, progresses-then}
+use Rattle.vte.proofs.lemmas.turns.HoldFacts.{stop-well, turn-well, turns-well}
 use Rattle.vte.specs.Refusal.{IsFirstRefused}
 use Rattle.vte.proofs.lemmas.turns.RefusedTurns.{progresses-until_refused}
-use Rattle.vte.proofs.lemmas.replays.ReceivedCalls.{HasStillToDeliver, delivers-refused, delivers-replay}
+use Rattle.vte.proofs.lemmas.replays.ReceivedCalls.{delivers-refused, delivers-replay, HasStillToDeliver}
 
 -- The refused step is the first of those that are left.
 pub first_lacks : {i : ℕ} {bytes : Bor (List ℕ)} (lacks : ℕ → Type 0) (steps : List Step) (missing : Step) (read : ℕ)

@@ -1,7 +1,7 @@
 -- With a timeout that is never pending, the handler receives the calls of the whole stream (`replays_all`,
 -- `plain_call`): nothing is ever held, so there are no stops. By induction over turns: each one parses, and ends with
 -- nothing held.
-use Rattle.vte.proofs.Common.{◌≡◌, ℕ, List, [], ◌∷◌, ◌++◌, refl, ap, sym, ◌∙◌, append-nil, after, Step, Advance, StopSync, added_calls, Meaning, TakesSteps, calls, events, State, turn, done, turns, Bor, HasAdvanced, HasReplayed, TakesAllTurns, given_bytes, true, false, HasParsedAll, IsAt, Replays, ProcessorPredicate}
+use Rattle.vte.proofs.Common.{added_calls, Advance, after, ap, append-nil, Bor, calls, done, events, false, given_bytes, HasAdvanced, HasParsedAll, HasReplayed, IsAt, List, Meaning, ProcessorPredicate, refl, Replays, State, Step, StopSync, sym, TakesAllTurns, TakesSteps, true, turn, turns, ℕ, [], ◌++◌, ◌∙◌, ◌∷◌, ◌≡◌}
 use Rattle.vte.proofs.lemmas.EventCalls.{after_calls-append, calls_whole}
 use Rattle.vte.specs.ProcessorCalls.{AreAdvances, IsNeverPending, ParsesAll}
 use Rattle.vte.proofs.lemmas.replays.ReceivedCalls.{calls_between-whole}

@@ -1,10 +1,10 @@
 -- From turns to a call: what the private functions ensure of parser, hold and handler is put together into `HasTurned`
 -- and `HasBeenRefused`, and the loop over turns into `TakesTurns` and `TakesTurnsUntilRefused`.
-use Rattle.vte.proofs.Common.{◌≡◌, ℕ, ◌+◌, ◌-◌, ◌<◌, ◌≤◌, Bool, true, List, [], ◌++◌, length, take, drop, refl, ap, sym, ◌∙◌, arith, length-drop, append_assoc, Result, Ok, Err, append_cancel_right, drop_all, drop-drop, take_all, take-append-drop, Refused, ProcessorState, Engine, Meaning, held_of, rules, false, MatchResult, EndsTurn, inside_turn, HasAdvanced, EngineIsAt, HasTaken, EngineView, KeepsMemory, EngineHasMemory, EngineReads, EngineStops, EngineIsAtKeepingMemory, EndsParsingTurn, HasBeenRefused, HasParsedPrefix, HasParsedWithoutBegin, ArePartsAt, ArePartsAtKeepingMemory, ArePartsAtWithMemory, HasTurned, State, TakesTurnsUntilRefused, TakesTurns, all_bytes, turn, hold_turn, parse, stop, between_turns, done, LacksMemoryForSome, Reserves}
-use Rattle.vte.proofs.lemmas.turns.TurnKinds.{refused-by_parsing, is_held, stop_if_due, turn-holds, turn-parses}
+use Rattle.vte.proofs.Common.{all_bytes, ap, append_assoc, append_cancel_right, ArePartsAt, ArePartsAtKeepingMemory, ArePartsAtWithMemory, arith, between_turns, Bool, done, drop, drop-drop, drop_all, EndsParsingTurn, EndsTurn, Engine, EngineHasMemory, EngineIsAt, EngineIsAtKeepingMemory, EngineReads, EngineStops, EngineView, Err, false, HasAdvanced, HasBeenRefused, HasParsedPrefix, HasParsedWithoutBegin, HasTaken, HasTurned, held_of, hold_turn, inside_turn, KeepsMemory, LacksMemoryForSome, length, length-drop, List, MatchResult, Meaning, Ok, parse, ProcessorState, refl, Refused, Reserves, Result, rules, State, stop, sym, take, take-append-drop, take_all, TakesTurns, TakesTurnsUntilRefused, true, turn, ℕ, [], ◌++◌, ◌+◌, ◌-◌, ◌<◌, ◌∙◌, ◌≡◌, ◌≤◌}
+use Rattle.vte.proofs.lemmas.turns.TurnKinds.{is_held, refused-by_parsing, stop_if_due, turn-holds, turn-parses}
 use Rattle.vte.proofs.lemmas.turns.EachOnce.{all_bytes-grown}
 use Rattle.vte.proofs.lemmas.turns.Slices.{parsing-refused}
-use Rattle.vte.proofs.lemmas.turns.RefusedTurns.{until_refused-all, takes-one, progresses-until_refused, until_refused-on, until_refused-well, taken_on}
+use Rattle.vte.proofs.lemmas.turns.RefusedTurns.{progresses-until_refused, taken_on, takes-one, until_refused-all, until_refused-on, until_refused-well}
 use Rattle.std.proofs.lemmas.List.{take_rest}
 
 -- If an engine is at a state, so are its parts.

@@ -1,9 +1,9 @@
 -- Turns and stops keep `HoldsWell`: by cases of the timeout's answer and of what a hold turn keeps, which is all, or
 -- starts with a begin-update, or is nothing.
-use Rattle.vte.proofs.Common.{◌≡◌, inl, inr, refl, Bool, true, List, [], ◌++◌, ℕ, zero, suc, length, cases_Bool, arith, nat_tests, Meaning, State, after_last_end, extend, from_begin_update, hold_turn, max_held, parsing_turn, release, stop, turn, ◌-◌, ◌∷◌, take, ap, TakesTurns, prefix_to_begin, append-nil, done, turns, ◌<◌, ◌≤◌, length-append, cases_lt, added, TimeoutMeaning, AllowsOnly, IsSteady, begin_count, IsOutsideUpdate, IsInsideUpdate, set_times, update_nanos, HoldsWellAt, begin_update, begins_ending_in_last, part_after_last_end, rules}
+use Rattle.vte.proofs.Common.{added, after_last_end, AllowsOnly, ap, append-nil, arith, begin_count, begin_update, begins_ending_in_last, Bool, cases_Bool, cases_lt, done, extend, from_begin_update, hold_turn, HoldsWellAt, inl, inr, IsInsideUpdate, IsOutsideUpdate, IsSteady, length, length-append, List, max_held, Meaning, nat_tests, parsing_turn, part_after_last_end, prefix_to_begin, refl, release, rules, set_times, State, stop, suc, take, TakesTurns, TimeoutMeaning, true, turn, turns, update_nanos, zero, ℕ, [], ◌++◌, ◌-◌, ◌<◌, ◌∷◌, ◌≡◌, ◌≤◌}
 use Rattle.vte.proofs.lemmas.updates.Prefixes.{prefix-is}
-use Rattle.vte.proofs.lemmas.updates.Sequences.{cases_Option, StaysHeld, begins_with-append, stays_held, suffix-length}
-use Rattle.vte.proofs.lemmas.turns.TurnKinds.{is_held, stop_if_due, hold_turn-all, hold_turn-rest, turn-holds, turn-parses}
+use Rattle.vte.proofs.lemmas.updates.Sequences.{begins_with-append, cases_Option, stays_held, StaysHeld, suffix-length}
+use Rattle.vte.proofs.lemmas.turns.TurnKinds.{hold_turn-all, hold_turn-rest, is_held, stop_if_due, turn-holds, turn-parses}
 use Rattle.vte.proofs.lemmas.turns.EachOnce.{stop_if_due-holds_nothing}
 
 -- ---- a steady timeout is pending once it is set, and stays so when it is set again

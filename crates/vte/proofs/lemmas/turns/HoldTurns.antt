@@ -1,6 +1,6 @@
 -- A hold turn, of states and of the engine: bytes join the hold, the timeout is set as often as they begin updates, and
 -- what the hold releases is parsed, with a stop if nothing stays held.
-use Rattle.vte.proofs.Common.{◌≡◌, ℕ, ◌+◌, ◌-◌, ◌<◌, inl, List, [], ◌∷◌, ◌++◌, length, take, refl, ap, sym, ◌∙◌, arith, length-append, take_all, Meaning, State, parse, length-take, Engine, IsAdded, held_of, released_of, still_held, set_times, EngineIsAt, EngineView, EngineIsAtKeepingMemory, ArePartsAt, ArePartsAtKeepingMemory, ArePartsAtWithMemory, after_last_end, extend, from_begin_update, hold_turn, release, inr, stop, with_held, rules}
+use Rattle.vte.proofs.Common.{after_last_end, ap, ArePartsAt, ArePartsAtKeepingMemory, ArePartsAtWithMemory, arith, Engine, EngineIsAt, EngineIsAtKeepingMemory, EngineView, extend, from_begin_update, held_of, hold_turn, inl, inr, IsAdded, length, length-append, length-take, List, Meaning, parse, refl, release, released_of, rules, set_times, State, still_held, stop, sym, take, take_all, with_held, ℕ, [], ◌++◌, ◌+◌, ◌-◌, ◌<◌, ◌∙◌, ◌∷◌, ◌≡◌}
 use Rattle.std.proofs.lemmas.List.{nil_from_length}
 use Rattle.vte.proofs.lemmas.updates.Sequences.{cases_Option, stays_held, suffix-length}
 use Rattle.vte.specs.declared.ansi.updates.hold.SyncState.{SyncState}

@@ -1,10 +1,10 @@
 -- Turns of a call, of which the last may be refused memory: what is parsed and held then, and what the unread bytes do
 -- in a further call. The refused turn leaves nothing held and is outside an update, so they do what they would have
 -- done (`until_refused-goes_on`).
-use Rattle.vte.proofs.Common.{◌≡◌, ℕ, ◌<◌, inl, Bool, false, List, [], ◌∷◌, ◌++◌, length, drop, refl, ap, subst, ◌∙◌, arith, length-append, drop-append-add, IsSteady, IsOutsideUpdate, Meaning, HoldsWellAt, HasBeenRefused, TakesAllTurns, ParsingTurn, ParsingTurnIsRefused, State, TakesTurnsUntilRefused, TakesTurns, prefix_to_begin, between_turns, done, turn_kind_of, parsing_turn, turn, turns, inside_turn, rules}
+use Rattle.vte.proofs.Common.{ap, arith, between_turns, Bool, done, drop, drop-append-add, false, HasBeenRefused, HoldsWellAt, inl, inside_turn, IsOutsideUpdate, IsSteady, length, length-append, List, Meaning, parsing_turn, ParsingTurn, ParsingTurnIsRefused, prefix_to_begin, refl, rules, State, subst, TakesAllTurns, TakesTurns, TakesTurnsUntilRefused, turn, turn_kind_of, turns, ℕ, [], ◌++◌, ◌<◌, ◌∙◌, ◌∷◌, ◌≡◌}
 use Rattle.vte.proofs.lemmas.updates.Prefixes.{prefix-after}
-use Rattle.vte.proofs.lemmas.turns.TurnKinds.{stop_if_due, turn-parses, ParsesUntilRefused, refused-parses}
-use Rattle.vte.proofs.lemmas.turns.EachOnce.{Progresses, progresses-then, stop_if_due-holds_nothing, progresses-stop_if_due, progresses-parse, progresses-turns}
+use Rattle.vte.proofs.lemmas.turns.TurnKinds.{ParsesUntilRefused, refused-parses, stop_if_due, turn-parses}
+use Rattle.vte.proofs.lemmas.turns.EachOnce.{Progresses, progresses-parse, progresses-stop_if_due, progresses-then, progresses-turns, stop_if_due-holds_nothing}
 use Rattle.vte.proofs.lemmas.turns.HoldFacts.{turns-well}
 use Rattle.vte.proofs.lemmas.turns.Slices.{parse-append}
 

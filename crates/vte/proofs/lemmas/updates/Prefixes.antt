@@ -1,7 +1,7 @@
 -- An early stop reads exactly the prefix up to the byte that begins an update. Such a byte ends a control sequence, so
 -- no character is open or broken there, and the prefix is the shortest that adds a begin.
 use Rattle.vte_core.proofs.lemmas.shapes.BrokenCharacters.{breaks_at-all, breaks_at-settled, reported-broken}
-use Rattle.vte.proofs.Common.{◌≡◌, ℕ, zero, suc, ◌+◌, ◌<◌, ◌≤◌, inl, inr, false, nat_lt, Option, List, [], ◌∷◌, ◌++◌, length, take, refl, ap, subst, ◌∙◌, append_assoc, arith, cases_Bool, cases_lt, nat_tests, append-nil, take_all, breaks_at, reported_before, Event, added, open_character, reported-settled, added-append, added-nothing, opens_silently, begin_count, EndsInBegin, prefix_to_begin, rules}
+use Rattle.vte.proofs.Common.{added, added-append, added-nothing, ap, append-nil, append_assoc, arith, begin_count, breaks_at, cases_Bool, cases_lt, EndsInBegin, Event, false, inl, inr, length, List, nat_lt, nat_tests, open_character, opens_silently, Option, prefix_to_begin, refl, reported-settled, reported_before, rules, subst, suc, take, take_all, zero, ℕ, [], ◌++◌, ◌+◌, ◌<◌, ◌∙◌, ◌∷◌, ◌≡◌, ◌≤◌}
 
 -- ---- how often bytes begin an update
 

@@ -2,11 +2,11 @@
 -- what is unread starts. Only a position with ESC can change it (`seen-skipped`, `last_escape`), and the older bytes
 -- matter only by their last seven. A round of the search reads the last ESC (`seen-round`), and at the front the whole
 -- hold is seen (`seen-all`).
-use Rattle.vte.proofs.Common.{◌≡◌, ℕ, zero, suc, ◌+◌, ◌-◌, ◌<◌, ◌≤◌, inl, inr, true, false, eqb, Some, None, List, [], ◌∷◌, length, drop, take, get_or, refl, ap, subst, ◌∙◌, add-zero, length-drop, arith, cases_Bool, nat_tests, drop_all, drop_more, get_or-drop, get_or-take, length-take-le, ◌++◌, IsHeldTail, drop-drop, length-append, Adds, after_word, begin_update, end_update, begins_ending_in_last, begins_with, after_last_end, from_begin_update, rules}
-use Rattle.std.specs.Prelude.{◌&&◌, nat_lt}
-use Rattle.memchr.specs.Find.{NoneAfter, Nowhere, Passes, is_byte}
-use Rattle.vte.specs.private.Hold.{IsNeither, HasNoPrivateSequence, NoneBetween}
-use Rattle.vte.proofs.lemmas.updates.Sequences.{after_word-whole, begins_ending_in_last-tail, begins_with-is, begins_with-length, after_last_end-tail, from_begin-end_skipped, begins_with-further, none_from_is_some}
+use Rattle.vte.proofs.Common.{add-zero, Adds, after_last_end, after_word, ap, arith, begin_update, begins_ending_in_last, begins_with, cases_Bool, drop, drop-drop, drop_all, drop_more, end_update, eqb, false, from_begin_update, get_or, get_or-drop, get_or-take, inl, inr, IsHeldTail, length, length-append, length-drop, length-take-le, List, nat_tests, None, refl, rules, Some, subst, suc, take, true, zero, ℕ, [], ◌++◌, ◌+◌, ◌-◌, ◌<◌, ◌∙◌, ◌∷◌, ◌≡◌, ◌≤◌}
+use Rattle.std.specs.Prelude.{nat_lt, ◌&&◌}
+use Rattle.memchr.specs.Find.{is_byte, NoneAfter, Nowhere, Passes}
+use Rattle.vte.specs.private.Hold.{HasNoPrivateSequence, IsNeither, NoneBetween}
+use Rattle.vte.proofs.lemmas.updates.Sequences.{after_last_end-tail, after_word-whole, begins_ending_in_last-tail, begins_with-further, begins_with-is, begins_with-length, from_begin-end_skipped, none_from_is_some}
 use Rattle.std.proofs.lemmas.List.{take_rest}
 
 -- Neither sequence begins at a byte other than ESC, or if fewer than eight bytes are left.

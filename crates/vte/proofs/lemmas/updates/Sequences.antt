@@ -1,6 +1,6 @@
 -- The two sequences of updates in a text, and the parts after them. Both have eight bytes and one ESC, so they never
 -- overlap; without an end-update in the older bytes, their last seven decide as all of them would.
-use Rattle.vte.proofs.Common.{◌≡◌, ℕ, zero, suc, ◌+◌, ◌-◌, ◌≤◌, inl, inr, ◌⊎◌, true, false, Option, Some, None, List, [], ◌∷◌, ◌++◌, length, drop, refl, ap, zero-add, length-append, length-drop, arith, cases_Bool, cases_lt, nat_tests, drop-drop, after_word, begin_update, end_update, begins_with, after_last_end, from_begin_update, begins_ending_in_last, still_held, sym, ◌<◌, rules}
+use Rattle.vte.proofs.Common.{after_last_end, after_word, ap, arith, begin_update, begins_ending_in_last, begins_with, cases_Bool, cases_lt, drop, drop-drop, end_update, false, from_begin_update, inl, inr, length, length-append, length-drop, List, nat_tests, None, Option, refl, rules, Some, still_held, suc, sym, true, zero, zero-add, ℕ, [], ◌++◌, ◌+◌, ◌-◌, ◌<◌, ◌∷◌, ◌≡◌, ◌≤◌, ◌⊎◌}
 use Rattle.std.specs.Prelude.{is_some, nat_lt}
 
 -- An `Option` by cases, for `elim`.

@@ -1,5 +1,5 @@
 //! Colours of numbers, read from any iterator of them.
-ghost use Rattle.std.specs.Prelude.{◌≡◌, drop, map};
+ghost use Rattle.std.specs.Prelude.{drop, map, ◌≡◌};
 ghost use Rattle.vte.specs.Colors.{color_reading, kind_reading, without_color_space};
 ghost use Rattle.vte.specs.private.Performer.{first_component};
 

@@ -1,6 +1,6 @@
 //! Colours as texts.
-ghost use Rattle.std.specs.Prelude.{◌≡◌, ◌≤◌, ◌<◌, ◌^◌, length, Some, IfSome};
-ghost use Rattle.vte.specs.Colors.{xparse_color_of, color_of_parts, color_of_thirds, component_by, scaled_to_255, top_eight_bits};
+ghost use Rattle.std.specs.Prelude.{IfSome, length, Some, ◌<◌, ◌^◌, ◌≡◌, ◌≤◌};
+ghost use Rattle.vte.specs.Colors.{color_of_parts, color_of_thirds, component_by, scaled_to_255, top_eight_bits, xparse_color_of};
 ghost use Rattle.vte.specs.Split.{split_by};
 ghost use Rattle.vte_types.specs.Rgb.{hex_number};
 

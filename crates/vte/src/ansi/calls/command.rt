@@ -1,6 +1,6 @@
 //! The calls of operating system commands.
-ghost use Rattle.std.specs.Prelude.{◌≡◌, ◌≤◌, bytes_eq, codes, map};
-ghost use Rattle.vte.specs.CommandCalls.{all_reset, clipboard_calls, color_calls, dynamic_color_calls, dynamic_calls, dynamic_colors, link_calls, link_to, palette_calls, pointer_calls, reset_calls, shape_calls, system_command_calls, palette_entry_calls, title_calls};
+ghost use Rattle.std.specs.Prelude.{bytes_eq, codes, map, ◌≡◌, ◌≤◌};
+ghost use Rattle.vte.specs.CommandCalls.{all_reset, clipboard_calls, color_calls, dynamic_calls, dynamic_color_calls, dynamic_colors, link_calls, link_to, palette_calls, palette_entry_calls, pointer_calls, reset_calls, shape_calls, system_command_calls, title_calls};
 ghost use Rattle.vte_types.specs.Words.{entry_of};
 ghost use Rattle.vte.specs.private.Performer.{FitsTextSize};
 ghost use Rattle.vte.specs.Numbers.{decimal_number};

@@ -1,6 +1,6 @@
 //! The calls of control sequences.
-ghost use Rattle.std.specs.Prelude.{◌≡◌, ◌≢◌, [], ◌∷◌, unwrap_or};
-ghost use Rattle.vte.specs.ControlCalls.{control_calls, repeat_calls, window_rows, rows_without_intermediates, change_call, change_calls};
+ghost use Rattle.std.specs.Prelude.{unwrap_or, [], ◌∷◌, ◌≡◌, ◌≢◌};
+ghost use Rattle.vte.specs.ControlCalls.{change_call, change_calls, control_calls, repeat_calls, rows_without_intermediates, window_rows};
 ghost use Rattle.vte.specs.Numbers.{first_numbers};
 ghost use Rattle.vte.specs.OptionalCalls.{for_some};
 ghost use Rattle.vte.specs.SelectedValues.{cursor_rows, keys_rows, line_rows, screen_rows, tab_rows};

@@ -1,6 +1,6 @@
 //! The calls of executed bytes and of escape sequences.
-ghost use Rattle.std.specs.Prelude.{◌≡◌, Some};
-ghost use Rattle.vte.specs.EscapeCalls.{charset_rows, charset_calls, execute_calls, escape_calls};
+ghost use Rattle.std.specs.Prelude.{Some, ◌≡◌};
+ghost use Rattle.vte.specs.EscapeCalls.{charset_calls, charset_rows, escape_calls, execute_calls};
 ghost use Rattle.vte_handler.specs.Handler.{after};
 ghost use Rattle.vte_types.specs.Words.{entry_of};
 

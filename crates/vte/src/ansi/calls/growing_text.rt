@@ -1,5 +1,5 @@
 //! A text whose buffer grows on request.
-ghost use Rattle.std.specs.Prelude.{◌≡◌, ◌≤◌, string_bytes, string_capacity};
+ghost use Rattle.std.specs.Prelude.{string_bytes, string_capacity, ◌≡◌, ◌≤◌};
 
 use crate::ansi::calls::text_buffer::TextBuffer;
 use std::alloc::{AllocError, Allocator};

@@ -1,5 +1,5 @@
 //! Texts that are joined from pieces.
-ghost use Rattle.std.specs.Prelude.{◌≡◌, ◌≤◌, ◌+◌, ◌++◌, length, map, option_map};
+ghost use Rattle.std.specs.Prelude.{length, map, option_map, ◌++◌, ◌+◌, ◌≡◌, ◌≤◌};
 ghost use Rattle.vte.specs.CommandCalls.{joined_texts, text_in};
 ghost use Rattle.vte.specs.private.Performer.{FitsTextSize, text_to_join};
 

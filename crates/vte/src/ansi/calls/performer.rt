@@ -1,5 +1,5 @@
 //! The performer that calls a handler.
-ghost use Rattle.std.specs.Prelude.{◌≡◌, false, map};
+ghost use Rattle.std.specs.Prelude.{false, map, ◌≡◌};
 ghost use Rattle.std.specs.Str.{chars};
 ghost use Rattle.vte_core.specs.Event.{Print};
 ghost use Rattle.vte.specs.Calls.{last_printed_from};

@@ -1,5 +1,5 @@
 //! Select graphic rendition (SGR).
-ghost use Rattle.std.specs.Prelude.{◌≡◌, drop, option_map};
+ghost use Rattle.std.specs.Prelude.{drop, option_map, ◌≡◌};
 ghost use Rattle.vte.specs.Rendition.{attribute_calls, attribute_rows, color_rows, rendition, underline_of};
 ghost use Rattle.vte_types.specs.Words.{entry_of};
 ghost use Rattle.vte_handler.specs.Handler.{after};

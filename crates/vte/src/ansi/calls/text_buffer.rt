@@ -1,5 +1,5 @@
 //! The buffer for a text that is joined from pieces.
-ghost use Rattle.std.specs.Prelude.{◌≡◌, true, false, ◌+◌, ◌≤◌, ◌<◌, ◌++◌, ◌∷◌, List, ℕ, [], length};
+ghost use Rattle.std.specs.Prelude.{false, length, List, true, ℕ, [], ◌++◌, ◌+◌, ◌<◌, ◌∷◌, ◌≡◌, ◌≤◌};
 
 use arrayvec::ArrayString;
 

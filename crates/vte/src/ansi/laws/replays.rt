@@ -1,7 +1,7 @@
 //! Lists of a processor's calls.
-ghost use Rattle.std.specs.Prelude.{None, IfOk, IfErr};
+ghost use Rattle.std.specs.Prelude.{IfErr, IfOk, None};
 ghost use Rattle.vte.specs.LongProcessor.{HasParsedAndHoldsLong, LacksMemoryLong};
-ghost use Rattle.vte.specs.Processor.{State, meaning_of};
+ghost use Rattle.vte.specs.Processor.{meaning_of, State};
 ghost use Rattle.vte.specs.ProcessorCalls.{HasParsedAndHolds, IsAt, Replays};
 ghost use Rattle.vte.specs.Refusal.{HasReplayedUntil, left_by};
 ghost use Rattle.vte_core.specs.Stream.{usual_limit};

@@ -1,10 +1,10 @@
 //! What a processor is, whatever its limit. It takes turns: each parses bytes of a call, or holds
 //! them back.
-ghost use Rattle.std.specs.Prelude.{◌≡◌, ℕ, ◌+◌, ◌≤◌, [], length, IfErr, IfOk, MatchResult, ◌-◌, ◌<◌, nat_le};
-ghost use Rattle.vte.specs.Views.{EngineHasParsedAndHolds, engine_view};
+ghost use Rattle.std.specs.Prelude.{IfErr, IfOk, length, MatchResult, nat_le, ℕ, [], ◌+◌, ◌-◌, ◌<◌, ◌≡◌, ◌≤◌};
+ghost use Rattle.vte.specs.Views.{engine_view, EngineHasParsedAndHolds};
 ghost use Rattle.vte.specs.ProcessorCalls.{held_of};
 ghost use Rattle.vte.specs.private.Hold.{released_of};
-ghost use Rattle.vte.specs.Processor.{State, hold_turn, meaning_of, max_held, parse, set_times, stop};
+ghost use Rattle.vte.specs.Processor.{hold_turn, max_held, meaning_of, parse, set_times, State, stop};
 ghost use Rattle.vte.specs.private.Engine.{ArePartsAt, ArePartsAtKeepingMemory, EndsParsingTurn, EndsTurn, EngineIsAtKeepingMemory, EngineLeadsOn, HasMemoryIfAny, LeaveMemory};
 ghost use Rattle.vte.specs.LongProcessor.{EngineReads, EngineStops, LacksMemoryForSome, Reserves};
 ghost use Rattle.vte_handler.specs.Timeout.{timeout_meaning};

@@ -1,6 +1,6 @@
 //! The bytes of an update that are held back, in memory that is allocated once.
 ghost use Rattle.std.proofs.Props.{props};
-ghost use Rattle.std.specs.Prelude.{◌≡◌, ◌+◌, ◌≤◌, [], None, length, drop, IfOk, vec_capacity};
+ghost use Rattle.std.specs.Prelude.{drop, IfOk, length, None, vec_capacity, [], ◌+◌, ◌≡◌, ◌≤◌};
 ghost use Rattle.vte.specs.Synchronized.{after_last_end};
 ghost use Rattle.vte.specs.Processor.{max_held};
 ghost use Rattle.vte.specs.declared.ansi.updates.hold.TheConstants.{CAPACITY};

@@ -1,6 +1,6 @@
 //! The parser of a processor without a limit. It allocates before it reads, so that nothing is
 //! refused on the way.
-ghost use Rattle.std.specs.Prelude.{◌≡◌, ◌+◌, ◌≤◌, ◌^◌, IfSome, None};
+ghost use Rattle.std.specs.Prelude.{IfSome, None, ◌+◌, ◌^◌, ◌≡◌, ◌≤◌};
 ghost use Rattle.vte.specs.Views.{long_parser_view};
 ghost use Rattle.vte.specs.declared.ansi.calls.joined_text.TheConstants.{SEPARATORS};
 

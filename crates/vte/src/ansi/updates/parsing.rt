@@ -1,11 +1,11 @@
 //! The parser, together with what a processor lends it. The references are separate parameters, not
 //! fields of one struct, so that the performer can borrow each.
-ghost use Rattle.std.specs.Prelude.{◌≡◌, ◌≤◌, ◌+◌, ℕ, List, Option, Some, true, false, length};
+ghost use Rattle.std.specs.Prelude.{false, length, List, Option, Some, true, ℕ, ◌+◌, ◌≡◌, ◌≤◌};
 ghost use Rattle.vte.specs.private.Performing.{AdvancesAll, AdvancesUntilStop, performer_value};
-ghost use Rattle.vte.specs.Processor.{State, meaning_of, parse};
+ghost use Rattle.vte.specs.Processor.{meaning_of, parse};
 ghost use Rattle.vte.specs.private.Performer.{performer_with_event};
 ghost use Rattle.vte.specs.private.Engine.{HasParsedPrefix, LeaveMemory, PartsLeadOn};
-ghost use Rattle.vte.specs.Views.{ParserView, engine_view, limited_parser_view};
+ghost use Rattle.vte.specs.Views.{engine_view, limited_parser_view, ParserView};
 ghost use Rattle.vte.specs.Memory.{KeepsMemory};
 ghost use Rattle.vte_handler.specs.Timeout.{timeout_meaning};
 

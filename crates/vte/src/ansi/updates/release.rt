@@ -1,7 +1,7 @@
 //! What a hold releases when bytes are added to it.
-ghost use Rattle.std.specs.Prelude.{◌≡◌, ℕ, ◌+◌, ◌≤◌, ◌<◌, ◌^◌, List, ◌++◌, IsTrue, None, length};
-ghost use Rattle.vte.specs.private.Hold.{Adds, IsHeldTail, HasNoPrivateSequence, NoneBetween};
-ghost use Rattle.vte.specs.Synchronized.{begin_update, begins_with, after_last_end, end_update};
+ghost use Rattle.std.specs.Prelude.{IsTrue, length, List, None, ℕ, ◌++◌, ◌+◌, ◌<◌, ◌^◌, ◌≡◌, ◌≤◌};
+ghost use Rattle.vte.specs.private.Hold.{Adds, HasNoPrivateSequence, IsHeldTail, NoneBetween};
+ghost use Rattle.vte.specs.Synchronized.{after_last_end, begin_update, begins_with, end_update};
 
 use memchr::memrchr;
 

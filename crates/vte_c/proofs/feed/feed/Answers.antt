@@ -1,6 +1,6 @@
 -- The caller's counts and slices are those of the writer (`counts-of_writer`). So what `read_into` ensures, of the
 -- bytes that 32 bits can count, holds for the caller.
-use Rattle.vte_c.proofs.Common.{Event, HasReported, List, [], append_assoc, arith, drop, drop-append-le, length, length-take, fed_count, rules, sym, take, take-append-drop, take-take, ℕ, ◌++◌, ◌<◌, ◌∙◌, ◌≡◌, ◌≤◌}
+use Rattle.vte_c.proofs.Common.{append_assoc, arith, drop, drop-append-le, Event, fed_count, HasReported, length, length-take, List, rules, sym, take, take-append-drop, take-take, ℕ, [], ◌++◌, ◌<◌, ◌∙◌, ◌≡◌, ◌≤◌}
 use Rattle.vte_c.proofs.lemmas.ReadBack.{counts-of_writer, fed_count-with_room}
 use Rattle.vte_c.proofs.feed.feed.Goals as goal
 

@@ -1,6 +1,6 @@
 -- Each round goes on from where the one before stopped (`gone-then`). A round that reads nothing ends the call; the
 -- first one does so only if a record that stops was written.
-use Rattle.vte_c.proofs.Common.{Buffers, ap, arith, cases_lt, inl, inr, refl, buffers_of, sym, ◌+◌, ◌<◌, ◌∙◌, ◌≡◌}
+use Rattle.vte_c.proofs.Common.{ap, arith, Buffers, buffers_of, cases_lt, inl, inr, refl, sym, ◌+◌, ◌<◌, ◌∙◌, ◌≡◌}
 use Rattle.vte_c.proofs.lemmas.CallSteps.{gone-nothing, gone-then}
 use Rattle.vte_c.proofs.feed.read_all.Goals as goal
 

@@ -1,5 +1,5 @@
 -- The call has gone on to this position (`HasReadOn`). Each round reads a byte or more.
-use Rattle.vte_c.proofs.Common.{HasReadOn, HasRead, List, length, buffers_of, ℕ, ◌-◌, ◌≡◌, ◌≤◌}
+use Rattle.vte_c.proofs.Common.{buffers_of, HasRead, HasReadOn, length, List, ℕ, ◌-◌, ◌≡◌, ◌≤◌}
 use Rattle.vte_c.proofs.feed.read_all.Given as goal
 
 abbrev pub invariant-loop-position : goal.invariant-loop-position

@@ -1,8 +1,8 @@
 -- A call of the parser goes on to the run that it returns, and by this run (`goes-to-run`), and reads a byte if it can
 -- (`goes-further`).
-use Rattle.vte_c.proofs.Common.{List, arith, drop, length, length-drop, buffers_of, resumed_stream, take, ℕ, ◌++◌, ◌-◌, ◌≡◌, ◌≤◌, usual_limit}
+use Rattle.vte_c.proofs.Common.{arith, buffers_of, drop, length, length-drop, List, resumed_stream, take, usual_limit, ℕ, ◌++◌, ◌-◌, ◌≡◌, ◌≤◌}
 use Rattle.vte_core.specs.AdvanceToRun.{run_bytes}
-use Rattle.vte_c.proofs.lemmas.CallSteps.{Laws, goes-further, goes-to-run}
+use Rattle.vte_c.proofs.lemmas.CallSteps.{goes-further, goes-to-run, Laws}
 use Rattle.vte_c.proofs.feed.read_more.Goals as goal
 use Rattle.std.proofs.lemmas.List.{take_rest}
 

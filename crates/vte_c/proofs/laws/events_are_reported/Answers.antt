@@ -1,6 +1,6 @@
 -- A saved parser of zeros is a new one, which has read nothing. What calls give is joined, and in the end nothing is
 -- unread (`ReadBack`).
-use Rattle.vte_c.proofs.Common.{refl, sym, ◌∙◌, usual_limit}
+use Rattle.vte_c.proofs.Common.{refl, sym, usual_limit, ◌∙◌}
 use Rattle.vte_c.proofs.lemmas.ReadBack.{events-reported, given-all, given-before, given-nothing}
 use Rattle.vte_c.proofs.laws.events_are_reported.Goals as goal
 

@@ -1,6 +1,6 @@
 -- The text of a chunk has at most eight bytes for each of its own, so there is room for it (`has_text-more`). All
 -- chunks together have the text of all bytes read.
-use Rattle.vte_c.proofs.Common.{TextBuffer, added, ap, arith, drop, flat_map-append, length, length-drop, length-take, plain_text, plain_text_of, refl, sym, take, take-add, usual_limit, text_buffer_of, ◌*◌, ◌++◌, ◌+◌, ◌-◌, ◌<◌, ◌∙◌, ◌≡◌, ◌≤◌}
+use Rattle.vte_c.proofs.Common.{added, ap, arith, drop, flat_map-append, length, length-drop, length-take, plain_text, plain_text_of, refl, sym, take, take-add, text_buffer_of, TextBuffer, usual_limit, ◌*◌, ◌++◌, ◌+◌, ◌-◌, ◌<◌, ◌∙◌, ◌≡◌, ◌≤◌}
 use Rattle.vte_c.proofs.lemmas.ReadBack.{given-more}
 use Rattle.vte_c.proofs.lemmas.Continuations.{continues-added}
 use Rattle.event_log.proofs.lemmas.Lengths.{text_grows_slowly}

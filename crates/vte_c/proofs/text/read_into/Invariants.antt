@@ -1,5 +1,5 @@
 -- This many bytes were read, and the buffer has all of their text (`HasTextOf`). Each round reads a byte or more.
-use Rattle.vte_c.proofs.Common.{HasReadSaved, List, length, text_buffer_of, ℕ, ◌-◌, ◌≡◌, ◌≤◌}
+use Rattle.vte_c.proofs.Common.{HasReadSaved, length, List, text_buffer_of, ℕ, ◌-◌, ◌≡◌, ◌≤◌}
 use Rattle.vte_c.proofs.lemmas.Stripping.{HasTextOf}
 use Rattle.vte_c.proofs.text.read_into.Given as goal
 

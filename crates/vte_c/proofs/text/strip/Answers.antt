@@ -1,5 +1,5 @@
 -- The caller's slice and count are those of the writer, so what `read_into` ensures holds for the caller.
-use Rattle.vte_c.proofs.Common.{List, ap, arith, length, length-take, fed_count, rules, sym, ℕ, ◌++◌, ◌≡◌, ◌≤◌}
+use Rattle.vte_c.proofs.Common.{ap, arith, fed_count, length, length-take, List, rules, sym, ℕ, ◌++◌, ◌≡◌, ◌≤◌}
 use Rattle.vte_c.specs.Reported.{HasStripped}
 use Rattle.vte_c.proofs.lemmas.ReadBack.{fed_count-with_room}
 use Rattle.vte_c.proofs.text.strip.Goals as goal

@@ -1,6 +1,6 @@
 -- The headline: by induction over the pieces. A call performs what its bytes add, and what is reported of a longer
 -- stream is what was reported before and what is added (`events_grow`).
-use Rattle.vte_core.proofs.Common.{ℕ, List, Bor, Some, [], ◌∷◌, append-nil, events, flat_map-append, get_or, take_more, take, arith, take_all, flat_map, rules}
+use Rattle.vte_core.proofs.Common.{append-nil, arith, Bor, events, flat_map, flat_map-append, get_or, List, rules, Some, take, take_all, take_more, ℕ, [], ◌∷◌}
 use Rattle.vte_core.proofs.lemmas.streams.After.{after_events-append, events-empty}
 use Rattle.vte_core.proofs.lemmas.streams.StreamSteps.{events_grow}
 use Rattle.vte_core.proofs.laws.replay.Goals as goal

@@ -1,13 +1,13 @@
 -- What the automaton's state says of the text that it has read: characters that are printed, and then the bytes of one
 -- that has begun. Each step of the automaton keeps that. The ten states have three phases (`Phase`): between two
 -- characters, failed, or inside a character, whose next byte has one range.
-use Rattle.vte_core.proofs.Common.{List, [], ap, arith, get_or, length, refl, suc, ℕ, ◌++◌, ◌<◌, ◌∙◌, ◌∷◌, ◌≡◌, ◌≢◌, ◌≤◌, Range, from_to, inl, inr, subst, sym, true, and_parts, cases_Bool, cases_eq, cases_lt, false≢true, nat_tests, is_in, rows_after_byte, utf8_rows, second_range, IsPrintedAscii, IsUtf8Run, is_layout, add-one, append_assoc, cond, drop, length-drop, take, zero, ◌&&◌, ◌+◌, ◌-◌, take-add, append-nil, get_or-drop, take_more, slice_index, Bool, false, length-append, length-take, encodes, encode, All-cons, All-head, All-nil, All-tail, All, StaysInRun, rules}
+use Rattle.vte_core.proofs.Common.{add-one, All, All-cons, All-head, All-nil, All-tail, and_parts, ap, append-nil, append_assoc, arith, Bool, cases_Bool, cases_eq, cases_lt, cond, drop, encode, encodes, false, false≢true, from_to, get_or, get_or-drop, inl, inr, is_in, is_layout, IsPrintedAscii, IsUtf8Run, length, length-append, length-drop, length-take, List, nat_tests, Range, refl, rows_after_byte, rules, second_range, slice_index, StaysInRun, subst, suc, sym, take, take-add, take_more, true, utf8_rows, zero, ℕ, [], ◌&&◌, ◌++◌, ◌+◌, ◌-◌, ◌<◌, ◌∙◌, ◌∷◌, ◌≡◌, ◌≢◌, ◌≤◌}
 use Rattle.vte_core.proofs.lemmas.bytes.Utf8.{continuation, fits, tests-row, tests-two}
-use Rattle.vte_core.specs.private.Automaton.{AutomatonState, Between, NeedsOne, NeedsTwo, NeedsThree, AfterE0, AfterED, AfterF0, AfterF4, AfterC2, Failed, next_if_in, next_between, next_state, state_after}
-use Rattle.vte_core.proofs.lemmas.bytes.Runs.{each-one, run-ascii, run-layout, utf8_run-nil, utf8_run-append}
+use Rattle.vte_core.specs.private.Automaton.{AfterC2, AfterE0, AfterED, AfterF0, AfterF4, AutomatonState, Between, Failed, NeedsOne, NeedsThree, NeedsTwo, next_between, next_if_in, next_state, state_after}
+use Rattle.vte_core.proofs.lemmas.bytes.Runs.{each-one, run-ascii, run-layout, utf8_run-append, utf8_run-nil}
 use Rattle.vte_core.proofs.lemmas.bytes.Scalars.{in_range-bounds}
 use Rattle.vte_core.proofs.lemmas.dividing.Utf8Agrees.{utf8_run-character}
-use Rattle.std.proofs.lemmas.List.{get_or-take, get_or-append-add}
+use Rattle.std.proofs.lemmas.List.{get_or-append-add, get_or-take}
 use Rattle.std.proofs.lemmas.Str.{encode_ascii, encodes-chars}
 use Rattle.vte_core.specs.private.Scans.{Each}
 

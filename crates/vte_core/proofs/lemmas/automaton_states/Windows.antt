@@ -1,11 +1,11 @@
 -- What the last three bytes say of the automaton's state (`Trails`). Bytes that pass the tests of a block keep it
 -- (`trails-after`, `trails-block`), so three bytes say where the last character ends (`run-before-open`).
-use Rattle.vte_core.proofs.Common.{Bool, List, arith, drop, false, inl, inr, length, length-drop, refl, subst, suc, sym, take, take-add, true, zero, ℕ, ◌+◌, ◌-◌, ◌<◌, ◌∙◌, ◌∷◌, [], ◌≡◌, ◌≢◌, ◌≤◌, ap, cases_Bool, cases_lt, get_or-drop, nat_tests, slice_index, Range, IsUtf8Run, is_in, from_to, is_layout, rules}
+use Rattle.vte_core.proofs.Common.{ap, arith, Bool, cases_Bool, cases_lt, drop, false, from_to, get_or-drop, inl, inr, is_in, is_layout, IsUtf8Run, length, length-drop, List, nat_tests, Range, refl, rules, slice_index, subst, suc, sym, take, take-add, true, zero, ℕ, [], ◌+◌, ◌-◌, ◌<◌, ◌∙◌, ◌∷◌, ◌≡◌, ◌≢◌, ◌≤◌}
 use Rattle.vte_core.specs.private.Scans.{Each, IsWindow}
 use Rattle.vte_core.proofs.lemmas.bytes.Runs.{block-byte, each-both}
 use Rattle.vte_core.specs.declared.reader.Window.{Window}
-use Rattle.vte_core.proofs.lemmas.automaton_states.Scanned.{so_far-all, state_after-next, state_after-append, next_state-failed, phase-between, phase-failed, phase-waiting, phase}
-use Rattle.vte_core.specs.private.Automaton.{state_after, Follows, FollowsAt, StaysBetween, open_count, AutomatonState, Between, NeedsOne, NeedsTwo, NeedsThree, AfterE0, AfterED, AfterF0, AfterF4, AfterC2, Failed, next_between, next_if_in, next_state, Trails}
+use Rattle.vte_core.proofs.lemmas.automaton_states.Scanned.{next_state-failed, phase, phase-between, phase-failed, phase-waiting, so_far-all, state_after-append, state_after-next}
+use Rattle.vte_core.specs.private.Automaton.{AfterC2, AfterE0, AfterED, AfterF0, AfterF4, AutomatonState, Between, Failed, Follows, FollowsAt, NeedsOne, NeedsThree, NeedsTwo, next_between, next_if_in, next_state, open_count, state_after, StaysBetween, Trails}
 
 -- The tests of a byte after three others.
 pub record Fits (three_back two_back one_back byte : ℕ) : Type 0 where

@@ -1,8 +1,8 @@
 -- Which bytes a class has, and what the tests of a byte's class say together: by cases of the class, of which most are
 -- absurd.
-use Rattle.vte_core.proofs.Common.{◌≡◌, ℕ, ◌<◌, ◌≤◌, true, arith, nat_tests, Class, Control, Cancel, Intermediate, Digit, Colon, Semicolon, Marker, Final, Delete, High, class_of, is_head_byte, Bool, false, ne_eqb, refl, EscapeSequence, sequence_kind, if◌then◌else◌, is_cancel, is_plain_control, is_device_data, is_final, is_intermediate, dispatches_escape, ends_body, ends_device_data, IsCommandData, List, [], ◌∷◌, ◌++◌, is_parameter_text, ends_head, AreInClass, rules}
+use Rattle.vte_core.proofs.Common.{AreInClass, arith, Bool, Cancel, Class, class_of, Colon, Control, Delete, Digit, dispatches_escape, ends_body, ends_device_data, ends_head, EscapeSequence, false, Final, High, if◌then◌else◌, Intermediate, is_cancel, is_device_data, is_final, is_head_byte, is_intermediate, is_parameter_text, is_plain_control, IsCommandData, List, Marker, nat_tests, ne_eqb, refl, rules, Semicolon, sequence_kind, true, ℕ, [], ◌++◌, ◌<◌, ◌∷◌, ◌≡◌, ◌≤◌}
 use Rattle.vte_core.specs.Class.{Escape}
-use Rattle.vte_core.specs.SequenceKind.{IgnoredString, begins_ignored_string}
+use Rattle.vte_core.specs.SequenceKind.{begins_ignored_string, IgnoredString}
 
 -- ---- the bytes of a class
 

@@ -1,12 +1,12 @@
 -- Eight bytes as a word, and the marks of those that are no printed ASCII. Bit by bit: a borrow reaches a byte only
 -- from a byte below it that is marked itself, so up to the first mark none is missed.
-use Rattle.std.proofs.Common.{◌≡◌, ℕ, zero, suc, ◌+◌, ◌*◌, ◌%◌, ◌<◌, ◌≤◌, List, length, get_or, nat_eq, ◌^◌, true, refl, ap, subst, arith, w64}
+use Rattle.std.proofs.Common.{ap, arith, get_or, length, List, nat_eq, refl, subst, suc, true, w64, zero, ℕ, ◌%◌, ◌*◌, ◌+◌, ◌<◌, ◌^◌, ◌≡◌, ◌≤◌}
 use Rattle.std.proofs.lemmas.Bool.{agree_below_at, eqb-true}
 use Rattle.std.proofs.lemmas.Nat.{and_le_r, le_bytes_8}
-use Rattle.std.proofs.lemmas.Nat.Bits.{bit_at_and, bit_at_or, bit_at-lt}
+use Rattle.std.proofs.lemmas.Nat.Bits.{bit_at-lt, bit_at_and, bit_at_or}
 use Rattle.std.specs.Int.{bit_at, from_le_bytes, to_le_bytes}
 use Rattle.std.specs.Prelude.{bit_and, bit_or}
-use Rattle.vte_core.specs.private.Scans.{IsPrintedAscii, ArePrintedAscii}
+use Rattle.vte_core.specs.private.Scans.{ArePrintedAscii, IsPrintedAscii}
 
 -- 0x20 is subtracted from each byte: 0xdfdfdfdfdfdfdfe0 is 2 ^ 64 - 0x2020202020202020.
 abbrev pub less : ℕ → ℕ

@@ -3,8 +3,8 @@
 --
 -- `each-X`: what each byte of X meets; `run-X`: X is a run; `scans-X`: a search goes on by X; `no_run-X`: no run begins
 -- where X does.
-use Rattle.vte_core.proofs.Common.{◌≡◌, ℕ, ◌+◌, ◌-◌, ◌<◌, ◌≤◌, inl, inr, List, [], ◌∷◌, length, take, drop, get_or, refl, ap, subst, ◌∙◌, arith, cases_lt, drop_more, take_rest, slice_index, Bool, true, false, ◌++◌, map, sym, nat_tests, get_or-drop, All-append, All-nil, All-cons, All, IsAscii, chars, Print, IsPrintedAscii, ArePrintedAscii, IsUtf8Run, IsRun, from_to, append-nil, encode, IsScalar, after, Event, is_in, is_control_character, is_layout, StaysInRun, run_event, looked, Scans, zero, suc, utf8_rows, false≢true, cases_Bool, and_parts, drop_all, Range, ends_run, is_well_formed, second_range, scalar_of, HasNoRunAt, rules}
-use Rattle.std.proofs.lemmas.List.{length-drop, length-take, get_or-take}
+use Rattle.vte_core.proofs.Common.{after, All, All-append, All-cons, All-nil, and_parts, ap, append-nil, ArePrintedAscii, arith, Bool, cases_Bool, cases_lt, chars, drop, drop_all, drop_more, encode, ends_run, Event, false, false≢true, from_to, get_or, get_or-drop, HasNoRunAt, inl, inr, is_control_character, is_in, is_layout, is_well_formed, IsAscii, IsPrintedAscii, IsRun, IsScalar, IsUtf8Run, length, List, looked, map, nat_tests, Print, Range, refl, rules, run_event, scalar_of, Scans, second_range, slice_index, StaysInRun, subst, suc, sym, take, take_rest, true, utf8_rows, zero, ℕ, [], ◌++◌, ◌+◌, ◌-◌, ◌<◌, ◌∙◌, ◌∷◌, ◌≡◌, ◌≤◌}
+use Rattle.std.proofs.lemmas.List.{get_or-take, length-drop, length-take}
 use Rattle.std.proofs.lemmas.Simd.{get_or-chunk}
 use Rattle.std.specs.Array.{IsFirstChunk}
 use Rattle.vte_core.specs.private.Scans.{Each}
@@ -12,10 +12,10 @@ use Rattle.std.proofs.Common.{take-add}
 use Rattle.std.proofs.lemmas.List.Elements.{All-from_get_or}
 use Rattle.std.proofs.lemmas.Str.Ascii.{IsAscii-cons, IsAscii-from_reads, IsAscii-nil}
 use Rattle.std.proofs.Math.Seq.{drop-drop}
-use Rattle.std.proofs.lemmas.Str.{IsUtf8-encode, IsUtf8-nil, IsUtf8-append, IsUtf8-from_ascii, chars-nil, chars-append, chars-IsAscii, chars_past_char}
+use Rattle.std.proofs.lemmas.Str.{chars-append, chars-IsAscii, chars-nil, chars_past_char, IsUtf8-append, IsUtf8-encode, IsUtf8-from_ascii, IsUtf8-nil}
 use Rattle.vte_core.specs.declared.reader.Reader.{Reader}
 use Rattle.vte_core.proofs.lemmas.bytes.Scalars.{continuation-bounds, in_range-bounds}
-use Rattle.vte_core.proofs.lemmas.bytes.Utf8.{rows-lone, rows-none, continuation, fits, second_plain, tests-ascii, tests-none, tests-two, tests-three, tests-four}
+use Rattle.vte_core.proofs.lemmas.bytes.Utf8.{continuation, fits, rows-lone, rows-none, second_plain, tests-ascii, tests-four, tests-none, tests-three, tests-two}
 
 -- ---- each byte between two positions
 

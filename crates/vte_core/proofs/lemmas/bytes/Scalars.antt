@@ -1,9 +1,9 @@
 -- The number of a well-formed sequence is that of a character: of its bytes, each in its range, the sum has bounds. So
 -- too with one more byte of an unfinished one.
-use Rattle.vte_core.proofs.Common.{◌≡◌, ℕ, suc, ◌<◌, ◌≤◌, true, ◌&&◌, List, [], ◌∷◌, length, refl, sym, ap, ◌∙◌, arith, inl, inr, IsScalar, InScalarRange, false≢true, and_parts, cases_lt, nat_tests, Range, is_in, is_well_formed, scalar_of, second_range, utf8_rows, ◌+◌, ◌*◌, ◌%◌, false, ◌++◌, subst, and_from, Two, Three, from_to, is_truncated, Carries, rules}
-use Rattle.vte_core.proofs.lemmas.bytes.Utf8.{continuation, fits, FirstByte, ascii, lone, of_two, of_three, of_four, first_byte, tests-none, tests-ascii, tests-two, tests-three, tests-four, second_plain, rows-lone, rows-none, Tests, truncated-first, truncated-two, truncated-three}
+use Rattle.vte_core.proofs.Common.{and_from, and_parts, ap, arith, Carries, cases_lt, false, false≢true, from_to, inl, inr, InScalarRange, is_in, is_truncated, is_well_formed, IsScalar, length, List, nat_tests, Range, refl, rules, scalar_of, second_range, subst, suc, sym, Three, true, Two, utf8_rows, ℕ, [], ◌%◌, ◌&&◌, ◌*◌, ◌++◌, ◌+◌, ◌<◌, ◌∙◌, ◌∷◌, ◌≡◌, ◌≤◌}
+use Rattle.vte_core.proofs.lemmas.bytes.Utf8.{ascii, continuation, first_byte, FirstByte, fits, lone, of_four, of_three, of_two, rows-lone, rows-none, second_plain, Tests, tests-ascii, tests-four, tests-none, tests-three, tests-two, truncated-first, truncated-three, truncated-two}
 use Rattle.vte_core.specs.declared.utf8.Carried.{Carried}
-use Rattle.vte_core.specs.declared.utf8.Carried.TheVariants.{Unfinished, Whole, Broken}
+use Rattle.vte_core.specs.declared.utf8.Carried.TheVariants.{Broken, Unfinished, Whole}
 
 -- ---- the bounds of a byte in a range
 

@@ -1,6 +1,6 @@
 -- What the rows of UTF-8 say of bytes one after the other. The rows ascend, so after a first byte at most one is left,
 -- and bytes are well formed, truncated or neither by what it still wants.
-use Rattle.vte_core.proofs.Common.{◌≡◌, ◌≢◌, ℕ, suc, ◌+◌, ◌<◌, ◌≤◌, Bool, true, false, not, ◌&&◌, List, [], ◌∷◌, ◌++◌, length, refl, sym, ap, ◌∙◌, arith, inl, inr, nat_le, list_any, false≢true, lt-leb, leb-true, and_left, cases_Bool, and_parts, Range, is_in, utf8_rows, rows_after_byte, rows_after_bytes, is_complete, allowed_length, and_right, cases_lt, nat_tests, from_to, is_well_formed, is_truncated, second_range, rules}
+use Rattle.vte_core.proofs.Common.{allowed_length, and_left, and_parts, and_right, ap, arith, Bool, cases_Bool, cases_lt, false, false≢true, from_to, inl, inr, is_complete, is_in, is_truncated, is_well_formed, leb-true, length, List, list_any, lt-leb, nat_le, nat_tests, not, Range, refl, rows_after_byte, rows_after_bytes, rules, second_range, suc, sym, true, utf8_rows, ℕ, [], ◌&&◌, ◌++◌, ◌+◌, ◌<◌, ◌∙◌, ◌∷◌, ◌≡◌, ◌≢◌, ◌≤◌}
 
 -- ---- after a byte at most one row is left
 

@@ -1,9 +1,9 @@
 -- The division of a text is Unicode's: the longest segment at each place, and nothing lost. If the rows still allow
 -- a byte, a longer segment exists; if they don't, no longer one does.
-use Rattle.vte_core.proofs.Common.{◌≡◌, ◌≢◌, ℕ, zero, suc, ◌<◌, ◌≤◌, Bool, true, false, List, [], ◌∷◌, length, take, drop, refl, sym, subst, ap, ◌∙◌, arith, inl, inr, length-take-le, concat, take-append-drop, false≢true, cases_lt, Range, utf8_rows, rows_after_byte, rows_after_bytes, is_well_formed, is_truncated, allowed_length, trailing_count, segments_after, ◌++◌, length-append, length-drop, take-append_seam, drop-append_seam, segments, rules}
-use Rattle.vte_core.specs.Division.{IsSegment, IsAllDivided, IsRightSegment, AreRightSegments}
-use Rattle.vte_core.proofs.lemmas.bytes.Utf8.{rows_after_bytes-none, some_whole, some_open, neither_whole_nor_open, allowed, allowed_length-none, unwanted, wanted}
-use Rattle.vte_core.proofs.lemmas.shapes.FirstSegment.{trailing_count-well_formed, not_well_formed-nothing}
+use Rattle.vte_core.proofs.Common.{allowed_length, ap, arith, Bool, cases_lt, concat, drop, drop-append_seam, false, false≢true, inl, inr, is_truncated, is_well_formed, length, length-append, length-drop, length-take-le, List, Range, refl, rows_after_byte, rows_after_bytes, rules, segments, segments_after, subst, suc, sym, take, take-append-drop, take-append_seam, trailing_count, true, utf8_rows, zero, ℕ, [], ◌++◌, ◌<◌, ◌∙◌, ◌∷◌, ◌≡◌, ◌≢◌, ◌≤◌}
+use Rattle.vte_core.specs.Division.{AreRightSegments, IsAllDivided, IsRightSegment, IsSegment}
+use Rattle.vte_core.proofs.lemmas.bytes.Utf8.{allowed, allowed_length-none, neither_whole_nor_open, rows_after_bytes-none, some_open, some_whole, unwanted, wanted}
+use Rattle.vte_core.proofs.lemmas.shapes.FirstSegment.{not_well_formed-nothing, trailing_count-well_formed}
 use Rattle.std.proofs.lemmas.List.{length-take}
 
 -- The segment that starts with b, followed by `bytes`, is the right one.

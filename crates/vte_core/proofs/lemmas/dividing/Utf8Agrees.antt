@@ -1,13 +1,13 @@
 -- The well-formed sequences are the encodings of characters, as the standard library has them: by the number of bytes,
 -- with division and remainder by 64 on both sides. So the library's texts are those without malformed segments, and a
 -- character that is no control is a run.
-use Rattle.vte_core.proofs.Common.{map, ◌≡◌, ℕ, ◌+◌, ◌-◌, ◌<◌, ◌≤◌, true, List, [], ◌∷◌, ◌++◌, refl, sym, ap, ◌∙◌, arith, ◌≢◌, inl, inr, append_assoc, scalar, scalars, encode, encodes, concat, IsScalar, InScalarRange, false≢true, and_parts, ne_eqb, nat_tests, All-head, All-tail, report, cut_at_escape, escape, character_event, text_outcome, is_in, is_well_formed, scalar_of, segments, second_range, IsUtf8, chars, suc, Bool, false, length, take, drop, get_or, subst, and_from, cases_eq, append-nil, drop_more, All-nil, All-cons, All, slice_index, is_control_character, StaysInRun, from_to, IsUtf8Run, IsRun, rules}
-use Rattle.std.proofs.lemmas.Str.{encode_ascii, encodes-chars, scalars-chars, IsUtf8-encode, IsUtf8-append, IsUtf8-nil, chars-encodes}
+use Rattle.vte_core.proofs.Common.{All, All-cons, All-head, All-nil, All-tail, and_from, and_parts, ap, append-nil, append_assoc, arith, Bool, cases_eq, character_event, chars, concat, cut_at_escape, drop, drop_more, encode, encodes, escape, false, false≢true, from_to, get_or, inl, inr, InScalarRange, is_control_character, is_in, is_well_formed, IsRun, IsScalar, IsUtf8, IsUtf8Run, length, List, map, nat_tests, ne_eqb, refl, report, rules, scalar, scalar_of, scalars, second_range, segments, slice_index, StaysInRun, subst, suc, sym, take, text_outcome, true, ℕ, [], ◌++◌, ◌+◌, ◌-◌, ◌<◌, ◌∙◌, ◌∷◌, ◌≡◌, ◌≢◌, ◌≤◌}
+use Rattle.std.proofs.lemmas.Str.{chars-encodes, encode_ascii, encodes-chars, IsUtf8-append, IsUtf8-encode, IsUtf8-nil, scalars-chars}
 use Rattle.vte_core.proofs.lemmas.dividing.Division.{all_divided}
-use Rattle.vte_core.proofs.lemmas.bytes.Utf8.{tests-two, tests-three, tests-four, second_plain}
-use Rattle.vte_core.proofs.lemmas.bytes.Scalars.{IsContinuation, SecondByte, sequence, whole_one, whole_two, whole_three, whole_four, well_formed_is_scalar}
+use Rattle.vte_core.proofs.lemmas.bytes.Utf8.{second_plain, tests-four, tests-three, tests-two}
+use Rattle.vte_core.proofs.lemmas.bytes.Scalars.{IsContinuation, SecondByte, sequence, well_formed_is_scalar, whole_four, whole_one, whole_three, whole_two}
 use Rattle.vte_core.proofs.lemmas.shapes.Outcomes.{report-append}
-use Rattle.vte_core.proofs.lemmas.shapes.FirstSegment.{trailing_count-well_formed, segments-first, text_outcome-well_formed, not_well_formed-nothing}
+use Rattle.vte_core.proofs.lemmas.shapes.FirstSegment.{not_well_formed-nothing, segments-first, text_outcome-well_formed, trailing_count-well_formed}
 use Rattle.vte_core.proofs.lemmas.bytes.Runs.{no_control-stays}
 
 -- ---- a well-formed sequence is the encoding of its character

@@ -1,9 +1,9 @@
 -- How lengths cut numbers into groups, also with one more number (`pushed`), and how one more byte changes the numbers
 -- of a parameter text. By induction over the lengths, and over the text, with the digits since the last separator.
-use Rattle.vte_core.proofs.Common.{◌≡◌, ℕ, suc, ◌+◌, ◌<◌, ◌≤◌, Bool, true, false, List, [], ◌∷◌, ◌++◌, length, take, drop, sum, Option, Some, None, refl, sym, ap, subst, ◌∙◌, arith, length-drop, length-append, get_or, All, take_all, take_more, take-append-le, drop-append-le, append-nil, take-append-drop, All-nil, drop_all, All-cons, All-head, All-tail, All-push, All-pop, All-take, All-drop, sum_by-cons, sum_by_push, sum_by-take-le, Number, with_number, count_of, greatest_number, max_numbers, AreGroups, ◌-◌, ◌*◌, min, map, inl, inr, append_assoc, length-take, fold, filter, slice_split, digit_value, cases_Bool, nat_tests, fold_push, numbers, numbers_of, number_of, is_colon, is_separator, numbers_from, grouped, groups_of, rules, IsFilled, AreSmall, IsSmallNumber}
+use Rattle.vte_core.proofs.Common.{All, All-cons, All-drop, All-head, All-nil, All-pop, All-push, All-tail, All-take, ap, append-nil, append_assoc, AreGroups, AreSmall, arith, Bool, cases_Bool, count_of, digit_value, drop, drop-append-le, drop_all, false, filter, fold, fold_push, get_or, greatest_number, grouped, groups_of, inl, inr, is_colon, is_separator, IsFilled, IsSmallNumber, length, length-append, length-drop, length-take, List, map, max_numbers, min, nat_tests, None, Number, number_of, numbers, numbers_from, numbers_of, Option, refl, rules, slice_split, Some, subst, suc, sum, sum_by-cons, sum_by-take-le, sum_by_push, sym, take, take-append-drop, take-append-le, take_all, take_more, true, with_number, ℕ, [], ◌*◌, ◌++◌, ◌+◌, ◌-◌, ◌<◌, ◌∙◌, ◌∷◌, ◌≡◌, ◌≤◌}
 use Rattle.std.proofs.lemmas.List.{length-take-le}
 use Rattle.std.specs.Option.{unwrap_or}
-use Rattle.vte_core.specs.private.Store.{cut_by_lengths, AreLengths, AreFlatGroups, IsTakenOff}
+use Rattle.vte_core.specs.private.Store.{AreFlatGroups, AreLengths, cut_by_lengths, IsTakenOff}
 use Rattle.std.proofs.lemmas.Int.Digits.{digits_value_push}
 use Rattle.std.proofs.lemmas.List.Splits.{slice_split_at, slice_split_none}
 

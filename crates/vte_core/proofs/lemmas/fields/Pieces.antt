@@ -1,6 +1,6 @@
 -- What is kept of the items of a command, and the pieces of what is kept. By induction over the items, with the piece
 -- that is open carried along.
-use Rattle.vte_core.proofs.Common.{◌≡◌, ℕ, ◌+◌, ◌<◌, ◌≤◌, zero, suc, Bool, true, false, List, [], ◌∷◌, ◌++◌, length, take, Option, Some, None, refl, sym, arith, append_assoc, length-append, take_at, length-take, All, filter, slice_split, onto_first, concat, ltb-true, All-push, FitsStore, semicolon, cut_data, ends_after, is_data_item, kept_after, kept_items, max_pieces, pieces_of, ap, inl, inr, cases_Bool, common_steps, eqb, drop, take-append-drop, ◌∙◌, Bor, map, set, drop_all, take_all, rules}
+use Rattle.vte_core.proofs.Common.{All, All-push, ap, append_assoc, arith, Bool, Bor, cases_Bool, common_steps, concat, cut_data, drop, drop_all, ends_after, eqb, false, filter, FitsStore, inl, inr, is_data_item, kept_after, kept_items, length, length-append, length-take, List, ltb-true, map, max_pieces, None, onto_first, Option, pieces_of, refl, rules, semicolon, set, slice_split, Some, suc, sym, take, take-append-drop, take_all, take_at, true, zero, ℕ, [], ◌++◌, ◌+◌, ◌<◌, ◌∙◌, ◌∷◌, ◌≡◌, ◌≤◌}
 use Rattle.std.proofs.Common.{append-nil, drop_at, ◌==◌}
 use Rattle.std.proofs.lemmas.List.Folds.{concat-append}
 use Rattle.std.proofs.lemmas.List.Splits.{length-slice_split, slice_split_at, slice_split_none}

@@ -1,11 +1,11 @@
 -- What is known of a parser that is at a place, and that a clone of it, or one made of what was saved of it, is at the
 -- same: by cases of its state, to each of which belongs one kind of place.
-use Rattle.vte_core.proofs.Common.{◌≡◌, ℕ, true, Option, List, [], ◌∷◌, ◌++◌, refl, ap, subst, append-nil, Machine, State, Text, Escape, SystemCommand, body_outcome, device_data_outcome, executed_events, leaves, open_bytes, HoldsIntermediates, IsPlaceOfState, IsAtPlace, Place, InText, AtEscape, InSystemCommand, open_at, left_at, rest_outcome, outcome_from, events_from, IsSettledPlace, Stored, HoldsItems, SameItems, text_outcome, is_truncated, Nothing, may_continue, EscapeIntermediate, ControlSequence, DeviceControl, DeviceData, IgnoredString, HasReadWithLimit, HasReadHead, InEscape, InControlSequence, InDeviceControl, InDeviceData, InIgnoredString, take, arith, usual_limit, rules}
+use Rattle.vte_core.proofs.Common.{ap, append-nil, arith, AtEscape, body_outcome, ControlSequence, device_data_outcome, DeviceControl, DeviceData, Escape, EscapeIntermediate, events_from, executed_events, HasReadHead, HasReadWithLimit, HoldsIntermediates, HoldsItems, IgnoredString, InControlSequence, InDeviceControl, InDeviceData, InEscape, InIgnoredString, InSystemCommand, InText, is_truncated, IsAtPlace, IsPlaceOfState, IsSettledPlace, leaves, left_at, List, Machine, may_continue, Nothing, open_at, open_bytes, Option, outcome_from, Place, refl, rest_outcome, rules, SameItems, State, Stored, subst, SystemCommand, take, Text, text_outcome, true, usual_limit, ℕ, [], ◌++◌, ◌∷◌, ◌≡◌}
 use Rattle.vte_core.specs.IgnoredString.{ignored_string_outcome}
 use Rattle.vte_core.specs.private.Place.{control_sequence_from, device_control_from, escape_from, system_command_from}
 use Rattle.vte_core.proofs.lemmas.shapes.FirstSegment.{text_outcome-end, text_outcome-nothing}
 use Rattle.vte_core.specs.declared.parser.saved.Saved.{Saved}
-use Rattle.vte_core.specs.private.SavedLayout.{HasIntermediates, IsInHead, IsRestored, flag_of, state_bytes}
+use Rattle.vte_core.specs.private.SavedLayout.{flag_of, HasIntermediates, IsInHead, IsRestored, state_bytes}
 use Rattle.vte_core.specs.private.Store.{AreParts, ArePieceEnds}
 use Rattle.vte_core.specs.Saved.{HasReadSaved}
 

@@ -3,8 +3,8 @@
 --
 -- `pieces_from-X`: the pieces if X follows; `piece_ends-X`: where pieces end; `keeps-X`: what is kept after X
 -- (`HoldsItems`).
-use Rattle.vte_core.proofs.Common.{◌≡◌, ◌≢◌, ℕ, ◌+◌, ◌-◌, ◌≤◌, ◌<◌, zero, suc, true, false, List, [], ◌∷◌, ◌++◌, length, take, drop, Option, Some, None, refl, sym, ap, ◌∙◌, arith, append_assoc, length-append, length-drop, length-take, inl, inr, All, concat, filter, slice_range, drop-append-le, take-append-le, All-head, All-tail, take-nil, cases_Bool, ltb-true, ne_eqb, semicolon, Stored, HoldsItems, PiecesEnd, cut_data, cut_pieces, ends_after, fitting, pieces_from, Bool, loses_data, has_room, is_data_item, nat_tests, kept_after, kept_items, max_pieces, pieces_of, append-nil, take_all, rules}
-use Rattle.std.specs.Prelude.{◌||◌, nat_lt}
+use Rattle.vte_core.proofs.Common.{All, All-head, All-tail, ap, append-nil, append_assoc, arith, Bool, cases_Bool, concat, cut_data, cut_pieces, drop, drop-append-le, ends_after, false, filter, fitting, has_room, HoldsItems, inl, inr, is_data_item, kept_after, kept_items, length, length-append, length-drop, length-take, List, loses_data, ltb-true, max_pieces, nat_tests, ne_eqb, None, Option, pieces_from, pieces_of, PiecesEnd, refl, rules, semicolon, slice_range, Some, Stored, suc, sym, take, take-append-le, take-nil, take_all, true, zero, ℕ, [], ◌++◌, ◌+◌, ◌-◌, ◌<◌, ◌∙◌, ◌∷◌, ◌≡◌, ◌≢◌, ◌≤◌}
+use Rattle.std.specs.Prelude.{nat_lt, ◌||◌}
 use Rattle.std.proofs.lemmas.List.Elements.{filter-append}
 use Rattle.vte_core.proofs.lemmas.fields.Pieces.{cut_at_ends}
 use Rattle.std.proofs.lemmas.List.Folds.{concat-append}

@@ -1,6 +1,6 @@
 -- What a byte does in its part, a text or a body, it does in the stream (`bytes_lead-byte`), since only ESC cuts; ESC
 -- closes the part (`bytes_lead-escape`). So places lead on in the stream, byte by byte (`bytes_lead-append`).
-use Rattle.vte_core.proofs.Common.{◌≡◌, ℕ, false, eqb, Option, List, [], ◌∷◌, ◌++◌, refl, ap, append_assoc, arith, nat_tests, Cancel, class_of, ends_body, Event, Leads, BytesLead, report, Place, InText, AtEscape, closing_events_at, rest_outcome, outcome_from, events_from, cut_at_escape, with_bodies, outcome, events, escape, rules, ◌≤◌, InSystemCommand}
+use Rattle.vte_core.proofs.Common.{ap, append_assoc, arith, AtEscape, BytesLead, Cancel, class_of, closing_events_at, cut_at_escape, ends_body, eqb, escape, Event, events, events_from, false, InSystemCommand, InText, Leads, List, nat_tests, Option, outcome, outcome_from, Place, refl, report, rest_outcome, rules, with_bodies, ℕ, [], ◌++◌, ◌∷◌, ◌≡◌, ◌≤◌}
 use Rattle.vte_core.proofs.lemmas.shapes.Outcomes.{report-append, with_bodies-report}
 use Rattle.vte_core.proofs.lemmas.fields.PlaceOfState.{IsPlace, rest_outcome-nothing}
 use Rattle.vte_core.proofs.lemmas.places.PlaceLeads.{command-item}

@@ -2,11 +2,11 @@
 -- definition of that shape alone.
 --
 -- A lemma is named by the place and what comes there, as `escape-end` for the end of a sequence right after ESC.
-use Rattle.vte_core.proofs.Common.{◌≡◌, ℕ, ◌≤◌, true, false, eqb, Option, List, [], ◌∷◌, ◌++◌, ap, sym, append_assoc, append-nil, arith, nat_tests, Class, Control, Intermediate, Final, High, dispatches_escape, class_of, is_cancel, is_device_data, is_head_byte, EscapeSequence, sequence_kind, body_outcome, control_sequence_end, control_sequence_outcome, device_data_outcome, device_control_after_head, ends_command, ends_device_data, device_control_outcome, escape_outcome, executed_events, first_two, are_too_many, Execute, Hook, Put, Unhook, OscDispatch, CsiDispatch, EscDispatch, head_of, is_well_shaped, sequence_event, Leads, InText, AtEscape, InEscape, InControlSequence, InDeviceControl, InDeviceData, InSystemCommand, InIgnoredString, pieces_of, bell, system_command_outcome, text_outcome, character_event, Bool, Place, refl, malformed_event, is_truncated, is_well_formed, scalar_of, nat_le, ◌<◌, cond, length, IsBounded, AreFromOneByte, IsExecuted, IsPrintable, IsShort, IsAtMostOneShort, Event, Print, Head, reported_intermediates, rules}
+use Rattle.vte_core.proofs.Common.{ap, append-nil, append_assoc, are_too_many, AreFromOneByte, arith, AtEscape, bell, body_outcome, Bool, character_event, Class, class_of, cond, Control, control_sequence_end, control_sequence_outcome, CsiDispatch, device_control_after_head, device_control_outcome, device_data_outcome, dispatches_escape, ends_command, ends_device_data, eqb, escape_outcome, EscapeSequence, EscDispatch, Event, Execute, executed_events, false, Final, first_two, Head, head_of, High, Hook, InControlSequence, InDeviceControl, InDeviceData, InEscape, InIgnoredString, InSystemCommand, Intermediate, InText, is_cancel, is_device_data, is_head_byte, is_truncated, is_well_formed, is_well_shaped, IsAtMostOneShort, IsBounded, IsExecuted, IsPrintable, IsShort, Leads, length, List, malformed_event, nat_le, nat_tests, Option, OscDispatch, pieces_of, Place, Print, Put, refl, reported_intermediates, rules, scalar_of, sequence_event, sequence_kind, sym, system_command_outcome, text_outcome, true, Unhook, ℕ, [], ◌++◌, ◌<◌, ◌∷◌, ◌≡◌, ◌≤◌}
 use Rattle.vte_core.specs.IgnoredString.{ignored_string_outcome}
-use Rattle.vte_core.specs.SequenceKind.{ControlSequence, DeviceControl, SystemCommand, IgnoredString, SequenceKind}
+use Rattle.vte_core.specs.SequenceKind.{ControlSequence, DeviceControl, IgnoredString, SequenceKind, SystemCommand}
 use Rattle.vte_core.specs.private.Place.{control_sequence_from, device_control_from, escape_from, system_command_from}
-use Rattle.vte_core.proofs.lemmas.bytes.Classes.{spans, head_is_no_control, head_is_no_end, is_dropped, is_dropped_in_head, below_finals}
+use Rattle.vte_core.proofs.lemmas.bytes.Classes.{below_finals, head_is_no_control, head_is_no_end, is_dropped, is_dropped_in_head, spans}
 use Rattle.vte_core.proofs.lemmas.shapes.FirstSegment.{text_outcome-lone, text_outcome-well_formed}
 use Rattle.std.proofs.lemmas.List.{length-take}
 use Rattle.vte_core.proofs.lemmas.fields.Numbers.{AreGroups-groups_of, some_group}

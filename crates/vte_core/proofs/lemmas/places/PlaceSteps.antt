@@ -1,12 +1,12 @@
 -- After every place every byte reports at most two events, of which the second is short, and leads to a place
 -- (`steps`): by cases of the place and of the byte's class, each by a lemma of `PlaceLeads`.
-use Rattle.vte_core.proofs.Common.{◌≡◌, ℕ, ◌<◌, inl, inr, true, false, eqb, Option, List, refl, arith, cases_Bool, nat_tests, Class, Control, Cancel, Intermediate, Final, Delete, High, class_of, ends_body, is_head_byte, dispatches_escape, SequenceKind, EscapeSequence, sequence_kind, AreFromOneByte, Event, head_of, is_well_shaped, sequence_event, Leads, Place, InText, AtEscape, InEscape, InControlSequence, InDeviceControl, InDeviceData, InSystemCommand, InIgnoredString, closing_events_at, escape, bell, pieces_of, kept_items, None, ◌≤◌, ◌+◌, open_data_count, left_at, breaks, open_at, sym, false≢true, ◌∙◌, [], ◌∷◌, ◌++◌, Execute, rules}
+use Rattle.vte_core.proofs.Common.{AreFromOneByte, arith, AtEscape, bell, breaks, Cancel, cases_Bool, Class, class_of, closing_events_at, Control, Delete, dispatches_escape, ends_body, eqb, escape, EscapeSequence, Event, Execute, false, false≢true, Final, head_of, High, InControlSequence, InDeviceControl, InDeviceData, InEscape, InIgnoredString, inl, inr, InSystemCommand, Intermediate, InText, is_head_byte, is_well_shaped, kept_items, Leads, left_at, List, nat_tests, None, open_at, open_data_count, Option, pieces_of, Place, refl, rules, sequence_event, sequence_kind, SequenceKind, sym, true, ℕ, [], ◌++◌, ◌+◌, ◌<◌, ◌∙◌, ◌∷◌, ◌≡◌, ◌≤◌}
 use Rattle.vte_core.specs.Class.{Escape}
-use Rattle.vte_core.proofs.lemmas.places.PlaceLeads.{bounded-head, executed_low, two_at_most, escape-key, escape-intermediate, escape-end, intermediate-more, intermediate-end, byte-dropped, byte-executed, control-head, control-dispatched, control-silent, device-dropped, device-head, device-well_shaped, device-ill_shaped, data-put, data-dropped, data-terminator, command-item, command-control, command-bell, ignored-more}
-use Rattle.vte_core.proofs.lemmas.places.BytesInStream.{bytes_lead-byte, bytes_lead-escape, no_escape, cancel_is_no_escape}
-use Rattle.vte_core.proofs.lemmas.places.Steps.{AreOutsideRuns, FitsLeft, IsSilentOrSettles, IsOutsideRunsAtPlace, IsText, Steps}
-use Rattle.vte_core.proofs.lemmas.places.TextSteps.{byte-cancels, closing_brief, closing_alone_brief, step-text}
-use Rattle.vte_core.proofs.lemmas.bytes.Classes.{ends_not_cancel, Spans, spans, below_finals, is_dropped, is_dropped_in_head}
+use Rattle.vte_core.proofs.lemmas.places.PlaceLeads.{bounded-head, byte-dropped, byte-executed, command-bell, command-control, command-item, control-dispatched, control-head, control-silent, data-dropped, data-put, data-terminator, device-dropped, device-head, device-ill_shaped, device-well_shaped, escape-end, escape-intermediate, escape-key, executed_low, ignored-more, intermediate-end, intermediate-more, two_at_most}
+use Rattle.vte_core.proofs.lemmas.places.BytesInStream.{bytes_lead-byte, bytes_lead-escape, cancel_is_no_escape, no_escape}
+use Rattle.vte_core.proofs.lemmas.places.Steps.{AreOutsideRuns, FitsLeft, IsOutsideRunsAtPlace, IsSilentOrSettles, IsText, Steps}
+use Rattle.vte_core.proofs.lemmas.places.TextSteps.{byte-cancels, closing_alone_brief, closing_brief, step-text}
+use Rattle.vte_core.proofs.lemmas.bytes.Classes.{below_finals, ends_not_cancel, is_dropped, is_dropped_in_head, Spans, spans}
 use Rattle.vte_core.proofs.lemmas.fields.PlaceOfState.{IsPlace}
 use Rattle.vte_core.proofs.lemmas.fields.Pieces.{few_pieces, pieces_push, some_pieces}
 

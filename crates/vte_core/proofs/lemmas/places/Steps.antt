@@ -1,6 +1,6 @@
 -- What one byte reports after a place, and where it leads (`Steps`), for all uses of it. `TextSteps` and `PlaceSteps`
 -- prove it of each place.
-use Rattle.vte_core.proofs.Common.{◌≡◌, ℕ, false, Option, List, [], ◌∷◌, refl, class_of, Event, BytesLead, Place, InText, events, ◌⊎◌, AreFromOneByte, IsAtMostOneShort, IsOutsideRuns, is_device_data, Print, ◌≤◌, ◌+◌, None, FitsStore, ToClose, CommandToClose, open_data_count, left_at, replacement, InDeviceData, breaks, open_at}
+use Rattle.vte_core.proofs.Common.{AreFromOneByte, breaks, BytesLead, class_of, CommandToClose, Event, events, false, FitsStore, InDeviceData, InText, is_device_data, IsAtMostOneShort, IsOutsideRuns, left_at, List, None, open_at, open_data_count, Option, Place, Print, refl, replacement, ToClose, ℕ, [], ◌+◌, ◌∷◌, ◌≡◌, ◌≤◌, ◌⊎◌}
 use Rattle.vte_core.proofs.lemmas.fields.PlaceOfState.{IsPlace}
 
 -- If a character is open at the next place, at most U+FFFD was reported.

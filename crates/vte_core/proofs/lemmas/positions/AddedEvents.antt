@@ -1,15 +1,15 @@
 -- What is reported from position to position. A call is followed with a performer that keeps all events; so what any
 -- performer receives is a function of the bytes, and a stretch that reports no run is known by its events.
-use Rattle.vte_core.proofs.Common.{◌≡◌, ℕ, ◌+◌, ◌<◌, inl, inr, false, Option, List, [], ◌∷◌, ◌++◌, length, take, refl, ap, sym, ◌∙◌, append_assoc, append-nil, arith, cases_Bool, slice_index, false≢true, All, All-append, All-cons, All-nil, Event, Print, replacement, after, added, reported_before, resumed_stream, breaks_at, State, Machine, IsPlaceOfState, IsAtPosition, IsInsidePosition, BytesLead, ChunkCall, chunk_call, Place, IsAfter, AddsOutsideRuns, IsOutsideRuns, drop, subst, All-drop, HasReadWithLimit, IsSettled, open_character, ReportsOutsideRuns, PrintsNoAscii, rules}
+use Rattle.vte_core.proofs.Common.{added, AddsOutsideRuns, after, All, All-append, All-cons, All-drop, All-nil, ap, append-nil, append_assoc, arith, breaks_at, BytesLead, cases_Bool, chunk_call, ChunkCall, drop, Event, false, false≢true, HasReadWithLimit, inl, inr, IsAfter, IsAtPosition, IsInsidePosition, IsOutsideRuns, IsPlaceOfState, IsSettled, length, List, Machine, open_character, Option, Place, Print, PrintsNoAscii, refl, replacement, reported_before, ReportsOutsideRuns, resumed_stream, rules, slice_index, State, subst, sym, take, ℕ, [], ◌++◌, ◌+◌, ◌<◌, ◌∙◌, ◌∷◌, ◌≡◌}
 use Rattle.vte_core.specs.private.Progress.{AddsCharacter, HasProgress}
 use Rattle.vte_core.specs.private.ToRun.{IsOutsideRunsInState}
-use Rattle.vte_core.proofs.lemmas.positions.Progress.{stretch-added, starts-at}
+use Rattle.vte_core.proofs.lemmas.positions.Progress.{starts-at, stretch-added}
 use Rattle.vte_core.proofs.lemmas.fields.PlaceOfState.{IsPlace}
 use Rattle.vte_core.proofs.lemmas.places.PlaceSteps.{steps}
 use Rattle.vte_core.proofs.lemmas.places.Steps.{AreOutsideRuns, IsOutsideRunsAtPlace}
-use Rattle.vte_core.proofs.lemmas.shapes.BrokenCharacters.{reported-settled, reported-broken}
+use Rattle.vte_core.proofs.lemmas.shapes.BrokenCharacters.{reported-broken, reported-settled}
 use Rattle.vte_core.proofs.lemmas.bytes.Runs.{one_byte}
-use Rattle.vte_core.proofs.lemmas.streams.After.{added-reads, added-nothing}
+use Rattle.vte_core.proofs.lemmas.streams.After.{added-nothing, added-reads}
 use Rattle.vte_core.proofs.lemmas.streams.StreamSteps.{prints_no_ascii, prints_no_ascii-all, prints_no_ascii-character}
 
 -- ---- a performer that keeps all events

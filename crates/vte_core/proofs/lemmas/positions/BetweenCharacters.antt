@@ -1,17 +1,17 @@
 -- A byte between characters: it is one (`takes_bytes-printed`), a control or malformed (`takes_bytes-single`), or the
 -- first of one (`takes_bytes-opened`). What the code does is what `places/PlaceLeads` says of the byte, and the parser
 -- is at the next place. A single byte reports nothing that a run would, after a stretch (`advances-single`).
-use Rattle.vte_core.proofs.Common.{◌≡◌, ◌≢◌, ℕ, ◌+◌, ◌<◌, ◌≤◌, inl, inr, true, false, Option, List, [], ◌∷◌, length, refl, ap, sym, subst, ◌∙◌, arith, cases_lt, nat_tests, slice_index, Advances, Machine, Text, Nothing, Event, Print, IsAtPlace, TakesBytes, Place, InText, IsSettledPlace, Carries, escape, character_event, malformed_event, from_to, is_in, is_truncated, is_well_formed, Unfinished, IsOutsideRuns, AddsOutsideRuns, IsAfter, resumed_stream, BytesLead, All, ChunkCall, suc, drop, drop_more, take, HasNoRunAt, One, false≢true, rules}
+use Rattle.vte_core.proofs.Common.{AddsOutsideRuns, Advances, All, ap, arith, BytesLead, Carries, cases_lt, character_event, ChunkCall, drop, drop_more, escape, Event, false, false≢true, from_to, HasNoRunAt, inl, inr, InText, is_in, is_truncated, is_well_formed, IsAfter, IsAtPlace, IsOutsideRuns, IsSettledPlace, length, List, Machine, malformed_event, nat_tests, Nothing, One, Option, Place, Print, refl, resumed_stream, rules, slice_index, subst, suc, sym, take, TakesBytes, Text, true, Unfinished, ℕ, [], ◌+◌, ◌<◌, ◌∙◌, ◌∷◌, ◌≡◌, ◌≢◌, ◌≤◌}
 use Rattle.vte_core.specs.declared.utf8.Carried.TheVariants.{Unfinished as StillUnfinished}
 use Rattle.vte_core.proofs.lemmas.bytes.Scalars.{begins_none, first_truncated}
 use Rattle.vte_core.proofs.lemmas.bytes.Utf8.{ascii-alone}
 use Rattle.vte_core.proofs.lemmas.fields.PlaceOfState.{is_at-by}
-use Rattle.vte_core.proofs.lemmas.positions.Progress.{settled-same_state, place-settled_text}
-use Rattle.vte_core.proofs.lemmas.positions.Stretches.{advances-byte, advances-reporting, advances-then, not_escape, takes_bytes-begun, reads-byte_at}
-use Rattle.vte_core.specs.private.Prelude.{MayReadByte, Completes}
+use Rattle.vte_core.proofs.lemmas.positions.Progress.{place-settled_text, settled-same_state}
+use Rattle.vte_core.proofs.lemmas.positions.Stretches.{advances-byte, advances-reporting, advances-then, not_escape, reads-byte_at, takes_bytes-begun}
+use Rattle.vte_core.specs.private.Prelude.{Completes, MayReadByte}
 use Rattle.vte_core.proofs.lemmas.places.PlaceLeads.{text-lone, text-unfinished, text-well_formed}
 use Rattle.vte_core.proofs.lemmas.streams.StreamSteps.{outside_runs-control}
-use Rattle.vte_core.proofs.lemmas.positions.AddedEvents.{adds-reads, added-inside, adds-character, keep, recorded-at, keeping}
+use Rattle.vte_core.proofs.lemmas.positions.AddedEvents.{added-inside, adds-character, adds-reads, keep, keeping, recorded-at}
 use Rattle.vte_core.proofs.lemmas.places.BytesInStream.{bytes_lead-byte}
 use Rattle.vte_core.proofs.lemmas.positions.Characters.{in_text}
 

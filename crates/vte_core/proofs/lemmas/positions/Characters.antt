@@ -1,17 +1,17 @@
 -- A call inside a character, over any number of its bytes: it reports nothing while the character goes on (`GoesOn`),
 -- and then completes it (`completes-all`, `completes-whole`, `completes-broken`), a byte at a time.
-use Rattle.vte_core.proofs.Common.{◌≡◌, ◌≢◌, ℕ, ◌+◌, ◌<◌, inl, inr, true, Option, List, [], ◌∷◌, ◌++◌, length, refl, ap, sym, subst, ◌∙◌, slice_index, Machine, Text, Nothing, Print, replacement, ProgressInside, IsAtPosition, IsInsidePosition, IsAtPlace, IsPlaceOfState, Place, InText, bytes_of, may_continue, Carries, character_event, is_truncated, scalar_of, Unfinished, HasReadWithLimit, open_character, ChunkCall, ◌≤◌, arith, One, Two, Three, Event, second_range, from_to, is_in, is_well_formed, added, All-cons, All-nil, IsOutsideRuns, append-nil, append_assoc, drop, drop_more, take, take-add, rules}
-use Rattle.vte_core.specs.declared.utf8.Carried.TheVariants.{Unfinished as StillUnfinished, Whole, Broken}
-use Rattle.vte_core.proofs.lemmas.fields.PlaceOfState.{may_continue-truncated, is_at-by, is_at-in, is_at-place}
+use Rattle.vte_core.proofs.Common.{added, All-cons, All-nil, ap, append-nil, append_assoc, arith, bytes_of, Carries, character_event, ChunkCall, drop, drop_more, Event, from_to, HasReadWithLimit, inl, inr, InText, is_in, is_truncated, is_well_formed, IsAtPlace, IsAtPosition, IsInsidePosition, IsOutsideRuns, IsPlaceOfState, length, List, Machine, may_continue, Nothing, One, open_character, Option, Place, Print, ProgressInside, refl, replacement, rules, scalar_of, second_range, slice_index, subst, sym, take, take-add, Text, Three, true, Two, Unfinished, ℕ, [], ◌++◌, ◌+◌, ◌<◌, ◌∙◌, ◌∷◌, ◌≡◌, ◌≢◌, ◌≤◌}
+use Rattle.vte_core.specs.declared.utf8.Carried.TheVariants.{Broken, Unfinished as StillUnfinished, Whole}
+use Rattle.vte_core.proofs.lemmas.fields.PlaceOfState.{is_at-by, is_at-in, is_at-place, may_continue-truncated}
 use Rattle.vte_core.proofs.lemmas.places.PlaceLeads.{text-unfinished, text-well_formed}
-use Rattle.vte_core.proofs.lemmas.streams.After.{carried_is_no_escape, after-open_character}
+use Rattle.vte_core.proofs.lemmas.streams.After.{after-open_character, carried_is_no_escape}
 use Rattle.vte_core.proofs.lemmas.shapes.BrokenCharacters.{breaks-broken, breaks-unfinished, breaks-well_formed}
-use Rattle.vte_core.proofs.lemmas.positions.Progress.{progress-settled, progress-broken, progress-carried, inside-all, inside-moved}
+use Rattle.vte_core.proofs.lemmas.positions.Progress.{inside-all, inside-moved, progress-broken, progress-carried, progress-settled}
 use Rattle.vte_core.proofs.lemmas.places.BytesInStream.{bytes_lead-byte}
 use Rattle.vte_core.proofs.lemmas.bytes.Scalars.{second-open, third-open}
 use Rattle.vte_core.specs.private.Progress.{Completes}
 use Rattle.vte_core.proofs.lemmas.streams.StreamSteps.{length-longer}
-use Rattle.vte_core.proofs.lemmas.positions.AddedEvents.{added-inside, recorded-inside, reported-at, keeping}
+use Rattle.vte_core.proofs.lemmas.positions.AddedEvents.{added-inside, keeping, recorded-inside, reported-at}
 use Rattle.std.proofs.lemmas.List.{drop-drop}
 
 -- ---- a byte

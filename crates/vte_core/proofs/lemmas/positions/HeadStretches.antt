@@ -5,16 +5,16 @@ use Rattle.vte_core.specs.declared.head.HeadEnd.{HeadEnd}
 use Rattle.vte_core.specs.private.ParserFields.{ReadsHeadUpTo}
 use Rattle.vte_core.specs.private.Progress.{MayRead}
 use Rattle.vte_core.specs.private.ToRun.{IsOutsideRunsInState}
-use Rattle.vte_core.proofs.Common.{◌≡◌, ℕ, zero, suc, ◌+◌, ◌-◌, ◌<◌, ◌≤◌, ◌⊎◌, Option, List, [], ◌∷◌, ◌++◌, true, false, length, take, drop, refl, sym, subst, append_assoc, arith, append-nil, drop-drop, drop_more, take-add, slice_index, MatchOption, class_of, is_final, is_head_byte, is_parameter_text, AreInClass, Collected, HeadProgress, Entry, Parameters, Machine, State, ControlSequence, DeviceControl, Event, ChunkCall, Leads, CountsNumbers, SameIntermediates, IsAtPlace, IsPlaceOfState, HasReadHead, Place, InControlSequence, InDeviceControl, IsSettledPlace, Advances, ProgressAt, IsAtPosition, IsSettled, MayGoOn, TakesBytes, TakesByte, ends_body, progress_after, ReadsHead, Some, None, false≢true, rules}
-use Rattle.vte_core.proofs.lemmas.bytes.Classes.{head_ends_nothing, AreInClass-append, final_ends_nothing, parameter_is_head}
-use Rattle.vte_core.proofs.lemmas.positions.Progress.{progress-settled, progress-byte, settled-same_state}
-use Rattle.vte_core.proofs.lemmas.positions.Stretches.{takes_bytes-in, advances-byte, advances-to_same, advances-given, advances-then}
+use Rattle.vte_core.proofs.Common.{Advances, append-nil, append_assoc, AreInClass, arith, ChunkCall, class_of, Collected, ControlSequence, CountsNumbers, DeviceControl, drop, drop-drop, drop_more, ends_body, Entry, Event, false, false≢true, HasReadHead, HeadProgress, InControlSequence, InDeviceControl, is_final, is_head_byte, is_parameter_text, IsAtPlace, IsAtPosition, IsPlaceOfState, IsSettled, IsSettledPlace, Leads, length, List, Machine, MatchOption, MayGoOn, None, Option, Parameters, Place, progress_after, ProgressAt, ReadsHead, refl, rules, SameIntermediates, slice_index, Some, State, subst, suc, sym, take, take-add, TakesByte, TakesBytes, true, zero, ℕ, [], ◌++◌, ◌+◌, ◌-◌, ◌<◌, ◌∷◌, ◌≡◌, ◌≤◌, ◌⊎◌}
+use Rattle.vte_core.proofs.lemmas.bytes.Classes.{AreInClass-append, final_ends_nothing, head_ends_nothing, parameter_is_head}
+use Rattle.vte_core.proofs.lemmas.positions.Progress.{progress-byte, progress-settled, settled-same_state}
+use Rattle.vte_core.proofs.lemmas.positions.Stretches.{advances-byte, advances-given, advances-then, advances-to_same, takes_bytes-in}
 use Rattle.vte_core.proofs.lemmas.fields.Heads.{holds-parameter}
-use Rattle.vte_core.proofs.lemmas.fields.PlaceOfState.{IsPlace, is_at-in}
+use Rattle.vte_core.proofs.lemmas.fields.PlaceOfState.{is_at-in, IsPlace}
 use Rattle.vte_core.proofs.lemmas.places.PlaceLeads.{control-head, device-head}
 use Rattle.vte_core.proofs.lemmas.positions.AddedEvents.{adds-same, recorded-at, reported-at}
 use Rattle.vte_core.proofs.lemmas.bytes.Runs.{one_byte}
-use Rattle.vte_core.proofs.lemmas.places.BytesInStream.{no_escape, bytes_lead-byte}
+use Rattle.vte_core.proofs.lemmas.places.BytesInStream.{bytes_lead-byte, no_escape}
 
 -- ---- `ReadsHead` of no bytes, of two stretches, of a byte
 

@@ -1,12 +1,12 @@
 -- What is open where a parser is, and what is stored of it where memory may be refused: both are said of the place,
 -- so they hold of every parser that is at one.
-use Rattle.vte_core.proofs.Common.{◌≡◌, ◌≢◌, ℕ, Option, List, [], ◌∷◌, ◌++◌, refl, ap, sym, subst, ◌∙◌, arith, Digit, Machine, State, Text, IsAtPlace, IsPlaceOfState, HasReadWithLimit, Event, Print, replacement, Place, InText, AtEscape, InEscape, InControlSequence, InDeviceControl, InDeviceData, InSystemCommand, InIgnoredString, IsAfter, Leads, left_at, ◌≤◌, ◌<◌, true, false, eqb, EscapeSequence, class_of, escape, is_truncated, sequence_kind, added, events_from, ◌+◌, Bool, None, length, take, length-take, concat, slice_index, MeetsData, open_data_count, open_command_size, SystemCommand, ProgressAt, IsRefusedInCommand, ReadsUntilRefused, IsInsidePosition, ChunkCall, ToClose, CommandToClose, loses_data, outcome, rules}
+use Rattle.vte_core.proofs.Common.{added, ap, arith, AtEscape, Bool, ChunkCall, class_of, CommandToClose, concat, Digit, eqb, escape, EscapeSequence, Event, events_from, false, HasReadWithLimit, InControlSequence, InDeviceControl, InDeviceData, InEscape, InIgnoredString, InSystemCommand, InText, is_truncated, IsAfter, IsAtPlace, IsInsidePosition, IsPlaceOfState, IsRefusedInCommand, Leads, left_at, length, length-take, List, loses_data, Machine, MeetsData, None, open_command_size, open_data_count, Option, outcome, Place, Print, ProgressAt, ReadsUntilRefused, refl, replacement, rules, sequence_kind, slice_index, State, subst, sym, SystemCommand, take, Text, ToClose, true, ℕ, [], ◌++◌, ◌+◌, ◌<◌, ◌∙◌, ◌∷◌, ◌≡◌, ◌≢◌, ◌≤◌}
 use Rattle.vte_core.proofs.lemmas.bytes.Utf8.{ascii-breaks}
-use Rattle.vte_core.proofs.lemmas.fields.PlaceOfState.{IsPlace, is_at-place, in_command, is_at-by}
-use Rattle.vte_core.proofs.lemmas.places.PlaceLeads.{escape-end, intermediate-end, control-head, device-head, data-put, command-item, ignored-more}
+use Rattle.vte_core.proofs.lemmas.fields.PlaceOfState.{in_command, is_at-by, is_at-place, IsPlace}
+use Rattle.vte_core.proofs.lemmas.places.PlaceLeads.{command-item, control-head, data-put, device-head, escape-end, ignored-more, intermediate-end}
 use Rattle.vte_core.proofs.lemmas.shapes.FirstSegment.{text_outcome-broken}
-use Rattle.vte_core.proofs.lemmas.streams.After.{added-after, added-reads, after-events, after-left, after-nothing, events-empty, open_at_end-any, after-reads}
-use Rattle.vte_core.proofs.lemmas.places.BytesInStream.{bytes_lead-byte, waits-byte, bytes_lead-item}
+use Rattle.vte_core.proofs.lemmas.streams.After.{added-after, added-reads, after-events, after-left, after-nothing, after-reads, events-empty, open_at_end-any}
+use Rattle.vte_core.proofs.lemmas.places.BytesInStream.{bytes_lead-byte, bytes_lead-item, waits-byte}
 use Rattle.vte_core.proofs.lemmas.positions.Progress.{place-settled_text, progress-command}
 use Rattle.vte_core.proofs.lemmas.positions.ToRun.{reads-anew}
 use Rattle.vte_core.specs.Open.{kind_to_close, open_at_end}

@@ -9,11 +9,11 @@
 -- `progress-starts`: there something starts
 -- `progress-comes`, `progress-all_read`: the public clauses of a call that stops, and of one that reads all
 -- `starts-X`, `call_ends-X`, `settles`: where a call starts, where it stops or ends, and where no character is open
-use Rattle.vte_core.proofs.Common.{◌≡◌, ℕ, ◌<◌, ◌≤◌, inl, inr, true, false, not, eqb, Option, List, [], ◌∷◌, ◌++◌, ap, sym, arith, cases_lt, nat_tests, Machine, Text, Nothing, IsAtPlace, IsPlaceOfState, Place, InText, InSystemCommand, BytesLead, zero, suc, ◌+◌, ◌-◌, length, take, drop, refl, subst, ◌∙◌, append_assoc, slice_index, cases_Bool, append-nil, drop_more, take-add, breaks, breaks_at, IsStart, reported_before, resumed_stream, Event, Print, replacement, after, added, open_character, ProgressAt, ProgressInside, MayGoOn, ChunkCall, IsAfter, IsSettledPlace, open_at, ComesTo, State, StopsExactly, IsSettled, ReadsUpTo, IsAtPosition, IsInsidePosition, HasReadWithLimit, bytes_of, Unfinished, rules}
-use Rattle.vte_core.proofs.lemmas.fields.PlaceOfState.{is_at-in, IsPlace, open_at-settled, is_at-place}
+use Rattle.vte_core.proofs.Common.{added, after, ap, append-nil, append_assoc, arith, breaks, breaks_at, bytes_of, BytesLead, cases_Bool, cases_lt, ChunkCall, ComesTo, drop, drop_more, eqb, Event, false, HasReadWithLimit, inl, inr, InSystemCommand, InText, IsAfter, IsAtPlace, IsAtPosition, IsInsidePosition, IsPlaceOfState, IsSettled, IsSettledPlace, IsStart, length, List, Machine, MayGoOn, nat_tests, not, Nothing, open_at, open_character, Option, Place, Print, ProgressAt, ProgressInside, ReadsUpTo, refl, replacement, reported_before, resumed_stream, rules, slice_index, State, StopsExactly, subst, suc, sym, take, take-add, Text, true, Unfinished, zero, ℕ, [], ◌++◌, ◌+◌, ◌-◌, ◌<◌, ◌∙◌, ◌∷◌, ◌≡◌, ◌≤◌}
+use Rattle.vte_core.proofs.lemmas.fields.PlaceOfState.{is_at-in, is_at-place, IsPlace, open_at-settled}
 use Rattle.vte_core.proofs.lemmas.places.BytesInStream.{bytes_lead-item}
-use Rattle.vte_core.proofs.lemmas.streams.After.{after-left, after-nothing, after-open_character, after-reads, added-reads, added-nothing, after_events-append}
-use Rattle.vte_core.proofs.lemmas.shapes.BrokenCharacters.{breaks_at-all, breaks_at-settled, breaks_at-byte, no_start, starts-settled, starts-broken, resumed_stream-settled, resumed_stream-broken, reported-all, reported-settled, reported-broken, resumed_stream-all}
+use Rattle.vte_core.proofs.lemmas.streams.After.{added-nothing, added-reads, after-left, after-nothing, after-open_character, after-reads, after_events-append}
+use Rattle.vte_core.proofs.lemmas.shapes.BrokenCharacters.{breaks_at-all, breaks_at-byte, breaks_at-settled, no_start, reported-all, reported-broken, reported-settled, resumed_stream-all, resumed_stream-broken, resumed_stream-settled, starts-broken, starts-settled}
 use Rattle.vte_core.proofs.lemmas.bytes.Runs.{one_byte}
 use Rattle.vte_core.proofs.lemmas.EarlyStops.{added_from, after_from, breaks_there, goes_on_from}
 

@@ -12,14 +12,14 @@
 -- Other files have an `advances-X` for each X that a function reads, such as `advances-text` and `advances-head`.
 use Rattle.vte_core.specs.declared.reader.Reader.{Reader}
 use Rattle.vte_core.specs.private.Prelude.{FindsEnd, IsCommandData, IsOutsideRunsInState, MayReadAt, SameItems, Stored}
-use Rattle.vte_core.proofs.Common.{◌≡◌, ◌≢◌, ℕ, ◌+◌, ◌<◌, false, true, eqb, Option, List, [], ◌∷◌, ◌++◌, length, drop, refl, sym, subst, arith, ◌-◌, take, slice_index, nat_tests, Machine, Text, SystemCommand, Nothing, resumed_stream, Advances, ProgressAt, IsSettled, MayGoOn, IsAtPosition, IsInsidePosition, Event, IsAtPlace, HoldsItems, Place, InText, InSystemCommand, ChunkCall, IsSettledPlace, escape, TakesByte, TakesBytes, false≢true, AddsOutsideRuns, All-nil, IsAfter, IsOutsideRuns, class_of, ends_body, State, Escape, EscapeIntermediate, DeviceData, IgnoredString, Leads, BytesLead, HoldsIntermediates, IsPlaceOfState, AtEscape, InEscape, InDeviceData, InIgnoredString, closing_events_at, after, zero, suc, ◌≤◌, map, ◌∙◌, drop_more, Put, ArePut, IsDeviceData, is_device_data, is_plain_control, is_final, is_head_byte, Entry, ControlSequence, sequence_kind, HoldsHead, InControlSequence, rules}
+use Rattle.vte_core.proofs.Common.{AddsOutsideRuns, Advances, after, All-nil, ArePut, arith, AtEscape, BytesLead, ChunkCall, class_of, closing_events_at, ControlSequence, DeviceData, drop, drop_more, ends_body, Entry, eqb, Escape, escape, EscapeIntermediate, Event, false, false≢true, HoldsHead, HoldsIntermediates, HoldsItems, IgnoredString, InControlSequence, InDeviceData, InEscape, InIgnoredString, InSystemCommand, InText, is_device_data, is_final, is_head_byte, is_plain_control, IsAfter, IsAtPlace, IsAtPosition, IsDeviceData, IsInsidePosition, IsOutsideRuns, IsPlaceOfState, IsSettled, IsSettledPlace, Leads, length, List, Machine, map, MayGoOn, nat_tests, Nothing, Option, Place, ProgressAt, Put, refl, resumed_stream, rules, sequence_kind, slice_index, State, subst, suc, sym, SystemCommand, take, TakesByte, TakesBytes, Text, true, zero, ℕ, [], ◌++◌, ◌+◌, ◌-◌, ◌<◌, ◌∙◌, ◌∷◌, ◌≡◌, ◌≢◌, ◌≤◌}
 use Rattle.vte_core.proofs.lemmas.positions.Progress.{place-settled_text, progress-byte, progress-items, settled-same_state, settles}
 use Rattle.vte_core.proofs.lemmas.places.BytesInStream.{bytes_lead-escape, no_escape}
-use Rattle.vte_core.proofs.lemmas.positions.AddedEvents.{adds-outside_runs, adds-reads, adds-same, adds-then, recorded-at, outside_runs-place, reported-at}
+use Rattle.vte_core.proofs.lemmas.positions.AddedEvents.{adds-outside_runs, adds-reads, adds-same, adds-then, outside_runs-place, recorded-at, reported-at}
 use Rattle.vte_core.proofs.lemmas.streams.After.{takes_bytes-one}
-use Rattle.vte_core.proofs.lemmas.fields.PlaceOfState.{in_command, keeps-same, is_at-by, is_at-place, is_at-in}
+use Rattle.vte_core.proofs.lemmas.fields.PlaceOfState.{in_command, is_at-by, is_at-in, is_at-place, keeps-same}
 use Rattle.vte_core.proofs.lemmas.bytes.Classes.{data_ends_nothing, other_is_dropped}
-use Rattle.vte_core.proofs.lemmas.places.PlaceLeads.{data-put, byte-dropped, escape-key}
+use Rattle.vte_core.proofs.lemmas.places.PlaceLeads.{byte-dropped, data-put, escape-key}
 
 module _ {V B : Type 0} {call : ChunkCall V} where
   pub advances-nothing : {outside : Type 0} {value : V} {i : ℕ} {parser : Machine B}

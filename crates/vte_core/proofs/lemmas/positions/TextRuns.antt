@@ -1,14 +1,14 @@
 -- What a run of text does to a call's progress: its characters one by one do the same. By induction over the
 -- characters, and for the performer by its contract over the whole run.
-use Rattle.vte_core.proofs.Common.{cases_Bool, inl, inr, Bool, List, Option, [], ap, arith, drop, false, length, map, refl, subst, sym, take, true, ℕ, ◌++◌, ◌+◌, ◌-◌, ◌<◌, ◌∙◌, ◌∷◌, ◌≡◌, ◌≢◌, ◌≤◌, encode, append-nil, take-append-drop, All-append, All-head, All-nil, All-tail, All, slice_index, breaks_at, resumed_stream, reported_before, Event, Print, replacement, after, added, cut_at_escape, escape, with_bodies, events, ChunkCall, run_event, character_event, is_control_character, malformed_event, text_outcome, Text, Machine, Nothing, BytesLead, IsAtPlace, InText, encodes, nat_tests, outcome_from, Advances, ProgressAt, MayGoOn, IsAtPosition, IsInsidePosition, chars, IsUtf8, NoCharacterStops, IsUtf8Run, IsPrintedAscii, PrintsRun, StaysInRun, rules}
+use Rattle.vte_core.proofs.Common.{added, Advances, after, All, All-append, All-head, All-nil, All-tail, ap, append-nil, arith, Bool, breaks_at, BytesLead, cases_Bool, character_event, chars, ChunkCall, cut_at_escape, drop, encode, encodes, escape, Event, events, false, inl, inr, InText, is_control_character, IsAtPlace, IsAtPosition, IsInsidePosition, IsPrintedAscii, IsUtf8, IsUtf8Run, length, List, Machine, malformed_event, map, MayGoOn, nat_tests, NoCharacterStops, Nothing, Option, outcome_from, Print, PrintsRun, ProgressAt, refl, replacement, reported_before, resumed_stream, rules, run_event, slice_index, StaysInRun, subst, sym, take, take-append-drop, Text, text_outcome, true, with_bodies, ℕ, [], ◌++◌, ◌+◌, ◌-◌, ◌<◌, ◌∙◌, ◌∷◌, ◌≡◌, ◌≢◌, ◌≤◌}
 use Rattle.std.proofs.lemmas.List.{take-take}
 use Rattle.std.proofs.lemmas.Str.{encodes-chars, scalars-chars}
-use Rattle.vte_core.proofs.lemmas.bytes.Runs.{each-one, chars-one, layout-is_control_character, run_event-no_control, run_event-printed, run-ascii}
+use Rattle.vte_core.proofs.lemmas.bytes.Runs.{chars-one, each-one, layout-is_control_character, run-ascii, run_event-no_control, run_event-printed}
 use Rattle.vte_core.proofs.lemmas.dividing.Utf8Agrees.{cut-text, text_outcome-encodes}
-use Rattle.vte_core.proofs.lemmas.positions.Progress.{progress-further, stretch-added, place-settled_text, settled-same_state, settles}
+use Rattle.vte_core.proofs.lemmas.positions.Progress.{place-settled_text, progress-further, settled-same_state, settles, stretch-added}
 use Rattle.vte_core.proofs.lemmas.streams.After.{added-reads, after_events-append}
 use Rattle.vte_core.proofs.lemmas.shapes.Outcomes.{with_bodies-report}
-use Rattle.vte_core.proofs.lemmas.shapes.BrokenCharacters.{reported-settled, reported-broken}
+use Rattle.vte_core.proofs.lemmas.shapes.BrokenCharacters.{reported-broken, reported-settled}
 use Rattle.vte_core.proofs.lemmas.EarlyStops.{added-append}
 use Rattle.vte_core.proofs.lemmas.streams.StreamSteps.{reported_by_stream}
 

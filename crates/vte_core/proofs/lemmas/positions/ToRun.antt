@@ -1,21 +1,21 @@
 -- Runs that a caller takes from its own input: bytes that lead from the parser's place back to it, so the parser
 -- needn't change, and that no further printed character or data byte follows.
-use Rattle.vte_core.proofs.Common.{◌≡◌, ℕ, zero, suc, ◌+◌, ◌-◌, ◌<◌, ◌≤◌, false, true, Option, List, [], ◌++◌, drop, length, length-take, length-drop, map, take, refl, sym, subst, arith, append-nil, drop_more, slice_index, Machine, DeviceData, Text, State, Nothing, class_of, resumed_stream, Put, BytesLead, IsAtPlace, IsPlaceOfState, HasReadWithLimit, Place, InDeviceData, IsSettled, IsAtPosition, ChunkCall, HasNoRunAt, IsRun, Unfinished, IsRange, rules}
-use Rattle.vte_core.specs.private.Prelude.{ArePut, AreOfKind, ComesToRun, IsOutsideTextAndData, IsDeviceData, IsTaken}
-use Rattle.vte_core.specs.private.ToRun.{HasRun, IsWholeAt, bytes_at, kind_events}
-use Rattle.vte_core.specs.AdvanceToRun.{IsRunIn, IsLongestRun, ReturnsRun, run_bytes, taken_bytes, taken_events}
+use Rattle.vte_core.proofs.Common.{append-nil, arith, BytesLead, ChunkCall, class_of, DeviceData, drop, drop_more, false, HasNoRunAt, HasReadWithLimit, InDeviceData, IsAtPlace, IsAtPosition, IsPlaceOfState, IsRange, IsRun, IsSettled, length, length-drop, length-take, List, Machine, map, Nothing, Option, Place, Put, refl, resumed_stream, rules, slice_index, State, subst, suc, sym, take, Text, true, Unfinished, zero, ℕ, [], ◌++◌, ◌+◌, ◌-◌, ◌<◌, ◌≡◌, ◌≤◌}
+use Rattle.vte_core.specs.private.Prelude.{AreOfKind, ArePut, ComesToRun, IsDeviceData, IsOutsideTextAndData, IsTaken}
+use Rattle.vte_core.specs.private.ToRun.{bytes_at, HasRun, IsWholeAt, kind_events}
+use Rattle.vte_core.specs.AdvanceToRun.{IsLongestRun, IsRunIn, ReturnsRun, run_bytes, taken_bytes, taken_events}
 use Rattle.vte_core.specs.declared.reader.run.Run.{Run}
 use Rattle.vte_core.specs.declared.reader.run.RunKind.{RunKind}
-use Rattle.vte_core.specs.declared.reader.run.RunKind.TheVariants.{Text as TextKind, Data as DataKind, Nothing as NoKind}
+use Rattle.vte_core.specs.declared.reader.run.RunKind.TheVariants.{Data as DataKind, Nothing as NoKind, Text as TextKind}
 use Rattle.vte_core.specs.declared.reader.run.RunRange.{RunRange}
 use Rattle.vte_core.specs.declared.reader.run.Taken.{Taken}
 use Rattle.vte_core.proofs.lemmas.bytes.Classes.{data_ends_nothing}
 use Rattle.vte_core.proofs.lemmas.positions.Progress.{call_ends-comes, call_ends-reads, place-settled_text}
 use Rattle.vte_core.proofs.lemmas.positions.TextRuns.{bytes_lead-text}
-use Rattle.vte_core.proofs.lemmas.fields.PlaceOfState.{IsPlace, is_at-in}
+use Rattle.vte_core.proofs.lemmas.fields.PlaceOfState.{is_at-in, IsPlace}
 use Rattle.vte_core.proofs.lemmas.places.PlaceLeads.{data-put}
 use Rattle.vte_core.proofs.lemmas.streams.After.{added-nothing, added-reads, after-nothing, after-reads}
-use Rattle.vte_core.proofs.lemmas.places.BytesInStream.{no_escape, bytes_lead-append, bytes_lead-byte, bytes_lead-nothing}
+use Rattle.vte_core.proofs.lemmas.places.BytesInStream.{bytes_lead-append, bytes_lead-byte, bytes_lead-nothing, no_escape}
 
 -- ---- no run
 

@@ -4,7 +4,7 @@
 -- `reported-X`, `resumed_stream-X` and `starts-X` say of `reported_before`, `resumed_stream` and `IsStart` what holds
 -- if X: the open character is `broken`, none is open (`settled`), or `all` bytes are read. `breaks-X` and `breaks_at-X`
 -- say when.
-use Rattle.vte_core.proofs.Common.{◌≡◌, ℕ, Option, List, [], ◌∷◌, ◌++◌, refl, true, false, arith, append-nil, ◌≤◌, length, Print, replacement, is_well_formed, is_truncated, ◌+◌, ◌<◌, inl, inr, take, drop, get_or, slice_index, drop_more, drop_all, take_all, breaks, breaks_at, IsStart, reported_before, resumed_stream, added, open_character, rules}
+use Rattle.vte_core.proofs.Common.{added, append-nil, arith, breaks, breaks_at, drop, drop_all, drop_more, false, get_or, inl, inr, is_truncated, is_well_formed, IsStart, length, List, open_character, Option, Print, refl, replacement, reported_before, resumed_stream, rules, slice_index, take, take_all, true, ℕ, [], ◌++◌, ◌+◌, ◌<◌, ◌∷◌, ◌≡◌, ◌≤◌}
 
 -- ---- a byte breaks the open character if both together are neither well formed nor truncated
 

@@ -1,7 +1,7 @@
 -- What a text gives, from its prefix, by the definition alone: the event of its first segment, and then what the rest
 -- gives as a text. `text_outcome-X` says so if the text begins with X.
-use Rattle.vte_core.proofs.Common.{◌≡◌, ℕ, List, [], ◌∷◌, ◌++◌, refl, ap, ◌∙◌, report, true, false, arith, nat_tests, append-nil, ◌≤◌, length, subst, take-append_seam, Print, replacement, NothingToClose, CharacterToClose, leaves, utf8_rows, rows_after_byte, rows_after_bytes, is_well_formed, is_truncated, trailing_count, segments_after, segments, scalar_of, is_control_character, character_event, malformed_event, segment_event, segments_outcome, text_outcome, rules}
-use Rattle.vte_core.proofs.lemmas.bytes.Utf8.{AtMostOne-first, AtMostOne-rows_after_bytes, rows_after_bytes-append, whole_not_open, open_not_whole, neither_whole_nor_open, allowed_length-none, allowed_length-whole, allowed_length-broken, allowed_length-end, truncated-first}
+use Rattle.vte_core.proofs.Common.{ap, append-nil, arith, character_event, CharacterToClose, false, is_control_character, is_truncated, is_well_formed, leaves, length, List, malformed_event, nat_tests, NothingToClose, Print, refl, replacement, report, rows_after_byte, rows_after_bytes, rules, scalar_of, segment_event, segments, segments_after, segments_outcome, subst, take-append_seam, text_outcome, trailing_count, true, utf8_rows, ℕ, [], ◌++◌, ◌∙◌, ◌∷◌, ◌≡◌, ◌≤◌}
+use Rattle.vte_core.proofs.lemmas.bytes.Utf8.{allowed_length-broken, allowed_length-end, allowed_length-none, allowed_length-whole, AtMostOne-first, AtMostOne-rows_after_bytes, neither_whole_nor_open, open_not_whole, rows_after_bytes-append, truncated-first, whole_not_open}
 
 -- ---- no sequence is both well formed and truncated: at most one row is left after its bytes
 

@@ -1,6 +1,6 @@
 -- What a head gives, from its prefix. The parts of a head are cut off its prefix (`head_of-parts`), so a byte more
 -- changes only the last part that was reached.
-use Rattle.vte_core.proofs.Common.{◌≡◌, ℕ, List, [], ◌∷◌, ◌++◌, refl, true, false, arith, nat_tests, list_all, Class, Intermediate, Marker, class_of, Bool, append-nil, is_intermediate, is_marker, is_parameter_text, AreInClass, head_of, head_after, is_well_shaped, IsMarker, rules}
+use Rattle.vte_core.proofs.Common.{append-nil, AreInClass, arith, Bool, Class, class_of, false, head_after, head_of, Intermediate, is_intermediate, is_marker, is_parameter_text, is_well_shaped, IsMarker, List, list_all, Marker, nat_tests, refl, rules, true, ℕ, [], ◌++◌, ◌∷◌, ◌≡◌}
 use Rattle.vte_core.proofs.lemmas.bytes.Classes.{class-intermediate}
 
 -- The bytes don't begin with one of these classes.

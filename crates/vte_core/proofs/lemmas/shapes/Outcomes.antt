@@ -1,5 +1,5 @@
 -- Events that are reported first pass unchanged through what follows: by the definition of `report`, body by body.
-use Rattle.vte_core.proofs.Common.{◌≡◌, ℕ, Option, List, [], ◌∷◌, ◌++◌, refl, ap, append_assoc, Event, Outcome, report, with_bodies, arith, rules}
+use Rattle.vte_core.proofs.Common.{ap, append_assoc, arith, Event, List, Option, Outcome, refl, report, rules, with_bodies, ℕ, [], ◌++◌, ◌∷◌, ◌≡◌}
 
 pub report-append : (events others : List Event) (outcome : Outcome)
     → report (events ++ others) outcome ≡ report events (report others outcome)

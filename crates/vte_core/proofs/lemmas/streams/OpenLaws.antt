@@ -1,6 +1,6 @@
 -- What is open at the end of a stream: nothing before the last ESC has a say in it, and an open character is the last
 -- bytes of the stream. By the definitions, part by part.
-use Rattle.vte_core.proofs.Common.{◌≡◌, ◌≢◌, ◌⊎◌, ℕ, ◌≤◌, Bool, cases_Bool, inl, inr, eqb-true, Option, None, Place, open_at, List, [], ◌∷◌, ◌++◌, length, All, append_assoc, append-nil, concat, refl, ap, sym, subst, ◌∙◌, arith, SequenceKind, EscapeSequence, sequence_kind, body_rest, body_outcome, sequence_outcome, class_of, is_cancel, is_key, ends_head, ends_command, ends_device_data, Outcome, open_bytes, from_first, cut_at_escape, with_bodies, outcome, open_character, escape, system_command_outcome, system_command_rest, control_sequence_outcome, device_control_outcome, device_control_after_head, device_data_outcome, escape_outcome, text_outcome, segments, segments_outcome, rules}
+use Rattle.vte_core.proofs.Common.{All, ap, append-nil, append_assoc, arith, body_outcome, body_rest, Bool, cases_Bool, class_of, concat, control_sequence_outcome, cut_at_escape, device_control_after_head, device_control_outcome, device_data_outcome, ends_command, ends_device_data, ends_head, eqb-true, escape, escape_outcome, EscapeSequence, from_first, inl, inr, is_cancel, is_key, length, List, None, open_at, open_bytes, open_character, Option, Outcome, outcome, Place, refl, rules, segments, segments_outcome, sequence_kind, sequence_outcome, SequenceKind, subst, sym, system_command_outcome, system_command_rest, text_outcome, with_bodies, ℕ, [], ◌++◌, ◌∙◌, ◌∷◌, ◌≡◌, ◌≢◌, ◌≤◌, ◌⊎◌}
 use Rattle.vte_core.specs.Class.{ends_escape}
 use Rattle.vte_core.specs.ControlSequence.{control_sequence_rest}
 use Rattle.vte_core.specs.declared.parser.open.Open.TheVariants as kind

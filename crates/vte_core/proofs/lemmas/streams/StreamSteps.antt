@@ -1,11 +1,11 @@
 -- A stream of any bytes, from its prefix: each byte leads from a place to a place (`arrives`), so what a stream gives
 -- stays as it is whatever follows, and it begins again when all places lead to the same.
-use Rattle.vte_core.specs.Laws.{Resyncs, ResyncsAfter, Grows, OpensSilently}
-use Rattle.vte_core.proofs.Common.{◌≡◌, ℕ, ◌+◌, ◌≤◌, inl, inr, Option, None, List, [], ◌∷◌, ◌++◌, arith, open_data_count, drop, length, refl, ap, sym, ◌∙◌, append_assoc, All, All-append, All-nil, Cancel, class_of, IsBounded, AreFromOneByte, Event, Place, InText, AtEscape, open_at, events_from, IsAfter, added, events, open_character, escape, BytesLead, InSystemCommand, left_at, Some, CountsData, ToClose, CommandToClose, ◌≢◌, ◌<◌, true, length-append, cases_lt, nat_tests, character_event, is_control_character, is_well_formed, scalar_of, IsOutsideRuns, PrintsNoAscii, rules}
-use Rattle.vte_core.proofs.lemmas.places.BytesInStream.{events-after_nothing, outcome_from-escape, bytes_lead-byte, bytes_lead-escape, bytes_lead-nothing, bytes_lead-append, cancel_is_no_escape}
+use Rattle.vte_core.specs.Laws.{Grows, OpensSilently, Resyncs, ResyncsAfter}
+use Rattle.vte_core.proofs.Common.{added, All, All-append, All-nil, ap, append_assoc, AreFromOneByte, arith, AtEscape, BytesLead, Cancel, cases_lt, character_event, class_of, CommandToClose, CountsData, drop, escape, Event, events, events_from, inl, inr, InSystemCommand, InText, is_control_character, is_well_formed, IsAfter, IsBounded, IsOutsideRuns, left_at, length, length-append, List, nat_tests, None, open_at, open_character, open_data_count, Option, Place, PrintsNoAscii, refl, rules, scalar_of, Some, sym, ToClose, true, ℕ, [], ◌++◌, ◌+◌, ◌<◌, ◌∙◌, ◌∷◌, ◌≡◌, ◌≢◌, ◌≤◌}
+use Rattle.vte_core.proofs.lemmas.places.BytesInStream.{bytes_lead-append, bytes_lead-byte, bytes_lead-escape, bytes_lead-nothing, cancel_is_no_escape, events-after_nothing, outcome_from-escape}
 use Rattle.vte_core.proofs.lemmas.places.Steps.{FitsLeft, Steps}
 use Rattle.vte_core.proofs.lemmas.places.TextSteps.{byte-cancels}
-use Rattle.vte_core.proofs.lemmas.streams.After.{added-after, added-reads, after-events, after-nothing, after-open_character, after-reads, events-empty, after-left}
+use Rattle.vte_core.proofs.lemmas.streams.After.{added-after, added-reads, after-events, after-left, after-nothing, after-open_character, after-reads, events-empty}
 use Rattle.vte_core.proofs.lemmas.places.PlaceSteps.{steps}
 use Rattle.vte_core.proofs.lemmas.fields.PlaceOfState.{IsPlace}
 use Rattle.vte_core.proofs.lemmas.fields.Pieces.{pieces_fit}

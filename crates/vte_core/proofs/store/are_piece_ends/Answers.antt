@@ -1,5 +1,5 @@
 -- The ends are sorted if std says so, and otherwise two that follow each other are not in order.
-use Rattle.vte_core.proofs.Common.{rules, arith, ◌+◌}
+use Rattle.vte_core.proofs.Common.{arith, rules, ◌+◌}
 use Rattle.std.proofs.lemmas.List.Sorted.{non_decreasing_from_is_sorted}
 use Rattle.vte_core.proofs.store.are_piece_ends.Goals as goal
 

@@ -1,6 +1,6 @@
 -- The number that three bytes spell is a character's.
 use Rattle.vte_core.proofs.Common.{◌∙◌}
-use Rattle.vte_core.proofs.lemmas.bytes.Scalars.{spells-three, spells-same, spells-scalar}
+use Rattle.vte_core.proofs.lemmas.bytes.Scalars.{spells-same, spells-scalar, spells-three}
 use Rattle.vte_core.proofs.utf8.character_of_three.Goals as goal
 
 pub from_u32_unchecked-requires : goal.from_u32_unchecked-requires

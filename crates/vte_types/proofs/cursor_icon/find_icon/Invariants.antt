@@ -1,5 +1,5 @@
 -- The rows that are left give what all give.
-use Rattle.std.proofs.Common.{◌≡◌, drop}
+use Rattle.std.proofs.Common.{drop, ◌≡◌}
 use Rattle.vte_types.proofs.lemmas.Words.{rows_of}
 use Rattle.vte_types.proofs.cursor_icon.find_icon.Given as goal
 use Rattle.vte_types.specs.Words.{entry_of_word}

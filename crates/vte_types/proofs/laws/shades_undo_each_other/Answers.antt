@@ -1,5 +1,5 @@
 -- Each shade has an opposite, by cases of the colour (`Colors`).
-use Rattle.vte_types.proofs.lemmas.Colors.{dim_of-bright, bright_of-dim}
+use Rattle.vte_types.proofs.lemmas.Colors.{bright_of-dim, dim_of-bright}
 use Rattle.vte_types.proofs.laws.shades_undo_each_other.Goals as goal
 
 pub returns : goal.returns

@@ -1,5 +1,5 @@
 -- A word comes off the front byte by byte, and off no other text (`Words`).
-use Rattle.vte_types.proofs.lemmas.Words.{after_word-other, after_word-append}
+use Rattle.vte_types.proofs.lemmas.Words.{after_word-append, after_word-other}
 use Rattle.vte_types.proofs.laws.words_are_prefixes.Goals as goal
 
 pub returns : goal.returns

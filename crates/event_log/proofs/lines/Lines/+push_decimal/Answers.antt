@@ -1,7 +1,7 @@
 -- A number of up to three digits is pushed digit by digit; a longer one is its thousands, and then its last three
 -- digits.
 use Rattle.event_log.proofs.Common.{arith}
-use Rattle.event_log.proofs.lemmas.Fields.{extends_then, decimal-one_digit, decimal-two_digits, decimal-three_digits, decimal-three_more}
+use Rattle.event_log.proofs.lemmas.Fields.{decimal-one_digit, decimal-three_digits, decimal-three_more, decimal-two_digits, extends_then}
 use Rattle.event_log.proofs.lines.Lines.+push_decimal.Goals as goal
 
 pub returns-in-0-to-9 : goal.returns-in-0-to-9

@@ -1,6 +1,6 @@
 -- The first group, and then each other one after `;`, are the text of all groups (`groups_written`). Without groups
 -- that text is empty.
-use Rattle.event_log.proofs.Common.{◌≡◌, ◌++◌, ℕ, List, Bor, get_or, map, [], refl, sym, ◌∙◌, append-nil, arith, common_steps, All-tail, flat_map, shown, IsFilled}
+use Rattle.event_log.proofs.Common.{All-tail, append-nil, arith, Bor, common_steps, flat_map, get_or, IsFilled, List, map, refl, shown, sym, ℕ, [], ◌++◌, ◌∙◌, ◌≡◌}
 use Rattle.event_log.proofs.Common.{after_semicolon, group_text, groups_written, shown-nil}
 use Rattle.event_log.proofs.lemmas.Fields.{extends_then}
 use Rattle.event_log.proofs.lines.Lines.push_groups.Goals as goal

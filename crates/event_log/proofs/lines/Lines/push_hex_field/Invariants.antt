@@ -1,5 +1,5 @@
 -- The bytes so far are pushed, each as two hex digits.
-use Rattle.event_log.proofs.Common.{◌++◌, take, flat_map, blank, hex_byte, ExtendsLine}
+use Rattle.event_log.proofs.Common.{blank, ExtendsLine, flat_map, hex_byte, take, ◌++◌}
 use Rattle.event_log.proofs.lines.Lines.push_hex_field.Given as goal
 
 abbrev pub invariant-loop-byte : goal.invariant-loop-byte

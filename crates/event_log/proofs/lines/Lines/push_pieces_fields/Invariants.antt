@@ -1,5 +1,5 @@
 -- The count of the pieces is pushed, and the fields of those passed so far.
-use Rattle.event_log.proofs.Common.{◌++◌, length, take, decimal, flat_map, blank, hex_field, ExtendsLine}
+use Rattle.event_log.proofs.Common.{blank, decimal, ExtendsLine, flat_map, hex_field, length, take, ◌++◌}
 use Rattle.event_log.proofs.lines.Lines.push_pieces_fields.Given as goal
 
 abbrev pub invariant-loop-piece : goal.invariant-loop-piece

@@ -1,5 +1,5 @@
 -- A number below 0x100 has two zeros, and then the hex digits of its byte (`Fields`).
-use Rattle.event_log.proofs.Common.{◌≡◌, ◌/◌, ◌%◌, refl, arith, hex_byte, hex_digit}
+use Rattle.event_log.proofs.Common.{arith, hex_byte, hex_digit, refl, ◌%◌, ◌/◌, ◌≡◌}
 use Rattle.event_log.proofs.lemmas.Fields.{line_of-four_digits}
 use Rattle.event_log.proofs.lines.short.line_of_print.Goals as goal
 

@@ -1,5 +1,5 @@
 -- The text of a chunk has at most eight bytes for each of its own, so there is room for all of it (`text-kept`).
-use Rattle.event_log.proofs.Common.{◌<◌, ◌∙◌, length, ap, sym, arith, rules, take-append-drop, Record, usual_limit}
+use Rattle.event_log.proofs.Common.{ap, arith, length, Record, rules, sym, take-append-drop, usual_limit, ◌<◌, ◌∙◌}
 use Rattle.event_log.proofs.lemmas.Lengths.{text-kept}
 use Rattle.event_log.proofs.lemmas.Records.{room-for_unit}
 use Rattle.event_log.proofs.plain.PlainCollector.collect.Goals as goal

@@ -1,5 +1,5 @@
 -- What is held, and then the text of what is unread, adds up to the whole text. Each round reads a byte or more.
-use Rattle.event_log.proofs.Common.{◌≡◌, ◌≤◌, ℕ, List, [], length, plain_text_of, AddsUpTo, HasKept, empty_record}
+use Rattle.event_log.proofs.Common.{AddsUpTo, empty_record, HasKept, length, List, plain_text_of, ℕ, [], ◌≡◌, ◌≤◌}
 use Rattle.event_log.proofs.plain.PlainCollector.collect.Given as goal
 
 abbrev pub invariant-loop-self : goal.invariant-loop-self

@@ -1,5 +1,5 @@
 -- A run that fits is taken at once (`run-taken`). Otherwise its characters are, one by one: the iterator yields all.
-use Rattle.event_log.proofs.Common.{◌∙◌, true, ap, sym, arith, map, after, record_in, plain_text_of, run_event, record_with_event, record_with_text}
+use Rattle.event_log.proofs.Common.{after, ap, arith, map, plain_text_of, record_in, record_with_event, record_with_text, run_event, sym, true, ◌∙◌}
 use Rattle.std.proofs.lemmas.Iterator.{YieldsList-from_chars}
 use Rattle.std.proofs.lemmas.Iterator.Consumers.{YieldsList-end}
 use Rattle.std.proofs.lemmas.List.{map-id}

@@ -1,5 +1,5 @@
 -- The characters so far are taken.
-use Rattle.event_log.proofs.Common.{◌≡◌, true, map, after, record_in, record_with_event, plain_text_of, run_event}
+use Rattle.event_log.proofs.Common.{after, map, plain_text_of, record_in, record_with_event, run_event, true, ◌≡◌}
 use Rattle.event_log.proofs.plain.PlainPerformText.print_text.Given as goal
 
 abbrev pub invariant-loop-c : goal.invariant-loop-c

@@ -1,7 +1,7 @@
 -- The call stops before a line could be lost (`lines-kept`), and not before its first byte (`call-reads_some`).
 use Rattle.event_log.proofs.Common.{arith, length-drop, usual_limit}
 use Rattle.std.proofs.lemmas.List.{take_rest}
-use Rattle.event_log.proofs.lemmas.Lengths.{lines-kept, call-reads_some}
+use Rattle.event_log.proofs.lemmas.Lengths.{call-reads_some, lines-kept}
 use Rattle.event_log.proofs.recorder.RecorderCollector.collect.Goals as goal
 
 pub returns-clause-progress : goal.returns-clause-progress

@@ -1,5 +1,5 @@
 -- The stop is as after the characters so far.
-use Rattle.std.proofs.Common.{◌≡◌, false, map}
+use Rattle.std.proofs.Common.{false, map, ◌≡◌}
 use Rattle.test_lines.specs.Stop.{stop_after}
 use Rattle.vte_core.specs.Event.{after}
 use Rattle.vte_core.specs.Text.{run_event}

@@ -1,5 +1,5 @@
 -- The count is written, and the numbers so far.
-use Rattle.vte_c.proofs.Common.{Holds, List, Buffers, [], count_byte, flat_map, length, take, two_bytes, ℕ, ◌++◌, ◌∷◌}
+use Rattle.vte_c.proofs.Common.{Buffers, count_byte, flat_map, Holds, length, List, take, two_bytes, ℕ, [], ◌++◌, ◌∷◌}
 use Rattle.vte_c.proofs.events.EventWriter.write_group.Given as goal
 
 abbrev pub invariant-loop-number : goal.invariant-loop-number

@@ -1,5 +1,5 @@
 -- What was written of the groups, followed by those that are left, is what all of them give.
-use Rattle.vte_c.proofs.Common.{Holds, List, flat_map, group_bytes, buffers_of, ℕ, ◌++◌, ◌≡◌}
+use Rattle.vte_c.proofs.Common.{buffers_of, flat_map, group_bytes, Holds, List, ℕ, ◌++◌, ◌≡◌}
 use Rattle.vte_c.proofs.events.EventWriter.write_groups.Given as goal
 
 abbrev pub invariant-loop-group : goal.invariant-loop-group

@@ -1,5 +1,5 @@
 -- A piece more is written after those before it.
-use Rattle.vte_c.proofs.Common.{[], append-nil, flat_map-append, map-append, piece_bytes, buffers_of, take_more}
+use Rattle.vte_c.proofs.Common.{append-nil, buffers_of, flat_map-append, map-append, piece_bytes, take_more, []}
 use Rattle.vte_c.proofs.events.EventWriter.write_pieces.Goals as goal
 
 pub loop-piece-preserved : goal.loop-piece-preserved

@@ -1,5 +1,5 @@
 -- The pieces so far are written.
-use Rattle.vte_c.proofs.Common.{Holds, flat_map, map, piece_bytes, buffers_of, take}
+use Rattle.vte_c.proofs.Common.{buffers_of, flat_map, Holds, map, piece_bytes, take}
 use Rattle.vte_c.proofs.events.EventWriter.write_pieces.Given as goal
 
 abbrev pub invariant-loop-piece : goal.invariant-loop-piece

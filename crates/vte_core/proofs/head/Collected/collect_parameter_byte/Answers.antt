@@ -1,5 +1,5 @@
 -- A digit makes the open number longer; a separator settles it and opens another.
-use Rattle.vte_core.proofs.Common.{◌≡◌, Bool, true, false, refl, arith, rules}
+use Rattle.vte_core.proofs.Common.{arith, Bool, false, refl, rules, true, ◌≡◌}
 use Rattle.vte_core.proofs.lemmas.fields.Heads.{counts-digit, counts-separator}
 use Rattle.vte_core.proofs.head.Collected.collect_parameter_byte.Goals as goal
 

@@ -1,5 +1,5 @@
 -- Each round reads one byte of the head, and what was read adds up (`reads_head-then`).
-use Rattle.vte_core.proofs.Common.{refl, sym, ◌∙◌, arith, rules}
+use Rattle.vte_core.proofs.Common.{arith, refl, rules, sym, ◌∙◌}
 use Rattle.vte_core.proofs.lemmas.positions.HeadStretches.{reads_head-byte, reads_head-nothing, reads_head-then}
 use Rattle.vte_core.proofs.head.Collected.read_head.Goals as goal
 

@@ -1,5 +1,5 @@
 -- The head is read up to this position, with one look for each byte.
-use Rattle.vte_core.proofs.Common.{◌≡◌, ◌+◌, ◌-◌, length, looked, None, ReadsHead}
+use Rattle.vte_core.proofs.Common.{length, looked, None, ReadsHead, ◌+◌, ◌-◌, ◌≡◌}
 use Rattle.vte_core.proofs.head.Collected.read_head.Given as goal
 
 abbrev pub invariant-loop-position : goal.invariant-loop-position

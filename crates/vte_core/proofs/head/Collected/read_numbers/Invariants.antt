@@ -1,5 +1,5 @@
 -- The numbers are read up to this position; the last one is open, in a local variable. One look for each byte.
-use Rattle.vte_core.proofs.Common.{◌≡◌, ◌≤◌, ◌+◌, ◌-◌, length, looked, None, progress_after, ReadsHead}
+use Rattle.vte_core.proofs.Common.{length, looked, None, progress_after, ReadsHead, ◌+◌, ◌-◌, ◌≡◌, ◌≤◌}
 use Rattle.vte_core.specs.Parameters.{greatest_number}
 use Rattle.vte_core.specs.private.ParserFields.{with_open_number}
 use Rattle.vte_core.proofs.head.Collected.read_numbers.Given as goal

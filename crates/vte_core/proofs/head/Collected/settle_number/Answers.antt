@@ -1,5 +1,5 @@
 -- The open number joins those that are held if there is room, and else is only counted as one too many.
-use Rattle.vte_core.proofs.Common.{◌<◌, arith, count_of}
+use Rattle.vte_core.proofs.Common.{arith, count_of, ◌<◌}
 use Rattle.vte_core.proofs.lemmas.fields.Heads.{settles-full, settles-push}
 use Rattle.vte_core.proofs.head.Collected.settle_number.Goals as goal
 

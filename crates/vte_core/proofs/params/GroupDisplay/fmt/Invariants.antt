@@ -1,5 +1,5 @@
 -- The numbers so far are written, each after the first with a colon before it.
-use Rattle.vte_core.proofs.Common.{◌++◌, get_or, take, decimal, HasWritten, IsPlainFormatter, flat_map}
+use Rattle.vte_core.proofs.Common.{decimal, flat_map, get_or, HasWritten, IsPlainFormatter, take, ◌++◌}
 use Rattle.vte_core.proofs.lemmas.ParameterTexts.{after_colon}
 use Rattle.vte_core.proofs.params.GroupDisplay.fmt.Given as goal
 

@@ -1,5 +1,5 @@
 -- At most 32 numbers are cut by lengths that fit, so the groups are those of parameters.
-use Rattle.vte_core.proofs.Common.{◌≤◌, length}
+use Rattle.vte_core.proofs.Common.{length, ◌≤◌}
 use Rattle.vte_core.proofs.lemmas.fields.Numbers.{AreGroups-cut_by_lengths}
 use Rattle.vte_core.proofs.params.Params.iter.Goals as goal
 

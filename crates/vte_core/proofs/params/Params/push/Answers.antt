@@ -1,6 +1,6 @@
 -- A number more joins the last group or begins one (`pushed` of `fields/Numbers`): there is room, the last length stays
 -- small, and the lengths still fit.
-use Rattle.vte_core.proofs.Common.{◌<◌, ◌≤◌, ◌+◌, All-push, arith, ap, greatest_number, lit<, count_of, rules}
+use Rattle.vte_core.proofs.Common.{All-push, ap, arith, count_of, greatest_number, lit<, rules, ◌+◌, ◌<◌, ◌≤◌}
 use Rattle.vte_core.proofs.lemmas.fields.Numbers.{count_of-cut_by_lengths, pushed}
 use Rattle.vte_core.proofs.params.Params.push.Goals as goal
 

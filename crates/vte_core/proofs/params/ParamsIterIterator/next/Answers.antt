@@ -1,5 +1,5 @@
 -- The first length is cut off with its numbers, and the other lengths fit the rest.
-use Rattle.vte_core.proofs.Common.{ℕ, List, subst}
+use Rattle.vte_core.proofs.Common.{List, subst, ℕ}
 use Rattle.vte_core.specs.private.Store.{AreLengths}
 use Rattle.vte_core.proofs.lemmas.fields.Numbers.{AreLengths-rest}
 use Rattle.vte_core.proofs.params.ParamsIterIterator.next.Goals as goal

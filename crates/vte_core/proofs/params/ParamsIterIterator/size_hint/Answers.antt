@@ -1,5 +1,5 @@
 -- As many groups are left as lengths.
-use Rattle.vte_core.proofs.Common.{length, arith, ap, rules}
+use Rattle.vte_core.proofs.Common.{ap, arith, length, rules}
 use Rattle.vte_core.proofs.lemmas.fields.Numbers.{length-cut_by_lengths}
 use Rattle.vte_core.proofs.params.ParamsIterIterator.size_hint.Goals as goal
 

@@ -1,5 +1,5 @@
 -- All bytes so far are printed ASCII, with one look for each.
-use Rattle.vte_core.proofs.Common.{length, ◌+◌, ◌-◌, ◌≡◌, looked, ArePrintedAscii, Scans}
+use Rattle.vte_core.proofs.Common.{ArePrintedAscii, length, looked, Scans, ◌+◌, ◌-◌, ◌≡◌}
 use Rattle.vte_core.proofs.reader.Reader.find_ascii_end_by_words.Given as goal
 
 abbrev pub invariant-loop-word : goal.invariant-loop-word

@@ -1,5 +1,5 @@
 -- All bytes so far are put.
-use Rattle.vte_core.proofs.Common.{◌-◌, ◌≤◌, length, ArePut}
+use Rattle.vte_core.proofs.Common.{ArePut, length, ◌-◌, ◌≤◌}
 use Rattle.vte_core.proofs.reader.Reader.find_device_data_end.Given as goal
 
 abbrev pub invariant-loop-end : goal.invariant-loop-end

@@ -1,5 +1,5 @@
 -- All bytes so far are ignored.
-use Rattle.vte_core.proofs.Common.{◌≡◌, ◌+◌, looked, AreIgnored}
+use Rattle.vte_core.proofs.Common.{AreIgnored, looked, ◌+◌, ◌≡◌}
 use Rattle.vte_core.proofs.reader.Reader.find_ending_byte.Given as goal
 
 abbrev pub invariant-loop-end : goal.invariant-loop-end

@@ -1,5 +1,5 @@
 -- The search of std, in the rest of the bytes from a position on: no byte before what it finds is ESC.
-use Rattle.vte_core.proofs.Common.{◌≡◌, ℕ, ◌+◌, ◌-◌, List, refl, sym, eqb-true, length, take, drop, get_or, ap, ◌∙◌, arith, nat_tests, get_or-drop, take_rest, rules}
+use Rattle.vte_core.proofs.Common.{ap, arith, drop, eqb-true, get_or, get_or-drop, length, List, nat_tests, refl, rules, sym, take, take_rest, ℕ, ◌+◌, ◌-◌, ◌∙◌, ◌≡◌}
 use Rattle.vte_core.proofs.reader.Reader.find_escape.Goals as goal
 
 rest-byte : (bytes : List ℕ) (from i k : ℕ) → from + i ≡ k

@@ -1,5 +1,5 @@
 -- Each round adds ASCII, or one character that is longer or a kept control, to the run (`scans-run`).
-use Rattle.vte_core.proofs.Common.{arith, sym, ◌∙◌, rules}
+use Rattle.vte_core.proofs.Common.{arith, rules, sym, ◌∙◌}
 use Rattle.vte_core.proofs.lemmas.bytes.Runs.{run-none, scans-ascii, scans-other, scans-run}
 use Rattle.vte_core.proofs.reader.Reader.find_run_end_after_non_ascii.Goals as goal
 

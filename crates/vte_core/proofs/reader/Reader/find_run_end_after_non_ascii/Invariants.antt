@@ -1,5 +1,5 @@
 -- All bytes so far are a run, with 11 looks for three bytes at most, and one for each before the first ASCII.
-use Rattle.vte_core.proofs.Common.{length, ◌*◌, ◌+◌, ◌-◌, ◌≤◌, ◌<◌, looked, IsRun, Scans}
+use Rattle.vte_core.proofs.Common.{IsRun, length, looked, Scans, ◌*◌, ◌+◌, ◌-◌, ◌<◌, ◌≤◌}
 use Rattle.vte_core.proofs.reader.Reader.find_run_end_after_non_ascii.Given as goal
 
 abbrev pub invariant-loop-end : goal.invariant-loop-end

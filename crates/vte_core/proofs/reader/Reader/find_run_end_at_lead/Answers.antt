@@ -1,7 +1,7 @@
 -- A character of two or three bytes and the run after it are one run (`run-append`).
-use Rattle.std.proofs.Common.{◌+◌, refl, sym, ◌∙◌, arith}
+use Rattle.std.proofs.Common.{arith, refl, sym, ◌+◌, ◌∙◌}
 use Rattle.vte_core.proofs.lemmas.bytes.Runs.{run-append}
-use Rattle.vte_core.proofs.lemmas.dividing.Utf8Agrees.{run-two, run-three}
+use Rattle.vte_core.proofs.lemmas.dividing.Utf8Agrees.{run-three, run-two}
 use Rattle.vte_core.proofs.reader.Reader.find_run_end_at_lead.Goals as goal
 
 -- A character of two bytes is a run.

@@ -1,5 +1,5 @@
 -- All bytes so far are a run, with 11 looks for three bytes at most.
-use Rattle.vte_core.proofs.Common.{length, ◌*◌, ◌+◌, ◌-◌, ◌≤◌, looked, IsRun, Scans}
+use Rattle.vte_core.proofs.Common.{IsRun, length, looked, Scans, ◌*◌, ◌+◌, ◌-◌, ◌≤◌}
 use Rattle.vte_core.proofs.reader.Reader.find_run_end_up_to.Given as goal
 
 abbrev pub invariant-loop-end : goal.invariant-loop-end

@@ -1,5 +1,5 @@
 -- All bytes so far are ignored, with one look for each.
-use Rattle.vte_core.proofs.Common.{◌≡◌, ◌+◌, ◌-◌, ◌≤◌, length, looked, AreIgnored, Scans}
+use Rattle.vte_core.proofs.Common.{AreIgnored, length, looked, Scans, ◌+◌, ◌-◌, ◌≡◌, ◌≤◌}
 use Rattle.vte_core.proofs.reader.Reader.find_string_end.Given as goal
 
 abbrev pub invariant-loop-block : goal.invariant-loop-block

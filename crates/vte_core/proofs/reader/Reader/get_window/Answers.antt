@@ -1,5 +1,5 @@
 -- Each block is the prefix of the bytes from its place on.
-use Rattle.vte_core.proofs.Common.{List, ap, arith, drop, drop-drop, take, ℕ, ◌+◌, ◌∙◌, ◌≡◌, ◌≤◌}
+use Rattle.vte_core.proofs.Common.{ap, arith, drop, drop-drop, List, take, ℕ, ◌+◌, ◌∙◌, ◌≡◌, ◌≤◌}
 use Rattle.std.proofs.lemmas.List.{drop-take, take-take}
 use Rattle.vte_core.proofs.lemmas.bytes.Runs.{prefix-block}
 use Rattle.vte_core.proofs.reader.Reader.get_window.Goals as goal

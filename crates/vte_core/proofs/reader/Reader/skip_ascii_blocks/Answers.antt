@@ -1,6 +1,6 @@
 -- A block of plain bytes joins those before it (`each-both`).
 use Rattle.vte_core.proofs.Common.{arith}
-use Rattle.vte_core.proofs.lemmas.bytes.Runs.{each-both, each-block}
+use Rattle.vte_core.proofs.lemmas.bytes.Runs.{each-block, each-both}
 use Rattle.vte_core.specs.private.Automaton.{StaysBetween}
 use Rattle.vte_core.proofs.reader.Reader.skip_ascii_blocks.Goals as goal
 

@@ -1,5 +1,5 @@
 -- All blocks so far are plain.
-use Rattle.vte_core.proofs.Common.{length, ◌+◌, ◌-◌, ◌≡◌, ◌≤◌, looked}
+use Rattle.vte_core.proofs.Common.{length, looked, ◌+◌, ◌-◌, ◌≡◌, ◌≤◌}
 use Rattle.vte_core.specs.private.Automaton.{StaysBetween}
 use Rattle.vte_core.specs.private.Scans.{Each}
 use Rattle.vte_core.proofs.reader.Reader.skip_ascii_blocks.Given as goal

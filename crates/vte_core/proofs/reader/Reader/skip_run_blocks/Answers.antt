@@ -1,10 +1,10 @@
 -- A block whose bytes all fit is skipped. The run ends before the character that the last bytes leave open.
-use Rattle.vte_core.proofs.Common.{◌≡◌, ◌≤◌, ◌<◌, ◌+◌, ◌-◌, false, drop, arith, false≢true, ◌∙◌, inl, inr, cases_lt, sym, subst, get_or-drop, looked, rules}
+use Rattle.vte_core.proofs.Common.{arith, cases_lt, drop, false, false≢true, get_or-drop, inl, inr, looked, rules, subst, sym, ◌+◌, ◌-◌, ◌<◌, ◌∙◌, ◌≡◌, ◌≤◌}
 use Rattle.vte_core.specs.private.Scans.{Each}
 use Rattle.vte_core.proofs.lemmas.bytes.Runs.{run-none}
 use Rattle.vte_core.proofs.lemmas.automaton_states.Scanned.{run-kept}
-use Rattle.vte_core.proofs.lemmas.automaton_states.Windows.{above-block, trails-ascii, trails-block, run-before-open}
-use Rattle.vte_core.proofs.reader.Reader.skip_run_blocks.Goals.{then-is_ascii, else-is_ascii, then-layout, else-layout}
+use Rattle.vte_core.proofs.lemmas.automaton_states.Windows.{above-block, run-before-open, trails-ascii, trails-block}
+use Rattle.vte_core.proofs.reader.Reader.skip_run_blocks.Goals.{else-is_ascii, else-layout, then-is_ascii, then-layout}
 use Rattle.vte_core.proofs.reader.Reader.skip_run_blocks.Goals as goal
 
 pub returns-then-count_open_bytes-gt0-clause-scans : goal.returns-then-count_open_bytes-gt0-clause-scans

@@ -2,7 +2,7 @@
 -- (`kept`). Blocks have 16 bytes or more (`whole`), each of which was looked at (`at_least`), none before the first
 -- block (`no_looks`), and what they save pays for a wasted one (`spare`). Blocks of ASCII are counted without overflow
 -- (`at_most`), and the larger ones aren't the first (`early`).
-use Rattle.vte_core.proofs.Common.{false, length, ◌*◌, ◌+◌, ◌-◌, ◌≡◌, ◌≤◌, ◌<◌, looked}
+use Rattle.vte_core.proofs.Common.{false, length, looked, ◌*◌, ◌+◌, ◌-◌, ◌<◌, ◌≡◌, ◌≤◌}
 use Rattle.vte_core.specs.private.Scans.{Each}
 use Rattle.vte_core.proofs.lemmas.automaton_states.Windows.{TrailsAt}
 use Rattle.vte_core.proofs.reader.Reader.skip_run_blocks.Given as goal

@@ -1,5 +1,5 @@
 -- A byte that passes joins those before it (`each-next`).
-use Rattle.vte_core.proofs.Common.{ℕ, arith, nat_tests, and_parts, refl, slice_index, ◌||◌}
+use Rattle.vte_core.proofs.Common.{and_parts, arith, nat_tests, refl, slice_index, ℕ, ◌||◌}
 use Rattle.vte_core.specs.private.Automaton.{StaysBetween}
 use Rattle.vte_core.proofs.lemmas.bytes.Runs.{each-next}
 use Rattle.vte_core.proofs.reader.run_blocks.are_printed_or_layout.Goals as goal

@@ -1,5 +1,5 @@
 -- Each byte before this one is plain, unless one was found that isn't.
-use Rattle.std.proofs.Common.{◌≡◌, true}
+use Rattle.std.proofs.Common.{true, ◌≡◌}
 use Rattle.vte_core.specs.private.Automaton.{StaysBetween}
 use Rattle.vte_core.specs.private.Scans.{Each}
 use Rattle.vte_core.proofs.reader.run_blocks.are_printed_or_layout.Given as goal

@@ -1,5 +1,5 @@
 -- Each byte up to here fits, unless one was found that doesn't.
-use Rattle.std.proofs.Common.{◌≡◌, ◌<◌, ℕ, true}
+use Rattle.std.proofs.Common.{true, ℕ, ◌<◌, ◌≡◌}
 use Rattle.vte_core.specs.private.Automaton.{FollowsAt}
 use Rattle.vte_core.proofs.reader.run_blocks.continues_run.Given as goal
 

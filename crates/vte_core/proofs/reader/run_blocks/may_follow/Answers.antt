@@ -1,6 +1,6 @@
 -- A byte that passes the tests of the code fits after the three before it (`Fits`), so it leads on from each state that
 -- they allow (`trails-after`).
-use Rattle.vte_core.proofs.Common.{Bool, ℕ, arith, false, nat_le, nat_tests, and_parts, not, not-true, refl, sym, true, ◌≡◌, ◌||◌, ◌&&◌}
+use Rattle.vte_core.proofs.Common.{and_parts, arith, Bool, false, nat_le, nat_tests, not, not-true, refl, sym, true, ℕ, ◌&&◌, ◌||◌, ◌≡◌}
 use Rattle.std.proofs.Common.{nat_eq, nat_lt}
 use Rattle.std.proofs.lemmas.Bool.{or_parts}
 use Rattle.std.proofs.Math.Bool.{beq}

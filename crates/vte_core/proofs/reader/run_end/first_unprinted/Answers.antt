@@ -2,7 +2,7 @@
 use Rattle.vte_core.proofs.Common.{rules}
 use Rattle.std.proofs.Common.{arith, w64}
 use Rattle.std.proofs.lemmas.Nat.Bits.{bit_at-trailing_zeros, bit_at-zero}
-use Rattle.vte_core.proofs.lemmas.bytes.EightBytes.{prefix-printed, marks-fit}
+use Rattle.vte_core.proofs.lemmas.bytes.EightBytes.{marks-fit, prefix-printed}
 use Rattle.vte_core.proofs.reader.run_end.first_unprinted.Goals as goal
 
 pub returns-then-marks-eq0 : goal.returns-then-marks-eq0

@@ -1,5 +1,5 @@
 -- The pieces cut so far and those still to cut are all that the ends cut.
-use Rattle.vte_core.proofs.Common.{◌≡◌, ◌≤◌, ◌<◌, ℕ, ◌++◌, length, take, drop, get_or, cut_data, max_pieces}
+use Rattle.vte_core.proofs.Common.{cut_data, drop, get_or, length, max_pieces, take, ℕ, ◌++◌, ◌<◌, ◌≡◌, ◌≤◌}
 use Rattle.vte_core.proofs.lemmas.fields.Pieces.{contents}
 use Rattle.vte_core.proofs.store.Store.dispatch.Given as goal
 

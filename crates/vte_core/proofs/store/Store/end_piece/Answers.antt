@@ -1,9 +1,9 @@
 -- An end is kept if there is room for it; otherwise the item changes nothing that is kept.
 use Rattle.std.proofs.lemmas.Bool.{not-false}
-use Rattle.vte_core.proofs.Common.{◌∷◌, [], ◌++◌, refl, sym, subst, ◌∙◌, arith, eqb-true, eqb-false, not-true, HoldsItems}
-use Rattle.vte_core.proofs.lemmas.fields.Stores.{pieces_from-full, done-complete, keeps-done, keeps-end}
+use Rattle.vte_core.proofs.Common.{arith, eqb-false, eqb-true, HoldsItems, not-true, refl, subst, sym, [], ◌++◌, ◌∙◌, ◌∷◌}
+use Rattle.vte_core.proofs.lemmas.fields.Stores.{done-complete, keeps-done, keeps-end, pieces_from-full}
 use Rattle.vte_core.proofs.store.Store.end_piece.Goals as goal
-use Rattle.vte_core.proofs.store.Store.end_piece.Goals.{else-not-is_full-via-then-not-is_full+else-not-is_full-2, else-not-is_full-via-else-not-is_full}
+use Rattle.vte_core.proofs.store.Store.end_piece.Goals.{else-not-is_full-via-else-not-is_full, else-not-is_full-via-then-not-is_full+else-not-is_full-2}
 
 pub returns-then-not-is_full-2-clause-holds : goal.returns-then-not-is_full-2-clause-holds
 returns-then-not-is_full-2-clause-holds g c = λ items keeps.

@@ -1,8 +1,8 @@
 -- Data are kept as far as there is room. Once there are 16 ends they only count as dropped.
-use Rattle.vte_core.proofs.Common.{◌≡◌, ℕ, ◌-◌, length, take, drop, length-take, length-drop, refl, sym, subst, ◌∙◌, arith, eqb-true, eqb-false, HoldsItems}
+use Rattle.vte_core.proofs.Common.{arith, drop, eqb-false, eqb-true, HoldsItems, length, length-drop, length-take, refl, subst, sym, take, ℕ, ◌-◌, ◌∙◌, ◌≡◌}
 use Rattle.vte_core.proofs.lemmas.fields.Stores.{keeps-later, keeps-run}
 use Rattle.vte_core.proofs.store.Store.push_data.Goals as goal
-use Rattle.vte_core.proofs.store.Store.push_data.Goals.{then-not-is_full, else-not-is_full}
+use Rattle.vte_core.proofs.store.Store.push_data.Goals.{else-not-is_full, then-not-is_full}
 
 pub returns-clause-holds : goal.returns-clause-holds
 returns-clause-holds g c = λ items keeps.

@@ -1,5 +1,5 @@
 -- What `memchr` finds from the start of the search on.
-use Rattle.vte_core.proofs.Common.{take_rest, arith, rules}
+use Rattle.vte_core.proofs.Common.{arith, rules, take_rest}
 use Rattle.vte_core.proofs.lemmas.streams.Parts.{escape_found, escape_missing}
 use Rattle.vte_core.proofs.stream_parts.iter.find_escape.Goals as goal
 

@@ -1,5 +1,5 @@
 -- The characters so far are taken.
-use Rattle.std.proofs.Common.{◌≡◌, map}
+use Rattle.std.proofs.Common.{map, ◌≡◌}
 use Rattle.vte_handler.specs.Call.{Input}
 use Rattle.vte_handler.specs.Handler.{after}
 use Rattle.vte_handler.proofs.by_call.TakeText.take_text.Given as goal

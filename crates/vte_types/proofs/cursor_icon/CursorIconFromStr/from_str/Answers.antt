@@ -1,5 +1,5 @@
 -- The icon that was found is returned, and an error if there is none.
-use Rattle.std.proofs.Common.{◌∙◌, ap}
+use Rattle.std.proofs.Common.{ap, ◌∙◌}
 use Rattle.std.specs.Option.{ok_or}
 use Rattle.vte_types.proofs.cursor_icon.CursorIconFromStr.from_str.Goals as goal
 

@@ -1,5 +1,5 @@
 -- The bits are those that the trait's contract gives for this table of flags, and `and` takes its sides in any order.
-use Rattle.std.proofs.Common.{◌∙◌, ap}
+use Rattle.std.proofs.Common.{ap, ◌∙◌}
 use Rattle.std.proofs.lemmas.Nat.{and_comm}
 use Rattle.bitflags.proofs.OnLiterals.{bitflags_on_literals}
 use Rattle.vte_types.proofs.keyboard.KeyboardModes.complement.Goals as goal

@@ -1,8 +1,8 @@
 -- A byte is its flags and its other bits (`Bits`), so it is a set exactly if no other bit is set.
-use Rattle.std.proofs.Common.{rules, ◌≡◌, ◌≢◌, ℕ, ◌+◌, ap, arith, eqb, Bool, true, false, Option, Some, None, refl}
+use Rattle.std.proofs.Common.{ap, arith, Bool, eqb, false, None, Option, refl, rules, Some, true, ℕ, ◌+◌, ◌≡◌, ◌≢◌}
 use Rattle.std.proofs.lemmas.Bool.Decides.{nat_tests}
 use Rattle.std.specs.Int.RustNames.{bit_and}
-use Rattle.std.specs.Prelude.{if◌then◌else◌, IfSome, IsSome, IsNone}
+use Rattle.std.specs.Prelude.{IfSome, if◌then◌else◌, IsNone, IsSome}
 use Rattle.bitflags.proofs.OnLiterals.{bitflags_on_literals}
 use Rattle.vte_types.proofs.lemmas.Bits.{bits-parts}
 use Rattle.vte_types.proofs.keyboard.KeyboardModes.from_bits.Goals as goal

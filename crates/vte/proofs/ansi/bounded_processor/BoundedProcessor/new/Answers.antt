@@ -1,5 +1,5 @@
 -- The parser has read nothing, and the memory that it was given stays with the engine.
-use Rattle.vte.proofs.Common.{Err, HasTextMemory, [], ap, subst, sym, rules, ◌∙◌}
+use Rattle.vte.proofs.Common.{ap, Err, HasTextMemory, rules, subst, sym, [], ◌∙◌}
 use Rattle.std.proofs.lemmas.Result.{err_from_is_err_and}
 use Rattle.vte.proofs.ansi.bounded_processor.BoundedProcessor.new.Goals as goal
 

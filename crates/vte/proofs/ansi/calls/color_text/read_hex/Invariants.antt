@@ -1,5 +1,5 @@
 -- The digits that are left give what all give.
-use Rattle.vte.proofs.Common.{◌≡◌, ◌<◌, ◌^◌, drop}
+use Rattle.vte.proofs.Common.{drop, ◌<◌, ◌^◌, ◌≡◌}
 use Rattle.vte_types.specs.Rgb.{hex_from, hex_number}
 use Rattle.vte.proofs.ansi.calls.color_text.read_hex.Given as goal
 

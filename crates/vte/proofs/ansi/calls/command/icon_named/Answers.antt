@@ -1,5 +1,5 @@
 -- The text that is looked up is the name itself.
-use Rattle.vte.proofs.Common.{◌≡◌, ◌∙◌, None, Option, Some, ap, ok_or, refl, rules}
+use Rattle.vte.proofs.Common.{ap, None, ok_or, Option, refl, rules, Some, ◌∙◌, ◌≡◌}
 use Rattle.std.specs.Result.{result_ok}
 use Rattle.vte_types.specs.CursorIcon.{icon_of}
 use Rattle.vte.proofs.ansi.calls.command.icon_named.Goals as goal

@@ -1,5 +1,5 @@
 -- The numbers that are left give what all give.
-use Rattle.vte.proofs.Common.{◌≡◌, ◌-◌, map, range_with_len, all_reset, ResetColor, after}
+use Rattle.vte.proofs.Common.{after, all_reset, map, range_with_len, ResetColor, ◌-◌, ◌≡◌}
 use Rattle.vte.proofs.ansi.calls.command.reset_all.Given as goal
 
 abbrev pub invariant-loop-index : goal.invariant-loop-index

@@ -1,5 +1,5 @@
 -- The numbers that are left give what all give.
-use Rattle.vte.proofs.Common.{◌≡◌, drop, map, filter_map, decimal_number, ResetColor, after}
+use Rattle.vte.proofs.Common.{after, decimal_number, drop, filter_map, map, ResetColor, ◌≡◌}
 use Rattle.vte.proofs.ansi.calls.command.reset_colors.Given as goal
 
 abbrev pub invariant-loop-text : goal.invariant-loop-text

@@ -1,5 +1,5 @@
 -- The texts that are left give what all give.
-use Rattle.vte.proofs.Common.{◌≡◌, ◌+◌, drop, map, dynamic_calls, after}
+use Rattle.vte.proofs.Common.{after, drop, dynamic_calls, map, ◌+◌, ◌≡◌}
 use Rattle.vte.proofs.ansi.calls.command.set_dynamic_colors.Given as goal
 
 abbrev pub invariant-loop-text : goal.invariant-loop-text

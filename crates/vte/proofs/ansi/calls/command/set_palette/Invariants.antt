@@ -1,5 +1,5 @@
 -- The entries that are left give what all give.
-use Rattle.vte.proofs.Common.{◌≡◌, length, map, palette_entries_calls, after}
+use Rattle.vte.proofs.Common.{after, length, map, palette_entries_calls, ◌≡◌}
 use Rattle.vte.proofs.ansi.calls.command.set_palette.Given as goal
 
 abbrev pub invariant-loop-left : goal.invariant-loop-left

@@ -1,5 +1,5 @@
 -- What is left to change gives what all gives.
-use Rattle.vte.proofs.Common.{◌≡◌, after, change_calls, first_numbers}
+use Rattle.vte.proofs.Common.{after, change_calls, first_numbers, ◌≡◌}
 use Rattle.vte.proofs.ansi.calls.control.change_modes.Given as goal
 
 abbrev pub invariant-loop-group : goal.invariant-loop-group

@@ -1,5 +1,5 @@
 -- What is left to hand over gives what all gives.
-use Rattle.vte.proofs.Common.{◌≡◌, ◌-◌, replicate, Input, after}
+use Rattle.vte.proofs.Common.{after, Input, replicate, ◌-◌, ◌≡◌}
 use Rattle.vte.proofs.ansi.calls.control.repeat.Given as goal
 
 abbrev pub invariant-loop : goal.invariant-loop

@@ -1,5 +1,5 @@
 -- The texts so far are joined, and the size is the same.
-use Rattle.vte.proofs.Common.{◌≡◌, drop, map}
+use Rattle.vte.proofs.Common.{drop, map, ◌≡◌}
 use Rattle.vte.proofs.lemmas.calls.JoinedTexts.{Joins}
 use Rattle.vte.proofs.ansi.calls.joined_text.join_texts.Given as goal
 

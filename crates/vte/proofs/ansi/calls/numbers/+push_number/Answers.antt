@@ -1,5 +1,5 @@
 -- The digits of a tenth, and then the last one, are those of the number.
-use Rattle.vte.proofs.Common.{[], ◌∷◌, ◌∙◌, ◌+◌, ◌/◌, ◌%◌, append_assoc, ap, arith, decimal, length, length-append}
+use Rattle.vte.proofs.Common.{ap, append_assoc, arith, decimal, length, length-append, [], ◌%◌, ◌+◌, ◌/◌, ◌∙◌, ◌∷◌}
 use Rattle.std.proofs.lemmas.Fmt.{decimal_step}
 use Rattle.vte.proofs.ansi.calls.numbers.+push_number.Goals as goal
 

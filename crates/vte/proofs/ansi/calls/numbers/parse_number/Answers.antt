@@ -2,7 +2,7 @@
 use Rattle.std.specs.Char.{digit_value}
 use Rattle.std.specs.Str.Parse.{digits_value_after}
 use Rattle.std.proofs.Common.{◌*◌}
-use Rattle.vte.proofs.Common.{◌≡◌, ℕ, ◌+◌, ◌<◌, ◌≤◌, List, [], ◌∷◌, None, Some, false, true, nat_lt, length, drop, drop_all, drop_more, get_or, refl, sym, ◌∙◌, and-false, arith, nat_tests, rules, decimal_number}
+use Rattle.vte.proofs.Common.{and-false, arith, decimal_number, drop, drop_all, drop_more, false, get_or, length, List, nat_lt, nat_tests, None, refl, rules, Some, sym, true, ℕ, [], ◌+◌, ◌<◌, ◌∙◌, ◌∷◌, ◌≡◌, ◌≤◌}
 use Rattle.vte.proofs.ansi.calls.numbers.parse_number.Invariants.{number_after}
 use Rattle.vte.proofs.ansi.calls.numbers.parse_number.Goals as goal
 

@@ -1,8 +1,8 @@
 -- The digits that are left, after those of the number, give what all give.
 use Rattle.std.specs.Str.{all_ascii_digits}
 use Rattle.std.specs.Str.Parse.{digits_value_after}
-use Rattle.vte.proofs.Common.{◌≡◌, ◌<◌, ℕ, List, Option, Some, None, nat_lt, drop, decimal_number}
-use Rattle.std.specs.Prelude.{◌&&◌, if◌then◌else◌}
+use Rattle.vte.proofs.Common.{decimal_number, drop, List, nat_lt, None, Option, Some, ℕ, ◌<◌, ◌≡◌}
+use Rattle.std.specs.Prelude.{if◌then◌else◌, ◌&&◌}
 use Rattle.vte.proofs.ansi.calls.numbers.parse_number.Given as goal
 
 -- The number that further digits write after `number`, if all are digits and it is below 256.

@@ -1,5 +1,5 @@
 -- The pieces that are left fit what is left of the size exactly if all fit.
-use Rattle.vte.proofs.Common.{◌≡◌, ◌+◌, drop, map, length, concat, nat_le, fits_text_size}
+use Rattle.vte.proofs.Common.{concat, drop, fits_text_size, length, map, nat_le, ◌+◌, ◌≡◌}
 use Rattle.vte.proofs.ansi.calls.performer.pieces_fit.Given as goal
 
 abbrev pub invariant-loop-piece : goal.invariant-loop-piece

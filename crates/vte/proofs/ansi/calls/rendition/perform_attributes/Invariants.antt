@@ -1,5 +1,5 @@
 -- What is left to call gives what all calls give.
-use Rattle.vte.proofs.Common.{◌≡◌, length, after, attribute_calls}
+use Rattle.vte.proofs.Common.{after, attribute_calls, length, ◌≡◌}
 use Rattle.vte.proofs.ansi.calls.rendition.perform_attributes.Given as goal
 
 abbrev pub invariant-loop-group : goal.invariant-loop-group

@@ -1,5 +1,5 @@
 -- After some of the steps, these lead to where the processor is.
-use Rattle.vte.proofs.Common.{take, meaning_of, HasParsedAndHolds, IsAt, HasReplayed, State, usual_limit}
+use Rattle.vte.proofs.Common.{HasParsedAndHolds, HasReplayed, IsAt, meaning_of, State, take, usual_limit}
 use Rattle.vte.proofs.ansi.laws.replays.replay.Given as goal
 
 abbrev pub invariant-loop-step : goal.invariant-loop-step

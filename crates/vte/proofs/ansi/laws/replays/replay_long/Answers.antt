@@ -1,5 +1,5 @@
 -- As for `replay`; a call that is refused memory ends the list where it is, and says what it lacks.
-use Rattle.vte.proofs.Common.{refl, take_all, LacksMemoryLong}
+use Rattle.vte.proofs.Common.{LacksMemoryLong, refl, take_all}
 use Rattle.vte.proofs.lemmas.replays.WithoutUpdates.{replays_all}
 use Rattle.vte.proofs.lemmas.replays.ReplayedSteps.{advance_refused, advance_taken, first_lacks, has_replayed, stop_taken}
 use Rattle.vte.proofs.ansi.laws.replays.replay_long.Goals as goal

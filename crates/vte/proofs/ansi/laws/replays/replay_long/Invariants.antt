@@ -1,5 +1,5 @@
 -- As for `replay`, without a limit.
-use Rattle.vte.proofs.Common.{None, take, HasParsedAndHoldsLong, IsAt, meaning_of, HasReplayed, State}
+use Rattle.vte.proofs.Common.{HasParsedAndHoldsLong, HasReplayed, IsAt, meaning_of, None, State, take}
 use Rattle.vte.proofs.ansi.laws.replays.replay_long.Given as goal
 
 abbrev pub invariant-loop-index : goal.invariant-loop-index

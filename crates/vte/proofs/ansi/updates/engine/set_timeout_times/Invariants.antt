@@ -1,5 +1,5 @@
 -- The timeout was set this many times.
-use Rattle.vte.proofs.Common.{◌≡◌, set_times, timeout_meaning}
+use Rattle.vte.proofs.Common.{set_times, timeout_meaning, ◌≡◌}
 use Rattle.vte.proofs.ansi.updates.engine.set_timeout_times.Given as goal
 
 abbrev pub invariant-loop-time : goal.invariant-loop-time

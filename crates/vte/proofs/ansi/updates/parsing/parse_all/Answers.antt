@@ -1,5 +1,5 @@
 -- What was lent to the performer comes back with the calls of the parsed bytes.
-use Rattle.vte.proofs.Common.{refl, meaning_of}
+use Rattle.vte.proofs.Common.{meaning_of, refl}
 use Rattle.vte.proofs.lemmas.PerformedEvents.{performer-given_back, text_size_back}
 use Rattle.vte.proofs.ansi.updates.parsing.parse_all.Goals as goal
 

@@ -1,7 +1,7 @@
 -- An early stop reads the prefix up to the begin of an update (`updates/Prefixes`), and what was lent comes back with
 -- its calls.
-use Rattle.vte.proofs.Common.{drop, length, refl, meaning_of, prefix_to_begin}
-use Rattle.vte.proofs.lemmas.PerformedEvents.{performer-given_back, stops_at_prefix, stop_performs, stop_stream, stop_terminated}
+use Rattle.vte.proofs.Common.{drop, length, meaning_of, prefix_to_begin, refl}
+use Rattle.vte.proofs.lemmas.PerformedEvents.{performer-given_back, stop_performs, stop_stream, stop_terminated, stops_at_prefix}
 use Rattle.vte.proofs.lemmas.EnoughMemory.{prefix_fits}
 use Rattle.vte.proofs.lemmas.turns.EachOnce.{prefix-rest}
 use Rattle.vte.proofs.ansi.updates.parsing.parse_until_begin.Goals as goal

@@ -1,6 +1,6 @@
 -- From the end back, from ESC to ESC: a begin counts, an end is the last one and ends the search, and any other
 -- sequence changes nothing (`updates/Seen`).
-use Rattle.vte.proofs.Common.{◌≤◌, length, sym, ◌∙◌, arith, length-append}
+use Rattle.vte.proofs.Common.{arith, length, length-append, sym, ◌∙◌, ◌≤◌}
 use Rattle.vte.proofs.lemmas.updates.Seen.{last_escape, seen-all, seen-begin_before, seen-end, seen-nothing, seen-other_before, seen-round, seen-skipped, tail-sequence, unread-decreases}
 use Rattle.vte.proofs.ansi.updates.release.find_release.Goals as goal
 

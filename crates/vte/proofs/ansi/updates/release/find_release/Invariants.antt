@@ -1,5 +1,5 @@
 -- The search has come back to this position, and what it has seen decides what the whole text does (`HasSeen`).
-use Rattle.vte.proofs.Common.{ℕ, ◌+◌, ◌≤◌, List, ◌++◌, length, IsHeldTail}
+use Rattle.vte.proofs.Common.{IsHeldTail, length, List, ℕ, ◌++◌, ◌+◌, ◌≤◌}
 use Rattle.vte.proofs.lemmas.updates.Seen.{HasSeen}
 use Rattle.vte.proofs.ansi.updates.release.find_release.Given as goal
 

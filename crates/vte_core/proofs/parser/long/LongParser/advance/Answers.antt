@@ -1,5 +1,5 @@
 -- What `drive` ensures, with and without memory, put into the contract by the lemmas of `positions/Contracts`.
-use Rattle.vte_core.proofs.Common.{Err, ap, ◌∙◌, err_from_is_err_and}
+use Rattle.vte_core.proofs.Common.{ap, Err, err_from_is_err_and, ◌∙◌}
 use Rattle.vte_core.proofs.lemmas.positions.Contracts.{advance-read, advance-refused}
 use Rattle.vte_core.proofs.parser.long.LongParser.advance.Goals as goal
 

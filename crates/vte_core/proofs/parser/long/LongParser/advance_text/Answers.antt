@@ -1,5 +1,5 @@
 -- As for `advance`.
-use Rattle.vte_core.proofs.Common.{Err, ap, ◌∙◌, err_from_is_err_and}
+use Rattle.vte_core.proofs.Common.{ap, Err, err_from_is_err_and, ◌∙◌}
 use Rattle.vte_core.proofs.lemmas.positions.Contracts.{advance-read, advance-refused}
 use Rattle.vte_core.proofs.parser.long.LongParser.advance_text.Goals as goal
 

@@ -1,5 +1,5 @@
 -- What `drive_to_run` ensures, with and without memory, put into the contract by `positions/Contracts`.
-use Rattle.vte_core.proofs.Common.{Err, ap, ◌∙◌, err_from_is_err_and}
+use Rattle.vte_core.proofs.Common.{ap, Err, err_from_is_err_and, ◌∙◌}
 use Rattle.vte_core.proofs.lemmas.positions.Contracts.{to_run-read, to_run-refused}
 use Rattle.vte_core.proofs.parser.long.LongParser.advance_to_run.Goals as goal
 

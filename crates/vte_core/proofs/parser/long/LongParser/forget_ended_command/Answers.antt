@@ -1,5 +1,5 @@
 -- A command's bytes are all open, and in another state none is.
-use Rattle.vte_core.proofs.Common.{length, ap, sym, ◌∙◌, false≢true, arith, rules}
+use Rattle.vte_core.proofs.Common.{ap, arith, false≢true, length, rules, sym, ◌∙◌}
 use Rattle.vte_core.proofs.lemmas.positions.Open.{none_is_open, stored_is_open}
 use Rattle.vte_core.proofs.parser.long.LongParser.forget_ended_command.Goals as goal
 use Rattle.vte_core.proofs.parser.long.LongParser.forget_ended_command.Goals.{in-SystemCommand, in_default}

@@ -1,6 +1,6 @@
 -- As for `Parser`: a copy has read the same. It takes no more memory than it needs.
 use Rattle.std.proofs.lemmas.List.Elements.{same_from_all_zip}
-use Rattle.vte_core.proofs.Common.{rules, arith}
+use Rattle.vte_core.proofs.Common.{arith, rules}
 use Rattle.vte_core.proofs.lemmas.fields.PlaceOfState.{reads_cloned}
 use Rattle.vte_core.proofs.parser.long.LongParserClone.clone.Goals as goal
 

@@ -1,12 +1,12 @@
 -- By the key after ESC: `P`, `]`, that of an ignored string, or any other, which dispatches. The place after it is that
 -- shape with nothing read.
-use Rattle.vte_core.proofs.Common.{refl, ◌∙◌, arith, sequence_kind, rules}
+use Rattle.vte_core.proofs.Common.{arith, refl, rules, sequence_kind, ◌∙◌}
 use Rattle.vte_core.specs.SequenceKind.{DeviceControl, IgnoredString, SystemCommand}
 use Rattle.vte_core.proofs.lemmas.bytes.Classes.{class-final, other_key}
 use Rattle.vte_core.proofs.lemmas.positions.Stretches.{takes-byte}
 use Rattle.vte_core.proofs.lemmas.positions.Progress.{settled-same_state}
 use Rattle.vte_core.proofs.lemmas.fields.PlaceOfState.{is_at-escape, is_at-text_begun}
-use Rattle.vte_core.proofs.lemmas.places.PlaceLeads.{escape-key, escape-end}
+use Rattle.vte_core.proofs.lemmas.places.PlaceLeads.{escape-end, escape-key}
 use Rattle.vte_core.proofs.parser.machine.Machine.begin_or_dispatch.Goals as goal
 
 -- `P` begins a device control string.

@@ -1,5 +1,5 @@
 -- Data of a command were dropped if the store says so: by the state, and so the place, of the parser.
-use Rattle.vte_core.proofs.Common.{ℕ, Option, List, [], ◌∷◌, sym, Machine, State, SystemCommand, IsAtPlace, IsPlaceOfState, Place, InText, InSystemCommand, HoldsItems, SaysLoss, left_at, arith, rules}
+use Rattle.vte_core.proofs.Common.{arith, HoldsItems, InSystemCommand, InText, IsAtPlace, IsPlaceOfState, left_at, List, Machine, Option, Place, rules, SaysLoss, State, sym, SystemCommand, ℕ, [], ◌∷◌}
 use Rattle.vte_core.proofs.lemmas.fields.PlaceOfState.{is_at-place}
 use Rattle.vte_core.proofs.lemmas.fields.Stores.{loses_held}
 use Rattle.vte_core.proofs.lemmas.streams.After.{after-left}

@@ -1,8 +1,8 @@
 -- The second, third and fourth byte of a character of four: each fits or breaks it, or the bytes of the call end. The
 -- lemmas `goes-*` say how far it has gone, `completes-*` how it ends there, from the second byte on; `advances-first`
 -- leads from the first. A run that it begins is reported as a text.
-use Rattle.vte_core.proofs.Common.{◌≡◌, ℕ, ◌+◌, ◌<◌, ◌≤◌, length, ap, subst, sym, ◌∙◌, arith, false≢true, slice_index, IsRun}
-use Rattle.vte_core.proofs.lemmas.bytes.Scalars.{second-broken, third-broken, fourth-broken, spells-four}
+use Rattle.vte_core.proofs.Common.{ap, arith, false≢true, IsRun, length, slice_index, subst, sym, ℕ, ◌+◌, ◌<◌, ◌∙◌, ◌≡◌, ◌≤◌}
+use Rattle.vte_core.proofs.lemmas.bytes.Scalars.{fourth-broken, second-broken, spells-four, third-broken}
 use Rattle.vte_core.proofs.lemmas.bytes.Runs.{run-append}
 use Rattle.vte_core.proofs.lemmas.positions.Characters.{completes-broken, completes-then, completes-whole, goes-nowhere, goes-second, goes-third, unfinished-some}
 use Rattle.vte_core.proofs.lemmas.positions.BetweenCharacters.{advances-first}

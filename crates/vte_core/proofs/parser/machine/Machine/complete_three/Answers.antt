@@ -1,6 +1,6 @@
 -- The second and third byte of a character of three: each fits or breaks it, or the bytes of the call end.
-use Rattle.vte_core.proofs.Common.{◌≡◌, ℕ, ◌+◌, sym, ◌∙◌, arith, rules}
-use Rattle.vte_core.proofs.lemmas.bytes.Scalars.{second-broken, third-broken, spells-three}
+use Rattle.vte_core.proofs.Common.{arith, rules, sym, ℕ, ◌+◌, ◌∙◌, ◌≡◌}
+use Rattle.vte_core.proofs.lemmas.bytes.Scalars.{second-broken, spells-three, third-broken}
 use Rattle.vte_core.proofs.lemmas.positions.Characters.{completes-all, completes-broken, completes-whole, goes-nowhere, goes-second, unfinished-some}
 use Rattle.vte_core.proofs.parser.machine.Machine.complete_three.Goals as goal
 

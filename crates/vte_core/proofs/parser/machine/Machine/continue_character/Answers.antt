@@ -1,5 +1,5 @@
 -- Each byte goes on with the character (`goes-more`), until one completes or breaks it, or no byte is left.
-use Rattle.vte_core.proofs.Common.{refl, arith, rules}
+use Rattle.vte_core.proofs.Common.{arith, refl, rules}
 use Rattle.vte_core.proofs.lemmas.positions.Characters.{completes-all, completes-broken, completes-whole, goes-more, goes-nowhere}
 use Rattle.vte_core.proofs.parser.machine.Machine.continue_character.Goals as goal
 

@@ -1,5 +1,5 @@
 -- The call is inside the character that was begun, and has reported nothing.
-use Rattle.vte_core.proofs.Common.{◌≡◌, not, eqb, SpendsWithin, chunk_call}
+use Rattle.vte_core.proofs.Common.{chunk_call, eqb, not, SpendsWithin, ◌≡◌}
 use Rattle.vte_core.proofs.lemmas.positions.Characters.{GoesOn}
 use Rattle.vte_core.proofs.parser.machine.Machine.continue_character.Given as goal
 

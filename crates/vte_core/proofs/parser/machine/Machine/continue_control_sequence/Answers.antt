@@ -1,6 +1,6 @@
 -- Numbers first, then a final byte at once, nothing, or the rest of the head.
-use Rattle.vte_core.proofs.Common.{refl, sym, ◌∙◌, rules}
-use Rattle.vte_core.proofs.lemmas.positions.HeadStretches.{advances-final_byte, ControlHead, advances-head}
+use Rattle.vte_core.proofs.Common.{refl, rules, sym, ◌∙◌}
+use Rattle.vte_core.proofs.lemmas.positions.HeadStretches.{advances-final_byte, advances-head, ControlHead}
 use Rattle.vte_core.proofs.lemmas.positions.Stretches.{advances-then}
 use Rattle.vte_core.proofs.parser.machine.Machine.continue_control_sequence.Goals as goal
 

@@ -1,7 +1,7 @@
 -- Stretches add up: what leads from a position to the next leads from the start. The call ends at a stop, with all
 -- bytes, or when memory is refused.
-use Rattle.vte_core.proofs.Common.{Err, ap, ◌∙◌, arith, rules, err_from_is_err_and}
-use Rattle.vte_core.proofs.lemmas.positions.Progress.{may_stop-some, call_ends-at_stop, call_ends-with_all}
+use Rattle.vte_core.proofs.Common.{ap, arith, Err, err_from_is_err_and, rules, ◌∙◌}
+use Rattle.vte_core.proofs.lemmas.positions.Progress.{call_ends-at_stop, call_ends-with_all, may_stop-some}
 use Rattle.vte_core.proofs.parser.machine.Machine.drive.Goals as goal
 
 -- The loop begins where the open character was completed.

@@ -1,5 +1,5 @@
 -- The call is at this position, and no character is open there.
-use Rattle.vte_core.proofs.Common.{ℕ, ◌-◌, ◌<◌, not, eqb, List, length, SpendsWithin, HasReadWithLimit, IsSettled, IsAtPosition, chunk_call}
+use Rattle.vte_core.proofs.Common.{chunk_call, eqb, HasReadWithLimit, IsAtPosition, IsSettled, length, List, not, SpendsWithin, ℕ, ◌-◌, ◌<◌}
 use Rattle.vte_core.proofs.parser.machine.Machine.drive.Given as goal
 
 abbrev pub invariant-loop-position : goal.invariant-loop-position

@@ -1,10 +1,10 @@
 -- As for `drive`, a stretch at a time. A run is found in a text or in data, and is returned unread: the bytes before it
 -- have reported nothing of a run (`reports-more`).
-use Rattle.vte_core.proofs.Common.{ℕ, Err, ap, sym, ◌∙◌, arith, rules, err_from_is_err_and, Advances, ChunkCall, Machine}
+use Rattle.vte_core.proofs.Common.{Advances, ap, arith, ChunkCall, Err, err_from_is_err_and, Machine, rules, sym, ℕ, ◌∙◌}
 use Rattle.vte_core.proofs.lemmas.positions.ToRun.{comes-nowhere, comes-to_run, has-data, has-text, outside-text_and_data, settled-text}
 use Rattle.vte_core.proofs.lemmas.positions.AddedEvents.{reports-more}
 use Rattle.vte_core.proofs.parser.machine.Machine.drive_to_run.Invariants.{IsBeforeRun}
-use Rattle.vte_core.proofs.parser.machine.Machine.drive_to_run.Goals.{then-loop-position-test+else-not-terminated, else-loop-position-test}
+use Rattle.vte_core.proofs.parser.machine.Machine.drive_to_run.Goals.{else-loop-position-test, then-loop-position-test+else-not-terminated}
 use Rattle.vte_core.proofs.parser.machine.Machine.drive_to_run.Goals as goal
 
 -- A stretch that reports no run leads from one position before a run to another.

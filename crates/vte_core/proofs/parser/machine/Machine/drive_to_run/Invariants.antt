@@ -1,5 +1,5 @@
 -- As for `drive`; and what is reported so far is reported by no run.
-use Rattle.vte_core.proofs.Common.{ℕ, ◌-◌, ◌<◌, true, List, Machine, length, SpendsWithin, HasReadWithLimit, IsSettled, IsAtPosition, ReportsOutsideRuns, ChunkCall, chunk_call}
+use Rattle.vte_core.proofs.Common.{chunk_call, ChunkCall, HasReadWithLimit, IsAtPosition, IsSettled, length, List, Machine, ReportsOutsideRuns, SpendsWithin, true, ℕ, ◌-◌, ◌<◌}
 use Rattle.vte_core.proofs.parser.machine.Machine.drive_to_run.Given as goal
 
 -- The call is at this position, and what it has reported belongs to no run.

@@ -1,7 +1,7 @@
 -- What is open is reported first. Then ESC leads to after ESC, and CAN or SUB is executed and leads to a text.
-use Rattle.vte_core.proofs.Common.{[], ◌∷◌, refl, sym, ap, ◌∙◌, rules, Execute, closing_events_at, arith}
+use Rattle.vte_core.proofs.Common.{ap, arith, closing_events_at, Execute, refl, rules, sym, [], ◌∙◌, ◌∷◌}
 use Rattle.vte_core.proofs.lemmas.bytes.Classes.{ends_by_cancel}
-use Rattle.vte_core.proofs.lemmas.positions.Stretches.{takes_bytes-escape, takes-byte}
+use Rattle.vte_core.proofs.lemmas.positions.Stretches.{takes-byte, takes_bytes-escape}
 use Rattle.vte_core.proofs.lemmas.fields.PlaceOfState.{is_at-place}
 use Rattle.vte_core.proofs.lemmas.streams.After.{after_events-append, takes_bytes-one}
 use Rattle.vte_core.proofs.lemmas.places.BytesInStream.{cancel_is_no_escape}

@@ -1,5 +1,5 @@
 -- An ill-shaped head reports nothing. Any other is whole once the last number is settled, and is dispatched.
-use Rattle.vte_core.proofs.Common.{[], ◌∷◌, refl, ap, ◌∙◌, arith, CsiDispatch, head_of, sequence_event, InText, rules}
+use Rattle.vte_core.proofs.Common.{ap, arith, CsiDispatch, head_of, InText, refl, rules, sequence_event, [], ◌∙◌, ◌∷◌}
 use Rattle.vte_core.proofs.lemmas.bytes.Classes.{class-final}
 use Rattle.vte_core.proofs.lemmas.positions.Progress.{settled-same_state}
 use Rattle.vte_core.proofs.lemmas.fields.Heads.{dispatched-ready, head-holds, ill_shaped-now}

@@ -1,8 +1,8 @@
 -- An ill-shaped head leads to an ignored string. Any other is whole once the last number is settled, and hooks.
-use Rattle.vte_core.proofs.Common.{[], ◌∷◌, refl, ap, ◌∙◌, rules, Hook, head_of, sequence_event, InDeviceData, InIgnoredString}
+use Rattle.vte_core.proofs.Common.{ap, head_of, Hook, InDeviceData, InIgnoredString, refl, rules, sequence_event, [], ◌∙◌, ◌∷◌}
 use Rattle.vte_core.proofs.lemmas.bytes.Classes.{class-final}
 use Rattle.vte_core.proofs.lemmas.fields.Heads.{dispatched-ready, head-holds, ill_shaped-now}
-use Rattle.vte_core.proofs.lemmas.places.PlaceLeads.{device-well_shaped, device-ill_shaped}
+use Rattle.vte_core.proofs.lemmas.places.PlaceLeads.{device-ill_shaped, device-well_shaped}
 use Rattle.vte_core.proofs.parser.machine.Machine.hook.Goals as goal
 
 -- After an ill-shaped head, the string is ignored.

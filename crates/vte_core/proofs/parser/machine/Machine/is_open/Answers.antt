@@ -1,5 +1,5 @@
 -- Something is open unless `open` answers `Nothing`.
-use Rattle.vte_core.proofs.Common.{false≢true, ap, not, sym, ◌∙◌}
+use Rattle.vte_core.proofs.Common.{ap, false≢true, not, sym, ◌∙◌}
 use Rattle.vte_core.proofs.parser.machine.Machine.is_open.Goals as goal
 use Rattle.vte_core.proofs.parser.machine.Machine.is_open.Goals.{in-Nothing, in_default}
 

@@ -1,9 +1,9 @@
 -- A byte that is a character, a control or malformed alone: the call reads it.
-use Rattle.vte_core.proofs.Common.{sym, ◌∙◌, arith}
+use Rattle.vte_core.proofs.Common.{arith, sym, ◌∙◌}
 use Rattle.vte_core.proofs.lemmas.positions.BetweenCharacters.{takes_bytes-printed, takes_bytes-single}
 use Rattle.vte_core.proofs.lemmas.positions.Progress.{settled-same_state}
 use Rattle.vte_core.proofs.lemmas.positions.Stretches.{advances-byte, advances-without_promise}
-use Rattle.vte_core.proofs.parser.machine.Machine.read_byte_of_text.Goals.{then-is_printed_ascii, else-is_printed_ascii+else-is_lead+then-first-ge160, else-is_printed_ascii+else-is_lead+else-first-ge160+else-first-eq-ESCAPE}
+use Rattle.vte_core.proofs.parser.machine.Machine.read_byte_of_text.Goals.{else-is_printed_ascii+else-is_lead+else-first-ge160+else-first-eq-ESCAPE, else-is_printed_ascii+else-is_lead+then-first-ge160, then-is_printed_ascii}
 use Rattle.vte_core.proofs.parser.machine.Machine.read_byte_of_text.Goals as goal
 
 pub returns-clause-advances : goal.returns-clause-advances

@@ -1,6 +1,6 @@
 -- What the first byte begins is open, so the call goes on by what completes it (`advances-first`): the second byte
 -- here, or three bytes in a function of their own; that for four says the same as this one.
-use Rattle.vte_core.proofs.Common.{refl, sym, ◌∙◌, arith}
+use Rattle.vte_core.proofs.Common.{arith, refl, sym, ◌∙◌}
 use Rattle.vte_core.proofs.lemmas.bytes.Scalars.{second-broken, second-lone, spells-two}
 use Rattle.vte_core.proofs.lemmas.positions.Characters.{completes-all, completes-broken, completes-whole, goes-nowhere, unfinished-some}
 use Rattle.vte_core.proofs.lemmas.positions.BetweenCharacters.{advances-first}

@@ -1,5 +1,5 @@
 -- The call is before this byte of a text. A byte has three looks at most, and one more if it is searched.
-use Rattle.vte_core.proofs.Common.{◌≡◌, ◌+◌, ◌-◌, ◌*◌, ◌<◌, ◌≤◌, ℕ, false, List, length, slice_index, Text, Nothing, looked, Advances, ChunkCall, chunk_call}
+use Rattle.vte_core.proofs.Common.{Advances, chunk_call, ChunkCall, false, length, List, looked, Nothing, slice_index, Text, ℕ, ◌*◌, ◌+◌, ◌-◌, ◌<◌, ◌≡◌, ◌≤◌}
 use Rattle.vte_core.specs.private.Prelude.{MayReadByte}
 use Rattle.vte_core.proofs.parser.machine.Machine.read_characters.Given as goal
 

@@ -1,8 +1,8 @@
 -- A call that asks goes on by one data byte; one that does not takes all up to the next byte that is not put.
-use Rattle.vte_core.proofs.Common.{refl, sym, ◌∙◌, arith, rules}
-use Rattle.vte_core.proofs.lemmas.positions.Stretches.{advances-data, advances-put, first-put, advances-to_same, advances-nothing, advances-without_promise, advances-then}
+use Rattle.vte_core.proofs.Common.{arith, refl, rules, sym, ◌∙◌}
+use Rattle.vte_core.proofs.lemmas.positions.Stretches.{advances-data, advances-nothing, advances-put, advances-then, advances-to_same, advances-without_promise, first-put}
 use Rattle.vte_core.proofs.lemmas.positions.Progress.{may_stop-none, settled-same_state}
-use Rattle.vte_core.proofs.parser.machine.Machine.read_device_data.Goals.{else-this-ne0-via-then-this-ne0+else-terminated, else-this-ne0-via-else-this-ne0}
+use Rattle.vte_core.proofs.parser.machine.Machine.read_device_data.Goals.{else-this-ne0-via-else-this-ne0, else-this-ne0-via-then-this-ne0+else-terminated}
 use Rattle.vte_core.proofs.parser.machine.Machine.read_device_data.Goals as goal
 
 pub loop-position-init : goal.loop-position-init

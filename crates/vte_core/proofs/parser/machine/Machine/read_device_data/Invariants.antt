@@ -1,5 +1,5 @@
 -- The call is at this position, in the data.
-use Rattle.vte_core.proofs.Common.{◌≡◌, not, eqb, DeviceData, SpendsWithin, Advances, MayGoOn, chunk_call}
+use Rattle.vte_core.proofs.Common.{Advances, chunk_call, DeviceData, eqb, MayGoOn, not, SpendsWithin, ◌≡◌}
 use Rattle.vte_core.proofs.parser.machine.Machine.read_device_data.Given as goal
 
 abbrev pub invariant-loop-position : goal.invariant-loop-position

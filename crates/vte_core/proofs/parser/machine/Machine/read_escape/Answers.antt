@@ -1,7 +1,7 @@
 -- ESC once more changes nothing. `[` leads to a head, which is read on; any other byte is one step.
-use Rattle.vte_core.proofs.Common.{refl, arith, rules}
+use Rattle.vte_core.proofs.Common.{arith, refl, rules}
 use Rattle.vte_core.proofs.lemmas.positions.Progress.{settled-same_state}
-use Rattle.vte_core.proofs.lemmas.positions.Stretches.{advances-byte, advances-to_same, advances-nothing, advances-given, advances-then, advances-again, advances-bracket}
+use Rattle.vte_core.proofs.lemmas.positions.Stretches.{advances-again, advances-bracket, advances-byte, advances-given, advances-nothing, advances-then, advances-to_same}
 use Rattle.vte_core.proofs.parser.machine.Machine.read_escape.Goals as goal
 
 pub loop-position-init : goal.loop-position-init

@@ -1,5 +1,5 @@
 -- The call is at this position, after ESC.
-use Rattle.vte_core.proofs.Common.{◌≡◌, not, eqb, Escape, SpendsWithin, Advances, MayGoOn, chunk_call}
+use Rattle.vte_core.proofs.Common.{Advances, chunk_call, eqb, Escape, MayGoOn, not, SpendsWithin, ◌≡◌}
 use Rattle.vte_core.proofs.parser.machine.Machine.read_escape.Given as goal
 
 abbrev pub invariant-loop-position : goal.invariant-loop-position

@@ -1,7 +1,7 @@
 -- Bytes of an ignored string lead back to it, one by one (`advances-by`); then it ends, or the bytes do.
-use Rattle.vte_core.proofs.Common.{◌≡◌, ℕ, zero, suc, ◌+◌, ◌-◌, ◌≤◌, length, refl, arith, Machine, IgnoredString, Advances, MayGoOn, AreIgnored, ChunkCall, rules}
+use Rattle.vte_core.proofs.Common.{Advances, AreIgnored, arith, ChunkCall, IgnoredString, length, Machine, MayGoOn, refl, rules, suc, zero, ℕ, ◌+◌, ◌-◌, ◌≡◌, ◌≤◌}
 use Rattle.vte_core.proofs.lemmas.bytes.Classes.{ends_not_cancel}
-use Rattle.vte_core.proofs.lemmas.positions.Stretches.{advances-in, takes-in_ignored, takes-byte, advances-to_same, advances-nothing, advances-given, advances-then}
+use Rattle.vte_core.proofs.lemmas.positions.Stretches.{advances-given, advances-in, advances-nothing, advances-then, advances-to_same, takes-byte, takes-in_ignored}
 use Rattle.vte_core.proofs.lemmas.positions.Progress.{settled-same_state}
 use Rattle.vte_core.proofs.lemmas.fields.PlaceOfState.{is_at-by}
 use Rattle.vte_core.proofs.lemmas.places.PlaceLeads.{ignored-more}

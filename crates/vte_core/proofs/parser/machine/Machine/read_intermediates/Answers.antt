@@ -1,12 +1,12 @@
 -- The byte after intermediates by its class: another intermediate, a byte that dispatches, one that ends the sequence,
 -- a control, or one that is dropped. In each case the machine is at the place to which the byte leads.
-use Rattle.vte_core.proofs.Common.{refl, sym, ◌∙◌, arith, rules, class_of}
-use Rattle.vte_core.proofs.lemmas.bytes.Classes.{class-control, dispatch_ends_nothing, class-intermediate, other_than_intermediate}
-use Rattle.vte_core.proofs.lemmas.positions.Stretches.{advances-in, takes-in_escape, takes-byte, advances-byte, advances-nothing, advances-given, advances-then}
+use Rattle.vte_core.proofs.Common.{arith, class_of, refl, rules, sym, ◌∙◌}
+use Rattle.vte_core.proofs.lemmas.bytes.Classes.{class-control, class-intermediate, dispatch_ends_nothing, other_than_intermediate}
+use Rattle.vte_core.proofs.lemmas.positions.Stretches.{advances-byte, advances-given, advances-in, advances-nothing, advances-then, takes-byte, takes-in_escape}
 use Rattle.vte_core.proofs.lemmas.positions.Progress.{settled-same_state}
 use Rattle.vte_core.proofs.lemmas.fields.PlaceOfState.{is_at-by, is_at-text_begun}
 use Rattle.vte_core.proofs.lemmas.places.PlaceLeads.{byte-dropped, byte-executed, intermediate-end, intermediate-more}
-use Rattle.vte_core.proofs.parser.machine.Machine.read_intermediates.Goals.{then-is_intermediate, else-is_intermediate+else-dispatches_escape+else-ends_body+else-is_plain_control}
+use Rattle.vte_core.proofs.parser.machine.Machine.read_intermediates.Goals.{else-is_intermediate+else-dispatches_escape+else-ends_body+else-is_plain_control, then-is_intermediate}
 use Rattle.vte_core.proofs.parser.machine.Machine.read_intermediates.Goals as goal
 
 -- Nothing is read yet.

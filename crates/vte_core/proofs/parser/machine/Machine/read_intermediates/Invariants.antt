@@ -1,5 +1,5 @@
 -- The call is at this position, after intermediates.
-use Rattle.vte_core.proofs.Common.{◌≡◌, not, eqb, EscapeIntermediate, SpendsWithin, Advances, MayGoOn, chunk_call}
+use Rattle.vte_core.proofs.Common.{Advances, chunk_call, eqb, EscapeIntermediate, MayGoOn, not, SpendsWithin, ◌≡◌}
 use Rattle.vte_core.proofs.parser.machine.Machine.read_intermediates.Given as goal
 
 abbrev pub invariant-loop-position : goal.invariant-loop-position

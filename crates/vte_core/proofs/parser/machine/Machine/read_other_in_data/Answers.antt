@@ -1,11 +1,11 @@
 -- ST unhooks and leads to a text; any other byte that is no data and ends nothing is dropped.
 use Rattle.vte_core.proofs.Common.{refl, sym, ◌∙◌}
 use Rattle.vte_core.proofs.lemmas.bytes.Classes.{ends_no_data, terminator_is_high}
-use Rattle.vte_core.proofs.lemmas.positions.Stretches.{advances-in, takes-in_data, takes-byte, advances-given}
+use Rattle.vte_core.proofs.lemmas.positions.Stretches.{advances-given, advances-in, takes-byte, takes-in_data}
 use Rattle.vte_core.proofs.lemmas.fields.PlaceOfState.{is_at-by}
 use Rattle.vte_core.proofs.lemmas.positions.Progress.{settled-same_state}
 use Rattle.vte_core.proofs.lemmas.places.PlaceLeads.{data-dropped, data-terminator}
-use Rattle.vte_core.proofs.parser.machine.Machine.read_other_in_data.Goals.{then-byte-eq-STRING_TERMINATOR, else-byte-eq-STRING_TERMINATOR}
+use Rattle.vte_core.proofs.parser.machine.Machine.read_other_in_data.Goals.{else-byte-eq-STRING_TERMINATOR, then-byte-eq-STRING_TERMINATOR}
 use Rattle.vte_core.proofs.parser.machine.Machine.read_other_in_data.Goals as goal
 
 pub returns-clause-advances : goal.returns-clause-advances

@@ -1,12 +1,12 @@
 -- The head first. Then nothing is left, or the next byte ends it: final, CAN, SUB or ESC, a control, or one that is
 -- dropped, by its class.
-use Rattle.vte_core.proofs.Common.{refl, sym, ◌∙◌, rules, class_of}
+use Rattle.vte_core.proofs.Common.{class_of, refl, rules, sym, ◌∙◌}
 use Rattle.vte_core.proofs.lemmas.bytes.Classes.{class-control, other_is_dropped}
 use Rattle.vte_core.proofs.lemmas.positions.Stretches.{takes-byte}
-use Rattle.vte_core.proofs.lemmas.positions.HeadStretches.{advances-final_byte, ControlHead, advances-head, advances-past_head, takes_bytes-head}
+use Rattle.vte_core.proofs.lemmas.positions.HeadStretches.{advances-final_byte, advances-head, advances-past_head, ControlHead, takes_bytes-head}
 use Rattle.vte_core.proofs.lemmas.fields.PlaceOfState.{is_at-by}
 use Rattle.vte_core.proofs.lemmas.places.PlaceLeads.{byte-dropped, byte-executed}
-use Rattle.vte_core.proofs.parser.machine.Machine.read_rest_of_head.Goals.{then-ends_body, else-ends_body+then-is_plain_control, else-ends_body+else-is_plain_control}
+use Rattle.vte_core.proofs.parser.machine.Machine.read_rest_of_head.Goals.{else-ends_body+else-is_plain_control, else-ends_body+then-is_plain_control, then-ends_body}
 use Rattle.vte_core.proofs.parser.machine.Machine.read_rest_of_head.Goals as goal
 
 -- A final byte ends the sequence.

@@ -1,14 +1,14 @@
 -- In a round the call may first print a run of ASCII (`advances-ascii`). Then it is before a byte (`may_read-next`),
 -- which it reads by one of three branches, of which two join (`advances-next`).
-use Rattle.vte_core.proofs.Common.{◌<◌, length, sym, ◌∙◌, arith, rules, Advances, Text, Nothing}
+use Rattle.vte_core.proofs.Common.{Advances, arith, length, Nothing, rules, sym, Text, ◌<◌, ◌∙◌}
 use Rattle.vte_core.specs.private.Prelude.{MayReadByte}
 use Rattle.vte_core.proofs.lemmas.positions.Progress.{settled-same_state}
-use Rattle.vte_core.proofs.lemmas.positions.Stretches.{advances-byte, advances-without_promise, advances-then}
+use Rattle.vte_core.proofs.lemmas.positions.Stretches.{advances-byte, advances-then, advances-without_promise}
 use Rattle.vte_core.proofs.lemmas.positions.TextRuns.{advances-text, may_go_on-malformed, may_go_on-text}
 use Rattle.vte_core.proofs.lemmas.positions.BetweenCharacters.{takes_bytes-single}
 use Rattle.vte_core.proofs.parser.machine.Machine.read_runs.Given.{Over}
 use Rattle.vte_core.proofs.parser.machine.Machine.read_runs.Invariants.{call_at}
-use Rattle.vte_core.proofs.parser.machine.Machine.read_runs.Goals.{Joined-is_printed_ascii, then-is_printed_ascii+in-Some, else-is_printed_ascii, Joined-byte-lt160, then-byte-lt160+else-byte-eq-ESCAPE, else-byte-lt160+then-is_lead}
+use Rattle.vte_core.proofs.parser.machine.Machine.read_runs.Goals.{else-byte-lt160+then-is_lead, else-is_printed_ascii, Joined-byte-lt160, Joined-is_printed_ascii, then-byte-lt160+else-byte-eq-ESCAPE, then-is_printed_ascii+in-Some}
 use Rattle.vte_core.proofs.parser.machine.Machine.read_runs.Goals as goal
 
 -- The call has come past the run of ASCII, if there was one.

@@ -1,5 +1,5 @@
 -- The call is at this position, between characters if bytes are left. A byte has five looks at most.
-use Rattle.vte_core.proofs.Common.{◌≡◌, ◌-◌, ◌<◌, not, eqb, List, ℕ, length, Text, Nothing, SpendsWithin, Advances, MayGoOn, ChunkCall, chunk_call}
+use Rattle.vte_core.proofs.Common.{Advances, chunk_call, ChunkCall, eqb, length, List, MayGoOn, not, Nothing, SpendsWithin, Text, ℕ, ◌-◌, ◌<◌, ◌≡◌}
 use Rattle.vte_core.proofs.parser.machine.Machine.read_runs.Given as goal
 
 -- The call that reads these bytes.

@@ -1,7 +1,7 @@
 -- ESC in a text, and `[` after it, are two steps of one byte; then the call goes on with the head, or after ESC.
-use Rattle.vte_core.proofs.Common.{refl, arith, Collected, Escape, Machine}
+use Rattle.vte_core.proofs.Common.{arith, Collected, Escape, Machine, refl}
 use Rattle.vte_core.proofs.lemmas.positions.Progress.{place-settled_text}
-use Rattle.vte_core.proofs.lemmas.positions.Stretches.{advances-byte, advances-escape, advances-then, takes_bytes-escape, advances-bracket}
+use Rattle.vte_core.proofs.lemmas.positions.Stretches.{advances-bracket, advances-byte, advances-escape, advances-then, takes_bytes-escape}
 use Rattle.vte_core.proofs.parser.machine.Machine.read_sequence.Goals as goal
 
 -- The machine after the ESC.

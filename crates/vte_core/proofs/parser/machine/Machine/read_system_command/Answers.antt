@@ -1,13 +1,13 @@
 -- Data join the open piece. The byte after them ends the command, or is `;`, BEL or a control: by its class, since data
 -- would have been read.
-use Rattle.vte_core.proofs.Common.{◌≡◌, ◌<◌, length, [], ◌∷◌, ◌++◌, refl, sym, subst, ◌∙◌, arith, ne_eqb, Machine, HoldsItems, IsCommandData, rules}
+use Rattle.vte_core.proofs.Common.{arith, HoldsItems, IsCommandData, length, Machine, ne_eqb, refl, rules, subst, sym, [], ◌++◌, ◌<◌, ◌∙◌, ◌∷◌, ◌≡◌}
 use Rattle.vte_core.proofs.lemmas.bytes.Classes.{other_is_control}
-use Rattle.vte_core.proofs.lemmas.positions.Stretches.{advances-in, takes-in_system_command, takes-byte, advances-items, advances-given, advances-then}
+use Rattle.vte_core.proofs.lemmas.positions.Stretches.{advances-given, advances-in, advances-items, advances-then, takes-byte, takes-in_system_command}
 use Rattle.vte_core.proofs.lemmas.fields.PlaceOfState.{is_at-by}
 use Rattle.vte_core.proofs.lemmas.fields.Stores.{pieces_held}
 use Rattle.vte_core.proofs.lemmas.positions.Progress.{settled-same_state}
-use Rattle.vte_core.proofs.lemmas.places.PlaceLeads.{command-item, command-control, command-bell}
-use Rattle.vte_core.proofs.parser.machine.Machine.read_system_command.Goals.{then-byte-eq59, else-byte-eq59+then-byte-eq-BELL, else-byte-eq59+else-byte-eq-BELL}
+use Rattle.vte_core.proofs.lemmas.places.PlaceLeads.{command-bell, command-control, command-item}
+use Rattle.vte_core.proofs.parser.machine.Machine.read_system_command.Goals.{else-byte-eq59+else-byte-eq-BELL, else-byte-eq59+then-byte-eq-BELL, then-byte-eq59}
 use Rattle.vte_core.proofs.parser.machine.Machine.read_system_command.Goals as goal
 
 -- Only data is left.

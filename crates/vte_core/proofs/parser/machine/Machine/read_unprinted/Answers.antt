@@ -1,8 +1,8 @@
 -- A longer character is read as one. Otherwise each byte is single (`advances-single`), up to ESC, the end, a stop or a
 -- byte that may begin a run.
-use Rattle.vte_core.proofs.Common.{refl, sym, ◌∙◌, arith, rules}
+use Rattle.vte_core.proofs.Common.{arith, refl, rules, sym, ◌∙◌}
 use Rattle.vte_core.proofs.lemmas.positions.Progress.{settled-same_state}
-use Rattle.vte_core.proofs.lemmas.positions.Stretches.{advances-nothing, advances-then, advances-given}
+use Rattle.vte_core.proofs.lemmas.positions.Stretches.{advances-given, advances-nothing, advances-then}
 use Rattle.vte_core.proofs.lemmas.positions.BetweenCharacters.{advances-single}
 use Rattle.vte_core.proofs.lemmas.bytes.Runs.{no_run-unprinted}
 use Rattle.vte_core.proofs.parser.machine.Machine.read_unprinted.Goals as goal

@@ -1,5 +1,5 @@
 -- The call is before this byte, which neither is printed nor begins a longer character, and has reported no run.
-use Rattle.vte_core.proofs.Common.{◌≡◌, ◌+◌, ◌-◌, ◌≤◌, true, false, is_in, from_to, length, Text, Nothing, Advances, looked, SpendsWithin, chunk_call}
+use Rattle.vte_core.proofs.Common.{Advances, chunk_call, false, from_to, is_in, length, looked, Nothing, SpendsWithin, Text, true, ◌+◌, ◌-◌, ◌≡◌, ◌≤◌}
 use Rattle.vte_core.specs.private.Prelude.{MayReadByte}
 use Rattle.vte_core.proofs.parser.machine.Machine.read_unprinted.Given as goal
 

@@ -1,12 +1,12 @@
 -- A round reads the byte before which the call is: what begins with a lead byte by a branch of its own, and a
 -- character, a control or malformed byte alone by two that join.
-use Rattle.vte_core.proofs.Common.{◌≡◌, ◌+◌, ◌<◌, length, slice_index, sym, ◌∙◌, arith, rules, Advances}
+use Rattle.vte_core.proofs.Common.{Advances, arith, length, rules, slice_index, sym, ◌+◌, ◌<◌, ◌∙◌, ◌≡◌}
 use Rattle.vte_core.proofs.lemmas.positions.Progress.{settled-same_state}
-use Rattle.vte_core.proofs.lemmas.positions.Stretches.{advances-byte, advances-without_promise, advances-then}
+use Rattle.vte_core.proofs.lemmas.positions.Stretches.{advances-byte, advances-then, advances-without_promise}
 use Rattle.vte_core.proofs.lemmas.positions.BetweenCharacters.{takes_bytes-printed, takes_bytes-single}
 use Rattle.vte_core.proofs.parser.machine.Machine.read_until_stop.Given.{Over}
 use Rattle.vte_core.proofs.parser.machine.Machine.read_until_stop.Invariants.{call_at}
-use Rattle.vte_core.proofs.parser.machine.Machine.read_until_stop.Goals.{Joined-is_printed_ascii, then-is_printed_ascii, else-is_printed_ascii+else-is_lead+else-byte-eq-ESCAPE}
+use Rattle.vte_core.proofs.parser.machine.Machine.read_until_stop.Goals.{else-is_printed_ascii+else-is_lead+else-byte-eq-ESCAPE, Joined-is_printed_ascii, then-is_printed_ascii}
 use Rattle.vte_core.proofs.parser.machine.Machine.read_until_stop.Goals as goal
 
 advances-single : (g : Over) (c : Joined-is_printed_ascii g)

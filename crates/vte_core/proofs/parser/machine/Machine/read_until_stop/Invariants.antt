@@ -1,6 +1,6 @@
 -- The call is at this position, between characters if bytes are left. A byte of the text has three looks at most,
 -- and one more if it is searched: a call that may stop searches no further than it has read. Both loops keep that.
-use Rattle.vte_core.proofs.Common.{◌≡◌, ◌+◌, ◌-◌, ◌*◌, ◌<◌, ◌≤◌, ℕ, true, List, Machine, length, slice_index, Text, Nothing, looked, SpendsWithin, Advances, MayGoOn, ChunkCall, chunk_call}
+use Rattle.vte_core.proofs.Common.{Advances, chunk_call, ChunkCall, length, List, looked, Machine, MayGoOn, Nothing, slice_index, SpendsWithin, Text, true, ℕ, ◌*◌, ◌+◌, ◌-◌, ◌<◌, ◌≡◌, ◌≤◌}
 use Rattle.vte_core.specs.declared.reader.Reader.{Reader}
 use Rattle.vte_core.proofs.parser.machine.Machine.read_until_stop.Given as goal
 

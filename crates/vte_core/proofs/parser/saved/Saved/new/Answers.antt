@@ -1,5 +1,5 @@
 -- What is saved first is the state of a new parser.
-use Rattle.vte_core.proofs.Common.{refl, Text, Nothing}
+use Rattle.vte_core.proofs.Common.{Nothing, refl, Text}
 use Rattle.vte_core.proofs.lemmas.fields.PlaceOfState.{is_at-text_begun}
 use Rattle.vte_core.proofs.lemmas.streams.After.{has_read-nothing}
 use Rattle.vte_core.proofs.parser.saved.Saved.new.Goals as goal

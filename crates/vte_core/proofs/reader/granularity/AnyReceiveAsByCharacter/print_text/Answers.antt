@@ -1,5 +1,5 @@
 -- The iterator yields all characters of the text.
-use Rattle.vte_core.proofs.Common.{map, ap, sym, ◌∙◌, Print, after}
+use Rattle.vte_core.proofs.Common.{after, ap, map, Print, sym, ◌∙◌}
 use Rattle.std.proofs.lemmas.Iterator.{YieldsList-from_chars}
 use Rattle.std.proofs.lemmas.Iterator.Consumers.{YieldsList-end}
 use Rattle.std.proofs.lemmas.List.{map-id}

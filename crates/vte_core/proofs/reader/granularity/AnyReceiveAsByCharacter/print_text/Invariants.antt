@@ -1,5 +1,5 @@
 -- The characters so far are printed.
-use Rattle.vte_core.proofs.Common.{◌≡◌, map, Print, after}
+use Rattle.vte_core.proofs.Common.{after, map, Print, ◌≡◌}
 use Rattle.vte_core.proofs.reader.granularity.AnyReceiveAsByCharacter.print_text.Given as goal
 
 abbrev pub invariant-loop-c : goal.invariant-loop-c

@@ -1,5 +1,5 @@
 -- What is left to put gives what all gives.
-use Rattle.vte_core.proofs.Common.{◌≡◌, drop, map, Put, after}
+use Rattle.vte_core.proofs.Common.{after, drop, map, Put, ◌≡◌}
 use Rattle.vte_core.proofs.reader.granularity.AnyReceiveAsByCharacter.put_slice.Given as goal
 
 abbrev pub invariant-loop-byte : goal.invariant-loop-byte

@@ -1,5 +1,5 @@
 -- A character is a text of one, of which it is the only input.
-use Rattle.vte.proofs.Common.{◌≡◌, false, [], ◌∷◌, map, ap, sym, subst, ◌∙◌, arith, nat_tests, All, chars, Input, after}
+use Rattle.vte.proofs.Common.{after, All, ap, arith, chars, false, Input, map, nat_tests, subst, sym, [], ◌∙◌, ◌∷◌, ◌≡◌}
 use Rattle.std.proofs.lemmas.List.Elements.{All-cons, All-nil}
 use Rattle.vte_core.specs.Text.{is_control_character}
 use Rattle.vte_core.proofs.lemmas.bytes.Runs.{chars-encode}

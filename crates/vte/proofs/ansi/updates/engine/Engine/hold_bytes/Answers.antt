@@ -1,5 +1,5 @@
 -- What the hold releases is parsed: all of it with a stop if nothing stays held, otherwise a prefix of it.
-use Rattle.vte.proofs.Common.{meaning_of, sym, ◌∙◌, arith}
+use Rattle.vte.proofs.Common.{arith, meaning_of, sym, ◌∙◌}
 use Rattle.vte.proofs.lemmas.turns.HoldTurns.{turned_cut, turned_stop}
 use Rattle.vte.proofs.ansi.updates.engine.Engine.hold_bytes.Goals as goal
 

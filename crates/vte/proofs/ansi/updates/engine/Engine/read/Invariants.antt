@@ -1,5 +1,5 @@
 -- The turns so far have led to a state in which the processor is. Each reads a byte or more.
-use Rattle.vte.proofs.Common.{◌<◌, ◌≤◌, length, meaning_of, EngineIsAt, engine_view, EngineIsAtKeepingMemory, State}
+use Rattle.vte.proofs.Common.{engine_view, EngineIsAt, EngineIsAtKeepingMemory, length, meaning_of, State, ◌<◌, ◌≤◌}
 use Rattle.vte.proofs.lemmas.turns.EngineTurns.{HasReached}
 use Rattle.vte.proofs.ansi.updates.engine.Engine.read.Given as goal
 

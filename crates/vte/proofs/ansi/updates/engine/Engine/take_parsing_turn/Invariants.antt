@@ -1,5 +1,5 @@
 -- The slices so far begin no update, and are parsed. Each has at least one byte, so the loop reads all.
-use Rattle.vte.proofs.Common.{◌<◌, ◌≤◌, length, meaning_of, EngineIsAt, engine_view, EngineIsAtKeepingMemory, HasParsedWithoutBegin, State}
+use Rattle.vte.proofs.Common.{engine_view, EngineIsAt, EngineIsAtKeepingMemory, HasParsedWithoutBegin, length, meaning_of, State, ◌<◌, ◌≤◌}
 use Rattle.vte.proofs.ansi.updates.engine.Engine.take_parsing_turn.Given as goal
 
 abbrev pub invariant-loop-slice : goal.invariant-loop-slice

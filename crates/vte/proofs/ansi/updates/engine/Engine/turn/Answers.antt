@@ -1,11 +1,11 @@
 -- By the timeout'state answer: the bytes are held while an update is pending and they fit the hold. Otherwise it is
 -- stopped if it is pending or bytes are held, and the turn parses.
-use Rattle.vte.proofs.Common.{◌≡◌, ◌<◌, length, refl, sym, ◌∙◌, arith, nat_tests, nat_le, max_held, held_of, inr, true, false, and-false, ◌+◌, meaning_of, engine_view, EngineIsAtKeepingMemory}
+use Rattle.vte.proofs.Common.{and-false, arith, engine_view, EngineIsAtKeepingMemory, false, held_of, inr, length, max_held, meaning_of, nat_le, nat_tests, refl, sym, true, ◌+◌, ◌<◌, ◌∙◌, ◌≡◌}
 use Rattle.vte.proofs.lemmas.turns.TurnKinds.{is_held, is_stopped, stop_if_due}
 use Rattle.vte.proofs.lemmas.turns.RefusedTurns.{refused-nothing}
-use Rattle.vte.proofs.lemmas.turns.EngineTurns.{keeping_memory-then, ends_turn, keeping_memory-reserved, keeping_memory-same, engine-at_stop, turned_hold}
+use Rattle.vte.proofs.lemmas.turns.EngineTurns.{ends_turn, engine-at_stop, keeping_memory-reserved, keeping_memory-same, keeping_memory-then, turned_hold}
 use Rattle.vte.proofs.ansi.updates.engine.Engine.turn.Goals as goal
-use Rattle.vte.proofs.ansi.updates.engine.Engine.turn.Goals.{else-pending-via-else-pending, else-pending-via-then-pending+else-has_room, else-pending-2+else-len-gt0, then-pending-2, then-pending-2-via-else-pending-2+then-len-gt0, then-pending-2-via-then-pending-2}
+use Rattle.vte.proofs.ansi.updates.engine.Engine.turn.Goals.{else-pending-2+else-len-gt0, else-pending-via-else-pending, else-pending-via-then-pending+else-has_room, then-pending-2, then-pending-2-via-else-pending-2+then-len-gt0, then-pending-2-via-then-pending-2}
 
 -- A parsing turn: the bytes are not to be held, and what was pending or held is stopped first, as `parsed` says.
 pub returns-clause-turned : goal.returns-clause-turned

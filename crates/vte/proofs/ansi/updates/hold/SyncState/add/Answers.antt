@@ -1,7 +1,7 @@
 -- The older bytes have no end of an update, so the search over the last seven of them and the new ones finds what the
 -- whole hold has (`find_release`).
-use Rattle.vte.proofs.Common.{ℕ, List, refl, rules, ◌≡◌, ◌++◌, ◌-◌, ◌∙◌, ap, length, length-append, length-drop, drop, take, take_all, arith, Adds, IsHeldTail, held_of}
-use Rattle.vte.proofs.lemmas.updates.Sequences.{stays_held, stays-is}
+use Rattle.vte.proofs.Common.{Adds, ap, arith, drop, held_of, IsHeldTail, length, length-append, length-drop, List, refl, rules, take, take_all, ℕ, ◌++◌, ◌-◌, ◌∙◌, ◌≡◌}
+use Rattle.vte.proofs.lemmas.updates.Sequences.{stays-is, stays_held}
 use Rattle.vte.proofs.ansi.updates.hold.SyncState.add.Goals as goal
 
 held_tail-slice : {bytes old more : List ℕ} {start len : ℕ} → bytes ≡ old ++ more → len ≡ length old → start ≡ len - 7

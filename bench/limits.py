@@ -70,10 +70,10 @@ def compare(table, counts):
     """What is to be said of counts, and whether it is a fault."""
     for (row, column), count in counts.items():
         cell, (kind, stream, chunk) = table.rows[row][column], row
-        place = f"{kind} `{stream}` in calls of {chunk:,} B, {column}: {count:.3f}"
+        where = f"{kind} `{stream}` in calls of {chunk:,} B, {column}: {count:.3f}"
         if cell == "?":
-            yield f"{place}, and the table has none", True
+            yield f"{where}, and the table has none", True
         elif count > float(cell) * MOST:
-            yield f"{place}, above {float(cell) * MOST:.3f}", True
+            yield f"{where}, above {float(cell) * MOST:.3f}", True
         elif count * MOST < float(cell):
-            yield f"{place}, below {cell}", False
+            yield f"{where}, below {cell}", False

@@ -102,15 +102,15 @@ class Programs:
 
     def stream(self, name, size):
         """A file with a prefix of a stream."""
-        place = self.folder / f"{name}_{size}"
-        if not place.exists():
-            place.write_bytes(streams.generate(name, size))
-        return place
+        path = self.folder / f"{name}_{size}"
+        if not path.exists():
+            path.write_bytes(streams.generate(name, size))
+        return path
 
 
-def run(words, place):
+def run(words, path):
     """The standard output and standard error of a program for the stream in a file."""
-    with open(place, "rb") as stream:
+    with open(path, "rb") as stream:
         done = subprocess.run(words, stdin=stream, capture_output=True, text=True)
     if done.returncode != 0:
         builder.stop(f"{' '.join(map(str, words))}: status {done.returncode}: {done.stderr}")
@@ -131,20 +131,20 @@ def in_rounds(rounds, sides):
     return times
 
 
-def in_passes(words, place, chunk):
+def in_passes(words, path, chunk):
     """A function that runs a program over a stream, and returns the seconds of its fastest pass."""
     def seconds(passes):
-        return int(run([*words, str(chunk), str(passes)], place)[1]) / 1e9
+        return int(run([*words, str(chunk), str(passes)], path)[1]) / 1e9
 
     passes = max(1, round(SECONDS / seconds(1)))
     return lambda: seconds(passes)
 
 
-def compare_checksums(name, sides, place):
+def compare_checksums(name, sides, path):
     """Stops if the sides' checksums of a stream differ. They get it in one call, because the
     crate's events can be wrong in chunks."""
-    size = str(place.stat().st_size)
-    checksums = {side: run([*commands[0], size, "1"], place)[0] for side, commands in sides.items()
+    size = str(path.stat().st_size)
+    checksums = {side: run([*commands[0], size, "1"], path)[0] for side, commands in sides.items()
                  if side not in REFERENCES}
     if len(set(checksums.values())) > 1:
         builder.stop(f"the checksums of {name} differ: {checksums}")
@@ -160,8 +160,8 @@ def rows(kind, programs, options):
                     if name not in LEFT_OUT.get(side, [])}
         if kind != "calls":
             compare_checksums(name, commands, programs.stream(name, CHECKED))
-        place = programs.stream(name, options.bytes)
-        passes = {side: [in_passes(words, place, chunk) for words in of_side]
+        path = programs.stream(name, options.bytes)
+        passes = {side: [in_passes(words, path, chunk) for words in of_side]
                   for side, of_side in commands.items()}
         times = in_rounds(options.rounds, passes)
         found = {side: [[time / options.bytes * 1e9 for time in seconds] for seconds in of_side]

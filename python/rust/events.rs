@@ -20,14 +20,14 @@ pub fn has(kinds: Kinds, kind: Kind) -> bool {
 /// Those that an iterable over classes names, or a class alone.
 pub fn kinds_of(kinds: &Bound<'_, PyAny>) -> PyResult<Kinds> {
     let events = &classes(kinds.py())?[..=Kind::Data as usize];
-    let place_of = |kind: &Bound<'_, PyAny>| events.iter().position(|class| class.is(kind));
-    if let Some(place) = place_of(kinds) {
-        return Ok(1 << place);
+    let index_of = |kind: &Bound<'_, PyAny>| events.iter().position(|class| class.is(kind));
+    if let Some(index) = index_of(kinds) {
+        return Ok(1 << index);
     }
     kinds.iter()?.try_fold(0, |made, kind| {
         let kind = kind?;
-        match place_of(&kind) {
-            Some(place) => Ok(made | 1 << place),
+        match index_of(&kind) {
+            Some(index) => Ok(made | 1 << index),
             None => Err(PyTypeError::new_err(format!(
                 "kinds must be types of events, such as vte.Osc, not {kind:?}"
             ))),
@@ -47,7 +47,7 @@ pub struct Recorder {
     pauses: Kinds,
     // those that came since it went on
     seen: Kinds,
-    // where it stands whether the last command lost data
+    // the index of the value that says whether the last command lost data
     truncated: Option<usize>,
     // whether the last call was refused memory, so that the next is to tell where it stopped
     pub is_refused: bool,
@@ -77,8 +77,8 @@ impl Recorder {
 
     /// Notes that the command that ended since `go_on` lost data, if there is one.
     pub fn truncate_command(&mut self) {
-        if let Some(place) = self.truncated {
-            self.tape.set(place);
+        if let Some(index) = self.truncated {
+            self.tape.set(index);
         }
     }
 

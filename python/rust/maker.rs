@@ -2,7 +2,9 @@
 
 use crate::calls::{Kind, NAMES};
 use crate::head::Head;
-use crate::objects::{bytes, integer, part, short_text, text, tuple, whole, Class, Made, Short};
+use crate::objects::{
+    bytes, integer, part, short_text, text, tuple, whole, Class, MaybeObject, Short,
+};
 use crate::tape::{
     Value, DATA, FIRST, FLAG, LETTER, MEMBER, NOTHING, NUMBERS_PER_VALUE, NUMBER_BITS, OBJECT, RUN,
     SEQUENCE, TAG_BITS, TEXT, TUPLE,
@@ -24,12 +26,12 @@ pub fn classes(py: Python<'_>) -> PyResult<&'static [Class]> {
     classes.map(Vec::as_slice)
 }
 
-/// Objects that were made last of those to whose keys this place is given. A key has the values of
-/// an object, then zeros.
-struct Pair<const N: usize>([([u64; N], Option<PyObject>); 2]);
+/// The two objects that were made last of those whose keys lead to this slot. A key has the values
+/// of an object, then zeros.
+struct CacheSlot<const N: usize>([([u64; N], Option<PyObject>); 2]);
 
-impl<const N: usize> Pair<N> {
-    const NONE: Self = Pair([([0; N], None), ([0; N], None)]);
+impl<const N: usize> CacheSlot<N> {
+    const NONE: Self = CacheSlot([([0; N], None), ([0; N], None)]);
 
     #[inline(always)]
     fn get(&self, py: Python<'_>, key: &[u64; N]) -> Option<PyObject> {
@@ -45,66 +47,66 @@ impl<const N: usize> Pair<N> {
     }
 }
 
-/// Pairs of one size of keys.
-struct Pairs<const N: usize> {
-    pairs: Vec<Pair<N>>,
+/// The slots for keys of one size.
+struct CacheTable<const N: usize> {
+    slots: Vec<CacheSlot<N>>,
     // if there is no memory for the others
-    last: Pair<N>,
+    last: CacheSlot<N>,
 }
 
-impl<const N: usize> Pairs<N> {
+impl<const N: usize> CacheTable<N> {
     /// How many there are, by its logarithm.
     const COUNT: u32 = 9;
-    const NONE: Self = Pairs {
-        pairs: Vec::new(),
-        last: Pair::NONE,
+    const NONE: Self = CacheTable {
+        slots: Vec::new(),
+        last: CacheSlot::NONE,
     };
 
     fn fill(&mut self) {
-        let pairs = &mut self.pairs;
-        if pairs.is_empty() && pairs.try_reserve_exact(1 << Self::COUNT).is_ok() {
-            pairs.resize_with(1 << Self::COUNT, || Pair::NONE);
+        let slots = &mut self.slots;
+        if slots.is_empty() && slots.try_reserve_exact(1 << Self::COUNT).is_ok() {
+            slots.resize_with(1 << Self::COUNT, || CacheSlot::NONE);
         }
     }
 
-    /// The pair of a key.
+    /// The slot of a key.
     #[inline(always)]
-    fn of(&mut self, key: &[u64; N]) -> &mut Pair<N> {
+    fn of(&mut self, key: &[u64; N]) -> &mut CacheSlot<N> {
         let mix = |hash: u64, word: &u64| (hash.rotate_left(5) ^ word).wrapping_mul(FACTOR);
-        let place = key.iter().fold(0, mix) >> (u64::BITS - Self::COUNT);
-        self.pairs.get_mut(place as usize).unwrap_or(&mut self.last)
+        let index = key.iter().fold(0, mix) >> (u64::BITS - Self::COUNT);
+        self.slots.get_mut(index as usize).unwrap_or(&mut self.last)
     }
 }
 
-/// The content of a run that is known has at most so many bytes: those of a word of a key.
+/// The content of a run that is cached has at most so many bytes: those of a word of a key.
 const SHORT: i64 = u64::BITS as i64 / 8;
 const FACTOR: u64 = 0x517C_C1B7_2722_0A95;
 /// The sizes of keys: few objects have more than three values.
 const SMALL: usize = 3;
 const LARGE: usize = 6;
 
-/// Objects that were made: programs send few different ones.
-pub struct Known {
-    small: Pairs<SMALL>,
-    large: Pairs<LARGE>,
+/// Objects that were made, since programs send few different ones.
+pub struct ObjectCache {
+    small: CacheTable<SMALL>,
+    large: CacheTable<LARGE>,
 }
 
-/// Those of all tapes. Who makes objects takes them meanwhile.
-static KNOWN: GILProtected<Cell<Option<Known>>> = GILProtected::new(Cell::new(None));
+/// The cache of all tapes. It is taken out while objects are made.
+static OBJECT_CACHE: GILProtected<Cell<Option<ObjectCache>>> = GILProtected::new(Cell::new(None));
 
-impl Known {
+impl ObjectCache {
     pub fn taken(py: Python<'_>) -> Self {
-        let mut known = KNOWN.get(py).take().unwrap_or(Known {
-            small: Pairs::NONE,
-            large: Pairs::NONE,
+        let mut cache = OBJECT_CACHE.get(py).take().unwrap_or(ObjectCache {
+            small: CacheTable::NONE,
+            large: CacheTable::NONE,
         });
-        known.small.fill();
-        known.large.fill();
-        known
+        cache.small.fill();
+        cache.large.fill();
+        cache
     }
 
     pub fn put_back(self, py: Python<'_>) {
-        KNOWN.get(py).set(Some(self));
+        OBJECT_CACHE.get(py).set(Some(self));
     }
 }
 
@@ -115,7 +117,7 @@ pub struct Maker<'a, 'py> {
     values: &'a [Value],
     content: &'a [u8],
     // all content, of which texts are parts, if that is faster, and its length
-    whole: Made,
+    whole: MaybeObject,
     length: usize,
 }
 
@@ -140,12 +142,12 @@ impl<'a, 'py> Maker<'a, 'py> {
 
     /// The next object, or none at the end. If it can't be made, it stays.
     #[inline(always)]
-    pub fn make(&mut self, known: &mut Known) -> Option<Made> {
+    pub fn make(&mut self, cache: &mut ObjectCache) -> Option<MaybeObject> {
         let (values, content) = (self.values, self.content);
         let first = *values.first()?;
         let made = match first.number().0 {
-            RUN => self.run(first, known),
-            _ => self.object(known),
+            RUN => self.run(first, cache),
+            _ => self.object(cache),
         };
         if made.is_none() {
             (self.values, self.content) = (values, content);
@@ -155,7 +157,7 @@ impl<'a, 'py> Maker<'a, 'py> {
 
     /// A text or data.
     #[inline(always)]
-    fn run(&mut self, first: Value, known: &mut Known) -> Made {
+    fn run(&mut self, first: Value, cache: &mut ObjectCache) -> MaybeObject {
         let (py, (kind, length)) = (self.py, first.parts());
         self.values = &self.values[1..];
         if length > SHORT {
@@ -164,23 +166,23 @@ impl<'a, 'py> Maker<'a, 'py> {
         let bytes = self.content[..length as usize].iter();
         let content = bytes.fold(0, |all, byte| all << 8 | u64::from(*byte));
         let key = [first.0 as u64, content, 0];
-        let pair = known.small.of(&key);
-        if let Some(object) = pair.get(py, &key) {
+        let slot = cache.small.of(&key);
+        if let Some(object) = slot.get(py, &key) {
             self.content(length as usize);
             return Some(object);
         }
         let object = self.new_run(kind, length as usize)?;
-        pair.keep(py, key, &object);
+        slot.keep(py, key, &object);
         Some(object)
     }
 
     /// An object of the values up to the next first one.
     #[inline(always)]
-    fn object(&mut self, known: &mut Known) -> Made {
+    fn object(&mut self, cache: &mut ObjectCache) -> MaybeObject {
         let others = self.values[1..]
             .iter()
             .take_while(|value| value.0 & FIRST == 0);
-        let value = |place: usize| self.values[place].0 as u64;
+        let value = |index: usize| self.values[index].0 as u64;
         let count = 1 + others.count();
         let small = match count {
             1 => [value(0), 0, 0],
@@ -188,21 +190,26 @@ impl<'a, 'py> Maker<'a, 'py> {
             SMALL => [value(0), value(1), value(2)],
             _ if count <= LARGE => {
                 let mut key = [0; LARGE];
-                for (place, word) in key[..count].iter_mut().enumerate() {
-                    *word = value(place);
+                for (index, word) in key[..count].iter_mut().enumerate() {
+                    *word = value(index);
                 }
-                return self.known(key, count, &mut known.large);
+                return self.cached(key, count, &mut cache.large);
             }
             _ => return self.next(),
         };
-        self.known(small, count, &mut known.small)
+        self.cached(small, count, &mut cache.small)
     }
 
     /// The object of a key, which so many values make.
     #[inline(always)]
-    fn known<const N: usize>(&mut self, key: [u64; N], count: usize, pairs: &mut Pairs<N>) -> Made {
-        let pair = pairs.of(&key);
-        if let Some(object) = pair.get(self.py, &key) {
+    fn cached<const N: usize>(
+        &mut self,
+        key: [u64; N],
+        count: usize,
+        table: &mut CacheTable<N>,
+    ) -> MaybeObject {
+        let slot = table.of(&key);
+        if let Some(object) = slot.get(self.py, &key) {
             self.values = &self.values[count..];
             return Some(object);
         }
@@ -210,12 +217,12 @@ impl<'a, 'py> Maker<'a, 'py> {
         let object = self.next()?;
         // other content makes other objects of these values
         if self.content.len() == before {
-            pair.keep(self.py, key, &object);
+            slot.keep(self.py, key, &object);
         }
         Some(object)
     }
 
-    fn next(&mut self) -> Made {
+    fn next(&mut self) -> MaybeObject {
         let py = self.py;
         let value = self.values[0];
         self.values = &self.values[1..];
@@ -235,12 +242,12 @@ impl<'a, 'py> Maker<'a, 'py> {
         }
     }
 
-    fn letter(&self, letter: char) -> Made {
+    fn letter(&self, letter: char) -> MaybeObject {
         text(self.py, letter.encode_utf8(&mut [0; 4]).as_bytes())
     }
 
     #[inline(always)]
-    fn new_run(&mut self, kind: usize, length: usize) -> Made {
+    fn new_run(&mut self, kind: usize, length: usize) -> MaybeObject {
         let (py, class, all) = (self.py, &self.classes[kind], self.content);
         let content = self.content(length);
         if kind == Kind::Data as usize {
@@ -256,11 +263,11 @@ impl<'a, 'py> Maker<'a, 'py> {
         }
     }
 
-    fn sequence(&mut self, kind: usize, head: Head) -> Made {
+    fn sequence(&mut self, kind: usize, head: Head) -> MaybeObject {
         let (numbers, rest) = self.values.split_at(head.value_count());
         self.values = rest;
         let (py, has_groups) = (self.py, kind != Kind::Esc as usize);
-        self.classes[kind].make(py, |place| match (place, has_groups) {
+        self.classes[kind].make(py, |index| match (index, has_groups) {
             (0, true) => groups(py, numbers, head.count),
             (1, true) | (0, false) => bytes(py, &head.intermediates[..head.intermediate_count]),
             (2, true) | (1, false) => Some(head.ignore.into_py(py)),
@@ -276,20 +283,20 @@ impl<'a, 'py> Maker<'a, 'py> {
 }
 
 /// The tuples of so many numbers.
-fn groups(py: Python<'_>, values: &[Value], count: usize) -> Made {
+fn groups(py: Python<'_>, values: &[Value], count: usize) -> MaybeObject {
     // each number, and whether `:` is before it
-    let number = |place: usize| {
-        let first = TAG_BITS + NUMBER_BITS * (place % NUMBERS_PER_VALUE) as u32;
-        let bits = values[place / NUMBERS_PER_VALUE].0 >> first;
+    let number = |index: usize| {
+        let first = TAG_BITS + NUMBER_BITS * (index % NUMBERS_PER_VALUE) as u32;
+        let bits = values[index / NUMBERS_PER_VALUE].0 >> first;
         (bits >> 1 & 0xFFFF, bits & 1 == 1)
     };
-    let ends = |place: &usize| *place == count || !number(*place).1;
+    let ends = |index: &usize| *index == count || !number(*index).1;
     let (groups, mut next) = ((0..count).filter(ends).count(), 0);
     tuple(py, groups, |_| {
         let start = next;
         next = (start + 1..=count).find(ends).unwrap_or(count);
-        tuple(py, next - start, |place| {
-            integer(py, number(start + place).0)
+        tuple(py, next - start, |index| {
+            integer(py, number(start + index).0)
         })
     })
 }

@@ -6,7 +6,7 @@ use std::os::raw::c_void;
 
 extern "C" {
     fn PyMem_RawMalloc(size: usize) -> *mut c_void;
-    fn PyMem_RawFree(place: *mut c_void);
+    fn PyMem_RawFree(pointer: *mut c_void);
 }
 
 struct PythonMemory;
@@ -21,7 +21,7 @@ unsafe impl GlobalAlloc for PythonMemory {
         unsafe { PyMem_RawMalloc(layout.size()).cast() }
     }
 
-    unsafe fn dealloc(&self, place: *mut u8, _: Layout) {
-        unsafe { PyMem_RawFree(place.cast()) }
+    unsafe fn dealloc(&self, pointer: *mut u8, _: Layout) {
+        unsafe { PyMem_RawFree(pointer.cast()) }
     }
 }

@@ -10,7 +10,7 @@ use pyo3::{ffi, prelude::*, PyClass, PyTypeInfo};
 use std::os::raw::c_char;
 
 /// A new object, or none if Python has an error, which `raised` takes.
-pub type Made = Option<PyObject>;
+pub type MaybeObject = Option<PyObject>;
 
 /// Calls a function of Python that returns a new reference, or null with an error. It gets objects,
 /// numbers, the bytes or characters of a slice, or texts that end in NUL.
@@ -21,7 +21,7 @@ macro_rules! new {
     };
 }
 
-pub fn raised(py: Python<'_>, made: Made) -> PyResult<PyObject> {
+pub fn raised(py: Python<'_>, made: MaybeObject) -> PyResult<PyObject> {
     made.ok_or_else(|| PyErr::fetch(py))
 }
 
@@ -129,12 +129,12 @@ fn length_of(first: u32) -> usize {
 }
 
 /// A `str` of text in UTF-8, which Python checks.
-pub fn text(py: Python<'_>, utf8: &[u8]) -> Made {
+pub fn text(py: Python<'_>, utf8: &[u8]) -> MaybeObject {
     decoded(py, utf8, "strict\0")
 }
 
 /// A `str` of much ASCII, of which Python takes parts faster than it decodes each.
-pub fn whole(py: Python<'_>, content: &[u8]) -> Made {
+pub fn whole(py: Python<'_>, content: &[u8]) -> MaybeObject {
     if content.len() < 256 || !content.is_ascii() {
         return None;
     }
@@ -147,7 +147,7 @@ pub fn whole(py: Python<'_>, content: &[u8]) -> Made {
 }
 
 /// The part of a `str` from one character to another.
-pub fn part(py: Python<'_>, whole: &PyObject, start: usize, end: usize) -> Made {
+pub fn part(py: Python<'_>, whole: &PyObject, start: usize, end: usize) -> MaybeObject {
     new!(
         py,
         PyUnicode_Substring(whole.as_ptr(), size(start), size(end))
@@ -155,7 +155,7 @@ pub fn part(py: Python<'_>, whole: &PyObject, start: usize, end: usize) -> Made 
 }
 
 /// A `str` of a short text. Beyond ASCII Python gets its characters, because it decodes few slowly.
-pub fn short_text(py: Python<'_>, short: &Short) -> Made {
+pub fn short_text(py: Python<'_>, short: &Short) -> MaybeObject {
     let utf8 = short.bytes();
     if cfg!(windows) || utf8.is_ascii() {
         return text(py, utf8);
@@ -181,56 +181,64 @@ pub fn short_text(py: Python<'_>, short: &Short) -> Made {
 }
 
 /// A `str` of bytes, as `encoded` makes them.
-pub fn decoded(py: Python<'_>, utf8: &[u8], errors: &'static str) -> Made {
-    let (place, length) = (utf8.as_ptr().cast(), size(utf8.len()));
-    new!(py, PyUnicode_DecodeUTF8(place, length, for_c(errors)))
+pub fn decoded(py: Python<'_>, utf8: &[u8], errors: &'static str) -> MaybeObject {
+    let (start, length) = (utf8.as_ptr().cast(), size(utf8.len()));
+    new!(py, PyUnicode_DecodeUTF8(start, length, for_c(errors)))
 }
 
-pub fn bytes(py: Python<'_>, content: &[u8]) -> Made {
-    let (place, length) = (content.as_ptr().cast(), size(content.len()));
-    new!(py, PyBytes_FromStringAndSize(place, length))
+pub fn bytes(py: Python<'_>, content: &[u8]) -> MaybeObject {
+    let (start, length) = (content.as_ptr().cast(), size(content.len()));
+    new!(py, PyBytes_FromStringAndSize(start, length))
 }
 
-pub fn integer(py: Python<'_>, value: i64) -> Made {
+pub fn integer(py: Python<'_>, value: i64) -> MaybeObject {
     new!(py, PyLong_FromLongLong(value))
 }
 
-pub fn real(py: Python<'_>, value: f64) -> Made {
+pub fn real(py: Python<'_>, value: f64) -> MaybeObject {
     new!(py, PyFloat_FromDouble(value))
 }
 
-/// A tuple of as many values, of which each is made for its place.
+/// A tuple of as many values, of which each is made for its index.
 #[inline(always)]
-pub fn tuple(py: Python<'_>, count: usize, mut value: impl FnMut(usize) -> Made) -> Made {
+pub fn tuple(
+    py: Python<'_>,
+    count: usize,
+    mut value: impl FnMut(usize) -> MaybeObject,
+) -> MaybeObject {
     let tuple = new!(py, PyTuple_New(size(count)))?;
-    for place in 0..count {
-        // SAFETY: a new tuple of this size. Places whose values can't be made stay null, which
+    for index in 0..count {
+        // SAFETY: a new tuple of this size. Values that can't be made stay null, which
         // nothing but the deallocator sees
-        unsafe { ffi::PyTuple_SetItem(tuple.as_ptr(), size(place), value(place)?.into_ptr()) };
+        unsafe { ffi::PyTuple_SetItem(tuple.as_ptr(), size(index), value(index)?.into_ptr()) };
     }
     Some(tuple)
 }
 
 /// What a function returns of a tuple of arguments.
-pub fn call(py: Python<'_>, function: &PyObject, words: &PyObject) -> Made {
+pub fn call(py: Python<'_>, function: &PyObject, words: &PyObject) -> MaybeObject {
     new!(py, PyObject_CallObject(function.as_ptr(), words.as_ptr()))
 }
 
 /// A pair. The second is made after the first.
-pub fn pair(py: Python<'_>, mut first: Made, second: impl Fn(Python<'_>) -> Made) -> Made {
+pub fn pair(
+    py: Python<'_>,
+    mut first: MaybeObject,
+    second: impl Fn(Python<'_>) -> MaybeObject,
+) -> MaybeObject {
     tuple(
         py,
         2,
-        |place| if place == 0 { first.take() } else { second(py) },
+        |index| if index == 0 { first.take() } else { second(py) },
     )
 }
 
 /// A list of the first objects, which it takes. If memory is refused, they stay.
-pub fn list(py: Python<'_>, objects: &mut Vec<PyObject>, count: usize) -> Made {
+pub fn list(py: Python<'_>, objects: &mut Vec<PyObject>, count: usize) -> MaybeObject {
     let list = new!(py, PyList_New(size(count)))?;
-    for (place, object) in objects.drain(..count).enumerate() {
-        // SAFETY: a new list, which has this place
-        unsafe { ffi::PyList_SetItem(list.as_ptr(), size(place), object.into_ptr()) };
+    for (index, object) in objects.drain(..count).enumerate() {
+        // SAFETY: a new list, which has this index
+        unsafe { ffi::PyList_SetItem(list.as_ptr(), size(index), object.into_ptr()) };
     }
     Some(list)
 }
@@ -245,8 +253,8 @@ pub struct Class {
 
 /// How objects are made: without code in Python, which a signal can end.
 enum Way {
-    /// A tuple as Python has it before 3.14, with its places after its size.
-    Places,
+    /// A tuple as Python has it before 3.14, with its fields after its size.
+    FieldByField,
     /// By `tuple.__new__`.
     Tuple(PyObject),
     /// From the members of an enumeration, by their numbers.
@@ -262,7 +270,7 @@ impl Class {
                 1,
                 Way::Members(class.getattr("_value2member_map_")?.unbind()),
             ),
-            (true, true) => (class.getattr("_fields")?.len()?, Way::Places),
+            (true, true) => (class.getattr("_fields")?.len()?, Way::FieldByField),
             (true, false) => {
                 let new = py.get_type_bound::<PyTuple>().getattr("__new__")?;
                 (class.getattr("_fields")?.len()?, Way::Tuple(new.unbind()))
@@ -276,12 +284,12 @@ impl Class {
         self.class.is(other)
     }
 
-    /// Makes an object of its fields, of which each is made for its place.
+    /// Makes an object of its fields, of which each is made for its index.
     #[inline(always)]
-    pub fn make(&self, py: Python<'_>, mut field: impl FnMut(usize) -> Made) -> Made {
+    pub fn make(&self, py: Python<'_>, mut field: impl FnMut(usize) -> MaybeObject) -> MaybeObject {
         let (class, count) = (self.class.as_ptr(), self.fields);
         match &self.way {
-            Way::Places => {}
+            Way::FieldByField => {}
             Way::Members(members) => {
                 return new!(py, PyObject_GetItem(members.as_ptr(), field(0)?.as_ptr()));
             }
@@ -290,16 +298,16 @@ impl Class {
                 return call(py, new, &tuple(py, 2, |_| words.next_back())?);
             }
         }
-        // SAFETY: a tuple, whose places are null or set before anything sees it. What they hold is
+        // SAFETY: a tuple, whose fields are null or set before anything sees it. What they hold is
         // in no cycle, so the collector needn't look at it
         unsafe {
             let made = ffi::_PyObject_GC_NewVar(class.cast(), size(count));
             let made = PyObject::from_owned_ptr_or_opt(py, made.cast())?;
-            let places = made.as_ptr().cast::<ffi::PyVarObject>().add(1);
-            let places = places.cast::<Made>();
-            places.write_bytes(0, count);
-            for place in 0..count {
-                places.add(place).write(Some(field(place)?));
+            let fields = made.as_ptr().cast::<ffi::PyVarObject>().add(1);
+            let fields = fields.cast::<MaybeObject>();
+            fields.write_bytes(0, count);
+            for index in 0..count {
+                fields.add(index).write(Some(field(index)?));
             }
             Some(made)
         }

@@ -2,7 +2,7 @@
 
 use crate::calls::Kind;
 use crate::events::{has, kinds_of, Kinds, Recorder, ALL};
-use crate::objects::{borrowed, bytes, bytes_of, error, integer, pair, raised, text, Made};
+use crate::objects::{borrowed, bytes, bytes_of, error, integer, pair, raised, text, MaybeObject};
 use crate::reader::{read, step, Reader};
 use crate::tape::Tape;
 use pyo3::exceptions::{PyTypeError, PyValueError};
@@ -31,7 +31,7 @@ impl Content {
 }
 
 /// A parser and the version of this package, to be pickled.
-pub fn state_of(py: Python<'_>, parser: &Limited) -> Made {
+pub fn state_of(py: Python<'_>, parser: &Limited) -> MaybeObject {
     let mut content = Content([0; size_of::<Saved>()]);
     parser.save(content.saved());
     let version = text(py, env!("CARGO_PKG_VERSION").as_bytes());
@@ -176,7 +176,7 @@ fn read_events<F>(
     answer: F,
 ) -> PyResult<PyObject>
 where
-    F: FnOnce(PyObject, usize) -> Made,
+    F: FnOnce(PyObject, usize) -> MaybeObject,
 {
     let (source, kinds) = (bytes_of(data)?, kinds.map_or(Ok(ALL), kinds_of)?);
     let mut reader = borrowed(parser)?;

@@ -1,6 +1,6 @@
 //! How streams are read.
 
-use crate::objects::{no_memory, run, Made, LONG};
+use crate::objects::{no_memory, run, MaybeObject, LONG};
 use crate::refusal::Refusal;
 use crate::tape::Tape;
 use pyo3::prelude::*;
@@ -40,7 +40,7 @@ pub fn read<F>(
     answer: F,
 ) -> PyResult<PyObject>
 where
-    F: FnOnce(PyObject, usize) -> Made,
+    F: FnOnce(PyObject, usize) -> MaybeObject,
 {
     let (refusal, mut position) = (Refusal::new(py)?, 0);
     reader.tape().end_run();

@@ -1,6 +1,6 @@
 //! What a call raises if memory is refused.
 
-use crate::objects::{call, integer, list, no_memory, raised, tuple, Made};
+use crate::objects::{call, integer, list, no_memory, raised, tuple, MaybeObject};
 use crate::tape::Tape;
 use pyo3::exceptions::PyMemoryError;
 use pyo3::prelude::*;
@@ -36,7 +36,7 @@ impl Refusal {
         answer: F,
     ) -> PyResult<PyObject>
     where
-        F: FnOnce(PyObject, usize) -> Made,
+        F: FnOnce(PyObject, usize) -> MaybeObject,
     {
         let mut made = None;
         let answered = done.and_then(|()| {
@@ -68,8 +68,8 @@ pub fn class(py: Python<'_>) -> PyResult<&'static PyObject> {
     })
 }
 
-fn refused(py: Python<'_>, read: usize, mut made: Made, has_lost: bool) -> PyErr {
-    let words = |place| match place {
+fn refused(py: Python<'_>, read: usize, mut made: MaybeObject, has_lost: bool) -> PyErr {
+    let words = |index| match index {
         0 => integer(py, read as i64),
         1 => made.take().or_else(|| list(py, &mut Vec::new(), 0)),
         _ => Some(has_lost.into_py(py)),

@@ -11,20 +11,20 @@ use std::borrow::Cow;
 use std::collections::TryReserveError;
 use vte::{LongParser, Perform, PerformText, Refused, Taken};
 
-/// What is shown. Nothing is copied as long as it is the front of the source.
+/// The text that is shown. Nothing is copied as long as it is the front of the source.
 #[derive(Default)]
-struct Shown<'a> {
+struct ShownText<'a> {
     source: &'a [u8],
     same: usize,
     text: Vec<u8>,
     is_refused: bool,
 }
 
-impl<'a> Shown<'a> {
+impl<'a> ShownText<'a> {
     fn new(source: &'a [u8]) -> Self {
-        Shown {
+        ShownText {
             source,
-            ..Shown::default()
+            ..ShownText::default()
         }
     }
 
@@ -57,9 +57,9 @@ impl<'a> Shown<'a> {
 }
 
 // all of the text, with the controls among it, comes by `print_text`
-impl Perform for Shown<'_> {}
+impl Perform for ShownText<'_> {}
 
-impl PerformText for Shown<'_> {
+impl PerformText for ShownText<'_> {
     fn keeps_layout(&self) -> bool {
         true
     }
@@ -76,7 +76,7 @@ const END: &[u8] = b"\x1b";
 
 /// The text of a whole stream. Of the two parsers this one is made in less time.
 fn shown(source: &[u8]) -> Result<Cow<'_, [u8]>, Refused> {
-    let (mut parser, mut shown) = (LongParser::new(), Shown::new(source));
+    let (mut parser, mut shown) = (LongParser::new(), ShownText::new(source));
     parser.advance_text(&mut shown, source)?;
     if parser.is_open() {
         parser.advance_text(&mut shown, END)?;
@@ -86,9 +86,9 @@ fn shown(source: &[u8]) -> Result<Cow<'_, [u8]>, Refused> {
 
 /// Takes the character or the control that an advance to a run performs before it.
 #[derive(Default)]
-struct Single(Option<char>);
+struct SingleCharacter(Option<char>);
 
-impl Perform for Single {
+impl Perform for SingleCharacter {
     fn print(&mut self, c: char) {
         self.0 = Some(c);
     }
@@ -147,9 +147,9 @@ impl Errors {
     }
 }
 
-/// Where in a stream a stripper stands.
+/// What a stripper has read of a stream.
 #[derive(Clone)]
-struct Place {
+struct StripperState {
     errors: Errors,
     parser: Limited,
     // the bytes of an unfinished character, and how many: only if they may have to stay. Then the
@@ -157,10 +157,10 @@ struct Place {
     held: ([u8; 3], usize),
 }
 
-impl Place {
+impl StripperState {
     fn start(errors: Errors) -> Self {
         let (parser, held) = (Limited::new(), ([0; 3], 0));
-        Place {
+        StripperState {
             errors,
             parser,
             held,
@@ -189,20 +189,20 @@ impl Place {
     }
 
     fn replace<'a>(&mut self, source: &'a [u8], ends: bool) -> Result<Cow<'a, [u8]>, Refused> {
-        let mut shown = Shown::new(source);
+        let mut shown = ShownText::new(source);
         self.parser.advance_text(&mut shown, source);
         if ends {
             self.parser.advance_text(&mut shown, END);
-            *self = Place::start(self.errors);
+            *self = StripperState::start(self.errors);
         }
         shown.all()
     }
 
     /// The text of bytes, with malformed ones as they are.
     fn escape<'a>(&mut self, source: &'a [u8], ends: bool) -> Result<Cow<'a, [u8]>, Refused> {
-        let (mut shown, mut at) = (Shown::new(source), 0);
+        let (mut shown, mut at) = (ShownText::new(source), 0);
         while at < source.len() {
-            let mut single = Single::default();
+            let mut single = SingleCharacter::default();
             let run = self.parser.advance_to_run(&mut single, &source[at..]);
             match single.0 {
                 // a well-formed one comes in a run
@@ -221,7 +221,7 @@ impl Place {
             (open, false) => self.hold(open),
             (open, true) => {
                 shown.add(open);
-                *self = Place::start(self.errors);
+                *self = StripperState::start(self.errors);
             }
         }
         shown.all()
@@ -235,7 +235,7 @@ impl Place {
 
     /// The bytes of an unfinished character at the end, which the parser then hasn't read.
     fn take_open<'a>(&mut self, source: &'a [u8]) -> &'a [u8] {
-        let mut single = Single::default();
+        let mut single = SingleCharacter::default();
         if self.parser.is_open() {
             self.parser.clone().advance(&mut single, END);
         }
@@ -288,7 +288,7 @@ pub fn strip(data: &Bound<'_, PyAny>, errors: &str) -> PyResult<PyObject> {
     match errors {
         Errors::Replace => strip_by(data, errors, shown),
         Errors::Escape => strip_by(data, errors, |source| {
-            Place::start(errors).read(source, true)
+            StripperState::start(errors).read(source, true)
         }),
     }
 }
@@ -298,7 +298,7 @@ pub fn strip(data: &Bound<'_, PyAny>, errors: &str) -> PyResult<PyObject> {
 ///
 /// What stands for malformed bytes is said by `errors`, as for `strip`.
 #[pyclass(module = "vte", subclass, weakref)]
-pub struct Stripper(Place);
+pub struct Stripper(StripperState);
 
 #[pymethods]
 impl Stripper {
@@ -312,12 +312,12 @@ impl Stripper {
         state: Option<&Bound<'_, PyAny>>,
         held: Option<&Bound<'_, PyBytes>>,
     ) -> PyResult<Self> {
-        let mut place = Place::start(Errors::of(errors)?);
+        let mut stripper = StripperState::start(Errors::of(errors)?);
         if let Some(state) = state {
-            place.parser = restored(state)?;
+            stripper.parser = restored(state)?;
         }
-        place.hold(held.map_or(&[], |held| held.as_bytes()));
-        Ok(Stripper(place))
+        stripper.hold(held.map_or(&[], |held| held.as_bytes()));
+        Ok(Stripper(stripper))
     }
 
     /// Reads more of the stream, and returns the text that this adds, without the sequences:
@@ -330,8 +330,8 @@ impl Stripper {
     fn strip(slf: &Bound<'_, Self>, data: &Bound<'_, PyAny>, r#final: bool) -> PyResult<PyObject> {
         let mut shared = borrowed(slf)?;
         let before = shared.0.clone();
-        let place = &mut shared.0;
-        let stripped = strip_by(data, before.errors, |source| place.read(source, r#final));
+        let stripper = &mut shared.0;
+        let stripped = strip_by(data, before.errors, |source| stripper.read(source, r#final));
         if stripped.is_err() {
             shared.0 = before;
         }
@@ -341,12 +341,12 @@ impl Stripper {
     /// Of what `object` makes a copy and a pickle, to which it adds the attributes of a subclass.
     fn __getnewargs__(slf: &Bound<'_, Self>) -> PyResult<PyObject> {
         let (py, shared) = (slf.py(), borrowed(slf)?);
-        let Place {
+        let StripperState {
             errors,
             parser,
             held,
         } = &shared.0;
-        let values = |place| match place {
+        let values = |index| match index {
             0 => text(py, errors.name().as_bytes()),
             1 => state_of(py, parser),
             _ => bytes(py, &held.0[..held.1]),

@@ -4,8 +4,8 @@
 
 use crate::calls::Kind;
 use crate::head::Head;
-use crate::maker::{Known, Maker};
-use crate::objects::{list, no_memory, raised, Made};
+use crate::maker::{Maker, ObjectCache};
+use crate::objects::{list, no_memory, raised, MaybeObject};
 use pyo3::prelude::*;
 use vte::{Params, Refused};
 
@@ -91,7 +91,7 @@ pub(crate) use fields;
 fields! {
     bool: flag => Value::new(FLAG, flag.into());
     char: letter => Value::new(LETTER, u32::from(letter).into());
-    // A number of the stream, or a place in what was sent.
+    // A number of the stream, or a position in what was sent.
     usize: number => Value::new(NUMBER, number as i64);
     &str: text => Content(text.as_bytes()), Value::new(TEXT, text.len() as i64);
     &[u8]: data => Content(data), Value::new(DATA, data.len() as i64);
@@ -260,9 +260,9 @@ impl Tape {
         self.is_open = false;
     }
 
-    /// Changes the value of a place to true.
-    pub fn set(&mut self, place: usize) {
-        self.values[place] = Value::new(FLAG, 1);
+    /// Changes the value at an index to true.
+    pub fn set(&mut self, index: usize) {
+        self.values[index] = Value::new(FLAG, 1);
     }
 
     /// Whether so many values are recorded, or memory was refused to one.
@@ -293,11 +293,11 @@ impl Tape {
         }
         let reserved = self.made.try_reserve(self.values.len());
         reserved.map_err(|_| no_memory(py))?;
-        let mut known = Known::taken(py);
+        let mut cache = ObjectCache::taken(py);
         let end = self.values.len() - usize::from(self.is_open && !ends);
         let mut maker = Maker::new(py, &self.values[..end], &self.content)?;
         let mut done = Ok(());
-        while let Some(made) = maker.make(&mut known) {
+        while let Some(made) = maker.make(&mut cache) {
             match made {
                 Some(object) => self.made.push(object),
                 None => {
@@ -307,14 +307,14 @@ impl Tape {
             }
         }
         let (left, rest) = maker.left();
-        known.put_back(py);
+        cache.put_back(py);
         self.values.drain(..end - left);
         self.content.drain(..self.content.len() - rest);
         done
     }
 
     /// A list of what was made. If memory is refused, this stays.
-    pub fn list(&mut self, py: Python<'_>) -> Made {
+    pub fn list(&mut self, py: Python<'_>) -> MaybeObject {
         let count = self.made.len();
         let list = list(py, &mut self.made, count)?;
         // The memory of few objects is kept.

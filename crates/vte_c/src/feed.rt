@@ -24,7 +24,7 @@ pub(crate) const MIN_DATA: usize = 2112;
 /// What a call with less room returns, which is no count of bytes.
 pub(crate) const NO_ROOM: usize = usize::MAX;
 
-/// How many events and data bytes a call wrote.
+/// How many events, and how many bytes of the data area (`data` in vte.h), a call wrote.
 #[repr(C)]
 #[derive(Clone, Copy)]
 pub struct VteCounts {
@@ -53,14 +53,14 @@ pub(crate) fn feed(
     if events.len() < MIN_EVENTS || area.len() < MIN_DATA {
         return NO_ROOM;
     }
-    let (most, size) = (events.len(), area.len());
-    // Records have 32 bits for places in the input.
+    let (capacity, size) = (events.len(), area.len());
+    // Records have 32 bits for positions in the input.
     let end = bytes.len().min(u32::MAX as usize);
     let bytes = &bytes[..end];
     let mut writer = EventWriter::new(events, area, kinds, stops);
     let read = read_into(parser, bytes, &mut writer);
     *counts = VteCounts {
-        events: writer.count().min(most),
+        events: writer.count().min(capacity),
         bytes: writer.used().min(size),
     };
     read

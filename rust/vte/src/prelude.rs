@@ -13,7 +13,7 @@ pub(crate) fn first_chunk<const N: usize>(bytes: &[u8]) -> Option<&[u8; N]> {
     bytes.get(..N)?.try_into().ok()
 }
 
-/// The place of the first such byte. Compilers make vector instructions of the test of a block.
+/// The position of the first such byte. Compilers make vector instructions of the test of a block.
 #[cfg(not(feature = "ansi"))]
 pub(crate) fn memchr(needle: u8, haystack: &[u8]) -> Option<usize> {
     const BLOCK: usize = 32;

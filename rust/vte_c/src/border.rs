@@ -13,21 +13,21 @@ use crate::proved::vte_c::{VteCounts, VteEvent};
 use core::slice::{from_raw_parts, from_raw_parts_mut};
 use vte::Saved;
 
-/// Returns the elements at a place, which may be null if there are none.
-pub(crate) unsafe fn slice<'a, T>(place: *const T, length: usize) -> &'a [T] {
+/// Returns the elements at a pointer, which may be null if there are none.
+pub(crate) unsafe fn slice<'a, T>(pointer: *const T, length: usize) -> &'a [T] {
     match length {
         0 => &[],
         // SAFETY: the callers' rules above
-        _ => unsafe { from_raw_parts(place, length) },
+        _ => unsafe { from_raw_parts(pointer, length) },
     }
 }
 
 /// The same, to be written.
-pub(crate) unsafe fn slice_mut<'a, T>(place: *mut T, length: usize) -> &'a mut [T] {
+pub(crate) unsafe fn slice_mut<'a, T>(pointer: *mut T, length: usize) -> &'a mut [T] {
     match length {
         0 => &mut [],
         // SAFETY: the callers' rules above
-        _ => unsafe { from_raw_parts_mut(place, length) },
+        _ => unsafe { from_raw_parts_mut(pointer, length) },
     }
 }
 

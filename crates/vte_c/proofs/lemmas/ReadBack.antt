@@ -7,10 +7,6 @@ use Rattle.vte_c.proofs.lemmas.Buffers.{length-groups, length-records, length-tw
 use Rattle.vte_core.proofs.lemmas.streams.After.{added-nothing}
 use Rattle.std.specs.Prelude.{◌-◌, ◌^◌}
 
--- ---- events read back from records and data
-
--- Each field is read back, by cases of the event.
-
 -- ---- groups and pieces
 
 -- Each has its length before it, so it is read from the front, whatever follows it.

@@ -1,4 +1,4 @@
--- By the timeout'state answer: the bytes are held while an update is pending and they fit the hold. Otherwise it is
+-- By the timeout's answer: the bytes are held while an update is pending and they fit the hold. Otherwise it is
 -- stopped if it is pending or bytes are held, and the turn parses.
 use Rattle.vte.proofs.Common.{and-false, arith, engine_view, EngineIsAtKeepingMemory, false, held_of, inr, length, max_held, meaning_of, nat_le, nat_tests, refl, sym, true, ◌+◌, ◌<◌, ◌∙◌, ◌≡◌}
 use Rattle.vte.proofs.lemmas.turns.TurnKinds.{is_held, is_stopped, stop_if_due}

@@ -1,6 +1,6 @@
 //! What a stream asks of a terminal, and the classes of all objects.
 
-use crate::tape::{fields, Field, Tape, Value, MEMBER, NUMBER, OBJECT};
+use crate::tape::{fields, Field, Tag, Tape, Value};
 use vte::ansi::cursor_icon::CursorIcon;
 use vte::ansi::lent::{HandlerCall, Hyperlink, TakeCall, TakeText};
 use vte::ansi::{
@@ -60,11 +60,11 @@ impl TakeText for Tape {
 }
 
 fields! {
-    Kind: kind => Value::of(OBJECT, kind, 0);
+    Kind: kind => Value::of(Tag::Object, kind, 0);
     // the letter of a clipboard
     u8: byte => char::from(byte);
-    u16: number => Value::new(NUMBER, number.into());
-    i32: number => Value::new(NUMBER, number.into());
+    u16: number => Value::new(Tag::Number, number.into());
+    i32: number => Value::new(Tag::Number, number.into());
     CharsetIndex: index => index as u16;
     CursorIcon: icon => icon.name();
     Mode: mode => mode.raw();
@@ -79,7 +79,7 @@ fields! {
 /// Says for enumerations of which classes their members are, which have numbers.
 macro_rules! members {
     ($($type:ident $kind:ident;)+) => {
-        fields! { $($type: member => Value::of(MEMBER, Kind::$kind, member as i64);)+ }
+        fields! { $($type: member => Value::of(Tag::Member, Kind::$kind, member as i64);)+ }
     };
 }
 

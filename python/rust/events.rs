@@ -2,7 +2,7 @@
 
 use crate::calls::Kind;
 use crate::maker::classes;
-use crate::tape::{fields, Field, Tape, Tuple, Value, MEMBER};
+use crate::tape::{fields, Field, Tag, Tape, Tuple, Value};
 use pyo3::exceptions::PyTypeError;
 use pyo3::prelude::*;
 use vte::{Params, Perform, PerformText};
@@ -93,7 +93,7 @@ impl Recorder {
     #[inline]
     fn add(&mut self, kind: Kind, number: u8) {
         if let Some(tape) = self.begin(kind) {
-            tape.add(Value::of(MEMBER, kind, number.into()));
+            tape.add(Value::of(Tag::Member, kind, number.into()));
         }
     }
 }

@@ -5,10 +5,7 @@ use crate::head::Head;
 use crate::objects::{
     bytes, integer, part, short_text, text, tuple, whole, Class, MaybeObject, Short,
 };
-use crate::tape::{
-    Value, DATA, FIRST, FLAG, LETTER, MEMBER, NOTHING, NUMBERS_PER_VALUE, NUMBER_BITS, OBJECT, RUN,
-    SEQUENCE, TAG_BITS, TEXT, TUPLE,
-};
+use crate::tape::{Tag, Value, NUMBERS_PER_VALUE, NUMBER_BITS, TAG_BITS};
 use pyo3::prelude::*;
 use pyo3::sync::{GILOnceCell, GILProtected};
 use std::cell::Cell;
@@ -146,7 +143,7 @@ impl<'a, 'py> Maker<'a, 'py> {
         let (values, content) = (self.values, self.content);
         let first = *values.first()?;
         let made = match first.number().0 {
-            RUN => self.run(first, cache),
+            Tag::Run => self.run(first, cache),
             _ => self.object(cache),
         };
         if made.is_none() {
@@ -181,7 +178,7 @@ impl<'a, 'py> Maker<'a, 'py> {
     fn object(&mut self, cache: &mut ObjectCache) -> MaybeObject {
         let others = self.values[1..]
             .iter()
-            .take_while(|value| value.0 & FIRST == 0);
+            .take_while(|value| !value.is_first());
         let value = |index: usize| self.values[index].0 as u64;
         let count = 1 + others.count();
         let small = match count {
@@ -226,19 +223,20 @@ impl<'a, 'py> Maker<'a, 'py> {
         let py = self.py;
         let value = self.values[0];
         self.values = &self.values[1..];
-        let ((is, number), (kind, field)) = (value.number(), value.parts());
-        match is {
-            NOTHING => Some(py.None()),
-            FLAG => Some((number != 0).into_py(py)),
-            LETTER => self.letter(char::from(number as u8)),
-            TEXT => text(py, self.content(number as usize)),
-            DATA => bytes(py, self.content(number as usize)),
-            TUPLE => tuple(py, number as usize, |_| self.next()),
-            SEQUENCE => self.sequence(kind, Head::unpacked(field)),
-            OBJECT => self.classes[kind].make(py, |_| self.next()),
-            MEMBER => self.classes[kind].make(py, |_| integer(py, field)),
-            RUN => self.new_run(kind, field as usize),
-            _ => integer(py, number),
+        let ((tag, number), (kind, field)) = (value.number(), value.parts());
+        match tag {
+            Tag::Nothing => Some(py.None()),
+            Tag::Flag => Some((number != 0).into_py(py)),
+            Tag::Letter => self.letter(char::from(number as u8)),
+            Tag::Text => text(py, self.content(number as usize)),
+            Tag::Data => bytes(py, self.content(number as usize)),
+            Tag::Tuple => tuple(py, number as usize, |_| self.next()),
+            Tag::Sequence => self.sequence(kind, Head::unpacked(field)),
+            Tag::Object => self.classes[kind].make(py, |_| self.next()),
+            Tag::Member => self.classes[kind].make(py, |_| integer(py, field)),
+            Tag::Run => self.new_run(kind, field as usize),
+            // those of a sequence are read with it
+            Tag::Number | Tag::Numbers => integer(py, number),
         }
     }
 

@@ -9,56 +9,79 @@ use crate::objects::{list, no_memory, raised, MaybeObject};
 use pyo3::prelude::*;
 use vte::{Params, Refused};
 
-/// What an object is made of: what it is, and a number of 59 bits. The content of texts and data is
-/// stored beside it, in the same order.
-#[derive(Clone, Copy, Default, PartialEq)]
-pub struct Value(pub i64);
+/// Makes an enumeration, and a list of its members by their numbers.
+macro_rules! numbered {
+    ($(#[$about:meta])* $name:ident, $list:ident: $($(#[$of:meta])* $member:ident,)+) => {
+        $(#[$about])*
+        #[derive(Clone, Copy, PartialEq, Eq)]
+        pub enum $name {
+            $($(#[$of])* $member,)+
+        }
 
-// Kinds of values.
-pub const NOTHING: i64 = 0;
-pub const FLAG: i64 = 1;
-pub const NUMBER: i64 = 2;
-pub const LETTER: i64 = 3;
-/// How many fields follow.
-pub const TUPLE: i64 = 4;
-/// A sequence without its numbers, which follow.
-pub const SEQUENCE: i64 = 5;
-/// Some of these: `NUMBERS_PER_VALUE`, of `NUMBER_BITS` each, of which the last says whether `:` is
-/// before it.
-pub const NUMBERS: i64 = 6;
-/// A class, whose fields follow.
-pub const OBJECT: i64 = 7;
-/// A class, and the number that is its only field.
-pub const MEMBER: i64 = 8;
-/// The length of the content.
-pub const TEXT: i64 = 9;
-pub const DATA: i64 = 10;
-/// A class, and the length of the content that is its only field.
-pub const RUN: i64 = 11;
-/// A value with which an object begins that is in no other.
-pub const FIRST: i64 = 16;
+        const $list: &[$name] = &[$($name::$member,)+];
+    };
+}
+
+numbered! {
+    /// What a value is.
+    Tag, TAGS:
+    Nothing,
+    Flag,
+    Number,
+    Letter,
+    /// How many fields follow.
+    Tuple,
+    /// A sequence without its numbers, which follow.
+    Sequence,
+    /// Some of these: `NUMBERS_PER_VALUE`, of `NUMBER_BITS` each, of which the last says whether
+    /// `:` is before it.
+    Numbers,
+    /// A class, whose fields follow.
+    Object,
+    /// A class, and the number that is its only field.
+    Member,
+    /// The length of the content.
+    Text,
+    Data,
+    /// A class, and the length of the content that is its only field.
+    Run,
+}
+
+/// The bit of a value with which an object begins that is in no other.
+const FIRST: i64 = 16;
 /// How many bits tell what a value is.
 pub const TAG_BITS: u32 = 5;
 
 pub const NUMBERS_PER_VALUE: usize = 3;
 pub const NUMBER_BITS: u32 = 17;
 
+/// What an object is made of: what it is, and a number of 59 bits. The content of texts and data is
+/// stored beside it, in the same order.
+#[derive(Clone, Copy, Default, PartialEq)]
+pub struct Value(pub i64);
+
 impl Value {
     #[inline]
-    pub fn new(is: i64, number: i64) -> Self {
-        Value(number << TAG_BITS | is)
+    pub fn new(tag: Tag, number: i64) -> Self {
+        Value(number << TAG_BITS | tag as i64)
     }
 
     /// An object of a class, and its only field.
     #[inline]
-    pub fn of(is: i64, kind: Kind, field: i64) -> Self {
-        Value::new(is, field << 8 | kind as i64)
+    pub fn of(tag: Tag, kind: Kind, field: i64) -> Self {
+        Value::new(tag, field << 8 | kind as i64)
     }
 
     /// What it is, and its number.
     #[inline]
-    pub fn number(self) -> (i64, i64) {
-        (self.0 & (FIRST - 1), self.0 >> TAG_BITS)
+    pub fn number(self) -> (Tag, i64) {
+        (TAGS[(self.0 & (FIRST - 1)) as usize], self.0 >> TAG_BITS)
+    }
+
+    /// Whether an object begins with it that is in no other.
+    #[inline]
+    pub fn is_first(self) -> bool {
+        self.0 & FIRST != 0
     }
 
     /// The class and the only field.
@@ -89,12 +112,12 @@ macro_rules! fields {
 pub(crate) use fields;
 
 fields! {
-    bool: flag => Value::new(FLAG, flag.into());
-    char: letter => Value::new(LETTER, u32::from(letter).into());
+    bool: flag => Value::new(Tag::Flag, flag.into());
+    char: letter => Value::new(Tag::Letter, u32::from(letter).into());
     // A number of the stream, or a position in what was sent.
-    usize: number => Value::new(NUMBER, number as i64);
-    &str: text => Content(text.as_bytes()), Value::new(TEXT, text.len() as i64);
-    &[u8]: data => Content(data), Value::new(DATA, data.len() as i64);
+    usize: number => Value::new(Tag::Number, number as i64);
+    &str: text => Content(text.as_bytes()), Value::new(Tag::Text, text.len() as i64);
+    &[u8]: data => Content(data), Value::new(Tag::Data, data.len() as i64);
 }
 
 impl Field for Value {
@@ -143,7 +166,7 @@ where
 {
     #[inline]
     fn record(self, tape: &mut Tape) {
-        tape.with(Value::new(TUPLE, self.0.size_hint().0 as i64));
+        tape.with(Value::new(Tag::Tuple, self.0.size_hint().0 as i64));
         self.0.for_each(|field| field.record(tape));
     }
 }
@@ -152,7 +175,7 @@ impl<T: Field> Field for Option<T> {
     fn record(self, tape: &mut Tape) {
         match self {
             Some(field) => field.record(tape),
-            None => Value::new(NOTHING, 0).record(tape),
+            None => Value::new(Tag::Nothing, 0).record(tape),
         }
     }
 }
@@ -197,7 +220,7 @@ impl Tape {
     /// Begins an object. Its fields are to follow.
     #[inline]
     pub fn begin(&mut self, kind: Kind) -> &mut Self {
-        self.add(Value::of(OBJECT, kind, 0))
+        self.add(Value::of(Tag::Object, kind, 0))
     }
 
     /// Adds an object, or its first value.
@@ -211,7 +234,7 @@ impl Tape {
     #[inline]
     pub fn add_head(&mut self, kind: Kind, count: usize, rest: (&[u8], bool, char)) -> &mut Self {
         let head = Head::new(count, rest.0, rest.1, rest.2);
-        self.add(Value::of(SEQUENCE, kind, head.packed()))
+        self.add(Value::of(Tag::Sequence, kind, head.packed()))
     }
 
     /// Adds the numbers of a sequence.
@@ -224,13 +247,13 @@ impl Tape {
                 numbers |= (i64::from(*number) << 1 | is_joined) << bits;
                 (bits, is_joined) = (bits + NUMBER_BITS, 1);
                 if bits == NUMBER_BITS * NUMBERS_PER_VALUE as u32 {
-                    self.with(Value::new(NUMBERS, numbers));
+                    self.with(Value::new(Tag::Numbers, numbers));
                     (numbers, bits) = (0, 0);
                 }
             }
         }
         if bits > 0 {
-            self.with(Value::new(NUMBERS, numbers));
+            self.with(Value::new(Tag::Numbers, numbers));
         }
     }
 
@@ -247,7 +270,7 @@ impl Tape {
         match self.values.last_mut() {
             Some(last) if self.is_open => last.0 += Value::new(0, (run.len() as i64) << 8).0,
             _ => {
-                self.add(Value::of(RUN, kind, run.len() as i64));
+                self.add(Value::of(Tag::Run, kind, run.len() as i64));
                 self.is_open = true;
             }
         }
@@ -262,7 +285,7 @@ impl Tape {
 
     /// Changes the value at an index to true.
     pub fn set(&mut self, index: usize) {
-        self.values[index] = Value::new(FLAG, 1);
+        self.values[index] = Value::new(Tag::Flag, 1);
     }
 
     /// Whether so many values are recorded, or memory was refused to one.

@@ -124,7 +124,7 @@ inline std::string_view view(const uint8_t *text, size_t length) {
                 : std::string_view();
 }
 
-// Calls a method with what C passes. The place and the length of a text are one argument.
+// Calls a method with what C passes. The pointer and the length of a text are one argument.
 template <auto method, typename... Given> struct Call {
     static void pass(Handler *handler, Given... given) { (handler->*method)(given...); }
 

@@ -11,8 +11,9 @@ static uint8_t next_byte(void) {
     return (uint8_t)(state >> 24);
 }
 
-static void fill(void *room, size_t size, int small) {
-    for (size_t i = 0; i < size; i++) ((uint8_t *)room)[i] = small ? next_byte() % 33 : next_byte();
+static void fill(void *memory, size_t size, int small) {
+    uint8_t *bytes = memory;
+    for (size_t i = 0; i < size; i++) bytes[i] = small ? next_byte() % 33 : next_byte();
 }
 
 /* Whether a call has read no more than there is, or says that there is too little room, exactly if

@@ -25,18 +25,18 @@ class Parser:
     """A parser, with a limit or without. Counts have other values before each call."""
 
     def __init__(self, library, is_long=False):
-        self.c, self.is_long, self.place = library.functions, is_long, (c_uint64 * 164)()
+        self.c, self.is_long, self.pointer = library.functions, is_long, (c_uint64 * 164)()
         if is_long:
-            self.place = c_void_p(self.c.vte_long_parser_new())
+            self.pointer = c_void_p(self.c.vte_long_parser_new())
 
     def __del__(self):
         if self.is_long:
-            self.c.vte_long_parser_free(self.place)
+            self.c.vte_long_parser_free(self.pointer)
 
     def feed(self, sent, kinds=ALL_KINDS, stops=0, rooms=ROOMS):
         """Returns how many bytes are read, the events, and how many data bytes these have."""
         counts, events, data = (c_size_t * 2)(77, 77), (Event * rooms[0])(), (c_uint8 * rooms[1])()
-        common = (self.place, sent or None, c_size_t(len(sent)), c_uint32(kinds), c_uint32(stops),
+        common = (self.pointer, sent or None, c_size_t(len(sent)), c_uint32(kinds), c_uint32(stops),
                  events or None, c_size_t(len(events)))
         if self.is_long:
             read = self.c.vte_long_feed(*common, byref(c_void_p()), counts)
@@ -47,13 +47,13 @@ class Parser:
     def strip(self, sent, room):
         """Returns how many bytes are read, and the text."""
         written, text = c_size_t(77), create_string_buffer(room) if room else None
-        read = self.c.vte_strip(self.place, sent or None, c_size_t(len(sent)), text, c_size_t(room),
-                                byref(written))
+        read = self.c.vte_strip(self.pointer, sent or None, c_size_t(len(sent)), text,
+                                c_size_t(room), byref(written))
         return read, text[:written.value] if room else b"?" * written.value
 
     def open(self):
         is_open = self.c.vte_long_is_open if self.is_long else self.c.vte_is_open
-        return is_open(self.place) & 0xff
+        return is_open(self.pointer) & 0xff
 
 
 def parsers(library):
@@ -70,20 +70,20 @@ class Processor:
         names = [name for name, _ in FUNCTIONS] + ["later"] * 3
         self.table = (FUNCTION * len(names))(
             *(FUNCTION(partial(self.made.append, name)) for name in names))
-        self.place = c_void_p(self.c.vte_processor_new(
+        self.pointer = c_void_p(self.c.vte_processor_new(
             self.table if size else None, c_size_t(size), None))
 
     def advance(self, sent):
         """Returns the status, and how many bytes are read."""
         read = c_size_t(77)
-        return self.c.vte_processor_advance(self.place, sent or None, c_size_t(len(sent)),
+        return self.c.vte_processor_advance(self.pointer, sent or None, c_size_t(len(sent)),
                                             byref(read)), read.value
 
     def sync(self):
         """Returns the status, how many bytes are held, if an update is pending, and until when."""
         held = (c_uint64 * 3)(77, 77, 77)
-        status = self.c.vte_processor_sync(self.place, held)
+        status = self.c.vte_processor_sync(self.pointer, held)
         return status, held[0], held[1] & 0xff, held[2]
 
     def call(self, name):
-        return self.c[f"vte_processor_{name}"](self.place)
+        return self.c[f"vte_processor_{name}"](self.pointer)

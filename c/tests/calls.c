@@ -116,9 +116,9 @@ static int advance(const char *hex) {
 
 int main(void) {
     char *line = NULL;
-    size_t room = 0;
+    size_t capacity = 0;
     vte_processor_free(processor_of(3 * sizeof table.bell));
-    while (getline(&line, &room, stdin) > 0) {
+    while (getline(&line, &capacity, stdin) > 0) {
         line[strcspn(line, "\n")] = 0;
         if (strcmp(line, "new") == 0) renew(), puts("new");
         else if (strncmp(line, "advance ", 8) == 0 && !advance(line + 8)) return 1;

@@ -91,10 +91,10 @@ static size_t size_of(size_t asked, size_t least, size_t most) {
 
 /* Allocates exactly this many bytes, so that a sanitizer sees an access past them. */
 static void *room_for(size_t size) {
-    void *room = malloc(size ? size : 1);
-    if (room == NULL) exit(1);
-    memset(room, 0xa5, size);
-    return room;
+    void *memory = malloc(size ? size : 1);
+    if (memory == NULL) exit(1);
+    memset(memory, 0xa5, size);
+    return memory;
 }
 
 static size_t feed(vte_parser *parser, const uint8_t *bytes, size_t length, size_t event_room,

@@ -1,5 +1,5 @@
 /* Runs forward.c on streams, each of which ends with NUL: whole, byte by byte, and cut in two at
- * every place. Writes what it passes on of the whole, or where a cut changes that, and NUL. */
+ * every position. Writes what it passes on of the whole, or where a cut changes that, and NUL. */
 #include <stdio.h>
 #include <stdlib.h>
 #include <string.h>
@@ -9,10 +9,10 @@ static char *stream;
 static size_t length, at, cut, step;
 
 /* Reads up to the cut, or a step. */
-static ssize_t next_chunk(int file, void *bytes, size_t room) {
+static ssize_t next_chunk(int file, void *bytes, size_t capacity) {
     size_t end = step ? at + step : at < cut ? cut : length;
     size_t count = (end < length ? end : length) - at;
-    if (count > room || file != 0) abort();
+    if (count > capacity || file != 0) abort();
     memcpy(bytes, stream + at, count);
     at += count;
     return (ssize_t)count;
@@ -38,8 +38,8 @@ static char *passed_on(size_t *size) {
 }
 
 int main(void) {
-    size_t room = 0, whole_size, size;
-    for (ssize_t read; (read = getdelim(&stream, &room, 0, stdin)) > 0; putchar(0)) {
+    size_t capacity = 0, whole_size, size;
+    for (ssize_t read; (read = getdelim(&stream, &capacity, 0, stdin)) > 0; putchar(0)) {
         length = (size_t)read - 1;
         cut = step = 0;
         char *whole = passed_on(&whole_size);

@@ -27,10 +27,10 @@ extern "C" {
 // how many allocations there are before those that are refused
 static long allowed = LONG_MAX;
 void *__real_malloc(size_t size);
-void *__real_realloc(void *place, size_t size);
+void *__real_realloc(void *pointer, size_t size);
 void *__wrap_malloc(size_t size) { return allowed-- > 0 ? __real_malloc(size) : nullptr; }
-void *__wrap_realloc(void *place, size_t size) {
-    return allowed-- > 0 ? __real_realloc(place, size) : nullptr;
+void *__wrap_realloc(void *pointer, size_t size) {
+    return allowed-- > 0 ? __real_realloc(pointer, size) : nullptr;
 }
 }
 

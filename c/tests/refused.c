@@ -10,8 +10,8 @@
 _Static_assert(VTE_KIND(1 ? VTE_OSC : VTE_CSI) == 1 << VTE_OSC, "a kind may be an expression");
 
 void *__real_malloc(size_t size);
-void *__real_realloc(void *place, size_t size);
-void __real_free(void *place);
+void *__real_realloc(void *pointer, size_t size);
+void __real_free(void *pointer);
 
 /* How many allocations come before the one that is refused, and whether one was. */
 static long left = -1;
@@ -26,10 +26,10 @@ static int refuses(void) {
 }
 
 void *__wrap_malloc(size_t size) { return refuses() ? NULL : (used++, __real_malloc(size)); }
-void *__wrap_realloc(void *place, size_t size) {
-    return refuses() ? NULL : (used += place == NULL, __real_realloc(place, size));
+void *__wrap_realloc(void *pointer, size_t size) {
+    return refuses() ? NULL : (used += pointer == NULL, __real_realloc(pointer, size));
 }
-void __wrap_free(void *place) { used -= place != NULL, __real_free(place); }
+void __wrap_free(void *pointer) { used -= pointer != NULL, __real_free(pointer); }
 
 static uint8_t stream[400000], written[2 * sizeof stream], wanted[sizeof written];
 static size_t stream_length, written_length;

@@ -34,7 +34,7 @@ def test_edges(library, sent, kinds, stops, rooms, wanted):
             read, events, data = parser.feed(sent, kinds, stops, rooms)
             assert (read, len(events), data) == wanted
             assert all(event.start == 0 for event in events if event.kind in (OSC, CSI))
-            assert read < NO_ROOM or parser.is_long or not any(parser.place)
+            assert read < NO_ROOM or parser.is_long or not any(parser.pointer)
             parser.feed(b"\x18")
 
 
@@ -44,7 +44,7 @@ def test_edges(library, sent, kinds, stops, rooms, wanted):
 def test_room_for_text(library, sent, room, wanted):
     parser = Parser(library)
     assert parser.strip(sent, room) == wanted
-    assert wanted[0] < NO_ROOM or not any(parser.place)
+    assert wanted[0] < NO_ROOM or not any(parser.pointer)
 
 
 @pytest.mark.parametrize("kind", range(8))
@@ -83,7 +83,7 @@ def test_places(library, kind, sent, wanted):
 
 
 def test_places_of_long_texts(cargo_build):
-    """A parser without a limit reads 64 KiB at most, and has a place for all of these."""
+    """A parser without a limit reads 64 KiB at most, and all of these have a position."""
     sent, at = bytearray(b"a" * 200_000), 0
     sent[150_009::10_000] = b"\r" * 5
     parser = Parser(cargo_build, is_long=True)
@@ -100,7 +100,7 @@ def test_places_of_long_texts(cargo_build):
 
 
 def test_most_bytes_of_a_call(library):
-    """A call reads at most 4 GiB less one byte, so that a place has four bytes."""
+    """A call reads at most 4 GiB less one byte, so that a position has four bytes."""
     no_reserve = 0x4000
     pages = mmap.mmap(-1, 2 ** 32 + 9, mmap.MAP_PRIVATE | mmap.MAP_ANONYMOUS | no_reserve)
     pages.madvise(mmap.MADV_HUGEPAGE)
@@ -121,7 +121,7 @@ def test_tables(cargo_build, count):
     assert processor.advance(CALLS[0]) == (OK, len(CALLS[0]))
     assert processor.made == [name for name in CALLS[1] if name in known]
     assert processor.call("free") == OK
-    assert not any(Processor(cargo_build, 8 * count + part).place for part in range(1, 8))
+    assert not any(Processor(cargo_build, 8 * count + part).pointer for part in range(1, 8))
 
 
 def test_processor(cargo_build):

@@ -23,11 +23,11 @@ SLOWLY = [(title, title, output) for title, output in (
 LINES = [(b"\x1b[1mone\x1b[m\n", b"one\n", b""), (b"two\n", b"two\n", b"")]
 
 
-def program(library, place, *words):
+def program(library, example, *words):
     """An example, in the language of its file."""
-    source = EXAMPLES / place
+    source = EXAMPLES / example
     compiler = {".c": "cc", ".cpp": "c++", ".go": "go"}[source.suffix]
-    need(compiler, f"{place} was not built")
+    need(compiler, f"{example} was not built")
     if compiler != "go":
         return library.program(source, OF_PTY, *words, compiler=compiler)
     made = library.folder / f"{source.parent.name}_go"
@@ -79,21 +79,22 @@ def test_stripper(library):
     assert_slow([stripper], LINES)
 
 
-@pytest.mark.parametrize("place", ["c/title_watcher.c", "go/title_watcher/main.go"])
-def test_title_watcher(library, place):
-    watcher = program(library, place)
+@pytest.mark.parametrize("example", ["c/title_watcher.c", "go/title_watcher/main.go"])
+def test_title_watcher(library, example):
+    watcher = program(library, example)
     # more events than there is room for
     many = b"\r" * 2500 + b"\x1b]0;t\x07" * 2
     for stream, output in (STREAM, b"title: a;b\n"), (many, b"title: t\ntitle: t\n"):
         assert output_of([watcher], stream) == stream + b"\nstatus 0: " + output
-    if place.startswith("c/"):
+    if example.startswith("c/"):
         assert status_of(watcher, stdin=os.open("/", os.O_RDONLY)) == 1
     assert_slow([watcher], SLOWLY)
 
 
-@pytest.mark.parametrize("place", ["c/pty_events.c", "cpp/pty_events.cpp", "go/pty_events/main.go"])
-def test_pty_events(library, place, tmp_path):
-    printer, mark = program(library, place), tmp_path / "goes_on"
+@pytest.mark.parametrize(
+    "example", ["c/pty_events.c", "cpp/pty_events.cpp", "go/pty_events/main.go"])
+def test_pty_events(library, example, tmp_path):
+    printer, mark = program(library, example), tmp_path / "goes_on"
     assert output_of([printer, "sh", "-c", PRINTS]) == EVENTS
     # a program goes on once there is a file: what came before has been printed by then
     slow = f"printf one; until [ -e {mark} ]; do sleep 0.02; done; printf two"

@@ -73,37 +73,37 @@ class Place:
 
 
 @pytest.fixture
-def place(library, tmp_path):
+def site(library, tmp_path):
     return Place(library, tmp_path)
 
 
 @pytest.fixture
-def prefix(place):
-    """A place with the library alone, below a relative prefix."""
+def prefix(site):
+    """A site with the library alone, below a relative prefix."""
     # cargo has built the library by now
-    archive = {"VTE_ARCHIVE": ""} if place.library.is_complete else {}
-    output = place.run("install", f"--{place.library.build}", "--library", **archive)
-    assert place.installed("prefix") == place.wanted
-    assert set(output.split()) == {f"{place.folder}/prefix/{name}" for name in place.wanted}
-    yield place
-    place.uninstall("prefix")
+    archive = {"VTE_ARCHIVE": ""} if site.library.is_complete else {}
+    output = site.run("install", f"--{site.library.build}", "--library", **archive)
+    assert site.installed("prefix") == site.wanted
+    assert set(output.split()) == {f"{site.folder}/prefix/{name}" for name in site.wanted}
+    yield site
+    site.uninstall("prefix")
 
 
 @pytest.mark.parametrize("tool, words", [
     ("install", " [--cargo | --rt]"), ("build_c_library", " [--cargo | --rt]"), ("uninstall", "")])
-def test_arguments(place, tool, words):
+def test_arguments(site, tool, words):
     for word in "-h", "--help":
-        output = place.run(tool, word)
+        output = site.run(tool, word)
         assert f"tools/{tool}{words}" in output and "#" not in output
     for wrong in (["--librari"], ["a", "b"]):
-        place.run(tool, *wrong, status=2)
-    place.run("build_c_library", status=2)
+        site.run(tool, *wrong, status=2)
+    site.run("build_c_library", status=2)
 
 
-def test_build_in_a_folder_with_a_blank(place):
-    output = place.run("build_c_library", f"--{place.library.build}", "a folder")
-    assert place.installed("a folder") == {"libvte_c.a", "libvte_c.so"}
-    assert re.fullmatch(rf"built .* {place.library.build}: .*\n", output)
+def test_build_in_a_folder_with_a_blank(site):
+    output = site.run("build_c_library", f"--{site.library.build}", "a folder")
+    assert site.installed("a folder") == {"libvte_c.a", "libvte_c.so"}
+    assert re.fullmatch(rf"built .* {site.library.build}: .*\n", output)
 
 
 def test_pkg_config(prefix):
@@ -128,10 +128,10 @@ def test_pkg_config(prefix):
             prefix.run(*outline, "-std=c++14", status=1, says="vte.hpp needs C++17")
 
 
-def cmake(place, *words, **how):
+def cmake(site, *words, **how):
     need("cmake", "the installed library was not looked for by it")
     source = f"-DSOURCE={EXAMPLES / 'c/stripper.c'}"
-    place.run("cmake", source, *words, "-S", PROGRAMS, "-B", "built", **how)
+    site.run("cmake", source, *words, "-S", PROGRAMS, "-B", "built", **how)
 
 
 def test_cmake(prefix):
@@ -144,57 +144,57 @@ def test_cmake(prefix):
     assert "libvte_c" not in prefix.run("readelf", "-d", "built/static")
 
 
-def test_package(place):
+def test_package(site):
     """Everything for a package, with libraries in a folder of their machine, is used where it is,
     and removed. What a given archive has says which headers it gets, whatever was asked for."""
-    staged, machine = place.folder / "staged here", "usr/lib/x86_64-linux-gnu"
+    staged, machine = site.folder / "staged here", "usr/lib/x86_64-linux-gnu"
     package = {"PREFIX": "/usr", "LIBDIR": f"/{machine}", "DESTDIR": str(staged)}
     for build in "--rt", "--cargo":
-        place.run("install", build, says="library is given", **package)
-    assert place.installed(staged) == {f"usr/{name}".replace("usr/lib", machine)
-                                       for name in place.wanted | OF_VTLOG}
+        site.run("install", build, says="library is given", **package)
+    assert site.installed(staged) == {f"usr/{name}".replace("usr/lib", machine)
+                                       for name in site.wanted | OF_VTLOG}
     assert os.readlink(staged / machine / "libvte_c.so") == "libvte_c.so.6"
     described = (staged / machine / "pkgconfig/libvte_c.pc").read_text().splitlines()
     assert {"prefix=/usr", f"libdir=/{machine}", "build=given"} <= {*described}
     if shutil.which("man"):
-        page = place.run("man", staged / "usr/share/man/man3/vte.3", MANWIDTH="160")
+        page = site.run("man", staged / "usr/share/man/man3/vte.3", MANWIDTH="160")
         assert re.search(r"vte_feed\(vte_parser.*vte_long_feed.*vte_processor_new", page, re.S)
     assert (staged / "usr/bin/vtlog").read_bytes() == Path("/bin/true").read_bytes()
-    cmake(place, f"-DCMAKE_PREFIX_PATH={staged / 'usr'}",
+    cmake(site, f"-DCMAKE_PREFIX_PATH={staged / 'usr'}",
           "-DCMAKE_LIBRARY_ARCHITECTURE=x86_64-linux-gnu", "-DVERSION=6")
-    place.run("cmake", "--build", "built")
-    place.uninstall("staged here", **package)
+    site.run("cmake", "--build", "built")
+    site.uninstall("staged here", **package)
 
 
-def test_without_tools(place):
+def test_without_tools(site):
     """All is installed below the usual prefix without a C compiler, or a cargo that can build."""
-    tools = place.folder / "cc"
+    tools = site.folder / "cc"
     tools.mkdir()
     for folder in os.environ["PATH"].split(os.pathsep):
         for file in Path(folder).glob("*"):
             if file.name not in ("cc", "cargo") and not (tools / file.name).is_symlink():
                 (tools / file.name).symlink_to(file)
-    variables = {"PATH": str(tools), "DESTDIR": str(place.folder / "without_cc"), "PREFIX": ""}
-    place.run("install", "--cargo", says="there is no cc: the ", **variables)
-    wanted = {f"usr/local/{file}" for file in place.wanted | OF_VTLOG if ".so" not in file}
-    assert place.installed("without_cc") == wanted
-    place.uninstall("without_cc", **variables)
-    build = "build_c_library", "--cargo", place.folder / "none"
-    place.run(*build, status=70, says="cargo isn't installed", **variables)
+    variables = {"PATH": str(tools), "DESTDIR": str(site.folder / "without_cc"), "PREFIX": ""}
+    site.run("install", "--cargo", says="there is no cc: the ", **variables)
+    wanted = {f"usr/local/{file}" for file in site.wanted | OF_VTLOG if ".so" not in file}
+    assert site.installed("without_cc") == wanted
+    site.uninstall("without_cc", **variables)
+    build = "build_c_library", "--cargo", site.folder / "none"
+    site.run(*build, status=70, says="cargo isn't installed", **variables)
     write_program(tools / "cargo", "echo it is too old >&2; exit 1")
-    place.run(*build, status=70, **variables,
+    site.run(*build, status=70, **variables,
               says="it is too old\nbuild_c_library: the library could not be built")
-    place.run("install", "--cargo", **{**variables, "VTLOG": ""}, says=(
+    site.run("install", "--cargo", **{**variables, "VTLOG": ""}, says=(
         "it is too old\ninstall: cargo could not build vtlog, as above: the program was left out\n"
         "install: the library is given as "))
-    assert not {name for name in place.installed("without_cc") if "vtlog" in name}
+    assert not {name for name in site.installed("without_cc") if "vtlog" in name}
     # cargo builds for the machine that is named to it, in another folder
-    other = place.folder / "other.a"
-    place.run("objcopy", "--redefine-sym", "vte_version=vte_other", place.library.archive, other)
+    other = site.folder / "other.a"
+    site.run("objcopy", "--redefine-sym", "vte_version=vte_other", site.library.archive, other)
     write_program(tools / "cargo", f"made={other}; case $* in *vtlog*) made=/bin/true; esac\n"
                   """echo '{"reason":"compiler-artifact","filenames":["'"$made"'"]}'""")
-    place.run("install", "--cargo", **{**variables, "VTLOG": "", "VTE_ARCHIVE": ""})
-    assert place.installed("without_cc") == wanted
-    installed = place.folder / "without_cc/usr/local"
+    site.run("install", "--cargo", **{**variables, "VTLOG": "", "VTE_ARCHIVE": ""})
+    assert site.installed("without_cc") == wanted
+    installed = site.folder / "without_cc/usr/local"
     assert (installed / "bin/vtlog").read_bytes() == Path("/bin/true").read_bytes()
-    assert " T vte_other" in place.run("nm", installed / "lib/libvte_c.a")
+    assert " T vte_other" in site.run("nm", installed / "lib/libvte_c.a")

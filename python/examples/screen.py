@@ -75,9 +75,9 @@ class Screen:
     def _erase(self, part, rows):
         """Blanks what is after the cursor, before it, or everything, of some rows."""
         cursor = self._row, min(self._column, COLUMNS - 1)
-        for place in itertools.product(rows, range(COLUMNS)):
-            if part == 2 or part == 0 and place >= cursor or part == 1 and place <= cursor:
-                self.lines[place[0]][place[1]] = " "
+        for position in itertools.product(rows, range(COLUMNS)):
+            if part == 2 or part == 0 and position >= cursor or part == 1 and position <= cursor:
+                self.lines[position[0]][position[1]] = " "
 
 
 if __name__ == "__main__":

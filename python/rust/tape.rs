@@ -84,6 +84,12 @@ impl Value {
         self.0 & FIRST != 0
     }
 
+    /// Adds to the only field.
+    #[inline]
+    fn lengthen(&mut self, more: i64) {
+        self.0 += more << 8 << TAG_BITS;
+    }
+
     /// The class and the only field.
     #[inline]
     pub fn parts(self) -> (usize, i64) {
@@ -268,7 +274,7 @@ impl Tape {
     #[inline]
     pub fn add_run(&mut self, kind: Kind, run: &[u8]) {
         match self.values.last_mut() {
-            Some(last) if self.is_open => last.0 += Value::new(0, (run.len() as i64) << 8).0,
+            Some(last) if self.is_open => last.lengthen(run.len() as i64),
             _ => {
                 self.add(Value::of(Tag::Run, kind, run.len() as i64));
                 self.is_open = true;

@@ -19,7 +19,7 @@ STREAM = STREAMS["long commands"]
 
 
 def wanted_parts(stream, size):
-    """The parts, from the places of all ESC."""
+    """The parts, from the positions of all ESC."""
     starts = [0]
     for at, byte in enumerate(stream):
         if byte == 0x1b and at >= starts[-1] + size:

@@ -33,19 +33,19 @@ def write_or_check(about, make, top):
         names = "".join(f"\n  {name}" for name in sorted(stale))
         sys.exit(f"these files aren't up to date; run tools/{parser.prog}:{names}")
     for name, text in stale.items():
-        place = top / name
+        path = top / name
         if text is None:
-            place.unlink()
+            path.unlink()
         else:
-            place.parent.mkdir(parents=True, exist_ok=True)
-            place.write_text(text)
+            path.parent.mkdir(parents=True, exist_ok=True)
+            path.write_text(text)
     if not is_check:
         print(f"{len(stale)} files are written")
 
 
-def is_current(place, text):
+def is_current(path, text):
     """Whether a file has a text, but for the layout of Rattle, which is that of `rt fmt`."""
-    if text is None or not place.exists():
+    if text is None or not path.exists():
         return False
-    layout = r"[\s,]" if place.suffix == ".rt" else ""
-    return re.sub(layout, "", place.read_text()) == re.sub(layout, "", text)
+    layout = r"[\s,]" if path.suffix == ".rt" else ""
+    return re.sub(layout, "", path.read_text()) == re.sub(layout, "", text)

@@ -33,16 +33,16 @@ class Tool:
         return status, output.getvalue()
 
 
-def write(place, text, mode=0o644):
-    file = Path(place).absolute()
+def write(path, text, mode=0o644):
+    file = Path(path).absolute()
     file.parent.mkdir(parents=True, exist_ok=True)
     file.write_text(text)
     file.chmod(mode)
     return file
 
 
-def write_program(place, text):
-    return write(place, f"#!/bin/sh\n{text}\n", 0o755)
+def write_program(path, text):
+    return write(path, f"#!/bin/sh\n{text}\n", 0o755)
 
 
 def wait_until(condition, message=""):

@@ -26,15 +26,15 @@ OLD = ["missing: old: the release and best builds were not counted"]
 def count(monkeypatch):
     """What bench/count says to a table, or writes, where each count is 4 or 1."""
     def counted(*words, kit="kit", allowed="1", rustc="new", cell="4.000"):
-        place = write("instructions.txt", LIMITS.format(rustc, cell))
+        path = write("instructions.txt", LIMITS.format(rustc, cell))
         monkeypatch.setenv("NAQSHUVE_ALLOW_MISSING", allowed)
         tool = Tool("../bench/count", counted=lambda _, __, asked: {
             (row, column): {"parser": 4.0, "vte_feed": 1.0}[row[0]] for row, column in asked})
-        monkeypatch.setattr(tool.parts["limits"], "TABLE", place)
+        monkeypatch.setattr(tool.parts["limits"], "TABLE", path)
         monkeypatch.setattr(tool.parts["limits"], "conditions",
                             lambda: {"release": "new", "best": "new", "rattle": kit})
         status, output = tool.run("limits", *words)
-        return status, output.splitlines(), place.read_text()
+        return status, output.splitlines(), path.read_text()
     return counted
 
 
@@ -108,7 +108,7 @@ def test_counts(monkeypatch, words, kinds, changes):
         asked.append((name, size))
         return SimpleNamespace(name=name, size=size)
 
-    count = Tool("../bench/count", passed=lambda words, _, place: (place.size, "left"),
+    count = Tool("../bench/count", passed=lambda words, _, path: (path.size, "left"),
                  ThreadPoolExecutor=pool, copy_libc=lambda folder: None)
     monkeypatch.setattr(count.parts["measuring"], "Programs", lambda folder: SimpleNamespace(
         folder=folder, peers=lambda side: [side], proved="proved", stream=stream,

@@ -94,8 +94,8 @@ def test_modules_are_listed_after_those_that_they_import(page, wanted):
                                         "use Rattle.b.specs.Two.{g}",
              "crates/b/specs/private/One.antt": "", "crates/b/specs/private.antt": ""}
     tool = Tool("check_docs", tracked=lambda: list(map(Path, files)))
-    for place, text in files.items():
-        write(place, text)
+    for path, text in files.items():
+        write(path, text)
     found = tool.parts["failures_of_modules"](page + "\n`One`, `Two`")
     assert [it.partition(", which")[0] for it in found] == list(filter(None, wanted.split(", ")))
 
@@ -130,8 +130,8 @@ def test_the_history(status, output, wanted):
 def test_which_pages_are_checked(words, faulty, status, reported):
     subprocess.run(["git", "init", "-q"], check=True)
     write(".gitignore", "out/\n")
-    for place in "README.md", "docs/A.md", "tools/README.md", "out/README.md", "a.py":
-        write(place, "")
+    for path in "README.md", "docs/A.md", "tools/README.md", "out/README.md", "a.py":
+        write(path, "")
     tool = Tool("check_docs", failures=lambda page, run: [(5, run)] * (page.path.name in faulty))
     assert tool.run(*words.split()) == (status, "".join(f"{line}\n" for line in reported))
 

@@ -19,31 +19,31 @@ LINES = {
     "erased text": ("rust/x/src/proved/f.rs", "", 0)}
 
 
-def faults(place, text):
+def faults(path, text):
     subprocess.run(["git", "init", "-q"], check=True)
-    write(place, text)
+    write(path, text)
     status, printed = Tool("check_lines").run()
     *found, _ = printed.splitlines()
     assert status == bool(found)
     return found
 
 
-@pytest.mark.parametrize("place, begin, most", LINES.values(), ids=LINES)
-def test_how_long_a_line_may_be(place, begin, most):
+@pytest.mark.parametrize("path, begin, most", LINES.values(), ids=LINES)
+def test_how_long_a_line_may_be(path, begin, most):
     line = (begin + " x" * 60)[:most or None]
-    wanted = [f"{place}:2: a line of {most + 1} characters"] * bool(most)
-    assert faults(place, f"{line}\n{line}y\n") == wanted
+    wanted = [f"{path}:2: a line of {most + 1} characters"] * bool(most)
+    assert faults(path, f"{line}\n{line}y\n") == wanted
 
 
-@pytest.mark.parametrize("place, begin, line, end, most, wanted", [
+@pytest.mark.parametrize("path, begin, line, end, most, wanted", [
     ("x.antt", "", "a\n", "", 400, "a file of 401 lines"),
-    *((place, "", "a\n", "", 500, "") for place in (
+    *((path, "", "a\n", "", 500, "") for path in (
         "crates/vte_handler/src/by_call.rt", "rust/x/src/proved/f.rs", "vectors/x.json")),
     *((*case, "f: a function of 47 lines") for case in (
         ("x.py", "class A:\n    def f(self):\n", "        a\n", "a\n", 45),
         ("x.rs", "    fn g();\n    fn f(a: [u8; 2])\n    {\n", "        a;\n", "    }\n", 43),
         ("x.rt", "fn g();\nfn f(\n)\n    ensures {\n        b\n    }\n{\n", "    a;\n", "}\n", 44),
         ("x.rt", "fn f(\n    b: B,\n) -> [u8; 2] {\n", "    a;\n", "}\n", 44)))])
-def test_how_long_files_and_functions_may_be(place, begin, line, end, most, wanted):
-    assert faults(place, begin + most * line + end) == []
-    assert faults(place, begin + (most + 1) * line + end) == [f"{place}: {wanted}"] * bool(wanted)
+def test_how_long_files_and_functions_may_be(path, begin, line, end, most, wanted):
+    assert faults(path, begin + most * line + end) == []
+    assert faults(path, begin + (most + 1) * line + end) == [f"{path}: {wanted}"] * bool(wanted)

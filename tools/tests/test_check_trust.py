@@ -42,8 +42,8 @@ UNSAFE = {
 # the same for the root of a crate, which must refuse `unsafe` elsewhere
 ROOTS = {
     "forbids unsafe": ("rust/vtlog/src/main.rs", "#![forbid(unsafe_code)]", ""),
-    **{f"{place} with {text}": (place, text, ": it doesn't deny `unsafe_code`")
-       for place in ("python/rust/lib.rs", "rust/vte/src/lib.rs")
+    **{f"{path} with {text}": (path, text, ": it doesn't deny `unsafe_code`")
+       for path in ("python/rust/lib.rs", "rust/vte/src/lib.rs")
        for text in ("// #![deny(unsafe_code)]", "#![deny(unsafe_code_of_others)]")}}
 # the same for files of the parser, by their names
 PARSER = {
@@ -71,20 +71,20 @@ CASES = {**UNSAFE, **ROOTS, **{name: (f"{CORE}{file}.rt", text, fault)
                                for name, (file, text, fault) in PARSER.items()}}
 
 
-@pytest.mark.parametrize("place, text, fault", CASES.values(), ids=CASES)
-def test_what_is_refused_in_a_file(place, text, fault):
-    write(place, text)
+@pytest.mark.parametrize("path, text, fault", CASES.values(), ids=CASES)
+def test_what_is_refused_in_a_file(path, text, fault):
+    write(path, text)
     write("HANDLES", "Handles allowed: none.\n")
-    status, output = Tool("check_trust", listed=lambda _: [place], unused=lambda _: []).run()
-    wanted = [*[place + fault] * bool(fault), f"1 files, {bool(fault):d} places that are refused"]
+    status, output = Tool("check_trust", listed=lambda _: [path], unused=lambda _: []).run()
+    wanted = [*[path + fault] * bool(fault), f"1 files, {bool(fault):d} places that are refused"]
     assert (status, output.splitlines()) == (bool(fault), wanted)
 
 
 def test_all_files_and_handles():
     subprocess.run(["git", "init", "-q"], check=True)
     write(".gitignore", "out/\n")
-    for place in "crates/x/specs/A.antt", "crates/x/out/A.rt", "bench/b.rs", "c/d.rt", "e.md":
-        write(place, "unsafe one\n")
+    for path in "crates/x/specs/A.antt", "crates/x/out/A.rt", "bench/b.rs", "c/d.rt", "e.md":
+        write(path, "unsafe one\n")
     write("HANDLES", "Handles allowed: some.\n")
     status, output = Tool("check_trust", unused=lambda _: []).run()
     assert status == 1 and sorted(line.partition(":")[0] for line in output.splitlines()) == [
@@ -92,16 +92,16 @@ def test_all_files_and_handles():
 
 
 # a word that is replaced in a file of the reader, and the fault
-@pytest.mark.parametrize("place, word, fault", [
+@pytest.mark.parametrize("path, word, fault", [
     ("reader", "tally", r"nothing there is \btally:"),
     ("reader", "count_looks", r"nothing there is \bfn count_looks\("),
     ("reader/advance", "take_run", r"nothing there is ^ *take_run\(bytes, range\)$"),
     ("reader/run_end", "", "it isn't there"),
     ("reader", "no word of it", None)])
-def test_a_name_that_nothing_has_any_more(place, word, fault):
+def test_a_name_that_nothing_has_any_more(path, word, fault):
     tool = Tool("check_trust", PLACES={}, ROOTS=())
     files = {*tool.parts["MAKERS"], *tool.parts["CALLS"], *tool.parts["RUNS"]}
-    changed = f"{CORE}{place}.rt"
+    changed = f"{CORE}{path}.rt"
     for file in files:
         text = (TOOLS.parent / file).read_text()
         write(file, text.replace(word, "other") if file == changed else text)

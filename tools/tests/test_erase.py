@@ -9,11 +9,11 @@ from tests.support import TOOLS, Tool, write
 
 # ---- check_erased
 
-def differences(source, written, place="c/mod.rs", adapter=""):
+def differences(source, written, path="c/mod.rs", adapter=""):
     """What differs in a file, in whose place something else is written, and in an adapter."""
     write("a.rs", adapter)
     write("crates/c/src/lib.rt", source)
-    write(f"w/{place}", written)
+    write(f"w/{path}", written)
     plan = Plan(folder="w", modules={"c": "crate::c"})
     status, output = Tool("check_erased", PLANS=(plan,), REPEATED={"a.rs": "w"}).run()
     *found, last = output.splitlines()
@@ -73,11 +73,11 @@ def test_documentation_is_repeated():
 
 
 def test_all_files_are_compared():
-    for place in "a", "a/b", "laws/a", "tests", "tests/a":
-        write(f"crates/c/src/{place}.rt", "fn f() {}")
+    for path in "a", "a/b", "laws/a", "tests", "tests/a":
+        write(f"crates/c/src/{path}.rt", "fn f() {}")
     source = "pub mod laws;\n#[cfg(test)]\nmod tests;\n"
-    assert differences(source, "") == [f"c/{place}.rs fn f: it isn't written"
-                                       for place in ("a", "a/b")]
+    assert differences(source, "") == [f"c/{path}.rs fn f: it isn't written"
+                                       for path in ("a", "a/b")]
     found = differences(source + "// cargo lacks: why\nmod a;\n", "", "c/d.rs")
     assert found == ["w/c/d.rs: it has no source"]
 
@@ -105,7 +105,7 @@ def test_what_is_out_of_date_is_told_and_then_written(folder):
 
 def test_each_folder_is_written():
     top = TOOLS.parent
-    folders = {str(place.relative_to(top)) for place in top.glob("rust/*/src/proved")}
+    folders = {str(path.relative_to(top)) for path in top.glob("rust/*/src/proved")}
     assert {plan.folder for plan in Tool("erase").parts["PLANS"]} == folders
 
 

@@ -44,8 +44,8 @@ def test_lines_that_are_not_run_are_there():
     listed = (TOOLS / "lib/fuzzing/unreached.txt").read_text()
     assert re.fullmatch(r"(#.*\n)+(\n\S.*:\n( {4}\S.*\n)+)+", listed)
     fuzz = Tool("fuzz").parts
-    for place in fuzz["UNREACHED"]:
-        file, function, line = re.fullmatch(r"(\S+) (\w+): (.*)", place).groups()
+    for path in fuzz["UNREACHED"]:
+        file, function, line = re.fullmatch(r"(\S+) (\w+): (.*)", path).groups()
         text = (TOOLS.parent / "rust/vte" / fuzz["PROVED"] / f"{file}.rs").read_text()
         bodies = "".join(re.findall(rf"\bfn {function}\b.*?(?=\bfn \w|\Z)", text, re.S))
-        assert any(fnmatchcase(it.strip(), line) for it in bodies.splitlines()), place
+        assert any(fnmatchcase(it.strip(), line) for it in bodies.splitlines()), path

@@ -59,18 +59,18 @@ echo '{"reason":"build-finished","success":true}'"""
 def checkout(folder, monkeypatch):
     """The launcher in a folder, with what it reads, a link to it, and the tools that it may use."""
     top = folder / "a folder"
-    for place in ("bin", "temporary", "crates/vtlog/src", "crates/vtlog/proofs",
+    for path in ("bin", "temporary", "crates/vtlog/src", "crates/vtlog/proofs",
                   "crates/vte_core/src", "crates/vte_core/specs", "crates/event_log/src"):
-        (top / place).mkdir(parents=True)
-    for place in "vtlog", "crates/vtlog/src/main.rt", "tools/lib/building/cargo_product":
-        (top / place).parent.mkdir(parents=True, exist_ok=True)
-        shutil.copy(TOP / place, top / place)
+        (top / path).mkdir(parents=True)
+    for path in "vtlog", "crates/vtlog/src/main.rt", "tools/lib/building/cargo_product":
+        (top / path).parent.mkdir(parents=True, exist_ok=True)
+        shutil.copy(TOP / path, top / path)
     for tool in USED:
         (top / "bin" / tool).symlink_to(shutil.which(tool))
     (top / "bin/linked").symlink_to("../vtlog")
     monkeypatch.chdir(top)
-    for name, place in ("TOP", ""), ("PATH", "bin"), ("TMPDIR", "temporary"):
-        monkeypatch.setenv(name, str(top / place))
+    for name, path in ("TOP", ""), ("PATH", "bin"), ("TMPDIR", "temporary"):
+        monkeypatch.setenv(name, str(top / path))
     write("crates.txt", "vte_core: std\nevent_log: std vte_core\nvtlog: std event_log\n")
     write("log", "")
     write_program("bin/rt", RT)
@@ -132,11 +132,11 @@ def test_cargo(checkout, monkeypatch, target):
     assert runs("text") == (70, "", errors, "")
 
 
-@pytest.mark.parametrize("place, variables", [
+@pytest.mark.parametrize("path, variables", [
     ("p/target/", {}), ("p/target/HOST/", {"CARGO_BUILD_TARGET": "HOST"}),
     ('a "b" \\é/', {"CARGO_TARGET_DIR": 'a "b" \\é'}),
     ("c/HOST/", {"CARGO_BUILD_TARGET": "HOST", "CARGO_TARGET_DIR": "c"})])
-def test_where_cargo_puts_what_it_makes(checkout, monkeypatch, place, variables):
+def test_where_cargo_puts_what_it_makes(checkout, monkeypatch, path, variables):
     monkeypatch.setenv("PATH", WHOLE_PATH)
     need("cargo", "it was not asked where it puts what it makes")
     host = re.search(r"^host: (.*)", subprocess.check_output(["rustc", "-vV"], text=True), re.M)[1]
@@ -148,7 +148,7 @@ def test_where_cargo_puts_what_it_makes(checkout, monkeypatch, place, variables)
     write("p/src/main.rs", "fn main() {}\n")
     words = "rustc --quiet --offline --manifest-path p/Cargo.toml -- -Copt-level=0"
     made = subprocess.check_output(["tools/lib/building/cargo_product", *words.split()], text=True)
-    assert made == f"{checkout}/{place.replace('HOST', host)}debug/p\n"
+    assert made == f"{checkout}/{path.replace('HOST', host)}debug/p\n"
     assert subprocess.run([made[:-1]]).returncode == 0
 
 

@@ -55,17 +55,17 @@ def test_a_call_is_added_to_all_lists_and_removed(calls):
     assert {file: Path(file).read_text() for file in texts} == texts
 
 
-@pytest.mark.parametrize("place, old, new", [
+@pytest.mark.parametrize("path, old, new", [
     ("crates/vte_handler/src/by_call.rt", "HandlerCall::MoveUp(count)", "HandlerCall::MoveUp(1)"),
     ("rust/vte_c/src/processor.rs", "set_tabs(interval: u16)", "set_tabs(interval: u8)"),
     (HEADER, "put_tab)(void *user, uint16_t", "put_tab)(void *user, size_t"),
     ("python/src/vte/calls.py", "bottom: int | None", "bottom: int")])
-def test_a_wrong_entry_is_told_and_written_again(calls, place, old, new):
+def test_a_wrong_entry_is_told_and_written_again(calls, path, old, new):
     tool, texts = calls
-    assert old in texts[place]
-    write(place, texts[place].replace(old, new))
-    update(tool, place)
-    assert old in Path(place).read_text()
+    assert old in texts[path]
+    write(path, texts[path].replace(old, new))
+    update(tool, path)
+    assert old in Path(path).read_text()
 
 
 def test_the_table_of_c_has_one_order(calls):

@@ -19,7 +19,7 @@ def copy(tmp_path_factory):
 
 
 # what stands in an edit in the place of something, and what is wrong with it
-@pytest.mark.parametrize("place, old, new, fault", [
+@pytest.mark.parametrize("path, old, new, fault", [
     (PLACE, "", "", None),
     (PLACE, "old: one", "old: f(", "crates/c/src/lib.rt hasn't exactly one 'f('"),
     (PLACE, "lib.rt", "gone.rt", "crates/c/src/gone.rt hasn't exactly one 'one'"),
@@ -31,9 +31,9 @@ def copy(tmp_path_factory):
       for verdict in (" by a goal", ": `goal`: why")),
     ("crates/c/must-fail/other.edit", "# A rule.\n", "", "it names no rule"),
     ("crates/c/must-fail/m.edit", "", "", "it stands twice")])
-def test_faults_of_mutants(copy, place, old, new, fault):
-    write(place, MUTANT.replace(old, new))
-    faults = [f"{PLACE if 'twice' in fault else place}: {fault}"] if fault else []
+def test_faults_of_mutants(copy, path, old, new, fault):
+    write(path, MUTANT.replace(old, new))
+    faults = [f"{PLACE if 'twice' in fault else path}: {fault}"] if fault else []
     output = "\n".join([*faults, f"1 mutants, {len(faults)} faults\n"])
     assert Tool("mutate").run("--check") == (len(faults), output)
 

@@ -14,14 +14,14 @@ RELEASE = {
     "c/include/vte.h": "#define VTE_VERSION 7", "docs/C.md": "libvte_c = 7",
     "crates/vtlog/src/main.rt": r'"vtlog 1.2.3\n"', "docs/vtlog.1": '"Naqshuve 1.2.3"',
     "vectors/events.json": "of Naqshuve 1.2.3 for", "vectors/calls.json": "of Naqshuve 1.2.3 for",
-    **{place: 'version = "1.2.3"' for place in MANIFESTS},
+    **{path: 'version = "1.2.3"' for path in MANIFESTS},
     "rust/vte/CHANGELOG.md": "## 1.2.3, unreleased\n## 1.2.2, 2026-01-01",
     "CHANGELOG.md": "## Versions\n| 1.2.3 | the crate\n| 0.15.0+naqshuve.1.2.3 | the same\n"
                     "`VTE_VERSION`, 7 |\n## 1.2.3, unreleased\n## 1.2.2, 2026-01-01"}
 
 
 # what stands in a file instead, and what is reported
-@pytest.mark.parametrize("place, old, new, reported", [
+@pytest.mark.parametrize("path, old, new, reported", [
     ("CHANGELOG.md", "unreleased", "2026-01-02", None),
     *((file, "1.2.3", "1.2.4", f"{file} has 1.2.4") for file in MANIFESTS),
     *((file, old, new, f"{file} begins with {shown}")
@@ -34,9 +34,9 @@ RELEASE = {
     ("CHANGELOG.md", "| 1.2.3", "| 1.2.4", 'CHANGELOG.md has no "| 1.2.3 | the crate"'),
     ("CHANGELOG.md", "+naqshuve", "", 'CHANGELOG.md has no "| 0.15.0+naqshuve.1.2.3 | the same"'),
     ("CHANGELOG.md", ", 7", ", 6", 'CHANGELOG.md has no "`VTE_VERSION`, 7 |"')])
-def test_versions_of_a_release(place, old, new, reported):
+def test_versions_of_a_release(path, old, new, reported):
     for name, text in RELEASE.items():
-        write(name, (text.replace(old, new) if name == place else text) + "\n")
+        write(name, (text.replace(old, new) if name == path else text) + "\n")
     # with all versions right, the release would be made
     wanted = f"versions: {reported}" if reported else "release: it was not made"
     assert run_here("release", "--check", git="exit 1") == (1, [wanted, "1 faults"])

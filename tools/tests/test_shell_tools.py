@@ -58,10 +58,10 @@ MISSING, HOMES = "missing: gcc-multilib.*32 bits were not tested", r"export CARG
 def test_words(folder, monkeypatch, tool, words, variables, status, output):
     needed = re.findall(r"(python3|librust)-\{(.*?)\}(-dev)?", (TOOLS / "next_release").read_text())
     had = [f"{begin}-{it}{end}" for begin, names, end in needed for it in names.split(",")]
-    for place, text in {"tools/install_packages": "#!/bin/sh\n[ $1 = valgrind ]\n", "asked": "",
+    for path, text in {"tools/install_packages": "#!/bin/sh\n[ $1 = valgrind ]\n", "asked": "",
                         "folder/had": "\n".join(["a", *had]), "there/file": "",
                         "rust/vte/Cargo.toml": "", "c/include/vte.h": ""}.items():
-        write(place, text, 0o755)
+        write(path, text, 0o755)
     none = dict.fromkeys(("NAQSHUVE_ALLOW_MISSING", "GATE", "THERE", "HAS_CRATES"), "")
     for name, value in {**none, "ASKED": f"{folder}/asked", **variables}.items():
         monkeypatch.setenv(name, value)

@@ -52,8 +52,8 @@ PACKAGES = {LACKING: "no-such-command", LEFT_OUT: "no-such-tool"}
 
 def run(folder, words, fails=""):
     """The status and the lines of tools/test, and what was tried."""
-    for place, text in PROGRAMS.items():
-        write_program(place, text)
+    for path, text in PROGRAMS.items():
+        write_program(path, text)
     (folder / "temporary").mkdir()
     asked = write("asked", "")
     variables = {**os.environ, "PATH": f"{folder}/bin:{os.environ['PATH']}",

@@ -83,7 +83,7 @@ arguments! {
         style.shape.fold(checksum);
         style.blinking.fold(checksum);
     };
-    // the icon alone doesn't count: in Rattle its places are those of another crate
+    // the icon alone doesn't count: in Rattle its numbers are those of another crate
     CursorIcon: |_icon, _checksum| ();
     Color: |color, checksum| match color {
         Color::Named(name) => checksum.fold(name as u64),
@@ -110,7 +110,7 @@ impl<T: Argument> Argument for Option<T> {
     }
 }
 
-/// The place of an attribute's variant in its declaration, which is what its discriminant hashes.
+/// The index of an attribute's variant in its declaration, which is what its discriminant hashes.
 #[inline]
 fn place_of(attribute: &Attr) -> u64 {
     struct Place(u64);
@@ -122,14 +122,14 @@ fn place_of(attribute: &Attr) -> u64 {
 
         fn write(&mut self, _bytes: &[u8]) {}
 
-        fn write_isize(&mut self, place: isize) {
-            self.0 = place as u64;
+        fn write_isize(&mut self, index: isize) {
+            self.0 = index as u64;
         }
     }
 
-    let mut place = Place(0);
-    discriminant(attribute).hash(&mut place);
-    place.finish()
+    let mut index = Place(0);
+    discriminant(attribute).hash(&mut index);
+    index.finish()
 }
 
 macro_rules! calls {

@@ -168,10 +168,10 @@ fn set_characters(cells: &mut [Cell], bytes: &[u8], style: Style) {
 #[inline]
 fn take_characters(cells: &mut [Cell], characters: &mut Chars<'_>, style: Style) -> usize {
     let count = cells.len();
-    for (place, cell) in cells.iter_mut().enumerate() {
+    for (index, cell) in cells.iter_mut().enumerate() {
         match characters.next() {
             Some(character) => cell.show(character, style),
-            None => return place,
+            None => return index,
         }
     }
     count

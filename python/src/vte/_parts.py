@@ -76,11 +76,11 @@ def _parts_of_file(file: SeekableFile, size: int) -> Iterator[tuple[int, int]]:
 
     def read(at: int, count: int) -> bytes:
         file.seek(at)
-        room = bytearray(count)
-        count = file.readinto(room) or 0
+        buffer = bytearray(count)
+        count = file.readinto(buffer) or 0
         if count == 0:
             raise EOFError(f"the file had {length} bytes, and has none at {at}")
-        return bytes(room[:count])
+        return bytes(buffer[:count])
 
     return _ranges(read, length, size)
 

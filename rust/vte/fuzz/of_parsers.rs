@@ -136,8 +136,8 @@ fn compare_with<R: Read>(stream: &[u8], chunks: &[&[u8]]) -> Outcome {
         (Stop::AfterEscape, "after escapes"),
         (Stop::AfterEach, "after each event"),
     ];
-    for (stop, place) in stops {
-        assert_eq!(with_stops::<R>(chunks, stop), wanted, "with stops {place}");
+    for (stop, case) in stops {
+        assert_eq!(with_stops::<R>(chunks, stop), wanted, "with stops {case}");
     }
     assert_eq!(to_runs::<R>(chunks), wanted, "to runs");
     wanted

@@ -114,7 +114,7 @@
 // the first example is a whole program, which compiles where it is pasted
 #![allow(clippy::needless_doctest_main)]
 
-// Sums of lengths and places are proved for 64 bits, and fit into 32 (docs/ASSUMPTIONS.md).
+// Sums of lengths and positions are proved for 64 bits, and fit into 32 (docs/ASSUMPTIONS.md).
 #[cfg(target_pointer_width = "16")]
 compile_error!("vte needs addresses of at least 32 bits");
 

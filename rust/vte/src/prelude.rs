@@ -166,10 +166,10 @@ mod tests {
     fn the_first_of_a_byte_is_found() {
         for length in 0..100 {
             assert_eq!(super::memchr(b'x', &[b'a'; 100][..length]), None);
-            for place in 0..length {
+            for position in 0..length {
                 let mut bytes = [b'a'; 100];
-                bytes[place..].fill(b'x');
-                assert_eq!(super::memchr(b'x', &bytes[..length]), Some(place));
+                bytes[position..].fill(b'x');
+                assert_eq!(super::memchr(b'x', &bytes[..length]), Some(position));
             }
         }
     }

@@ -1,5 +1,5 @@
-//! Ignored strings are read by blocks: what ends one ends it at each place of a block, and nothing
-//! else does.
+//! Ignored strings are read by blocks: what ends one ends it at each position of a block, and
+//! nothing else does.
 
 use crate::vectors::events_of;
 

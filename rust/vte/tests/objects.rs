@@ -43,11 +43,11 @@ macro_rules! assert_reports {
             let object: &mut dyn $trait = &mut behind;
             read(object);
             for lines in [performer, behind] {
-                let place = concat!(stringify!($read), " of ", stringify!($trait));
-                assert_eq!(lines.text, events, "{place}, stop {stop}");
-                assert_eq!(lines.asked.get(), $asked, "{place}, stop {stop}");
-                assert_eq!(lines.runs.concat(), $run, "{place}");
-                assert_eq!(lines.slices.concat(), $slice, "{place}");
+                let case = concat!(stringify!($read), " of ", stringify!($trait));
+                assert_eq!(lines.text, events, "{case}, stop {stop}");
+                assert_eq!(lines.asked.get(), $asked, "{case}, stop {stop}");
+                assert_eq!(lines.runs.concat(), $run, "{case}");
+                assert_eq!(lines.slices.concat(), $slice, "{case}");
             }
         }
     })*};

@@ -7,12 +7,12 @@ use core::alloc::Layout;
 /// Moves a value to memory of its own, for `Box::from_raw`. Returns null if memory is refused.
 pub(crate) fn boxed<T>(value: T) -> *mut T {
     // SAFETY: the types that are moved have a size
-    let place = unsafe { alloc(Layout::new::<T>()) }.cast::<T>();
-    if !place.is_null() {
+    let pointer = unsafe { alloc(Layout::new::<T>()) }.cast::<T>();
+    if !pointer.is_null() {
         // SAFETY: the memory is new, and that of a `T`
-        unsafe { place.write(value) };
+        unsafe { pointer.write(value) };
     }
-    place
+    pointer
 }
 
 #[cfg(not(any(test, feature = "std")))]
@@ -23,8 +23,8 @@ mod heap {
 
     extern "C" {
         fn malloc(size: usize) -> *mut u8;
-        fn realloc(place: *mut u8, size: usize) -> *mut u8;
-        fn free(place: *mut u8);
+        fn realloc(pointer: *mut u8, size: usize) -> *mut u8;
+        fn free(pointer: *mut u8);
     }
 
     /// The memory of C.
@@ -44,14 +44,14 @@ mod heap {
             unsafe { malloc(layout.size()) }
         }
 
-        unsafe fn dealloc(&self, place: *mut u8, _: Layout) {
-            // SAFETY: the caller has the place from here
-            unsafe { free(place) }
+        unsafe fn dealloc(&self, pointer: *mut u8, _: Layout) {
+            // SAFETY: the caller has the pointer from here
+            unsafe { free(pointer) }
         }
 
-        unsafe fn realloc(&self, place: *mut u8, _: Layout, size: usize) -> *mut u8 {
+        unsafe fn realloc(&self, pointer: *mut u8, _: Layout, size: usize) -> *mut u8 {
             // SAFETY: as above
-            unsafe { realloc(place, size) }
+            unsafe { realloc(pointer, size) }
         }
     }
 }

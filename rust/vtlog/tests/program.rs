@@ -139,12 +139,12 @@ fn memory() -> (File, Vec<u8>) {
     let maps = std::fs::read_to_string("/proc/self/maps").unwrap();
     let stack = maps.lines().find(|line| line.ends_with("[stack]")).unwrap();
     let end = stack.split(['-', ' ']).nth(1).unwrap();
-    let place = u64::from_str_radix(end, 16).unwrap() - 16;
+    let position = u64::from_str_radix(end, 16).unwrap() - 16;
     let mut file = File::open("/proc/self/mem").unwrap();
     let mut bytes = vec![0; 16];
-    std::os::unix::fs::FileExt::read_exact_at(&file, &mut bytes, place).unwrap();
+    std::os::unix::fs::FileExt::read_exact_at(&file, &mut bytes, position).unwrap();
     assert!(bytes[..7].iter().all(u8::is_ascii_graphic) && bytes[7..] == [0; 9]);
-    file.seek(SeekFrom::Start(place)).unwrap();
+    file.seek(SeekFrom::Start(position)).unwrap();
     (file, bytes)
 }
 
@@ -161,8 +161,8 @@ fn left_terminal(written: &[u8]) -> File {
     let text = std::fs::read_to_string(format!("/proc/self/fdinfo/{file}")).unwrap();
     let mut lines = text.lines();
     let number = lines.find_map(|line| line.strip_prefix("tty-index:"));
-    let place = format!("/dev/pts/{}", number.unwrap().trim());
-    let mut program = File::options().write(true).open(place).unwrap();
+    let path = format!("/dev/pts/{}", number.unwrap().trim());
+    let mut program = File::options().write(true).open(path).unwrap();
     program.write_all(written).unwrap();
     terminal
 }
@@ -197,20 +197,20 @@ fn standard_input_may_fail() {
 /// What is open at the end isn't written.
 #[test]
 fn a_file_may_end_in_the_middle() {
-    let place = std::env::temp_dir().join(format!("vtlog-{}", std::process::id()));
+    let path = std::env::temp_dir().join(format!("vtlog-{}", std::process::id()));
     #[rustfmt::skip]
     let ends = ["\u{4e00}", "\x1b", "\x1b[1", "\x1b]0;b", "\x1bX", "\x1b[\u{e9}"];
     for end in ends {
         for (arguments, written) in WAYS.into_iter().zip(["print 0061\n", "a"]) {
             // without the last byte of a character
             let size = end.len() - usize::from(!end.is_ascii());
-            std::fs::write(&place, [b"a", &end.as_bytes()[..size]].concat()).unwrap();
-            let file = File::open(&place).unwrap();
+            std::fs::write(&path, [b"a", &end.as_bytes()[..size]].concat()).unwrap();
+            let file = File::open(&path).unwrap();
             let output = vtlog(arguments).stdin(file).output().unwrap();
             assert_ends(&output, 0, written, "");
         }
     }
-    std::fs::remove_file(place).unwrap();
+    std::fs::remove_file(path).unwrap();
 }
 
 /// Rust's std opens /dev/null for a standard stream that is closed from the start, so the program

@@ -73,22 +73,22 @@ def environment(folder, profile):
 def placed_peers(is_ours, folder, profile, count):
     """Builds bench/peer over the crate, or over ours, into a folder, without warnings: so many
     times, each with its code at another place."""
-    folder, room = Path(folder), KEPT / f"peer_{profile}{'_ours' * is_ours}"
+    folder, crate = Path(folder), KEPT / f"peer_{profile}{'_ours' * is_ours}"
     source = f'path = "{OURS}"' if is_ours else 'version = "=0.15.0"'
     main = TOOLS.parent / "bench/peer/src/main.rs"
     manifest = MANIFEST.replace("SOURCE", source).replace("MAIN", str(main))
-    for place in folder, room:
-        place.mkdir(parents=True, exist_ok=True)
-    (room / "Cargo.toml").write_text(manifest)
+    for path in folder, crate:
+        path.mkdir(parents=True, exist_ok=True)
+    (crate / "Cargo.toml").write_text(manifest)
     # only ours has runs of text
     flags = ["--cap-lints", "allow", *["--cfg", "runs"] * is_ours]
     programs = []
     # four places take each function once to each part of a line of 64 bytes that it can begin at
-    for place in range(count):
-        start = f"link-arg=-Wl,-Ttext={CODE_START + ALIGNMENT * place:#x}"
-        words = ["rustc", "--release", "--manifest-path", room / "Cargo.toml", "--", *flags]
-        made = run([CARGO_PRODUCT, *words, "-C", start], "bench/peer", environment(room, profile))
-        programs.append(shutil.copy(made.decode().rstrip("\n"), folder / f"peer_{place}"))
+    for number in range(count):
+        start = f"link-arg=-Wl,-Ttext={CODE_START + ALIGNMENT * number:#x}"
+        words = ["rustc", "--release", "--manifest-path", crate / "Cargo.toml", "--", *flags]
+        made = run([CARGO_PRODUCT, *words, "-C", start], "bench/peer", environment(crate, profile))
+        programs.append(shutil.copy(made.decode().rstrip("\n"), folder / f"peer_{number}"))
     return programs
 
 

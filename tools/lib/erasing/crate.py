@@ -23,7 +23,7 @@ class Failure(Exception):
 
 
 def read_files(top, crate):
-    """The files of a Rattle crate, by their places below its `src`."""
+    """The files of a Rattle crate, by their paths below its `src`."""
     folder = top / "crates" / crate / "src"
     return {str(file.relative_to(folder)): file.read_text()
             for file in sorted(folder.rglob("*.rt"))}
@@ -31,20 +31,20 @@ def read_files(top, crate):
 
 def write_crate(plan, read_files):
     """The files of a crate, by path below its folder. `read_files` answers those of a Rattle crate,
-    by their places below its `src`."""
+    by their paths below its `src`."""
     files, left, used = {"mod.rs": _root(plan)}, set(), set()
     for crate in plan.modules:
         # those that declare modules of tests, or without a form for cargo, come first
-        for place, text in sorted(read_files(crate).items(), key=_depth):
-            name = f"{crate}/{PurePosixPath(place).with_suffix('')}"
+        for path, text in sorted(read_files(crate).items(), key=_depth):
+            name = f"{crate}/{PurePosixPath(path).with_suffix('')}"
             if left & {str(it) for it in PurePosixPath(name, "_").parents}:
                 continue
             try:
                 erased, its_left, its_used = erase(text, crate, name, plan)
             except Refused as refused:
-                where = f"crates/{crate}/src/{place}:{refused.line or 1}"
+                where = f"crates/{crate}/src/{path}:{refused.line or 1}"
                 raise Failure(f"{where}: {refused}") from None
-            files[target(name)] = MARK.format(origin=f"crates/{crate}/src/{place}") + erased
+            files[target(name)] = MARK.format(origin=f"crates/{crate}/src/{path}") + erased
             left |= its_left
             used |= its_used
     if unused := {sought for sought, _ in plan.entries() - used}:

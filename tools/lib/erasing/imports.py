@@ -12,9 +12,9 @@ OF_CORE = {"cmp", "fmt", "iter", "marker", "mem", "ops", "str", "time"}
 
 def words_of_code(source):
     """How often each word stands in a file outside its imports."""
-    imports = {place for at, end in source.items()
-               if source.is_word(source.without_visibility(at), "use") for place in range(at, end)}
-    return Counter(token.text for place, token in enumerate(source.tokens) if place not in imports)
+    imports = {index for at, end in source.items()
+               if source.is_word(source.without_visibility(at), "use") for index in range(at, end)}
+    return Counter(token.text for index, token in enumerate(source.tokens) if index not in imports)
 
 
 def renamed(source, at, path, crate, plan):
@@ -103,10 +103,10 @@ def _join(source, homes):
 
 def _uses(source, name):
     """Whether a file uses a type or calls a function of another module."""
-    places = source.places(name)
-    if any(source.is_word(source.before(at), "fn", "struct", "trait", "enum") for at in places):
+    indices = source.indices(name)
+    if any(source.is_word(source.before(at), "fn", "struct", "trait", "enum") for at in indices):
         return False
-    for at in places:
+    for at in indices:
         before, following = source.text(source.before(at)), source.text(source.after(at))
         is_generic = following == ":" and source.words(at, 4)[3] == "<"
         if before != "." and (name[0].isupper() or following in ("(", "!") or is_generic):

@@ -19,7 +19,7 @@ ITEMS = {"const", "enum", "fn", "impl", "mod", "static", "struct", "trait", "typ
 
 
 def _mark(source, at):
-    """The kind and the text of the mark at a place, or twice None."""
+    """The kind and the text of the mark at an index, or twice None."""
     text = source.text(at).rstrip()
     if source.kind(at) != COMMENT or not LIKE_MARK.match(text):
         return None, None
@@ -42,7 +42,7 @@ def put_lines(source):
             del source.tokens[at + 1:end + 1]
         if kind == "adds" and text.endswith("! {"):
             # rustfmt leaves the text of a macro as it is
-            end = next(place for place in marks if place > at and marks[place][0])
+            end = next(index for index in marks if index > at and marks[index][0])
             _indent(source, at + 1, end)
         if text:
             source.replace(at, at, text)
@@ -72,7 +72,7 @@ def _comment_end(source, at):
 
 
 def item_below(source, at):
-    """The place of what follows a mark, after attributes."""
+    """The index of what follows a mark, after attributes."""
     at = source.after(at)
     while source.is_sign(at, "#"):
         at = source.after(source.attribute_end(at))
@@ -82,15 +82,15 @@ def item_below(source, at):
 def drop_lacking(source):
     """Takes out what cargo's form hasn't, which are laws too, and the exports of modules that it
     hasn't. Returns these modules."""
-    places = [item_below(source, at) for at in range(len(source.tokens))
+    indices = [item_below(source, at) for at in range(len(source.tokens))
               if _mark(source, at)[0] == "lacks"]
     modules = set()
-    for at in sorted(places + source.places("mod laws"), reverse=True):
+    for at in sorted(indices + source.indices("mod laws"), reverse=True):
         word = source.without_visibility(at)
         if source.is_word(word, "mod"):
             modules.add(source.text(source.after(word)))
         source.cut(source.attached(source.with_visibility(at)), _end(source, word))
-    for at in (at for module in modules for at in source.places(f"use {module}")):
+    for at in (at for module in modules for at in source.indices(f"use {module}")):
         start = source.with_visibility(at)
         source.cut(source.attached(start), source.item_end(start))
     return modules
@@ -111,8 +111,8 @@ def give_defaults(source):
         if _mark(source, at)[0] != "defaults":
             continue
         start = item_below(source, at)
-        for place in range(source.item_end(start), start - 1, -1):
-            if source.is_word(place, "fn") and source.is_sign(end := source.item_end(place), ";"):
+        for index in range(source.item_end(start), start - 1, -1):
+            if source.is_word(index, "fn") and source.is_sign(end := source.item_end(index), ";"):
                 says_no = source.is_word(source.before(end), "bool")
                 source.replace(end, end, " {\nfalse\n}" if says_no else " {}")
         source.cut(at, at)

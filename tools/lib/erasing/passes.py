@@ -28,15 +28,15 @@ def sort_attributes(source):
     Returns the names of the modules of tests.
     """
     tests = set()
-    for at in source.places("#[cfg(test)]"):
+    for at in source.indices("#[cfg(test)]"):
         item = source.without_visibility(source.after(source.attribute_end(at)))
         if source.is_word(item, "mod"):
             tests.add(source.text(source.after(item)))
         source.cut(at, source.item_end(item))
-    for at in source.places("#"):
+    for at in source.indices("#"):
         if (end := source.attribute_end(at)) is None:
             continue
-        name, *rest = [source.text(place) for place in range(at, end) if source.kind(place) == WORD]
+        name, *rest = [source.text(index) for index in range(at, end) if source.kind(index) == WORD]
         if name == "tactic" or "no_mangle" in rest:
             source.cut(at, end)
         elif name == "derive":
@@ -63,19 +63,19 @@ def _derive(source, at, end, names):
 def derive_clones(source):
     """Clones can be refused memory in Rattle. Here they are derived: rustc copies the same fields,
     and those that are vectors have as much memory."""
-    for at in source.places("Clone for"):
+    for at in source.indices("Clone for"):
         first, end = next((first, end) for first, end in source.items() if first < at < end)
         name = source.text(source.after(source.after(at)))
         source.cut(source.attached(first), end)
-        for struct in source.places(f"struct {name}"):
+        for struct in source.indices(f"struct {name}"):
             source.insert(source.with_visibility(struct), "#[derive(Clone)]\n")
 
 
 def join_derives(source):
     """The derives of an item stand in one attribute."""
-    for at in source.places("#[derive"):
-        above = next((place for place in range(at - 1, source.attached(at) - 1, -1)
-                      if source.words(place, 3) == ["#", "[", "derive"]), None)
+    for at in source.indices("#[derive"):
+        above = next((index for index in range(at - 1, source.attached(at) - 1, -1)
+                      if source.words(index, 3) == ["#", "[", "derive"]), None)
         if above is not None:
             end = source.attribute_end(at)
             names = source.between(at + 4, source.before(source.before(end)))
@@ -86,14 +86,14 @@ def join_derives(source):
 def inline(source):
     """The functions of an impl whose only parameter is the allocator, which goes, may still be
     inlined into other crates."""
-    for at in source.places("impl<A: Allocator>"):
-        for place in range(source.item_end(at), at, -1):
-            before = source.before(place)
-            start = source.with_visibility(before if source.is_word(before, "const") else place)
-            is_generic = source.is_sign(source.after(source.after(place)), "<")
+    for at in source.indices("impl<A: Allocator>"):
+        for index in range(source.item_end(at), at, -1):
+            before = source.before(index)
+            start = source.with_visibility(before if source.is_word(before, "const") else index)
+            is_generic = source.is_sign(source.after(source.after(index)), "<")
             above = source.attached(start)
             is_said = "inline" in source.between(above, start)
-            if source.is_word(place, "fn") and not is_generic and not is_said:
+            if source.is_word(index, "fn") and not is_generic and not is_said:
                 source.insert(source.solid(above), f"{INLINE}\n")
 
 

@@ -24,20 +24,20 @@ def _parts(pattern):
 
 
 def find(source, at, pattern):
-    """The last place of a pattern that begins at a place, and the texts of its names; None if it
+    """The last index of a pattern that begins at an index, and the texts of its names; None if it
     doesn't fit, or a comment would be lost."""
     found = None if source.tokens[at].is_blank else _fit(source, at, _parts(pattern), {})
     if found is None:
         return None
-    end, places = found
-    kept = {place for first, last in places.values() for place in range(first, last + 1)}
-    if any(source.kind(place) == COMMENT and place not in kept for place in range(at, end)):
+    end, indices = found
+    kept = {index for first, last in indices.values() for index in range(first, last + 1)}
+    if any(source.kind(index) == COMMENT and index not in kept for index in range(at, end)):
         return None
-    return end, {name: source.between(*ends).strip() for name, ends in places.items()}
+    return end, {name: source.between(*ends).strip() for name, ends in indices.items()}
 
 
-def _fit(source, at, parts, places):
-    """The last place of parts that begin at a place, and the places of names; or None."""
+def _fit(source, at, parts, indices):
+    """The last index of parts that begin at an index, and the indices of names; or None."""
     end = source.before(at)
     for index, (count, name) in enumerate(parts):
         if count == 0:
@@ -47,20 +47,20 @@ def _fit(source, at, parts, places):
         elif count == 1:
             if (end := _element_end(source, at)) is None:
                 return None
-            places, at = {**places, name: (at, end)}, source.after(end)
+            indices, at = {**indices, name: (at, end)}, source.after(end)
         else:
-            return _fit_run(source, at, parts[index:], places)
-    return end, places
+            return _fit_run(source, at, parts[index:], indices)
+    return end, indices
 
 
-def _fit_run(source, at, parts, places):
+def _fit_run(source, at, parts, indices):
     """The same if the first part stands for any number of tokens."""
     (count, name), rest = parts[0], parts[1:]
     # the comments before it are its own
     last = source.before(at)
     first = last + 1
     while True:
-        if found := _fit(source, at, rest, {**places, name: (first, last)}):
+        if found := _fit(source, at, rest, {**indices, name: (first, last)}):
             return found
         end = _element_end(source, at)
         if end is None or count == 2 and source.is_sign(at, ";"):
@@ -69,7 +69,7 @@ def _fit_run(source, at, parts, places):
 
 
 def _element_end(source, at):
-    """The last place of one token, or of a bracket; None at the end of what is around it."""
+    """The last index of one token, or of a bracket; None at the end of what is around it."""
     if source.kind(at) is None or source.is_sign(at, CLOSING):
         return None
     return source.match(at)
@@ -82,8 +82,8 @@ def rewrite(source, pattern, by, holds=lambda names: True):
     An empty text takes out the comments above, too.
     """
     count, ((is_name, first), *_) = 0, _parts(pattern)
-    places = [at for at, token in enumerate(source.tokens) if is_name or token.text == first]
-    for at in places[::-1]:
+    indices = [at for at, token in enumerate(source.tokens) if is_name or token.text == first]
+    for at in indices[::-1]:
         if (found := find(source, at, pattern)) and holds(found[1]):
             made = by(found[1]) if callable(by) else filled(by, found[1])
             if made:

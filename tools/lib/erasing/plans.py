@@ -28,7 +28,7 @@ UNSIZED = [(bound, f"{bound} + ?Sized") for bound in (
 
 VTE = Plan(
     folder="rust/vte/src/proved",
-    # bytes are read by their places, and loops count
+    # bytes are read by their indices, and loops count
     allowed_lints=("clippy::explicit_counter_loop", "clippy::manual_range_contains",
                    "clippy::needless_range_loop"),
     modules={name: f"crate::proved::{name}"

@@ -7,7 +7,7 @@ OPENING, CLOSING = "([{", ")]}"
 class Source:
     """A file that is being erased.
 
-    Places are indices of tokens. A place outside the file has the text "" and no kind.
+    An index is that of a token. One outside the file has the text "" and no kind.
     """
 
     def __init__(self, text):
@@ -21,11 +21,11 @@ class Source:
         return self.tokens[at].kind if 0 <= at < len(self.tokens) else None
 
     def between(self, first, last):
-        """The text between two places, with both."""
+        """The text between two indices, with both."""
         return "".join(token.text for token in self.tokens[first : last + 1])
 
     def is_sign(self, at, signs):
-        """Whether one of these marks stands at a place, and not in a string or comment."""
+        """Whether one of these marks stands at an index, and not in a string or comment."""
         return self.kind(at) == MARK and self.text(at) in signs
 
     def is_word(self, at, *words):
@@ -37,7 +37,7 @@ class Source:
     # Finding
 
     def solid(self, at, step=1):
-        """The first place from `at` on, by `step`, that is neither space nor comment."""
+        """The first index from `at` on, by `step`, that is neither space nor comment."""
         while self.kind(at) in (SPACE, COMMENT):
             at += step
         return at
@@ -57,16 +57,16 @@ class Source:
         return texts
 
     def match(self, at):
-        """The bracket that belongs to the one at a place, or the place if there is none."""
+        """The bracket that belongs to the one at an index, or the index if there is none."""
         depth, step = 0, 1 if self.text(at) in OPENING else -1
-        for place in range(at, len(self.tokens) if step > 0 else -1, step):
-            depth += self.is_sign(place, OPENING) - self.is_sign(place, CLOSING)
+        for index in range(at, len(self.tokens) if step > 0 else -1, step):
+            depth += self.is_sign(index, OPENING) - self.is_sign(index, CLOSING)
             if depth == 0:
-                return place
+                return index
         return self.refuse("unclosed bracket", at)
 
     def item_end(self, at):
-        """The end of the item at a place: its `;`, or the brace that closes its block."""
+        """The end of the item at an index: its `;`, or the brace that closes its block."""
         start, word = at, self.without_visibility(at)
         has_block = self.text(self.after(word)) == "fn" or not self.is_word(
             word, "use", "static", "const", "type")
@@ -92,14 +92,14 @@ class Source:
         return before if self.text(before) == "pub" else at
 
     def attribute_end(self, at):
-        """The `]` of the attribute at a place, or None if an item begins there."""
+        """The `]` of the attribute at an index, or None if an item begins there."""
         bracket = self.after(at)
         if self.is_sign(bracket, "!"):
             bracket = self.after(bracket)
         return self.match(bracket) if self.is_sign(bracket, "[") else None
 
     def items(self):
-        """The first and last places of the items at the top of the file, the last one first."""
+        """The first and last indices of the items at the top of the file, the last one first."""
         found, at = [], self.solid(0)
         while at < len(self.tokens):
             if (end := self.attribute_end(at)) is None:
@@ -108,26 +108,26 @@ class Source:
             at = self.after(end)
         return reversed(found)
 
-    def places(self, front):
-        """The places of what begins with these words, the last one first."""
+    def indices(self, front):
+        """The indices of what begins with these words, the last one first."""
         wanted = [token.text for token in split(front) if not token.is_blank]
         found = [at for at, token in enumerate(self.tokens) if token.text == wanted[0]
                  and self.words(at, len(wanted)) == wanted]
         return found[::-1]
 
     def attached(self, at):
-        """Where the comments and attributes begin that stand right above what is at a place."""
+        """Where the comments and attributes begin that stand right above what is at an index."""
         start = at
         while True:
-            place = start - 1
-            if self.kind(place) == SPACE and self.text(place).count("\n") <= 1:
-                place -= 1
-            begins_line = place == 0 or "\n" in self.text(place - 1)
-            is_of_file = self.text(place).startswith("//!")
-            if self.kind(place) == COMMENT and not is_of_file and begins_line:
-                start = place
-            elif self.is_sign(place, "]") and self.is_sign(self.match(place) - 1, "#"):
-                start = self.match(place) - 1
+            index = start - 1
+            if self.kind(index) == SPACE and self.text(index).count("\n") <= 1:
+                index -= 1
+            begins_line = index == 0 or "\n" in self.text(index - 1)
+            is_of_file = self.text(index).startswith("//!")
+            if self.kind(index) == COMMENT and not is_of_file and begins_line:
+                start = index
+            elif self.is_sign(index, "]") and self.is_sign(self.match(index) - 1, "#"):
+                start = self.match(index) - 1
             else:
                 return start
 

@@ -62,7 +62,7 @@ def split(text):
 
 
 def _token_at(text, at):
-    """The kind and the end of the token at a place."""
+    """The kind and the end of the token at an index."""
     if text.startswith("/*", at):
         raise Refused("a comment of several lines")
     found = TOKEN.match(text, at)

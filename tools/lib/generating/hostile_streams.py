@@ -55,8 +55,8 @@ def strayed(part):
         text = made(chance, part)
         if chance.random() > 0.1:
             return text
-        place = chance.randrange(len(text) + 1)
-        return text[:place] + made(chance, STRAY) + text[place:]
+        position = chance.randrange(len(text) + 1)
+        return text[:position] + made(chance, STRAY) + text[position:]
     return make
 
 
@@ -189,8 +189,8 @@ def hostile_stream(seed, index, weights=PARTS):
 def damaged(chance, stream):
     """The stream with a few bytes changed, dropped or doubled, or without its end."""
     for _ in range(chance.randint(1, 3)):
-        place = chance.randrange(len(stream) + 1)
-        front, back = stream[:place], stream[place:]
+        position = chance.randrange(len(stream) + 1)
+        front, back = stream[:position], stream[position:]
         stream = front + chance.choice([chance.randbytes(1) + back[1:], back[chance.randint(1, 4):],
                                         front[-chance.randint(1, 8):] + back, b""])
     return stream

@@ -12,8 +12,8 @@ MALFORMED = [bytes.fromhex(text) for text in (
 
 
 def cut_at_random(chance, stream, share):
-    """The stream in chunks, cut at about this share of its places. Some chunks are empty."""
-    cuts = [place for place in range(len(stream) + 1) if chance.random() < share]
+    """The stream in chunks, cut at about this share of its positions. Some chunks are empty."""
+    cuts = [position for position in range(len(stream) + 1) if chance.random() < share]
     if cuts and chance.random() < 0.2:
         cuts = sorted([*cuts, chance.choice(cuts)])
     return cut_at(stream, cuts)

@@ -153,9 +153,9 @@ class Program:
     def next_answer(self, process, output, until):
         searched = 0
         while True:
-            place = output.find(b"\nend\n", searched)
-            if place >= 0:
-                answer, output[:] = output[1:place + 1], output[place + 4:]
+            position = output.find(b"\nend\n", searched)
+            if position >= 0:
+                answer, output[:] = output[1:position + 1], output[position + 4:]
                 return answer_of(answer)
             if output.find(b"\nend\r\n", searched) >= 0:
                 raise Broken("(protocol: its lines end in CR LF)")

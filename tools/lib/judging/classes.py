@@ -97,8 +97,8 @@ def steps_at_cuts(steps, cuts):
 
 
 def nearest(chunks, same, rules, house):
-    """Of the rules that occur in a case, the one that comes last before a place in its lines, the
-    most special one of several; and all rules of that step."""
+    """Of the rules that occur in a case, the one that comes last before a position in its lines,
+    the most special one of several; and all rules of that step."""
     steps = steps_of(b"".join(chunks), house)
     divided = set(steps_at_cuts(steps, cuts_of(chunks)).values())
     line, best, of_step = 0, (-1, -1, min(rules)), rules
@@ -107,8 +107,8 @@ def nearest(chunks, same, rules, house):
         if index in divided:
             names |= {CUT_PREFIX + name for name in step.rules}
         for name in rules.intersection(names):
-            place = (index, ORDER.get(name.replace(CUT_PREFIX, ""), 0), name)
-            best, of_step = max(best, place), names
+            position = (index, ORDER.get(name.replace(CUT_PREFIX, ""), 0), name)
+            best, of_step = max(best, position), names
         line += len(step.lines)
         if line > same and best[0] >= 0:
             break
@@ -122,8 +122,9 @@ def freed(chunks, rules, house):
     stream, cuts = b"".join(chunks), cuts_of(chunks)
     steps = steps_of(stream, house) if rules else []
     if any(rules.intersection(step.rules) for step in steps):
-        places = kept_places(stream.decode("latin-1"), rules, house)
-        stream, cuts = bytes(stream[it] for it in places), [bisect_left(places, it) for it in cuts]
+        positions = kept_places(stream.decode("latin-1"), rules, house)
+        stream = bytes(stream[it] for it in positions)
+        cuts = [bisect_left(positions, it) for it in cuts]
         steps = steps_of(stream, house)
     divided = {name[len(CUT_PREFIX):] for name in rules if name.startswith(CUT_PREFIX)}
     unwanted = {cut for cut, index in steps_at_cuts(steps, cuts if divided else []).items()
@@ -133,27 +134,27 @@ def freed(chunks, rules, house):
 
 
 def kept_places(text, rules, house):
-    """The places of what is left of a text without what rules are about, in one pass: where
+    """The positions of what is left of a text without what rules are about, in one pass: where
     something goes, only the last that was read before is read again, without what followed it."""
-    # the reader has what stands at the places `front`, and then all from `rest` on
+    # the reader has what stands at the positions `front`, and then all from `rest` on
     reader, front, rest, read = Reader(text, house), [], 0, []
     while True:
-        start, state = reader.place, reader.state
+        start, state = reader.position, reader.state
         steps = reader.read_next()
         if not steps:
-            return [place for places, _ in read for place in places]
-        dropped = {place for step in steps if rules.intersection(step.rules)
-                   for place in range(step.start, step.end)}
+            return [position for positions, _ in read for position in positions]
+        dropped = {position for step in steps if rules.intersection(step.rules)
+                   for position in range(step.start, step.end)}
         # the ESC that ends data of a device control string is read twice
-        end = max(reader.place, start + bool(dropped))
-        first, after = (rest + max(0, place - len(front)) for place in (start, end))
-        places = [*front[start:end], *range(first, after)]
+        end = max(reader.position, start + bool(dropped))
+        first, after = (rest + max(0, position - len(front)) for position in (start, end))
+        positions = [*front[start:end], *range(first, after)]
         if not dropped:
-            read.append((places, state))
+            read.append((positions, state))
             continue
         again, read[-LOOKAHEAD:] = read[-LOOKAHEAD:], []
-        kept = [place for place, at in zip(places, range(start, end)) if at not in dropped]
-        front = [*chain.from_iterable(places for places, _ in again), *kept, *front[end:]]
+        kept = [position for position, at in zip(positions, range(start, end)) if at not in dropped]
+        front = [*chain.from_iterable(positions for positions, _ in again), *kept, *front[end:]]
         rest = after
         reader = Reader("".join(map(text.__getitem__, front)) + text[rest:], house,
                         again[0][1] if again else state)

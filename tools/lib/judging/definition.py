@@ -28,7 +28,7 @@ NEAR = "near:"
 LOOKAHEAD = 3
 
 
-# what some bytes of a stream mean: the rules at work, the place of the bytes, the lines of events
+# what some bytes of a stream mean: the rules at work, where the bytes are, the lines of events
 Step = namedtuple("Step", "rules start end lines", defaults=[()])
 
 
@@ -41,12 +41,12 @@ def steps_of(stream, house=DEFAULT):
             for step in steps]
 
 
-def segment_at(text, place, house):
-    """The segment of text at a place, and whether it is a well-formed character."""
-    first = text[place]
+def segment_at(text, position, house):
+    """The segment of text at a position, and whether it is a well-formed character."""
+    first = text[position]
     if first < "\x80" or house.encoding == "bytes":
         return first, True
-    segment = SEGMENT.match(text, place)[0]
+    segment = SEGMENT.match(text, position)[0]
     return segment, len(segment) == length_by(first)
 
 
@@ -73,7 +73,7 @@ class Reader:
     a device control string at a time."""
 
     def __init__(self, text, house, state=(False, False)):
-        self.text, self.house, self.steps, self.place = text, house, [], 0
+        self.text, self.house, self.steps, self.position = text, house, [], 0
         # whether ESC has just ended a string, of which a backslash makes it the terminator; and
         # whether data of a device control string come
         self.is_open, self.is_hooked = state
@@ -83,28 +83,28 @@ class Reader:
         return self.is_open, self.is_hooked
 
     def read_next(self):
-        """The steps of what stands at the place; none at the end."""
+        """The steps of what stands at the position; none at the end."""
         self.steps = []
-        if self.place < len(self.text):
+        if self.position < len(self.text):
             if self.is_hooked:
-                self.read_device_byte(self.place)
-            elif self.text[self.place] == ESC:
-                self.read_body(self.place)
+                self.read_device_byte(self.position)
+            elif self.text[self.position] == ESC:
+                self.read_body(self.position)
             else:
-                self.read_character(self.place)
+                self.read_character(self.position)
         return self.steps
 
     def add(self, rules, start, end, *lines):
         self.steps.append(Step(tuple(rules), start, end, lines))
-        self.place = end
+        self.position = end
 
     def find_first(self, wanted, start):
-        """The first place of a character that is wanted, or that ends any sequence and string."""
+        """Where a character first is that is wanted, or that ends any sequence and string."""
         found = re.compile(f"[{wanted}{ESC}{ENDS}]").search(self.text, start)
         return found.start() if found else len(self.text)
 
-    def at(self, place):
-        return self.text[place:place + 1]
+    def at(self, position):
+        return self.text[position:position + 1]
 
     # ---- text
 
@@ -160,14 +160,14 @@ class Reader:
             read(escape, key)
 
     def find_final(self, escape, start, wanted, dropped="dropped-in-sequence"):
-        """The place of a final byte, or None if the sequence ends without one: by the next ESC, or
-        CAN or SUB. Until then C0 is executed, or dropped as what isn't in a head."""
+        """The position of a final byte, or None if the sequence ends without one: by the next ESC,
+        or CAN or SUB. Until then C0 is executed, or dropped as what isn't in a head."""
         end = self.find_first(wanted, start)
-        for place, byte in enumerate(self.text[start:end], start):
+        for position, byte in enumerate(self.text[start:end], start):
             if byte < " " and dropped == "dropped-in-sequence":
-                self.add(["control-in-sequence"], place, place + 1, execute(byte))
+                self.add(["control-in-sequence"], position, position + 1, execute(byte))
             elif not " " <= byte < "\x7f":
-                self.add([dropped], place, place + 1)
+                self.add([dropped], position, position + 1)
         last = self.at(end)
         if last in ("", ESC):
             self.add(["restart"], escape, end)
@@ -234,7 +234,7 @@ class Reader:
             rule = "byte-9c" if byte == ST else "device-end" if is_ended else "device-cut-short"
             self.add([rule], start, start + 1, "unhook", *executed(byte))
             self.is_hooked, self.is_open = False, byte == ESC
-            self.place -= self.is_open
+            self.position -= self.is_open
         else:
             rule = "byte-9c" if byte == ST else "dropped-in-device-data"
             self.add([rule], start, start + 1)
@@ -257,10 +257,10 @@ class Reader:
         house = self.house
         ends = BEL * (house.bell == "ends") + ST * (house.command_9c == "ends")
         stop = self.find_first(ends, key + 1)
-        for place, byte in enumerate(self.text[key + 1:stop], key + 1):
+        for position, byte in enumerate(self.text[key + 1:stop], key + 1):
             if byte < " ":
                 rule = "command-bell" if byte == BEL else "control-in-command"
-                self.add([rule], place, place + 1)
+                self.add([rule], position, position + 1)
         items, last = re.sub("[\0-\x1f]", "", self.text[key + 1:stop]), self.at(stop)
         kept, pieces = command_pieces(items, house)
         is_cut_short = self.at(stop + 1) != "\\" if last == ESC else last in ENDS

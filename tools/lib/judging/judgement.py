@@ -175,9 +175,9 @@ class Judge:
         rest = not is_explained and self.sides.rest_without(difference, excluded)
         if rest and self.patience.is_left():
             self.report_shrunk(case, rest, excluded)
-        places = differences_of(*difference[1:3]) if self.result.rules() else []
-        signatures = [(*nearest(difference.chunks, place, self.result.rules(), self.house), kind)
-                      for place, kind in places]
+        positions = differences_of(*difference[1:3]) if self.result.rules() else []
+        signatures = [(*nearest(difference.chunks, position, self.result.rules(), self.house), kind)
+                      for position, kind in positions]
         for rule, of_step, kind in signatures:
             if self.result.unexplained < before:
                 return
@@ -227,9 +227,9 @@ class Judge:
         if not self.examined:
             return
         case, difference = self.examined
-        place, kind = differences_of(difference.reference, difference.candidate)[0]
+        position, kind = differences_of(difference.reference, difference.candidate)[0]
         if kind in FAILURES or not self.result.findings:
-            rule, _ = nearest(difference.chunks, place, {*RULES}, self.house)
+            rule, _ = nearest(difference.chunks, position, {*RULES}, self.house)
             name = PROTOCOL if kind == PROTOCOL else f"{rule}/{kind}"
             if not self.result.count(name):
                 self.add(name, difference, case, is_smallest=False)

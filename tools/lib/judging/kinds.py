@@ -30,8 +30,8 @@ def first_difference(reference, candidate):
 
 
 def differences_of(reference, candidate):
-    """The places and kinds of the differences, in order. A place is a number of the reference's
-    lines."""
+    """The positions and kinds of the differences, in order. A position is a number of the
+    reference's lines."""
     mark = mark_of(candidate)
     if mark:
         return [(min(len(candidate) - 1, len(reference)), mark)]

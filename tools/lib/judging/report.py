@@ -40,14 +40,14 @@ def shown_text(chunks):
 
 
 def shown_lines(lines, at=0):
-    """Some lines in a row, the first of them around a place, or that there are none."""
+    """Some lines in a row, the first of them around a position, or that there are none."""
     more = [f".. ({len(lines)} lines)", *lines[-1:] * bool(mark_of(lines))]
     shown = [shown_line(line, 0 if index else at) for index, line in enumerate(lines[:MAX_LINES])]
     return " / ".join(shown + more * (len(lines) > MAX_LINES)) or "(no event)"
 
 
 def shown_line(line, at=0):
-    """A line, or the part of a long one about a place."""
+    """A line, or the part of a long one about a position."""
     start = max(0, min(at - LONGEST // 2, len(line) - LONGEST))
     end = start + LONGEST
     return ".. " * (start > 0) + line[start:end] + " .." * (end < len(line))

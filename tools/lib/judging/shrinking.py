@@ -39,8 +39,8 @@ def shrunk(streams, asked, at_once=1):
     case, before = first([case.replace(CUT, ""), case]) or case, None
     while case != before:
         before, case = case, smallest(case, first)
-        for place in places_of(case):
-            case = first(plainer(case, place)) or case
+        for position in places_of(case):
+            case = first(plainer(case, position)) or case
     return answer(case)
 
 
@@ -56,15 +56,15 @@ def smallest(items, first):
 
 
 def places_of(text):
-    """The places of the bytes to replace: all, or in a long text the first of each value."""
+    """The positions of the bytes to replace: all, or in a long text the first of each value."""
     return range(len(text)) if len(text) <= SHORT else map(text.index, sorted(set(text)))
 
 
-def plainer(text, place):
-    """The texts with a plainer byte at a place, and in a long one wherever this byte is."""
-    byte, times = text[place], 1 if len(text) <= SHORT else -1
+def plainer(text, position):
+    """The texts with a plainer byte at a position, and in a long one wherever this byte is."""
+    byte, times = text[position], 1 if len(text) <= SHORT else -1
     order = next(order for last, order in PLAIN if byte <= last)
-    return [text[:place] + text[place:].replace(byte, plain, times)
+    return [text[:position] + text[position:].replace(byte, plain, times)
             for plain in order.partition(byte)[0]]
 
 

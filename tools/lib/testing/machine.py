@@ -18,7 +18,7 @@ eval "$words"; {HAS_CRATES} >&2; env -0"""
 # pip finds what builds ./python, cargo its crates, and venv what it puts into each environment
 HAS_PIP = f"""{METADATA} python/Cargo.toml
 python3 -c 'import ensurepip'
-python3 -m pip install --dry-run --no-deps --target "$ROOM/pip" ./python"""
+python3 -m pip install --dry-run --no-deps --target "$SCRATCH/pip" ./python"""
 
 
 def bash(command):

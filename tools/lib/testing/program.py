@@ -22,12 +22,12 @@ class Part:
     optional: str = ""
 
 
-def set_environment(room):
+def set_environment(scratch):
     # builds take half the time without incremental files and debug information, and tests take
     # less with some optimization; as many proofs run at a time as there are cores
     os.environ.update(CARGO_INCREMENTAL="0", CARGO_PROFILE_DEV_DEBUG="0",
                       CARGO_PROFILE_DEV_OPT_LEVEL="1", CARGO_NET_RETRY="0",
-                      CARGO_TERM_QUIET="true", NAQSHUVE_ALLOW_MISSING="1", ROOM=room)
+                      CARGO_TERM_QUIET="true", NAQSHUVE_ALLOW_MISSING="1", SCRATCH=scratch)
     os.environ.setdefault("RT_JOBS", str(cores()))
     # otherwise pyo3 would be built again for each virtual environment
     os.environ.setdefault("PYO3_PYTHON", os.path.realpath(sys.executable))
@@ -37,10 +37,10 @@ def run_groups(groups):
     """Runs the first parts, then, if none failed, the later ones, and, once proofs end, the last
     ones. Returns a report."""
     first, later, last = groups
-    with tempfile.TemporaryDirectory() as room:
-        set_environment(room)
+    with tempfile.TemporaryDirectory() as scratch:
+        set_environment(scratch)
         machine, report = Machine(), Report()
-        runner = Runner(room, machine, report)
+        runner = Runner(scratch, machine, report)
         for number in (signal.SIGINT, signal.SIGTERM):
             signal.signal(number, runner.stop)
         print("test: looking for what cargo and pip get from a network", flush=True)

@@ -23,10 +23,10 @@ def cores():
 
 
 class Runner:
-    """Runs what this machine can, with logs in the folder `room`, and adds to a report."""
+    """Runs what this machine can, with logs in the folder `scratch`, and adds to a report."""
 
-    def __init__(self, room, machine, report):
-        self.room, self.machine, self.report = room, machine, report
+    def __init__(self, scratch, machine, report):
+        self.scratch, self.machine, self.report = scratch, machine, report
         # the commands that run, and whether no other may begin
         self.running, self.is_stopped = set(), False
 
@@ -54,7 +54,7 @@ class Runner:
         """Runs the commands of a part, even after one has failed. Prints the output of a part that
         failed, and that of proofs while they run."""
         is_shown, has_failed, begun = part.name == "proofs", False, time.monotonic()
-        log = Path(self.room, part.name.replace("/", " "))
+        log = Path(self.scratch, part.name.replace("/", " "))
         say(f"test: {part.name} begins")
         for command in part.commands:
             if self.is_stopped:

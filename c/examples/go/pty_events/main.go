@@ -43,11 +43,11 @@ func main() {
 	var parser C.vte_parser
 	var events [256]C.vte_event
 	var counts C.vte_counts
-	room, data := make([]byte, 4096), make([]byte, 8192)
+	buffer, data := make([]byte, 4096), make([]byte, 8192)
 	terminal := start(os.Args[1:])
 	// Linux answers EIO once the last program has closed the pty.
-	for length, err := terminal.Read(room); err == nil; length, err = terminal.Read(room) {
-		for bytes := room[:length]; len(bytes) > 0; {
+	for length, err := terminal.Read(buffer); err == nil; length, err = terminal.Read(buffer) {
+		for bytes := buffer[:length]; len(bytes) > 0; {
 			read := C.vte_feed(&parser, (*C.uint8_t)(&bytes[0]), C.size_t(len(bytes)),
 				C.VTE_ALL_KINDS, 0, &events[0], C.size_t(len(events)),
 				(*C.uint8_t)(&data[0]), C.size_t(len(data)), &counts)

@@ -27,11 +27,11 @@ func main() {
 	var parser C.vte_parser
 	var events [256]C.vte_event
 	var counts C.vte_counts
-	room, data := make([]byte, 4096), (*C.uint8_t)(C.malloc(8192))
+	buffer, data := make([]byte, 4096), (*C.uint8_t)(C.malloc(8192))
 	for {
-		length, err := os.Stdin.Read(room)
-		os.Stdout.Write(room[:length])
-		for bytes := room[:length]; len(bytes) > 0; {
+		length, err := os.Stdin.Read(buffer)
+		os.Stdout.Write(buffer[:length])
+		for bytes := buffer[:length]; len(bytes) > 0; {
 			read := C.vte_feed(&parser, (*C.uint8_t)(&bytes[0]), C.size_t(len(bytes)),
 				1<<C.VTE_OSC, 0, &events[0], C.size_t(len(events)), data, 8192, &counts)
 			for i := range events[:counts.events] {

@@ -7,7 +7,7 @@ pub(crate) struct CapacityError;
 
 /// What elements can be.
 pub(crate) trait Element: Copy {
-    /// Fills places that hold no element: a constant, so that `new` is one.
+    /// Fills slots that hold no element: a constant, so that `new` is one.
     const FILLER: Self;
 }
 
@@ -162,7 +162,7 @@ mod tests {
         assert_eq!(bytes.as_slice(), b"abcd");
         bytes.truncate(3);
         assert_eq!((bytes.len(), bytes.as_slice()), (3, b"abc".as_slice()));
-        // the freed place can be used again
+        // the freed slot can be used again
         assert!(bytes.try_extend_from_slice(b"xy").is_err());
         assert!(bytes.try_extend_from_slice(b"x").is_ok());
         assert_eq!(bytes.as_slice(), b"abcx");

@@ -24,16 +24,16 @@ unsafe impl GlobalAlloc for Memory {
         System.alloc(layout)
     }
 
-    unsafe fn realloc(&self, place: *mut u8, layout: Layout, size: usize) -> *mut u8 {
+    unsafe fn realloc(&self, pointer: *mut u8, layout: Layout, size: usize) -> *mut u8 {
         TAKEN.with(|taken| taken.set(taken.get() + size));
         if IS_REFUSED.with(Cell::get) {
             return std::ptr::null_mut();
         }
-        System.realloc(place, layout, size)
+        System.realloc(pointer, layout, size)
     }
 
-    unsafe fn dealloc(&self, place: *mut u8, layout: Layout) {
-        System.dealloc(place, layout);
+    unsafe fn dealloc(&self, pointer: *mut u8, layout: Layout) {
+        System.dealloc(pointer, layout);
     }
 }
 
@@ -67,8 +67,8 @@ fn alone<T, F: FnOnce() -> T>(call: F, by: fn(F) -> T) -> Option<Output> {
         return None;
     }
     // without the crate's name
-    let (_, place) = std::any::type_name::<F>().split_once("::").unwrap();
-    let test = place.split("::{{").next().unwrap();
+    let (_, pointer) = std::any::type_name::<F>().split_once("::").unwrap();
+    let test = pointer.split("::{{").next().unwrap();
     let output = Command::new(std::env::current_exe().unwrap())
         .args(["--nocapture", "--exact", test])
         .env(WHICH, line)

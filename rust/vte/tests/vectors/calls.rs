@@ -11,7 +11,7 @@ use super::reader::CallsInRuns;
 use super::reader::{ByObject, LentTexts, LentTextsInRuns, OwnedTexts, OwnedTextsInRuns, Reader};
 
 const LONGEST_CHUNK: usize = 32;
-/// Updates that are stopped at each place.
+/// Updates that are stopped at each position.
 const STOPPED: [&str; 3] = [
     "update ended and begun in one call",
     "begin and end of an update cut across calls",
@@ -25,18 +25,18 @@ fn check_stream<R: Reader>(name: &str, stream: &[u8], calls: &str) {
     }
 }
 
-/// Checks the prints and attributes of a stream that is stopped at each place.
+/// Checks the prints and attributes of a stream that is stopped at each position.
 fn check_stops<R: Reader>(name: &str, stream: &[u8], calls: &str) {
     let is_shown =
         |line: &&str| line.starts_with("input ") || line.starts_with("terminal_attribute ");
     let shown = |calls: &str| -> String { calls.split_inclusive('\n').filter(is_shown).collect() };
-    for place in 0..=stream.len() {
+    for position in 0..=stream.len() {
         let (mut reader, mut lines) = (R::default(), CallLines::default());
-        reader.read(&mut lines, &stream[..place]);
+        reader.read(&mut lines, &stream[..position]);
         reader.stop(&mut lines);
         assert_eq!(reader.held(), 0, "{name}");
-        reader.read(&mut lines, &stream[place..]);
-        assert_eq!(shown(&lines.take()), shown(calls), "{name} at {place}");
+        reader.read(&mut lines, &stream[position..]);
+        assert_eq!(shown(&lines.take()), shown(calls), "{name} at {position}");
     }
 }
 

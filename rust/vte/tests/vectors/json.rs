@@ -9,7 +9,7 @@ const FILES: [&str; 3] = [
     include_str!("../../../../vectors/calls.json"),
     include_str!("../../../../tools/lib/generating/private_vectors.json"),
 ];
-/// Streams with more bytes than this aren't cut at every place.
+/// Streams with more bytes than this aren't cut at every position.
 pub const MAX_CUT: usize = 2048;
 
 /// A value of JSON: a vector is an object.
@@ -134,7 +134,7 @@ fn read_character(rest: &mut Peekable<Chars<'_>>) -> Option<char> {
     }
 }
 
-/// The ways to cut a stream: byte by byte, and in two at every place, before it at first.
+/// The ways to cut a stream: byte by byte, and in two at every position, before it at first.
 pub fn cuttings(stream: &[u8]) -> impl Iterator<Item = Vec<&[u8]>> {
     let is_short = stream.len() <= MAX_CUT;
     let places = 0..=if is_short { stream.len() } else { 0 };

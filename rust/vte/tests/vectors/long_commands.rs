@@ -95,7 +95,7 @@ fn check_stream(stream: &[u8], wanted: &str) {
 /// among the last bytes.
 fn cuttings(stream: &[u8]) -> Vec<Vec<&[u8]>> {
     let is_short = stream.len() < 10_000;
-    let data = (0..stream.len()).filter(|place| stream[*place] != b';');
+    let data = (0..stream.len()).filter(|position| stream[*position] != b';');
     // up to 11 bytes come before the command
     let mut around: Vec<usize> = data.skip(1020).take(20).collect();
     around.extend(stream.len() - 20..stream.len());
@@ -103,11 +103,11 @@ fn cuttings(stream: &[u8]) -> Vec<Vec<&[u8]>> {
     around.dedup();
     let (mut all, mut among, mut from) = (vec![vec![stream]], vec![], 0);
     all.push(stream.chunks(if is_short { 1 } else { 4096 }).collect());
-    for place in around {
-        among.push(&stream[from..place]);
-        from = place;
+    for position in around {
+        among.push(&stream[from..position]);
+        from = position;
         if is_short {
-            all.push(vec![&stream[..place], &stream[place..]]);
+            all.push(vec![&stream[..position], &stream[position..]]);
         }
     }
     among.push(&stream[from..]);

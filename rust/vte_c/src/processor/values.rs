@@ -1,4 +1,4 @@
-//! What C gets of the arguments of calls: texts as places and lengths, and colours and attributes
+//! What C gets of the arguments of calls: texts as pointers and lengths, and colours and attributes
 //! as numbers.
 
 use core::ptr;
@@ -58,7 +58,7 @@ pub fn color_of(attribute: Attr) -> VteColor {
     })
 }
 
-/// The place of an attribute in the list of vte.h.
+/// The index of an attribute in the list of vte.h.
 pub fn attribute_number(attribute: Attr) -> u8 {
     match attribute {
         Attr::Reset => 0,

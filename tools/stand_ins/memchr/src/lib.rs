@@ -15,16 +15,16 @@ extern "C" {
 pub fn memchr(byte: u8, bytes: &[u8]) -> Option<usize> {
     // SAFETY: the bytes are a slice's
     let found = unsafe { first(bytes.as_ptr().cast(), i32::from(byte), bytes.len()) };
-    place(found, bytes)
+    pointer(found, bytes)
 }
 
 /// Returns where a byte last stands.
 pub fn memrchr(byte: u8, bytes: &[u8]) -> Option<usize> {
     // SAFETY: the bytes are a slice's
     let found = unsafe { last(bytes.as_ptr().cast(), i32::from(byte), bytes.len()) };
-    place(found, bytes)
+    pointer(found, bytes)
 }
 
-fn place(found: *const c_void, bytes: &[u8]) -> Option<usize> {
+fn pointer(found: *const c_void, bytes: &[u8]) -> Option<usize> {
     (!found.is_null()).then(|| found as usize - bytes.as_ptr() as usize)
 }

@@ -11,7 +11,7 @@ loop-position-init c =
     record {
       at_most = omega (arith, c.saturating_sub.ensures, skipped.within);
       seen = λ held more held_tail.
-          seen-skipped held_tail _ _ skipped.within (omega (arith, c.saturating_sub.ensures)) skipped.none
+          seen-skipped held_tail _ _ skipped.within (omega (arith, c.saturating_sub.ensures)) skipped.none_between
           (seen-nothing held_tail _ c.saturating_sub.ensures);
     }
 
@@ -27,7 +27,7 @@ loop-position-preserved-then-begins_update c =
     record {
       at_most = omega (arith, invariant.at_most, goes_back);
       seen = λ held more held_tail.
-          seen-round _ c.in-Some.position within escape.0 before_is skipped.within held_tail escape.1 skipped.none
+          seen-round _ c.in-Some.position within escape.0 before_is skipped.within held_tail escape.1 skipped.none_between
           (invariant.seen held more held_tail) (λ last from low near.
           seen-begin_before last from low near (omega (arith, held_tail.start_is, length-append held more))
           (rw (tail-sequence held_tail) at (sym c.begins_update.ensures.value ∙ c.if-begins_update.true)));
@@ -45,7 +45,7 @@ loop-position-preserved c =
     record {
       at_most = omega (arith, invariant.at_most, goes_back);
       seen = λ held more held_tail.
-          seen-round _ c.in-Some.position within escape.0 before_is skipped.within held_tail escape.1 skipped.none
+          seen-round _ c.in-Some.position within escape.0 before_is skipped.within held_tail escape.1 skipped.none_between
           (invariant.seen held more held_tail) (λ last from low near.
           seen-other_before last from low near
           (rw (tail-sequence held_tail) at (sym c.begins_update.ensures.value ∙ c.if-begins_update.false))

@@ -27,8 +27,8 @@ loop-position-preserved-then-begins_update c =
     record {
       at_most = omega (arith, invariant.at_most, goes_back);
       seen = λ held more held_tail.
-          seen-round _ c.in-Some.position within escape.0 before_is skipped.within held_tail escape.1 skipped.none_between
-          (invariant.seen held more held_tail) (λ last from low near.
+          seen-round _ c.in-Some.position within escape.0 before_is skipped.within held_tail escape.1
+          skipped.none_between (invariant.seen held more held_tail) (λ last from low near.
           seen-begin_before last from low near (omega (arith, held_tail.start_is, length-append held more))
           (rw (tail-sequence held_tail) at (sym c.begins_update.ensures.value ∙ c.if-begins_update.true)));
     }
@@ -45,8 +45,8 @@ loop-position-preserved c =
     record {
       at_most = omega (arith, invariant.at_most, goes_back);
       seen = λ held more held_tail.
-          seen-round _ c.in-Some.position within escape.0 before_is skipped.within held_tail escape.1 skipped.none_between
-          (invariant.seen held more held_tail) (λ last from low near.
+          seen-round _ c.in-Some.position within escape.0 before_is skipped.within held_tail escape.1
+          skipped.none_between (invariant.seen held more held_tail) (λ last from low near.
           seen-other_before last from low near
           (rw (tail-sequence held_tail) at (sym c.begins_update.ensures.value ∙ c.if-begins_update.false))
           (rw (tail-sequence held_tail) at (sym c.ends_update.ensures.value ∙ c.if-ends_update.false)));

@@ -142,9 +142,10 @@ impl<'a, 'py> Maker<'a, 'py> {
     pub fn make(&mut self, cache: &mut ObjectCache) -> Option<MaybeObject> {
         let (values, content) = (self.values, self.content);
         let first = *values.first()?;
-        let made = match first.number().0 {
-            Tag::Run => self.run(first, cache),
-            _ => self.object(cache),
+        let made = if first.is(Tag::Run) {
+            self.run(first, cache)
+        } else {
+            self.object(cache)
         };
         if made.is_none() {
             (self.values, self.content) = (values, content);

@@ -72,6 +72,11 @@ impl Value {
         Value::new(tag, field << 8 | kind as i64)
     }
 
+    #[inline]
+    pub fn is(self, tag: Tag) -> bool {
+        self.0 & (FIRST - 1) == tag as i64
+    }
+
     /// What it is, and its number.
     #[inline]
     pub fn number(self) -> (Tag, i64) {

@@ -22,7 +22,7 @@ OF_LIBRARY = {
 OF_VTLOG = {"bin/vtlog", "share/man/man1/vtlog.1"}
 
 
-class Place:
+class Site:
     """A folder that things are installed in, below `prefix` unless the variables say otherwise."""
 
     def __init__(self, library, folder):
@@ -74,7 +74,7 @@ class Place:
 
 @pytest.fixture
 def site(library, tmp_path):
-    return Place(library, tmp_path)
+    return Site(library, tmp_path)
 
 
 @pytest.fixture

@@ -5,14 +5,14 @@ import pytest
 
 from tests.support import Tool, write
 
-PLACE = "tools/mutants/c/m.edit"
+PATH = "tools/mutants/c/m.edit"
 MUTANT = "# A rule.\nfile: src/lib.rt\nold: one\nnew: two\n# refused at abc1234 by goal\n"
 
 
 @pytest.fixture
 def copy(tmp_path_factory):
     """A folder for a copy, beside that of a crate with a mutant."""
-    for file in "crates.txt", "HANDLES", "crates/c/must-fail/other.edit", PLACE:
+    for file in "crates.txt", "HANDLES", "crates/c/must-fail/other.edit", PATH:
         write(file, MUTANT)
     write("crates/c/src/lib.rt", "f(one); f(two);")
     return tmp_path_factory.mktemp("copy")
@@ -20,20 +20,20 @@ def copy(tmp_path_factory):
 
 # what stands in an edit in the place of something, and what is wrong with it
 @pytest.mark.parametrize("path, old, new, fault", [
-    (PLACE, "", "", None),
-    (PLACE, "old: one", "old: f(", "crates/c/src/lib.rt hasn't exactly one 'f('"),
-    (PLACE, "lib.rt", "gone.rt", "crates/c/src/gone.rt hasn't exactly one 'one'"),
-    (PLACE, "# A rule.\n", "", "it names no rule"),
-    (PLACE, "# refused at abc1234 by goal\n", "", "it wasn't refused: run tools/mutate"),
-    *((PLACE, "by goal", f"by {verdict}", None)
+    (PATH, "", "", None),
+    (PATH, "old: one", "old: f(", "crates/c/src/lib.rt hasn't exactly one 'f('"),
+    (PATH, "lib.rt", "gone.rt", "crates/c/src/gone.rt hasn't exactly one 'one'"),
+    (PATH, "# A rule.\n", "", "it names no rule"),
+    (PATH, "# refused at abc1234 by goal\n", "", "it wasn't refused: run tools/mutate"),
+    *((PATH, "by goal", f"by {verdict}", None)
       for verdict in ("returns-then-x of a::B+C::d", "a goal of src/a/b.rt:1")),
-    *((PLACE, " by goal", verdict, "its verdict names no goal")
+    *((PATH, " by goal", verdict, "its verdict names no goal")
       for verdict in (" by a goal", ": `goal`: why")),
     ("crates/c/must-fail/other.edit", "# A rule.\n", "", "it names no rule"),
     ("crates/c/must-fail/m.edit", "", "", "it stands twice")])
 def test_faults_of_mutants(copy, path, old, new, fault):
     write(path, MUTANT.replace(old, new))
-    faults = [f"{PLACE if 'twice' in fault else path}: {fault}"] if fault else []
+    faults = [f"{PATH if 'twice' in fault else path}: {fault}"] if fault else []
     output = "\n".join([*faults, f"1 mutants, {len(faults)} faults\n"])
     assert Tool("mutate").run("--check") == (len(faults), output)
 
@@ -57,7 +57,7 @@ def mutate(output, *words):
 def test_verdicts(copy, output, status, line):
     """Of two mutants one is chosen, by its name."""
     text = MUTANT.replace("abc1234 by goal", "abc1200 by old")
-    mutant, other = write(PLACE, text), write("tools/mutants/c/n.edit", text)
+    mutant, other = write(PATH, text), write("tools/mutants/c/n.edit", text)
     assert mutate(f"rt: must-fail c/m.edit: {output}\n", copy, "c/m", "c/m") == status
     assert [file.name for file in copy.rglob("*.edit")] == ["m.edit"]
     assert (mutant.read_text().splitlines()[-1], other.read_text()) == (line, text)

@@ -91,7 +91,7 @@ arguments! {
         Color::Indexed(index) => index.fold(checksum),
     };
     Attr: |attribute, checksum| {
-        checksum.fold(place_of(&attribute));
+        checksum.fold(variant_index(&attribute));
         match attribute {
             Attr::Foreground(color) | Attr::Background(color) => color.fold(checksum),
             Attr::UnderlineColor(color) => color.fold(checksum),
@@ -112,10 +112,10 @@ impl<T: Argument> Argument for Option<T> {
 
 /// The index of an attribute's variant in its declaration, which is what its discriminant hashes.
 #[inline]
-fn place_of(attribute: &Attr) -> u64 {
-    struct Place(u64);
+fn variant_index(attribute: &Attr) -> u64 {
+    struct Discriminant(u64);
 
-    impl Hasher for Place {
+    impl Hasher for Discriminant {
         fn finish(&self) -> u64 {
             self.0
         }
@@ -127,9 +127,9 @@ fn place_of(attribute: &Attr) -> u64 {
         }
     }
 
-    let mut index = Place(0);
-    discriminant(attribute).hash(&mut index);
-    index.finish()
+    let mut hashed = Discriminant(0);
+    discriminant(attribute).hash(&mut hashed);
+    hashed.finish()
 }
 
 macro_rules! calls {

@@ -42,10 +42,10 @@ def comparisons(row):
 def line(row):
     """What is printed of a row once it is measured."""
     ratios = {"ns/byte": Comparison(row, next(iter(row["nanoseconds"])))} | comparisons(row)
-    return f"{shown(row)}: {', '.join(f'{name} {ratio}' for name, ratio in ratios.items())}"
+    return f"{name_row(row)}: {', '.join(f'{name} {ratio}' for name, ratio in ratios.items())}"
 
 
-def shown(row):
+def name_row(row):
     return f"{row['kind']} `{row['stream']}` in calls of {row['chunk']:,} B"
 
 
@@ -57,16 +57,16 @@ def tables(rows):
     called = [row for row in rows if row["kind"] == "calls"]
     others = dict.fromkeys(row["kind"] for row in rows)
     if kinds := [kind for kind in others if kind not in ("strip", "calls")]:
-        yield by_stream(ratios, kinds)
-        yield by_build(ratios, kinds)
-        yield "\n".join(f"- Slower in {build}: {slower(rows, build)}." for build in BUILDS)
+        yield tabulate_streams(ratios, kinds)
+        yield tabulate_builds(ratios, kinds)
+        yield "\n".join(f"- Slower in {build}: {find_slower(rows, build)}." for build in BUILDS)
     if stripped:
-        yield by_run(stripped)
+        yield tabulate_runs(stripped)
     if called:
-        yield by_call(called)
+        yield tabulate_calls(called)
 
 
-def by_stream(ratios, kinds):
+def tabulate_streams(ratios, kinds):
     """The ratios of each common stream in cargo's release profile."""
     build = next(iter(BUILDS))
     return table(["stream", *kinds], [
@@ -74,7 +74,7 @@ def by_stream(ratios, kinds):
         for name in COMMON_STREAMS])
 
 
-def by_build(ratios, kinds):
+def tabulate_builds(ratios, kinds):
     """The ranges of the medians of the common streams."""
     rows = []
     for kind in kinds:
@@ -85,14 +85,14 @@ def by_build(ratios, kinds):
     return table(["", *BUILDS], rows)
 
 
-def slower(rows, build):
+def find_slower(rows, build):
     """The rows in which we are slower in a build."""
     ratios = [(row, comparisons(row).get(build)) for row in rows]
-    slow = [f"{shown(row)} {ratio}" for row, ratio in ratios if ratio and ratio.median > 1]
+    slow = [f"{name_row(row)} {ratio}" for row, ratio in ratios if ratio and ratio.median > 1]
     return ", ".join(slow) or "nothing"
 
 
-def by_run(rows):
+def tabulate_runs(rows):
     """Text in runs: the nanoseconds per byte of each side, and the ratio."""
     sides = list(rows[0]["nanoseconds"])
 
@@ -105,7 +105,7 @@ def by_run(rows):
                  [[f"`{row['stream']}`", *cells(row)] for row in rows])
 
 
-def by_call(rows):
+def tabulate_calls(rows):
     """The times of the C library over those of libvterm."""
     return table(["stream", "call", *comparisons(rows[0])], [
         [f"`{row['stream']}`", f"{row['chunk']:,} B", *map(str, comparisons(row).values())]

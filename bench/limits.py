@@ -21,12 +21,12 @@ def conditions():
     features = Path("/proc/cpuinfo")
     vectors = features.exists() and re.search(r"\bavx2\b", features.read_text())
     machine = f"{' '.join(platform.libc_ver())}; {platform.machine()}{' with AVX2' * bool(vectors)}"
-    rustc, kit = said("rustc", "--version"), said("rt", "version")
+    rustc, kit = ask_program("rustc", "--version"), ask_program("rt", "version")
     cargo = rustc and f"{' '.join(rustc.split()[:2])}; {machine}"
     return {"release": cargo, "best": cargo, "rattle": kit and f"{kit}; {machine}"}
 
 
-def said(*words):
+def ask_program(*words):
     """The first line that a program says here, or nothing if it isn't installed or fails."""
     done = shutil.which(words[0]) and subprocess.run(words, cwd=TABLE.parent, capture_output=True,
                                                      text=True)
@@ -44,12 +44,12 @@ class Table:
         for kind, stream, chunk, *cells in map(str.split, rows):
             self.rows[kind, stream, int(chunk)] = dict(zip(COLUMNS, cells, strict=True))
 
-    def counted(self, columns):
+    def find_counted(self, columns):
         """The rows and columns that have a count, or are to have one."""
         return [(row, column) for row, cells in self.rows.items() for column in columns
                 if cells[column] != "-"]
 
-    def with_counts(self, counts, found):
+    def lines_with_counts(self, counts, found):
         """The text of the table with these counts, and the conditions that were found for them."""
         columns = {column for _, column in counts}
         yield "# Instructions per byte: bench/count limits --check refuses 1 percent more."

@@ -69,23 +69,23 @@ class Programs:
                                      self.placements)
 
     @functools.cached_property
-    def in_c(self):
+    def c_program(self):
         """bench/calls.c with cargo's C library, and with libvterm if it is here."""
         return builder.c_program(Path(__file__).resolve().parent / "calls.c", self.folder / "c")
 
     @functools.cached_property
-    def proved(self):
+    def proved_program(self):
         return builder.proved_program("benchmark", ["parser", "1", "1"])
 
     def commands(self, kind):
         """The commands of each side: one for each placement of its code. Rattle's build has one."""
         if kind == "calls":
             sides = [*IN_C, *[THEIRS_IN_C] * builder.has_libvterm()]
-            return {side: [[self.in_c, side]] for side in sides}
+            return {side: [[self.c_program, side]] for side in sides}
         if kind == "strip":
             return {side: [[program, name] for program in self.peers("rust")]
                     for side, name in STRIPPERS.items()}
-        sides = {"ours": [self.proved] * self.placements,
+        sides = {"ours": [self.proved_program] * self.placements,
                  **{side: self.peers(side) for side in IN_RUST}}
         return {side: [[program, kind] for program in of_side] for side, of_side in sides.items()}
 
@@ -93,10 +93,10 @@ class Programs:
         """Builds every program that these kinds run, before one is measured."""
         sides = {"rust"} if "strip" in kinds else set()
         if "calls" in kinds:
-            _ = self.in_c
+            _ = self.c_program
         if set(kinds) - {"strip", "calls"}:
             sides = IN_RUST
-            _ = self.proved
+            _ = self.proved_program
         with ThreadPoolExecutor() as pool:
             list(pool.map(self.peers, sides))
 
@@ -117,7 +117,7 @@ def run(words, path):
     return done.stdout, done.stderr
 
 
-def in_rounds(rounds, sides):
+def run_in_rounds(rounds, sides):
     """The seconds of each side, round by round: a list, with one number for each of its programs.
 
     A round runs the first program of each side, one right after the other, then the second of
@@ -131,7 +131,7 @@ def in_rounds(rounds, sides):
     return times
 
 
-def in_passes(words, path, chunk):
+def make_passes(words, path, chunk):
     """A function that runs a program over a stream, and returns the seconds of its fastest pass."""
     def seconds(passes):
         return int(run([*words, str(chunk), str(passes)], path)[1]) / 1e9
@@ -161,9 +161,9 @@ def rows(kind, programs, options):
         if kind != "calls":
             compare_checksums(name, commands, programs.stream(name, CHECKED))
         path = programs.stream(name, options.bytes)
-        passes = {side: [in_passes(words, path, chunk) for words in of_side]
+        passes = {side: [make_passes(words, path, chunk) for words in of_side]
                   for side, of_side in commands.items()}
-        times = in_rounds(options.rounds, passes)
+        times = run_in_rounds(options.rounds, passes)
         found = {side: [[time / options.bytes * 1e9 for time in seconds] for seconds in of_side]
                  for side, of_side in times.items()}
         yield {"kind": kind, "stream": name, "chunk": chunk, "nanoseconds": found}

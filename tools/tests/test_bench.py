@@ -25,17 +25,17 @@ OLD = ["missing: old: the release and best builds were not counted"]
 @pytest.fixture
 def count(monkeypatch):
     """What bench/count says to a table, or writes, where each count is 4 or 1."""
-    def counted(*words, kit="kit", allowed="1", rustc="new", cell="4.000"):
+    def check_counts(*words, kit="kit", allowed="1", rustc="new", cell="4.000"):
         path = write("instructions.txt", LIMITS.format(rustc, cell))
         monkeypatch.setenv("NAQSHUVE_ALLOW_MISSING", allowed)
-        tool = Tool("../bench/count", counted=lambda _, __, asked: {
+        tool = Tool("../bench/count", count_cells=lambda _, __, asked: {
             (row, column): {"parser": 4.0, "vte_feed": 1.0}[row[0]] for row, column in asked})
         monkeypatch.setattr(tool.parts["limits"], "TABLE", path)
         monkeypatch.setattr(tool.parts["limits"], "conditions",
                             lambda: {"release": "new", "best": "new", "rattle": kit})
         status, output = tool.run("limits", *words)
         return status, output.splitlines(), path.read_text()
-    return counted
+    return check_counts
 
 
 # a table's cell for a count of 4, its compiler, its fault, and how many counts there are
@@ -81,7 +81,7 @@ def test_speed(monkeypatch, words, changes):
 
     monkeypatch.setattr(measuring, "Programs", programs)
     monkeypatch.setattr(measuring, "compare_checksums", lambda *_: None)
-    monkeypatch.setattr(measuring, "in_passes", lambda *_: lambda: 1)
+    monkeypatch.setattr(measuring, "make_passes", lambda *_: lambda: 1)
     monkeypatch.setattr(figures, "line", rows.append)
     monkeypatch.setattr(figures, "tables", lambda _: [])
     monkeypatch.setattr(os, "sched_setaffinity", lambda _, cores: found["cores"].append(cores))
@@ -108,10 +108,10 @@ def test_counts(monkeypatch, words, kinds, changes):
         asked.append((name, size))
         return SimpleNamespace(name=name, size=size)
 
-    count = Tool("../bench/count", passed=lambda words, _, path: (path.size, "left"),
+    count = Tool("../bench/count", count_pass=lambda words, _, path: (path.size, "left"),
                  ThreadPoolExecutor=pool, copy_libc=lambda folder: None)
     monkeypatch.setattr(count.parts["measuring"], "Programs", lambda folder: SimpleNamespace(
-        folder=folder, peers=lambda side: [side], proved="proved", stream=stream,
+        folder=folder, peers=lambda side: [side], proved_program="proved", stream=stream,
         commands=lambda _: {"vte_feed": [["in C"]]}))
     _, output = count.run(*words.split())
     wanted = {"streams": STRIP["streams"], "bytes": 200_000, "jobs": os.cpu_count(), **changes}

@@ -12,9 +12,11 @@ from tests.support import Tool, write, write_program
 FIRST = [Part("first", "bash", ["try first", "try again"]),
          Part("lacking", "bash no-such-command", ["try lacking"]),
          Part("far", "rust=1.0 no-such-program", ["try far"])]
-LATER = [Part("second", "bash crates rust-1.2", ["try second 'missing: a thing: not tried'"],
+# the counts of tests of the second part aren't added
+LATER = [Part("second", "bash crates rust-1.2",
+              ["try second 'missing: a thing: not tried'", "echo 7 passed, 7 failed"],
               optional="no-such-tool"),
-         Part("proofs", "rt", ["rt ci"])]
+         Part("proofs", "rt", ["rt ci"], is_shown=True, is_awaited=True, counts_tests=True)]
 # a command of a part, which fails if its word is $FAILS, or if cargo finds no crates
 TRY = """
 echo "$1" >>asked

@@ -20,6 +20,13 @@ class Part:
     needs: str
     commands: list
     optional: str = ""
+    # its output is shown while it runs
+    is_shown: bool = False
+    # the last parts begin once it ends, and the others yield to it, each by its niceness
+    is_awaited: bool = False
+    niceness: int = 19
+    # its last line counts tests, as that of `rt ci`, which the report adds to the parts
+    counts_tests: bool = False
 
 
 def set_environment(scratch):
@@ -34,8 +41,8 @@ def set_environment(scratch):
 
 
 def run_groups(groups):
-    """Runs the first parts, then, if none failed, the later ones, and, once proofs end, the last
-    ones. Returns a report."""
+    """Runs the first parts, then, if none failed, the later ones, and, once the one that is awaited
+    ends, the last ones. Returns a report."""
     first, later, last = groups
     with tempfile.TemporaryDirectory() as scratch:
         set_environment(scratch)

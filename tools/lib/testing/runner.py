@@ -52,18 +52,18 @@ class Runner:
 
     def run_part(self, part, niceness):
         """Runs the commands of a part, even after one has failed. Prints the output of a part that
-        failed, and that of proofs while they run."""
-        is_shown, has_failed, begun = part.name == "proofs", False, time.monotonic()
+        failed, or while it runs if it is to be shown."""
+        has_failed, begun = False, time.monotonic()
         log = Path(self.scratch, part.name.replace("/", " "))
         say(f"test: {part.name} begins")
         for command in part.commands:
             if self.is_stopped:
                 return
-            has_failed |= self.run(command, log, is_shown, niceness) != 0
+            has_failed |= self.run(command, log, part.is_shown, niceness) != 0
         text, seconds = log.read_text(errors="replace"), time.monotonic() - begun
         ended = "FAILED" if has_failed else "passed"
-        self.report.add(seconds, ended, part.name, text)
-        said = text if has_failed and not is_shown else ""
+        self.report.add(seconds, ended, part, text)
+        said = text if has_failed and not part.is_shown else ""
         say(f"{said}test: {seconds:.0f} s  {ended}  {part.name}")
 
     def run(self, command, log, is_shown, niceness):
@@ -85,19 +85,17 @@ class Runner:
 
     def run_all(self, parts, last=(), niceness=0):
         """Runs parts side by side, one more at a time than there are cores. The last ones begin
-        once proofs end, if these are among the others."""
+        once the part that is awaited ends, if that is among the others."""
         has_failed = self.report.count("FAILED") > 0
         can_run = [part for part in parts if self.can_run(part, has_failed)]
-        has_proofs = "proofs" in (part.name for part in can_run)
+        is_awaiting = any(part.is_awaited for part in can_run)
 
         def run_nicely(part):
-            # other parts yield to the proofs, least the two that take longest
-            yielding = {"proofs": 0, "release": 10, "Python": 10}.get(part.name, 19)
-            self.run_part(part, yielding if has_proofs else niceness)
-            if part.name == "proofs":
+            self.run_part(part, part.niceness if is_awaiting else niceness)
+            if part.is_awaited:
                 self.run_all(last, niceness=19)
 
         with ThreadPoolExecutor(cores() + 1) as pool:
             list(pool.map(run_nicely, can_run))
-        if not has_proofs and last:
+        if not is_awaiting and last:
             self.run_all(last)

@@ -12,31 +12,31 @@ from lib.generating.random_text import CHARACTERS, MALFORMED, cut_at
 
 # ---- a part is bytes, or a function that makes them by chance
 
-def made(chance, part):
+def make_part(chance, part):
     return part if isinstance(part, bytes) else part(chance)
 
 
-def either(*parts):
+def choose(*parts):
     """One of the parts."""
-    return lambda chance: made(chance, chance.choice(parts))
+    return lambda chance: make_part(chance, chance.choice(parts))
 
 
-def mostly(part, *others):
+def prefer(part, *others):
     """The part, and rarely one of the others."""
-    return either(*[part] * 9, either(*others))
+    return choose(*[part] * 9, choose(*others))
 
 
-def joined(*parts):
+def join(*parts):
     """All of the parts, one after another."""
-    return lambda chance: b"".join(made(chance, part) for part in parts)
+    return lambda chance: b"".join(make_part(chance, part) for part in parts)
 
 
-def several(counts, part, between=b""):
+def repeat(counts, part, between=b""):
     """A part so many times, as one of the counts says, and something between them."""
     def make(chance):
         count = chance.choice(counts)
         parts = [part, between] * (count - 1) + [part] * (count > 0)
-        return b"".join(made(chance, it) for it in parts)
+        return b"".join(make_part(chance, it) for it in parts)
     return make
 
 
@@ -49,105 +49,105 @@ def number_below(limit):
     return lambda chance: b"%d" % chance.randrange(limit)
 
 
-def strayed(part):
+def add_stray(part):
     """A part, sometimes with a byte or two in it that belong elsewhere."""
     def make(chance):
-        text = made(chance, part)
+        text = make_part(chance, part)
         if chance.random() > 0.1:
             return text
         position = chance.randrange(len(text) + 1)
-        return text[:position] + made(chance, STRAY) + text[position:]
+        return text[:position] + make_part(chance, STRAY) + text[position:]
     return make
 
 
-def separated(counts, part):
+def separate(counts, part):
     """Several parts with `;`, with `:`, or with both between them."""
-    by = [several(counts, part, between) for between in (b";", b":", either(b";", b":"))]
-    return either(by[0], *by)
+    by = [repeat(counts, part, between) for between in (b";", b":", choose(b";", b":"))]
+    return choose(by[0], *by)
 
 
 # ---- the grammar: bytes, numbers, and the heads and ends of sequences
 
 CONTROLS = byte_of(byte for byte in range(0x20) if byte not in (0x18, 0x1A, 0x1B))
 HIGH = byte_of(range(0x80, 0x100))
-DATA = either(byte_of(range(0x20, 0x7F)), CONTROLS, HIGH)
-STRAY = either(*b"\x7f \x18 \x1a \x1b \x9c \x80 \xff \xc3\xa9 \xf0\x9f ? :".split(b" "),
+DATA = choose(byte_of(range(0x20, 0x7F)), CONTROLS, HIGH)
+STRAY = choose(*b"\x7f \x18 \x1a \x1b \x9c \x80 \xff \xc3\xa9 \xf0\x9f ? :".split(b" "),
                b" ", CONTROLS, byte_of(range(256)))
 KNOWN = [b"%d" % number for number in (
     *range(11), 14, 18, 20, 22, 23, 25, 31, 32, 33, 255, 256, 1000, 1049, 2004, 2026, 65535, 65536)]
 BIG = [b"65534", b"65537", b"6553500", b"065535", b"0000000000001", b"4294967295", b"4294967296",
-       b"18446744073709551616", b"02026", several([1, 20, 40], b"9"), several([1, 20, 40], b"0")]
-NUMBER = mostly(either(b"", number_below(70_000), *[either(*KNOWN)] * 6), *BIG, number_below(2**64))
-SMALL = either(b"1", b"", b"0", b"38", b"2", b"5")
-PARAMETERS = mostly(either(b"", separated(range(1, 5), NUMBER), separated(range(1, 5), NUMBER),
-                           separated([14, 15, 16, 17, 30, 31, 32, 33, 34, 40, 64], SMALL)),
-                    joined(NUMBER, b";"), joined(NUMBER, b":"))
-MARKER = either(*[b""] * 4, b"?", b"?", b">", b"<", b"=", b"??", b"<>")
-INTERMEDIATES = several([0, 0, 0, 0, 1, 1, 2, 3, 4], byte_of(range(0x20, 0x30)))
-HEAD = joined(MARKER, PARAMETERS, INTERMEDIATES)
-HEAD = mostly(HEAD, joined(HEAD, either(b"?", b"1", b";", b"<2", b"< ")),
-              joined(INTERMEDIATES, PARAMETERS))
+       b"18446744073709551616", b"02026", repeat([1, 20, 40], b"9"), repeat([1, 20, 40], b"0")]
+NUMBER = prefer(choose(b"", number_below(70_000), *[choose(*KNOWN)] * 6), *BIG, number_below(2**64))
+SMALL = choose(b"1", b"", b"0", b"38", b"2", b"5")
+PARAMETERS = prefer(choose(b"", separate(range(1, 5), NUMBER), separate(range(1, 5), NUMBER),
+                           separate([14, 15, 16, 17, 30, 31, 32, 33, 34, 40, 64], SMALL)),
+                    join(NUMBER, b";"), join(NUMBER, b":"))
+MARKER = choose(*[b""] * 4, b"?", b"?", b">", b"<", b"=", b"??", b"<>")
+INTERMEDIATES = repeat([0, 0, 0, 0, 1, 1, 2, 3, 4], byte_of(range(0x20, 0x30)))
+HEAD = join(MARKER, PARAMETERS, INTERMEDIATES)
+HEAD = prefer(HEAD, join(HEAD, choose(b"?", b"1", b";", b"<2", b"< ")),
+              join(INTERMEDIATES, PARAMETERS))
 FINAL = byte_of(b"@ABCDEFGHIJKLMPSTWXZ`abcdefghijklmnpqrstux{|}~")
-END = either(*[b"\x07"] * 3, *[b"\x1b\\"] * 3, b"\x9c", b"\x18", b"\x1a", b"\x1b", b"", b"\x1b[",
+END = choose(*[b"\x07"] * 3, *[b"\x1b\\"] * 3, b"\x9c", b"\x18", b"\x1a", b"\x1b", b"", b"\x1b[",
              b"\x1b\x1b", b"\x1b\x07", b"\x1bc")
 
 # ---- kinds of parts: text
 
-TEXT = several([1, 1, 2, 5, 20], byte_of(range(0x20, 0x7F)))
-CONTROL = several([1, 2, 3], either(CONTROLS, byte_of(b"\x7f\x07\x0a\x0d\x09\x08")))
-CANCELS = either(b"\x18", b"\x1a", b"\x18\x1a", b"\x1b\x18", b"\x1b\x1a")
-EIGHT_BITS = either(byte_of(range(0x80, 0xA0)), joined(b"\xc2", byte_of(range(0x80, 0xA0))),
-                    joined(b"\x9b", PARAMETERS, b"m"), b"\x9d2;x\x9c", b"\x90q\x9c")
-CHARACTER = either(*CHARACTERS)
+TEXT = repeat([1, 1, 2, 5, 20], byte_of(range(0x20, 0x7F)))
+CONTROL = repeat([1, 2, 3], choose(CONTROLS, byte_of(b"\x7f\x07\x0a\x0d\x09\x08")))
+CANCELS = choose(b"\x18", b"\x1a", b"\x18\x1a", b"\x1b\x18", b"\x1b\x1a")
+EIGHT_BITS = choose(byte_of(range(0x80, 0xA0)), join(b"\xc2", byte_of(range(0x80, 0xA0))),
+                    join(b"\x9b", PARAMETERS, b"m"), b"\x9d2;x\x9c", b"\x90q\x9c")
+CHARACTER = choose(*CHARACTERS)
 FRONTS = [character[:end] for character in CHARACTERS for end in range(1, len(character))]
-BROKEN = either(either(*FRONTS), either(*MALFORMED), several(range(1, 6), HIGH))
+BROKEN = choose(choose(*FRONTS), choose(*MALFORMED), repeat(range(1, 6), HIGH))
 # a character and a fault soon after it, which a cut inside the character may lose
-FAULT = joined(CHARACTER,
-               several([0, 1, 1, 2, 3], either(b"a", b"\x0a", b"\x1b", b"\x7f", b"[", b"\xc3\xa9")),
-               either(BROKEN, b"\xff", b"\x80", b"a", b"\x1b[m"))
+FAULT = join(CHARACTER,
+             repeat([0, 1, 1, 2, 3], choose(b"a", b"\x0a", b"\x1b", b"\x7f", b"[", b"\xc3\xa9")),
+             choose(BROKEN, b"\xff", b"\x80", b"a", b"\x1b[m"))
 LIKELY = byte_of(b"\x1b\x1b[]P;:?0123456789mhlq\\\x07\x18\x1a\x9c\xc3\xa9\xe4\xbd\xf0\x9f")
-ANY = several(range(1, 17), either(byte_of(range(256)), LIKELY))
+ANY = repeat(range(1, 17), choose(byte_of(range(256)), LIKELY))
 
 # ---- kinds of parts: sequences
 
-ESCAPE = joined(b"\x1b", strayed(joined(either(INTERMEDIATES, b"", b"(", b"*", b"#"), either(
+ESCAPE = join(b"\x1b", add_stray(join(choose(INTERMEDIATES, b"", b"(", b"*", b"#"), choose(
     byte_of(b"B0DEHMZc78=>\\NOn|"), byte_of(range(0x30, 0x7F))))))
-ODD_ESCAPE = joined(b"\x1b", either(b"", b"\x1b", b"\x7f", b"\x80", b"\xff", b"\xc3\xa9", b"\x07",
-                                    b" ", b"[", b"P", b"]", b"\xe2\x82"))
-SEQUENCE = joined(b"\x1b[", strayed(joined(HEAD, FINAL)))
+ODD_ESCAPE = join(b"\x1b", choose(b"", b"\x1b", b"\x7f", b"\x80", b"\xff", b"\xc3\xa9", b"\x07",
+                                  b" ", b"[", b"P", b"]", b"\xe2\x82"))
+SEQUENCE = join(b"\x1b[", add_stray(join(HEAD, FINAL)))
 # what a processor knows
-KNOWN_SEQUENCE = joined(
-    b"\x1b[", either(b"", b"", b"?", b">", b"=", b"<"), separated(range(4), NUMBER),
-    mostly(b"", b" ", b"$", b"!", b"!\"", b"#$%"), FINAL)
-ATTRIBUTE = either(*(b"%d" % it for it in [*range(50), 58, 59, *range(89, 109)]))
-COLORS_OF_TEXT = [joined(either(b"38", b"48", b"58"), mark, either(*b"2 5 2 5  3".split(b" ")),
-                         several(range(7), joined(mark, either(b"", number_below(300)))))
+KNOWN_SEQUENCE = join(
+    b"\x1b[", choose(b"", b"", b"?", b">", b"=", b"<"), separate(range(4), NUMBER),
+    prefer(b"", b" ", b"$", b"!", b"!\"", b"#$%"), FINAL)
+ATTRIBUTE = choose(*(b"%d" % it for it in [*range(50), 58, 59, *range(89, 109)]))
+COLORS_OF_TEXT = [join(choose(b"38", b"48", b"58"), mark, choose(*b"2 5 2 5  3".split(b" ")),
+                       repeat(range(7), join(mark, choose(b"", number_below(300)))))
                   for mark in (b";", b":")]
-RENDITION = joined(b"\x1b[", several(range(6), either(
-    ATTRIBUTE, ATTRIBUTE, several([1, 2, 3], either(*KNOWN[:7]), b":"), *COLORS_OF_TEXT), b";"),
+RENDITION = join(b"\x1b[", repeat(range(6), choose(
+    ATTRIBUTE, ATTRIBUTE, repeat([1, 2, 3], choose(*KNOWN[:7]), b":"), *COLORS_OF_TEXT), b";"),
     b"m")
-REPETITION = joined(either(b"x", b"\xc3\xa9", b"", b"\x0a"), b"\x1b[",
-                    either(b"", b"0", b"1", b"3", b"12", b"65535", b"2;5"), b"b")
+REPETITION = join(choose(b"x", b"\xc3\xa9", b"", b"\x0a"), b"\x1b[",
+                  choose(b"", b"0", b"1", b"3", b"12", b"65535", b"2;5"), b"b")
 # the two sequences of a synchronized update, and others that are almost one
-UPDATE = either(*[b"\x1b[?2026h"] * 6, *[b"\x1b[?2026l"] * 6, *(b"\x1b" + text for text in (
+UPDATE = choose(*[b"\x1b[?2026h"] * 6, *[b"\x1b[?2026l"] * 6, *(b"\x1b" + text for text in (
     b"[?2026$p", b"[?02026h", b"[?02026l", b"[?2026;25h", b"[?25;2026h", b"[?25;2026l",
     b"[?2026:1h", b"[?1:2026h", b"[2026h", b"[?2026", b"[?202", b"[?20\x0726h", b"[?2026 h",
     b"[?2026H", b"\x1b[?2026h", b"[\x1b[?2026l", b"]0;\x1b[?2026h", b"Pq\x1b[?2026l", b"[>2026h",
     b"[?2027h", b"[?2026;2026h", b"[?;2026h", b"P=1s\x1b\\", b"P=2s\x1b\\")), b"\xe2\x1b[?2026h")
-UPDATES = several([1, 1, 1, 2, 3, 5], joined(UPDATE, either(b"", TEXT)))
+UPDATES = repeat([1, 1, 1, 2, 3, 5], join(UPDATE, choose(b"", TEXT)))
 
 # ---- kinds of parts: strings
 
-DEVICE = joined(b"\x1bP", strayed(joined(HEAD, byte_of(b"q|pst{$zr+"))),
-                several([0, 1, 3, 12, 60], either(byte_of(range(0x20, 0x7F)), DATA)), END)
-IGNORED = joined(b"\x1b", byte_of(b"X^_"), several(range(13), DATA), END)
+DEVICE = join(b"\x1bP", add_stray(join(HEAD, byte_of(b"q|pst{$zr+"))),
+              repeat([0, 1, 3, 12, 60], choose(byte_of(range(0x20, 0x7F)), DATA)), END)
+IGNORED = join(b"\x1b", byte_of(b"X^_"), repeat(range(13), DATA), END)
 # about as many pieces as are kept, about as many bytes as 1,024, or anything
-SIXTEEN = several([0, 1, 14, 15, 16, 17, 18, 33],
-                  either(b"", b"", b"4", b"abc", b"\xc3\xa9", b"\xff", b"1", b"#fff", b"?"), b";")
-FULL = joined(several(range(3), b";"), several(range(1018, 1025), b"a"), several(range(3), b";"),
-              several([0, 1, 2, 5, 1000], b"a"), several(range(2), b";"), several(range(4), b"a"))
-ANY_DATA = several(range(1, 31), either(DATA, b";"))
-COMMAND = joined(b"\x1b]", strayed(either(SIXTEEN, FULL, ANY_DATA)), END)
+SIXTEEN = repeat([0, 1, 14, 15, 16, 17, 18, 33],
+                 choose(b"", b"", b"4", b"abc", b"\xc3\xa9", b"\xff", b"1", b"#fff", b"?"), b";")
+FULL = join(repeat(range(3), b";"), repeat(range(1018, 1025), b"a"), repeat(range(3), b";"),
+            repeat([0, 1, 2, 5, 1000], b"a"), repeat(range(2), b";"), repeat(range(4), b"a"))
+ANY_DATA = repeat(range(1, 31), choose(DATA, b";"))
+COMMAND = join(b"\x1b]", add_stray(choose(SIXTEEN, FULL, ANY_DATA)), END)
 # what a processor knows
 CODES = (b"0 1 2 4 8 9 10 11 12 13 22 50 52 104 105 110 111 112 113 133 1337 00 002 010 +2 ltitle "
          b"P1ffffff R ").split(b" ")
@@ -157,9 +157,9 @@ COLORS = (b"? #fff #1aF #102030 #0123456789aB #110aa0ff0 rgb:f/0/7 rgb:ff/80/00 
 LETTERS = (b"a B - / : = id= id=1 a=b http://x CursorShape= 0 1 2 7 007 255 256 12x default "
            b"e-resize grab Grab zoom-out c p ? aGk= \xc3\xa9 \xc2\x85 \xc2\xa0 \xe2\x80\x83 "
            b"\xe2\x80\x8b \x7f \t \xff \x80 \xe4\xbf").split(b" ") + [b" ", b"  "]
-PIECE = either(either(*COLORS), number_below(300), several(range(5), either(*LETTERS)))
-KNOWN_COMMAND = joined(b"\x1b]", mostly(either(*CODES), PIECE),
-                       several([0, 1, 1, 2, 3, 4, 18], joined(b";", PIECE)), END)
+PIECE = choose(choose(*COLORS), number_below(300), repeat(range(5), choose(*LETTERS)))
+KNOWN_COMMAND = join(b"\x1b]", prefer(choose(*CODES), PIECE),
+                     repeat([0, 1, 1, 2, 3, 4, 18], join(b";", PIECE)), END)
 
 # each kind of part, and its weight
 PARTS = {TEXT: 6, CONTROL: 3, CANCELS: 2, EIGHT_BITS: 3, CHARACTER: 6, BROKEN: 8, FAULT: 4,
@@ -180,13 +180,13 @@ def hostile_stream(seed, index, weights=PARTS):
     parts = chance.choices(list(weights), weights.values(), k=count)
     if chance.random() < 0.12:
         parts = parts[:1] * count
-    stream = b"".join(made(chance, part) for part in parts)
+    stream = b"".join(make_part(chance, part) for part in parts)
     if chance.random() < 0.15:
-        stream = damaged(chance, stream)
+        stream = damage(chance, stream)
     return cut_at(stream, places_of_cuts(chance, stream))
 
 
-def damaged(chance, stream):
+def damage(chance, stream):
     """The stream with a few bytes changed, dropped or doubled, or without its end."""
     for _ in range(chance.randint(1, 3)):
         position = chance.randrange(len(stream) + 1)

@@ -53,7 +53,7 @@ def script(choices, end):
     return line
 
 
-def western(letters, encoding):
+def make_western(letters, encoding):
     def line(chance):
         return (pick(chance, letters, chance.randint(30, 100)) + "\r\n").encode(encoding)
     return line
@@ -78,7 +78,7 @@ def ls_color(chance):
     return "".join(lines).encode()
 
 
-def coloured(chance):
+def coloured_line(chance):
     """Text with a colour or an attribute at each second word."""
     attributes = [0, 1, 3, 4, 7, 22, 24, 27, 31, 32, 33, 34, 35, 36, 39, 42, 49, 91, 97]
     line = [b"\x1b[%dm" % chance.choice(attributes) * (chance.random() < 0.5)
@@ -138,13 +138,13 @@ def sixel(chance):
 PARTS = {
     "ascii": lambda chance: words(chance, 20, 120) + b"\r\n",
     # one letter in thirteen is above ASCII, with typographic quotes and dashes
-    "prose": western([*LATIN, "\u2019", "\u2013"], "utf-8"),
+    "prose": make_western([*LATIN, "\u2019", "\u2013"], "utf-8"),
     # one byte in thirteen is malformed UTF-8
-    "latin1": western(LATIN, "latin-1"),
+    "latin1": make_western(LATIN, "latin-1"),
     "cjk": script(CJK, ""), "cyrillic": script(CYRILLIC, " "), "emoji": script(EMOJI, ""),
-    "ls_color": ls_color, "coloured": coloured, "cursor": cursor,
+    "ls_color": ls_color, "coloured": coloured_line, "cursor": cursor,
     "updates": lambda chance: b"\x1b[?2026h\x1b[H%b\x1b[?2026l" % b"".join(
-        coloured(chance) for _ in range(ROWS)),
+        coloured_line(chance) for _ in range(ROWS)),
     "osc_title": osc_title,
     # more than a parser with a limit keeps
     "osc_clipboard": lambda chance: b"\x1b]52;c;%b\x07text\r\n" % base64(chance, 65536),

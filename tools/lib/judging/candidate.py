@@ -48,12 +48,12 @@ class Broken(Exception):
     """The program passed a limit or broke the protocol, in the words of the mark."""
 
 
-def framed(chunks):
+def frame(chunks):
     """A stream in chunks, as the program reads it."""
     return b"".join(len(chunk).to_bytes(4, "little") + chunk for chunk in chunks) + END_OF_STREAM
 
 
-def plain(text):
+def escape_controls(text):
     """A text without control characters, such as a terminal or a file of text can take."""
     return re.sub(r"[^ -~]", lambda found: found[0].encode("unicode_escape").decode(), text)
 
@@ -65,8 +65,8 @@ def answer_of(output, mark=""):
     wrong = None if mark else next((line for line in lines if not LINE.fullmatch(line)), None)
     if wrong is not None:
         lines = lines[:lines.index(wrong)]
-        mark = f"(protocol: this is no event line: '{plain(wrong[:60])}')"
-    return [plain(line) for line in lines] + [mark] * bool(mark)
+        mark = f"(protocol: this is no event line: '{escape_controls(wrong[:60])}')"
+    return [escape_controls(line) for line in lines] + [mark] * bool(mark)
 
 
 def mark_of(lines):
@@ -120,7 +120,7 @@ class Program:
     def answer(self, chunks):
         """What a process prints until it ends."""
         output, until, mark = bytearray(), time.monotonic() + self.timeout, ""
-        with self.running(b"".join(chunks)) as process:
+        with self.run_process(b"".join(chunks)) as process:
             try:
                 while self.read_some(process, output, until):
                     pass
@@ -133,7 +133,7 @@ class Program:
         """The answers up to the one at which a process ends or stops, if it does."""
         # it begins with the line feed before the next answer
         answers, output = [], bytearray(b"\n")
-        with self.running(b"".join(map(framed, cases))) as process:
+        with self.run_process(b"".join(map(frame, cases))) as process:
             try:
                 while len(answers) < len(cases):
                     until = time.monotonic() + self.timeout
@@ -175,7 +175,7 @@ class Program:
     # ---- a process
 
     @contextmanager
-    def running(self, data):
+    def run_process(self, data):
         """A process that reads some bytes. In the end it is killed, and what it started too."""
         with tempfile.TemporaryFile() as file:
             file.write(data)

@@ -11,7 +11,7 @@ from typing import NamedTuple
 from lib.generating.random_text import cut_at
 from lib.judging.definition import LOOKAHEAD, NEAR, Reader, steps_of
 from lib.judging.kinds import FAILURES, FIELDS, KINDS
-from lib.judging.rules import ALONE, CUT, MALFORMED, MUST, ORDER, RULES, most_special
+from lib.judging.rules import ALONE, CUT, MALFORMED, MUST, ORDER, RULES, find_most_special
 from lib.judging.shrinking import cuts_of
 
 CUT_PREFIX = "cut:"
@@ -58,7 +58,7 @@ def level_of(name):
     return MUST if kind in FAILURES or is_read else rule_of(name)[0].level
 
 
-def rule_needed(chunks, depends_on_cut, same, kind, house, but=()):
+def find_needed_rule(chunks, depends_on_cut, same, kind, house, but=()):
     """The name of the rule that a case is about whose answers begin with the same lines: none of
     the rules `but`. It is exact if the case is shrunk."""
     steps = steps_of(b"".join(chunks), house)
@@ -66,7 +66,7 @@ def rule_needed(chunks, depends_on_cut, same, kind, house, but=()):
         divided = {name for index in steps_at_cuts(steps, cuts_of(chunks)).values()
                    if index is not None for name in steps[index].rules
                    if name in ORDER and is_about(name, kind)}
-        return CUT_PREFIX + most_special(divided) if divided else BETWEEN
+        return CUT_PREFIX + find_most_special(divided) if divided else BETWEEN
     if not steps:
         return "text"
     # what comes after an event that has another field doesn't matter, nor does a terminator after
@@ -77,7 +77,7 @@ def rule_needed(chunks, depends_on_cut, same, kind, house, but=()):
         step for step in steps if "terminator" not in step.rules or step == steps[last]]
     # what is near a limit is about it, as the case is the smallest
     names = {name.replace(NEAR, "") for step in needed for name in step.rules}
-    return most_special(name for name in names if name not in but and is_about(name, kind))
+    return find_most_special(name for name in names if name not in but and is_about(name, kind))
 
 
 def is_about(rule, kind):
@@ -96,7 +96,7 @@ def steps_at_cuts(steps, cuts):
     return found
 
 
-def nearest(chunks, same, rules, house):
+def find_nearest(chunks, same, rules, house):
     """Of the rules that occur in a case, the one that comes last before a position in its lines,
     the most special one of several; and all rules of that step."""
     steps = steps_of(b"".join(chunks), house)
@@ -117,7 +117,7 @@ def nearest(chunks, same, rules, house):
 
 # ---- freeing a case of rules
 
-def freed(chunks, rules, house):
+def free_case(chunks, rules, house):
     """The case without what these rules are about: their bytes, or the cuts that divide them."""
     stream, cuts = b"".join(chunks), cuts_of(chunks)
     steps = steps_of(stream, house) if rules else []

@@ -59,7 +59,7 @@ def execute(character):
     return f"execute {ord(character):02x}"
 
 
-def executed(end):
+def lines_of_end(end):
     """The lines of what ended a sequence: CAN and SUB have one."""
     return (execute(end),) if end and end in ENDS else ()
 
@@ -103,7 +103,7 @@ class Reader:
         found = re.compile(f"[{wanted}{ESC}{ENDS}]").search(self.text, start)
         return found.start() if found else len(self.text)
 
-    def at(self, position):
+    def character_at(self, position):
         return self.text[position:position + 1]
 
     # ---- text
@@ -121,7 +121,7 @@ class Reader:
         if code < 0x20:
             self.add(["control"], start, end, execute(segment))
         elif code == 0x7F:
-            self.add(["delete"], start, end, *[shown] * (house.delete == "print"))
+            self.add(["delete"], start, end, *([shown] if house.delete == "print" else []))
         elif len(segment) == 2 and code < 0xA0:
             lines = {"execute": [execute(chr(code))], "print": [shown], "drop": []}
             self.add(["c1-character"], start, end, *lines[house.c1_characters])
@@ -135,21 +135,22 @@ class Reader:
         length = length_by(segment)
         is_formed = "\xc0" <= segment[0] < "\xf8" and re.fullmatch(
             f"[\x80-\xbf]{{{length - 1}}}", self.text[start + 1:start + length])
-        is_cut_short = begun and self.at(end) in ("", ESC, *ENDS)
+        is_cut_short = begun and self.character_at(end) in ("", ESC, *ENDS)
+        rules = ["unfinished" if is_cut_short else "malformed"]
+        if is_formed:
+            rules.append("surrogate" if segment[0] == "\xed" else "overlong")
         lines = {"subparts": ["print fffd"], "bytes": ["print fffd"] * len(segment), "drop": []}
         # at the end of the stream it is open
-        is_reported = end < len(self.text) or not begun
-        self.add(["unfinished" if is_cut_short else "malformed",
-                  *["surrogate" if segment[0] == "\xed" else "overlong"] * bool(is_formed)],
-                 start, end, *lines[self.house.malformed] * is_reported)
+        is_open = begun and end == len(self.text)
+        self.add(rules, start, end, *([] if is_open else lines[self.house.malformed]))
 
     # ---- sequences
 
     def read_body(self, escape):
         """What ESC begins."""
         was_open, self.is_open = self.is_open, False
-        if was_open and self.at(escape + 1) == "\\":
-            lines = ["esc - false 5c"] * (self.house.terminator == "event")
+        if was_open and self.character_at(escape + 1) == "\\":
+            lines = ["esc - false 5c"] if self.house.terminator == "event" else []
             return self.add(["escape-sequence", "terminator"], escape, escape + 2, *lines)
         key = self.find_final(escape, escape + 1, " -~")
         if key:
@@ -168,7 +169,7 @@ class Reader:
                 self.add(["control-in-sequence"], position, position + 1, execute(byte))
             elif not " " <= byte < "\x7f":
                 self.add([dropped], position, position + 1)
-        last = self.at(end)
+        last = self.character_at(end)
         if last in ("", ESC):
             self.add(["restart"], escape, end)
             self.is_open = dropped != "dropped-in-sequence"
@@ -230,11 +231,12 @@ class Reader:
         if byte < "\x7f" and byte not in ESC + ENDS:
             self.add(["device-data"], start, start + 1, f"put {hex_of(byte)}")
         elif byte in ESC + ENDS or byte == ST and self.house.device_9c == "ends":
-            is_ended = byte == ESC and self.at(start + 1) == "\\"
+            is_ended = byte == ESC and self.character_at(start + 1) == "\\"
             rule = "byte-9c" if byte == ST else "device-end" if is_ended else "device-cut-short"
-            self.add([rule], start, start + 1, "unhook", *executed(byte))
+            self.add([rule], start, start + 1, "unhook", *lines_of_end(byte))
             self.is_hooked, self.is_open = False, byte == ESC
-            self.position -= self.is_open
+            if self.is_open:
+                self.position = start
         else:
             rule = "byte-9c" if byte == ST else "dropped-in-device-data"
             self.add([rule], start, start + 1)
@@ -244,48 +246,41 @@ class Reader:
 
     def read_dropped_string(self, escape, start, rule):
         """A string of which nothing is reported, up to ESC, CAN or SUB."""
-        stop = self.find_first(ST * (self.house.ignored_9c == "ends"), start)
-        last, text = self.at(stop), self.text[start:stop]
-        has_other = rule == "ignored-string" and re.search("[^\x08-\x0d -~]", text)
-        self.add([rule, *["byte-9c"] * (ST in text + last),
-                  *["dropped-in-ignored-string"] * bool(has_other)], escape, stop)
+        stop = self.find_first(ST if self.house.ignored_9c == "ends" else "", start)
+        last, text, rules = self.character_at(stop), self.text[start:stop], [rule]
+        if ST in text + last:
+            rules.append("byte-9c")
+        if rule == "ignored-string" and re.search("[^\x08-\x0d -~]", text):
+            rules.append("dropped-in-ignored-string")
+        self.add(rules, escape, stop)
         if last not in ("", ESC):
-            self.add(["cancel"], stop, stop + 1, *executed(last))
+            self.add(["cancel"], stop, stop + 1, *lines_of_end(last))
         self.is_open = last == ESC
 
     def read_system_command(self, escape, key):
-        house = self.house
-        ends = BEL * (house.bell == "ends") + ST * (house.command_9c == "ends")
-        stop = self.find_first(ends, key + 1)
-        for position, byte in enumerate(self.text[key + 1:stop], key + 1):
+        stop = self.find_first(command_ends(self.house), key + 1)
+        self.drop_command_controls(key + 1, stop)
+        items, last = re.sub("[\0-\x1f]", "", self.text[key + 1:stop]), self.character_at(stop)
+        of_bytes = {"byte-9c": ST in items + last, "command-bytes": re.search("[\x7f-\xff]", items)}
+        if not last:
+            return self.add(["command", *filter(of_bytes.get, of_bytes)], escape, stop)
+        is_cut_short = self.character_at(stop + 1) != "\\" if last == ESC else last in ENDS
+        kept, pieces = command_pieces(items, self.house)
+        rules = {**size_rules(items, kept, pieces, self.house), **of_bytes,
+                 "command-bell": last == BEL, "empty-command": not items,
+                 "command-cut-short": is_cut_short}
+        lines, end = [], stop if last == ESC else stop + 1
+        if not drops_command(items, last, is_cut_short, self.house):
+            shown = pieces[:self.house.pieces]
+            lines = [f"osc {str(last == BEL).lower()} {len(shown)} {' '.join(map(hex_of, shown))}"]
+        self.add(["command", *filter(rules.get, rules)], escape, end, *lines, *lines_of_end(last))
+        self.is_open = last == ESC
+
+    def drop_command_controls(self, start, stop):
+        for position, byte in enumerate(self.text[start:stop], start):
             if byte < " ":
                 rule = "command-bell" if byte == BEL else "control-in-command"
                 self.add([rule], position, position + 1)
-        items, last = re.sub("[\0-\x1f]", "", self.text[key + 1:stop]), self.at(stop)
-        kept, pieces = command_pieces(items, house)
-        is_cut_short = self.at(stop + 1) != "\\" if last == ESC else last in ENDS
-        data = len(items) - items.count(";")
-        max_pieces = 16 if house.pieces is None else min(house.pieces, 16)
-        rules = {
-            "limit": kept < len(items) or data > 1024,
-            "pieces": len(pieces) > max_pieces,
-            NEAR + "limit": data > 16,
-            NEAR + "pieces": len(pieces) > 4,
-            "byte-9c": ST in items + last,
-            "command-bytes": re.search("[\x7f-\xff]", items),
-            "command-bell": last == BEL,
-            "empty-command": not items,
-            "command-cut-short": is_cut_short}
-        if not last:
-            rules = {name: rules[name] for name in ("byte-9c", "command-bytes")}
-        is_dropped = not last or house.empty_commands == "drop" and not items or (
-            is_cut_short and "drop" == (
-                house.escaped_commands if last == ESC else house.cancelled_commands))
-        shown = pieces[:house.pieces]
-        line = f"osc {str(last == BEL).lower()} {len(shown)} {' '.join(map(hex_of, shown))}"
-        self.add(["command", *filter(rules.get, rules)], escape, stop + (last not in ("", ESC)),
-                 *[line] * (not is_dropped), *executed(last))
-        self.is_open = last == ESC
 
 
 def number_of(digits, largest):
@@ -310,3 +305,24 @@ def command_pieces(items, house):
     kept = "".join(item for item, count in zip(items, counts)
                    if house.limit is None or count < house.limit)
     return len(kept), kept.split(";")
+
+
+def command_ends(house):
+    """What ends a command, besides ESC, CAN and SUB."""
+    return (BEL if house.bell == "ends" else "") + (ST if house.command_9c == "ends" else "")
+
+
+def size_rules(items, kept, pieces, house):
+    """The rules about how long a command is, and whether each is at work."""
+    data = len(items) - items.count(";")
+    most = 16 if house.pieces is None else min(house.pieces, 16)
+    return {"limit": kept < len(items) or data > 1024, "pieces": len(pieces) > most,
+            NEAR + "limit": data > 16, NEAR + "pieces": len(pieces) > 4}
+
+
+def drops_command(items, last, is_cut_short, house):
+    """Whether a house drops a command with these items, which has ended so."""
+    if not items and house.empty_commands == "drop":
+        return True
+    choice = house.escaped_commands if last == ESC else house.cancelled_commands
+    return is_cut_short and choice == "drop"

@@ -2,7 +2,7 @@
 import json
 from xml.etree import ElementTree
 
-from lib.judging.candidate import mark_of, plain
+from lib.judging.candidate import escape_controls, mark_of
 from lib.judging.classes import BETWEEN, level_of, rule_of
 from lib.judging.report import shown_case, shown_finding
 from lib.judging.rules import ALONE, CUT, RULES
@@ -28,8 +28,8 @@ def finding_object(finding, again):
 def as_json(result, seed, again):
     findings = [finding_object(finding, again) for finding in result.findings.values()]
     return json.dumps({"version": 2, "seed": seed, "streams": result.streams,
-                       "different": result.different, "unassigned": result.unexplained,
-                       "ended_early": result.ended_early or None, "new": len(result.new()),
+                       "different": result.different, "unassigned": result.unexplained_count,
+                       "ended_early": result.ended_early or None, "new": len(result.find_new()),
                        "findings": findings}, indent=1)
 
 
@@ -40,14 +40,14 @@ def tests(result, again):
         found.sort(key=lambda finding: not finding.is_new)
         report = "\n\n".join(shown_finding(finding, again) for finding in found)
         yield name, bool(found and found[0].is_new), report
-    left = result.unexplained
+    left = result.unexplained_count
     yield "each difference has a class", left > 0, f"{left} streams have none" * (left > 0)
     is_partial = not result.streams or bool(result.ended_early)
     yield "all streams are judged", is_partial, f"{result.streams} were" * is_partial
 
 
 def as_junit(result, seed, again):
-    suite = ElementTree.Element("testsuite", name=f"judge, seed {plain(seed)}")
+    suite = ElementTree.Element("testsuite", name=f"judge, seed {escape_controls(seed)}")
     for name, is_new, report in tests(result, again):
         case = ElementTree.SubElement(suite, "testcase", classname="judge", name=name)
         if report:

@@ -19,7 +19,7 @@ House = namedtuple("House", [name.replace("-", "_") for name in CHOICES],
 DEFAULT = House()
 
 
-def shown(house):
+def words_of(house):
     """The rules of a house that aren't the defaults, as they are given on the command line."""
     return [f"{name}={'none' if value is None else value}"
             for name, value, default in zip(CHOICES, house, DEFAULT) if value != default]

@@ -6,11 +6,11 @@ from dataclasses import dataclass, field
 from lib.judging.budget import Patience, Time, Tries
 from lib.judging.candidate import OutOfTime, mark_of
 from lib.judging.cases import Case
-from lib.judging.classes import INSTEAD, Difference, freed, nearest, rule_needed
+from lib.judging.classes import INSTEAD, Difference, find_nearest, find_needed_rule, free_case
 from lib.judging.definition import NEAR
 from lib.judging.kinds import FAILURES, differences_of
 from lib.judging.rules import ALONE, RULES
-from lib.judging.shrinking import shrunk
+from lib.judging.shrinking import shrink
 from lib.judging.sides import LIMITS, Sides, is_alike, kinds_of
 
 # how many cases are tried to shrink one: with planted faults nine of ten take 129 or fewer. And if
@@ -50,7 +50,7 @@ class Judgement:
     ended_early: str = ""
 
     @property
-    def unexplained(self):
+    def unexplained_count(self):
         """The number of streams that differ and have no class."""
         return self.different - sum(finding.streams for finding in self.findings.values())
 
@@ -65,13 +65,13 @@ class Judgement:
             self.findings[name].streams += 1
         return name in self.findings
 
-    def new(self):
+    def find_new(self):
         """The findings that aren't known."""
         return [finding for finding in self.findings.values() if finding.is_new]
 
     def status(self):
         """1 if something is new, or no stream was judged; 3 if streams are left; else 0."""
-        is_bad = self.new() or self.unexplained or not self.streams
+        is_bad = self.find_new() or self.unexplained_count or not self.streams
         return 1 if is_bad else 3 if self.ended_early else 0
 
 
@@ -114,7 +114,7 @@ class Judge:
 
     def judge_case(self, streams):
         """Judges the last of some streams, which one process reads, and returns both answers."""
-        *before, chunks = [freed(chunks, self.left_out, self.house) for chunks in streams]
+        *before, chunks = [free_case(chunks, self.left_out, self.house) for chunks in streams]
         reference, answer = self.sides.last_answers([*before, chunks])
         self.result.streams, self.result.different = 1, int(reference != answer)
         if reference != answer:
@@ -125,7 +125,7 @@ class Judge:
 
     def judge_batch(self, batch):
         """Judges cases at once, and examines what differs."""
-        streams = [freed(case.chunks, self.left_out, self.house) for case in batch]
+        streams = [free_case(case.chunks, self.left_out, self.house) for case in batch]
         differing = []
         for index, (reference, answer) in enumerate(self.sides.answers(streams)):
             if reference != answer:
@@ -135,27 +135,27 @@ class Judge:
         self.result.streams += len(batch)
         self.result.different += len(differing)
         self.examined = differing[0] if differing else None
-        explained = self.explained([difference for _, difference in differing])
+        explained = self.find_explained([difference for _, difference in differing])
         for (case, difference), is_explained in zip(differing, explained):
-            before, self.examined = self.result.unexplained, (case, difference)
+            before, self.examined = self.result.unexplained_count, (case, difference)
             repeated = difference if is_explained else self.confirm(case, difference)
             if repeated:
                 self.examine(case, repeated, is_explained)
-            elif self.result.unexplained == before:  # it was only slow
+            elif self.result.unexplained_count == before:  # it was only slow
                 self.result.different -= 1
         self.examined = None
 
     # ---- what is found so far
 
-    def excluded(self, but=frozenset()):
+    def list_excluded(self, but=frozenset()):
         return (self.result.rules() - but) | self.left_out
 
-    def explained(self, differing):
+    def find_explained(self, differing):
         """Whether each case no longer differs without the rules of the classes found so far."""
         rules = self.result.rules()
         if not rules:
             return [False] * len(differing)
-        rests = [freed(difference.chunks, rules, self.house) for difference in differing]
+        rests = [free_case(difference.chunks, rules, self.house) for difference in differing]
         return [one == other for one, other in self.sides.answers(rests)]
 
     def add(self, name, difference, case, is_smallest=True):
@@ -171,25 +171,26 @@ class Judge:
         classes found so far, or in a kind for which its rules have no class yet."""
         if mark_of(difference.candidate) == PROTOCOL and self.result.count(PROTOCOL):
             return
-        before, excluded = self.result.unexplained, self.excluded()
+        before, excluded = self.result.unexplained_count, self.list_excluded()
         rest = not is_explained and self.sides.rest_without(difference, excluded)
         if rest and self.patience.is_left():
             self.report_shrunk(case, rest, excluded)
-        positions = differences_of(*difference[1:3]) if self.result.rules() else []
-        signatures = [(*nearest(difference.chunks, position, self.result.rules(), self.house), kind)
+        rules = self.result.rules()
+        positions = differences_of(*difference[1:3]) if rules else []
+        signatures = [(*find_nearest(difference.chunks, position, rules, self.house), kind)
                       for position, kind in positions]
         for rule, of_step, kind in signatures:
-            if self.result.unexplained < before:
+            if self.result.unexplained_count < before:
                 return
             # where several differences meet there is often another event, which says little
             is_known = kind == "other" or f"{rule}/{kind}" in self.result.findings
             if is_known or not self.patience.is_left_for(rule, kind):
                 continue
-            excluded = self.excluded(of_step)
+            excluded = self.list_excluded(of_step)
             if rest := self.sides.rest_without(difference, excluded, kind):
                 self.patience.tries[rule, kind] += 1
                 self.report_shrunk(case, rest, excluded, kind)
-        if signatures and self.result.unexplained == before:
+        if signatures and self.result.unexplained_count == before:
             rule, _, kind = signatures[0]
             names = (it.name for it in self.result.findings.values() if it.rule == rule)
             if not self.result.count(f"{rule}/{kind}"):
@@ -201,10 +202,10 @@ class Judge:
                 MAX_CASES // 4 if kind else MAX_CASES)
         tries = Tries(self.time, most)
 
-        def asked(streams):
+        def ask(streams):
             return tries.ask(self.sides.difference_without, excluded, kind, *streams)
 
-        difference = shrunk([rest.chunks], asked, self.candidate.at_once)
+        difference = shrink([rest.chunks], ask, self.candidate.at_once)
         # a kind that doesn't show alone comes from several differences in a row
         is_mixed = difference and kind and len(kinds_of(difference)) > 1
         if self.time.is_over:
@@ -215,7 +216,7 @@ class Judge:
                 case, difference, 1 if self.time.is_over else MORE_TRIES):
             return
         name = self.class_of(difference)
-        name = self.same_as(name, difference) or name
+        name = self.find_same(name, difference) or name
         if self.result.count(name):
             self.patience.again += 1
         else:
@@ -229,7 +230,7 @@ class Judge:
         case, difference = self.examined
         position, kind = differences_of(difference.reference, difference.candidate)[0]
         if kind in FAILURES or not self.result.findings:
-            rule, _ = nearest(difference.chunks, position, {*RULES}, self.house)
+            rule, _ = find_nearest(difference.chunks, position, {*RULES}, self.house)
             name = PROTOCOL if kind == PROTOCOL else f"{rule}/{kind}"
             if not self.result.count(name):
                 self.add(name, difference, case, is_smallest=False)
@@ -244,12 +245,12 @@ class Judge:
         is_cut = (self.candidate.takes_chunks and len(chunks) > 1
                   and not self.sides.difference([stream]))
         while True:
-            rule = rule_needed(chunks, is_cut, same, kind, self.house, needless)
+            rule = find_needed_rule(chunks, is_cut, same, kind, self.house, needless)
             if rule not in INSTEAD or not self.sides.difference([re.sub(*INSTEAD[rule], stream)]):
                 return f"{rule}/{kind}"
             needless.append(rule)
 
-    def same_as(self, name, difference):
+    def find_same(self, name, difference):
         """A class of the same rule whose smallest case stands within another, byte after byte: what
         comes after it may differ in another way. None if there is none."""
         rule, _, kind = name.partition("/")
@@ -278,33 +279,33 @@ class Judge:
     def report_unrepeated(self, case, difference, again):
         """Reports or counts that a stream has different answers: after others, or at any time."""
         is_known = NOT_DETERMINISTIC in self.result.findings
-        after = self.after_others(difference) if difference.before and not is_known else None
+        after = self.find_after_others(difference) if difference.before and not is_known else None
         name = KEPT_STATE if after else NOT_DETERMINISTIC
         if not self.result.count(name):
             answer = again.candidate if again else difference.reference
             self.add(name, after or Difference(difference.chunks, difference.candidate, answer),
                      case)
 
-    def after_others(self, difference):
+    def find_after_others(self, difference):
         """The smallest streams whose last one is answered so only after the others, or None."""
         if KEPT_STATE in self.result.findings:
             return difference
         tries = Tries(self.time, MAX_CASES // 10)
 
-        def changed(streams):
+        def find_change(streams):
             *before, chunks = streams
             after = before and self.sides.difference(chunks, before)
             alone = after and self.sides.difference(chunks)
             is_alone = alone and is_alike(alone, after)
             return after._replace(before=before) if after and not is_alone else None
 
-        def wrong(streams):
-            return tries.ask(changed, streams)
+        def ask(streams):
+            return tries.ask(find_change, streams)
 
         streams = [*difference.before, difference.chunks]
-        smallest = wrong(streams) and wrong(streams) and shrunk(streams, wrong)
+        smallest = ask(streams) and ask(streams) and shrink(streams, ask)
         if self.time.is_over and not smallest:
             raise OutOfTime
         streams = smallest and [*smallest.before, smallest.chunks]
-        is_sure = smallest and (self.time.is_over or all(changed(streams) for _ in range(4)))
+        is_sure = smallest and (self.time.is_over or all(find_change(streams) for _ in range(4)))
         return smallest if is_sure else None

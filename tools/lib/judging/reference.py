@@ -61,14 +61,14 @@ def find_vtlog(named=None):
             raise NoReference(f"not a program: {named}")
         return str(Path(named).resolve())
     proved = TOP / "crates/vtlog/out/vtlog"
-    found = built_by_cargo() or (proved if proved.is_file() else shutil.which("vtlog"))
+    found = build_by_cargo() or (proved if proved.is_file() else shutil.which("vtlog"))
     if not found:
         raise NoReference("there is no vtlog: give --vtlog PROGRAM, install cargo 1.63 or later, "
                           "or build it with ./vtlog")
     return str(found)
 
 
-def built_by_cargo():
+def build_by_cargo():
     words = [TOP / "tools/lib/building/cargo_product", "build", "--quiet", "--release", "--locked",
              "--manifest-path", CARGO_CRATE / "Cargo.toml"]
     if not shutil.which("cargo"):

@@ -16,7 +16,7 @@ def shown_bytes(chunks):
                       for chunk in runs)
 
 
-def bytes_shown(text):
+def read_bytes(text):
     """The chunks that shown_bytes shows. Raises ValueError."""
     words = [[word.partition("*") for word in chunk.split()] for chunk in text.split("|")]
     return [b"".join(bytes.fromhex(byte) * int(times or 1) for byte, _, times in chunk)
@@ -28,9 +28,9 @@ def shown_case(difference):
     return " / ".join(map(shown_bytes, [*difference.before, difference.chunks]))
 
 
-def case_shown(text):
+def read_case(text):
     """The streams that shown_case shows. Raises ValueError."""
-    return list(map(bytes_shown, text.split("/")))
+    return list(map(read_bytes, text.split("/")))
 
 
 def shown_text(chunks):
@@ -101,10 +101,10 @@ def shown_sum(result, seed):
             level = level_of(finding.name)
             lines.append(f"{finding.name:{width}}  {level:7}  {finding.streams:7}  {size:8}  "
                          f"{'no' if finding.is_new else 'yes'}")
-    if result.unexplained:
-        lines.append(f"{result.unexplained} of the streams that differ weren't assigned to a class")
+    if count := result.unexplained_count:
+        lines.append(f"{count} of the streams that differ weren't assigned to a class")
     if result.ended_early:
         lines.append(f"ended early: {result.ended_early}")
     return "\n".join([*lines, f"{result.streams} streams, {result.different} differ; "
-                      f"{len(result.findings)} classes, {len(result.new())} of them new; "
+                      f"{len(result.findings)} classes, {len(result.find_new())} of them new; "
                       f"seed {seed}"])

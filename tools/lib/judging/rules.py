@@ -49,5 +49,5 @@ ALONE = {
 ORDER = {name: index for index, name in enumerate(RULES)}
 
 
-def most_special(names):
+def find_most_special(names):
     return max(names, key=ORDER.__getitem__)

@@ -15,17 +15,17 @@ PLAIN = [("\x1a", "a\x0a\x07\x18"), ("\x1b", ""), ("\x1f", "a\x0a"), ("\x7e", "a
          ("\xef", "a\xe4"), ("\xf4", "a\xf0"), ("\xff", "a\xff"), (NEXT, "")]
 
 
-def shrunk(streams, asked, at_once=1):
+def shrink(streams, ask, at_once=1):
     """What is known of the smallest streams in a row, each in chunks, that were found to differ.
-    `asked` returns something of those that do; so many are tried at once."""
+    `ask` returns something of those that do; so many are tried at once."""
     answers, threads = {}, concurrent.futures.ThreadPoolExecutor(at_once)
 
     def answer(text):
         if text not in answers:
-            answers[text] = asked(streams_of(text))
+            answers[text] = ask(streams_of(text))
         return answers[text]
 
-    def first(texts):
+    def find_first(texts):
         """The first of some texts whose streams differ, or None."""
         texts = iter(texts)
         while batch := list(islice(texts, at_once)):
@@ -36,21 +36,21 @@ def shrunk(streams, asked, at_once=1):
         return None
 
     case = NEXT.join(CUT.join(chunk.decode("latin-1") for chunk in chunks) for chunks in streams)
-    case, before = first([case.replace(CUT, ""), case]) or case, None
+    case, before = find_first([case.replace(CUT, ""), case]) or case, None
     while case != before:
-        before, case = case, smallest(case, first)
+        before, case = case, find_smallest(case, find_first)
         for position in places_of(case):
-            case = first(plainer(case, position)) or case
+            case = find_first(find_plainer(case, position)) or case
     return answer(case)
 
 
-def smallest(items, first):
-    """A part of a sequence that differs, from which no single item can go. `first` gives the first
-    of some sequences that differs, or None."""
+def find_smallest(items, find_first):
+    """A part of a sequence that differs, from which no single item can go. `find_first` gives the
+    first of some sequences that differs, or None."""
     size = len(items)
     while size:
         rests = (items[:start] + items[start + size:] for start in range(0, len(items), size))
-        rest = first(rests)
+        rest = find_first(rests)
         items, size = (items, size // 2) if rest is None else (rest, size)
     return items
 
@@ -60,7 +60,7 @@ def places_of(text):
     return range(len(text)) if len(text) <= SHORT else map(text.index, sorted(set(text)))
 
 
-def plainer(text, position):
+def find_plainer(text, position):
     """The texts with a plainer byte at a position, and in a long one wherever this byte is."""
     byte, times = text[position], 1 if len(text) <= SHORT else -1
     order = next(order for last, order in PLAIN if byte <= last)

@@ -1,6 +1,6 @@
 """The reference and the candidate, whose answers are compared."""
 from lib.judging.candidate import mark_of
-from lib.judging.classes import Difference, freed
+from lib.judging.classes import Difference, free_case
 from lib.judging.kinds import differences_of
 
 # what a program passes when it doesn't end, the first of them
@@ -19,7 +19,7 @@ class Sides:
         self.time.check()
         references = self.reference.answers([b"".join(chunks) for chunks in streams])
         answers = self.candidate.answers([*before, *streams])[len(before):]
-        return [tuple(map(self.view.of, pair)) for pair in zip(references, answers)]
+        return [tuple(map(self.view.filter, pair)) for pair in zip(references, answers)]
 
     def last_answers(self, streams):
         return self.answers(streams[-1:], streams[:-1])[0]
@@ -32,14 +32,14 @@ class Sides:
     def difference_without(self, rules, kind, chunks):
         """The difference at a stream that has none of some rules, of a kind if one is given, or
         None."""
-        is_free = freed(chunks, rules, self.house) == chunks
+        is_free = free_case(chunks, rules, self.house) == chunks
         difference = self.difference(chunks) if is_free else None
         is_of_kind = difference and (kind is None or kind in kinds_of(difference))
         return difference if is_of_kind else None
 
     def rest_without(self, difference, rules, kind=None):
         """What is left of a difference without some rules."""
-        return self.difference_without(rules, kind, freed(difference.chunks, rules, self.house))
+        return self.difference_without(rules, kind, free_case(difference.chunks, rules, self.house))
 
 
 def kinds_of(difference):

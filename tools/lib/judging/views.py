@@ -5,7 +5,7 @@ EVENTS = {"print": ("print",), "execute": ("execute",), "csi": ("csi",), "esc": 
           "osc": ("osc",), "dcs": ("hook", "put", "unhook")}
 
 
-def joined(command):
+def join_pieces(command):
     """The line of a command whose pieces are joined again by `;`."""
     data = command[2].replace("-", "").replace(" ", "3b")
     return f"{command[1]} 1 {data or '-'}"
@@ -16,7 +16,7 @@ def joined(command):
 FIELDS = {
     "ignore": (r"^((csi|hook|esc) .*) \S+ (\S+)$", r"\1 - \3"),
     "bell": (r"^osc \S+", "osc -"),
-    "pieces": (r"^(osc \S+) \d+ (.*)$", joined),
+    "pieces": (r"^(osc \S+) \d+ (.*)$", join_pieces),
     "groups": (r"^(csi|hook) \S+", lambda line: line[0].replace(":", ";"))}
 
 
@@ -32,7 +32,7 @@ class View:
         self.changes = [FIELDS[name] for name in unreported if name in FIELDS]
         self.hidden = {method for name in unreported for method in EVENTS.get(name, ())}
 
-    def of(self, lines):
+    def filter(self, lines):
         """The lines with what both sides report."""
         return [self.line(line) for line in lines if line.partition(" ")[0] not in self.hidden]
 

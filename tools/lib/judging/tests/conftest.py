@@ -17,8 +17,8 @@ def vtlog():
 @pytest.fixture(scope="session")
 def judge(vtlog):
     """Runs tools/judge, whose status must be the wanted one. Returns its output."""
-    def judged(wanted, *words):
+    def run_judge(wanted, *words):
         status, output = run(sys.executable, TOOLS / "judge", "--vtlog", vtlog, *words)
         assert status == wanted, output
         return output
-    return judged
+    return run_judge

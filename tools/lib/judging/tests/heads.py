@@ -75,7 +75,7 @@ def text_of(shown):
 
 def house_rules(vector):
     """The house rules on which the events of a vector depend."""
-    stream = bytes_of(shortened(vector["pieces"]))
+    stream = bytes_of(shorten(vector["pieces"]))
     house = House(limit=vector["limit"])
     others = [(name, value) for name, choices in CHOICES.items() if name != "limit"
               for value in (choices[1:] if isinstance(choices, tuple) else [None])]
@@ -85,8 +85,8 @@ def house_rules(vector):
         if lines != definition.lines_of(stream, house._replace(**{name.replace("-", "_"): value}))))
 
 
-def shortened(value):
+def shorten(value):
     """A list in which each repetition has three turns at most: the house rules are the same."""
     if isinstance(value, list):
-        return [shortened(item) for item in value]
+        return [shorten(item) for item in value]
     return {**value, "times": min(value["times"], 3)} if isinstance(value, dict) else value

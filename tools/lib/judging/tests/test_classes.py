@@ -17,13 +17,13 @@ CASES = [case for case in cases.all_cases(("vectors", "random"), "1", 240)
     cases.Case("", [b"\x1b]" + front + b"\x9c\xa0\x1b"]) for front in (b";" * 16, b"a" * 1024)]
 
 
-def judged(answer, tried=CASES, **options):
+def judge_function(answer, tried=CASES, **options):
     """What the judge says of a function. Each finding must show itself again, alone."""
     result = judge_of(answer, **options).run(iter(tried))
     for finding in result.findings.values():
         if finding.name != "not-deterministic":
             again = judge_of(answer, **options)
-            again.judge_case(report.case_shown(report.shown_case(finding.difference)))
+            again.judge_case(report.read_case(report.shown_case(finding.difference)))
             assert [*again.result.findings] == [finding.name], (finding, again.result)
     return result
 
@@ -32,7 +32,7 @@ def names(result):
     return {name.partition("/")[0] for name in result.findings}
 
 
-def breaks(*rules):
+def break_rules(*rules):
     """A parser that breaks rules of its house."""
     own = house.house_of(rules)
     return lambda chunks, _: definition.lines_of(b"".join(chunks), own)
@@ -50,10 +50,10 @@ def breaks(*rules):
         "delete=drop", "colon=separates", "colon=refuses", "limit=100", "pieces=4", "pieces=17",
         "numbers=16", "numbers=33", "largest=9999", "largest=none"))])
 def test_a_breach_of_a_house_rule_has_its_rule(breach, rules):
-    result = judged(breaks(breach))
+    result = judge_function(break_rules(breach))
     assert names(result) == set(rules.split())
     assert len(result.findings) == len(rules.split()), "a rule has one class"
-    assert (result.unexplained, result.status()) == (0, 1)
+    assert (result.unexplained_count, result.status()) == (0, 1)
 
 
 # for streams in a row, what is replaced in the lines, and the streams that each class counts
@@ -78,15 +78,15 @@ def test_a_breach_of_a_house_rule_has_its_rule(breach, rules):
 def test_what_is_counted(faults, streams, found):
     asked = []
 
-    def wrong(chunks, _):
+    def answer_wrongly(chunks, _):
         asked.append(chunks)
         text = "".join(f"{line}\n" for line in right_lines(chunks))
         for pattern, other in faults.items():
             text = re.sub(pattern, other, text)
         return text.splitlines()
-    result = judged(wrong, [cases.Case("", [stream]) for stream in streams])
+    result = judge_function(answer_wrongly, [cases.Case("", [stream]) for stream in streams])
     assert {name: it.streams for name, it in result.findings.items()} == found
-    assert result.unexplained == len(streams) - sum(found.values())
+    assert result.unexplained_count == len(streams) - sum(found.values())
     assert len(asked) < 200 + 8 * len(streams)
 
 
@@ -160,13 +160,13 @@ def test_a_freed_case_has_none_of_its_rules(case):
     stream = b"".join(case.chunks)
     rules = {name for step in definition.steps_of(stream) for name in step.rules}
     for some in [{name} for name in rules] + [rules]:
-        left = b"".join(classes.freed(case.chunks, some, house.DEFAULT))
+        left = b"".join(classes.free_case(case.chunks, some, house.DEFAULT))
         assert not some & {name for step in definition.steps_of(left) for name in step.rules}
         rest = iter(stream)
         assert all(byte in rest for byte in left)
-    assert classes.freed(case.chunks, {*RULES} - rules, house.DEFAULT) == case.chunks
+    assert classes.free_case(case.chunks, {*RULES} - rules, house.DEFAULT) == case.chunks
     cuts = {f"{classes.CUT_PREFIX}{name}" for name in RULES} | {classes.BETWEEN}
-    assert classes.freed(case.chunks, cuts, house.DEFAULT) == [stream]
+    assert classes.free_case(case.chunks, cuts, house.DEFAULT) == [stream]
 
 
 # chunks, what they are freed of, by a rule of a house that keeps more than others, and what is left
@@ -181,7 +181,7 @@ def test_a_freed_case_has_none_of_its_rules(case):
     ([b"\x1b]" + b"a" * 1025 + b"\x07"], "limit=1025", [b""])])
 def test_what_is_freed(chunks, rule, left):
     own = house.house_of([rule] * ("=" in rule))
-    assert classes.freed(chunks, {rule.partition("=")[0]}, own) == left
+    assert classes.free_case(chunks, {rule.partition("=")[0]}, own) == left
 
 
 @pytest.mark.parametrize("stream, cuts, found", [
@@ -204,16 +204,16 @@ def test_which_answers_are_alike(one, other, wanted):
 
 
 def test_what_depends_on_a_cut():
-    result = judged(lambda chunks, _: [
+    result = judge_function(lambda chunks, _: [
         line for chunk in chunks for line in definition.lines_of(chunk)], CASES[:120])
     assert names(result) and all(name.startswith("cut:") for name in names(result))
 
-    def counted(chunks, _):
+    def answer_cuts(chunks, _):
         steps = definition.steps_of(b"".join(chunks))
         cuts = classes.steps_at_cuts(steps, shrinking.cuts_of(chunks))
         return [line for step in steps for line in step.lines] + ["unhook"] * (
             None in cuts.values())
-    result = judged(counted)
+    result = judge_function(answer_cuts)
     assert {name: it.streams for name, it in result.findings.items()} == {
         "cut:between/extra": result.different}
 
@@ -223,12 +223,12 @@ def test_what_depends_on_a_cut():
     (CASES, "", ["kept-state"]), ([cases.Case("", [it]) for it in (b"\x0e", *[b"a\x0f"] * 9)],
                                   "execute 0f", ["control/missing", "kept-state"])])
 def test_what_depends_on_other_streams(some, lost, names):
-    def shifted(chunks, history):
+    def answer_shifted(chunks, history):
         lines = right_lines(chunks)
         was_shifted = any(b"\x0e" in b"".join(before) for before in history)
         return [line for line in lines if line != lost and not (
             was_shifted and line.startswith("print"))]
-    found = judged(shifted, some).findings
+    found = judge_function(answer_shifted, some).findings
     assert sorted(found) == names
     assert report.shown_case(found["kept-state"].difference) == "0e / 61"
 
@@ -253,20 +253,20 @@ def test_a_hang_that_was_only_slow_is_none():
 
 
 def test_what_is_left_out():
-    dropped = breaks("delete=drop")
-    assert judged(dropped, left_out=["delete"]).different == 0
-    assert judged(dropped).findings["delete/missing"].streams == sum(
+    dropped = break_rules("delete=drop")
+    assert judge_function(dropped, left_out=["delete"]).different == 0
+    assert judge_function(dropped).findings["delete/missing"].streams == sum(
         dropped(case.chunks, []) != right_lines(case.chunks) for case in CASES)
     # what is left out doesn't come back in what is shrunk
-    result = judged(breaks("c1-characters=print", "malformed=drop"),
-                    left_out=["malformed", "unfinished"])
+    result = judge_function(break_rules("c1-characters=print", "malformed=drop"),
+                            left_out=["malformed", "unfinished"])
     assert names(result) == {"c1-character"}
 
 
 @pytest.mark.parametrize("known, status", [
     ("delete", 0), ("delete/missing", 0), ("delete/extra", 1), ("del", 1), ("", 1)])
 def test_what_is_known(known, status):
-    result = judged(breaks("delete=drop"), [cases.Case("", [b"\x7f"])], known=[known])
+    result = judge_function(break_rules("delete=drop"), [cases.Case("", [b"\x7f"])], known=[known])
     assert result.status() == status
 
 

@@ -19,10 +19,10 @@ def limit_readings(monkeypatch, most):
     """Lets readers of the definition read so many times."""
     left, read_next = iter(range(most)), definition.Reader.read_next
 
-    def counted(reader):
+    def read_counted(reader):
         assert next(left, None) is not None, "too many readings"
         return read_next(reader)
-    monkeypatch.setattr(definition.Reader, "read_next", counted)
+    monkeypatch.setattr(definition.Reader, "read_next", read_counted)
 
 
 # what is left of a long stream may be about its rules again, byte after byte
@@ -35,7 +35,7 @@ def limit_readings(monkeypatch, most):
 def test_a_long_stream_is_freed_in_one_pass(monkeypatch, stream, rules):
     rules = {*rules.split()}
     limit_readings(monkeypatch, 10 * len(stream))
-    left = b"".join(classes.freed([stream], rules, house.DEFAULT))
+    left = b"".join(classes.free_case([stream], rules, house.DEFAULT))
     assert not rules & {name for step in definition.steps_of(left) for name in step.rules}
 
 

@@ -61,7 +61,7 @@ HOUSES = [
 def test_houses(stream, rules, lines):
     own = house.house_of(rules.split())
     assert definition.lines_of(stream, own) == lines != definition.lines_of(stream)
-    assert sorted(house.shown(own)) == sorted(rules.split())
+    assert sorted(house.words_of(own)) == sorted(rules.split())
 
 
 def test_each_house_rule_is_tested_and_on_the_page():
@@ -93,7 +93,7 @@ def test_headings_of_rules_are_there():
     *(([b"x1", b";y", b"z"], lambda case, cuts=cuts: len(case) > cuts and b"1;" in b"".join(case),
        smallest) for cuts, smallest in ((0, [b"1;"]), (1, [b"1;", b""])))])
 def test_smallest_cases_are_found(chunks, differs, smallest):
-    assert shrinking.shrunk([chunks], lambda streams: differs(*streams) and streams) == [smallest]
+    assert shrinking.shrink([chunks], lambda streams: differs(*streams) and streams) == [smallest]
 
 
 @pytest.mark.parametrize("last, first, plain", [
@@ -104,9 +104,9 @@ def test_smallest_cases_are_found(chunks, differs, smallest):
 def test_a_byte_is_replaced_by_plainer_ones(last, first, plain):
     for byte in map(chr, range(first, last + 1)):
         wanted = plain[:plain.index(byte)] if byte in plain else plain
-        assert shrinking.plainer(f"b{byte}b{byte}", 1) == [f"b{it}b{byte}" for it in wanted]
+        assert shrinking.find_plainer(f"b{byte}b{byte}", 1) == [f"b{it}b{byte}" for it in wanted]
         text = f"b{byte}" * 21
-        assert shrinking.plainer(text, 1) == [
+        assert shrinking.find_plainer(text, 1) == [
             text.replace(byte, it) if byte != "b" else "b" + it * 41 for it in wanted]
 
 
@@ -166,16 +166,16 @@ def test_a_vtlog_of_this_repository_comes_before_others(tmp_path, monkeypatch):
     proved = tmp_path / "crates/vtlog/out/vtlog"
     monkeypatch.setattr(reference, "TOP", tmp_path)
 
-    def found(built, is_installed):
-        monkeypatch.setattr(reference, "built_by_cargo", lambda: built)
+    def find(built, is_installed):
+        monkeypatch.setattr(reference, "build_by_cargo", lambda: built)
         installed = {"vtlog": "/bin/installed"} if is_installed else {}
         monkeypatch.setattr(reference.shutil, "which", installed.get)
         return reference.find_vtlog()
-    assert [found("built", True), found(None, True)] == ["built", "/bin/installed"]
+    assert [find("built", True), find(None, True)] == ["built", "/bin/installed"]
     with pytest.raises(reference.NoReference, match="there is no vtlog"):
-        found(None, False)
+        find(None, False)
     write(proved, "")
-    assert [found("built", True), found(None, True)] == ["built", str(proved)]
+    assert [find("built", True), find(None, True)] == ["built", str(proved)]
 
 
 def test_the_vtlog_of_this_repository_is_built(tmp_path, monkeypatch, capsys):
@@ -185,7 +185,7 @@ def test_the_vtlog_of_this_repository_is_built(tmp_path, monkeypatch, capsys):
     monkeypatch.setenv("PATH", str(tmp_path), prepend=os.pathsep)
     for fails, built in ("0", "/made/vtlog"), ("1", None):
         monkeypatch.setenv("FAILS", fails)
-        assert reference.built_by_cargo() == built
+        assert reference.build_by_cargo() == built
     assert capsys.readouterr().err == "why\n"
     said = (tmp_path / "cargo.said").read_text().split()
     assert {"build", "--release", "--locked", str(reference.CARGO_CRATE / "Cargo.toml")} <= {*said}
@@ -208,7 +208,7 @@ LINES = ["print 0061", "execute 07", "csi [1:2;3] 3f true 6d", "osc true 2 - 61"
                                        5: "", 6: "", 7: "", 8: "esc 28 - 41"})])
 def test_unreported_fields_are_left_out(unreported, changed):
     lines = [changed.get(at, line) for at, line in enumerate(LINES)]
-    assert views.View(unreported.split()).of(LINES) == [line for line in lines if line]
+    assert views.View(unreported.split()).filter(LINES) == [line for line in lines if line]
 
 
 DIGITS = "".join(f"{number:04}" for number in range(75))
@@ -304,7 +304,7 @@ def test_what_is_summed_up():
     assert report.shown_sum(Judgement(9), "1").startswith("9 streams, 0 differ; 0 classes, 0 of ")
 
 
-def formatted(kind, **fields):
+def format_findings(kind, **fields):
     """What a format makes of two rules, with texts that it has to escape: one is known, of the
     other a kind is new."""
     lines = ["print 0061", "(protocol: this is no event line: '<&#\">')"]
@@ -323,7 +323,7 @@ def test_junit_is_read_by_its_library(fields, others):
         import junitparser
     except ImportError:
         miss("there is no python3-junitparser")
-    suite = junitparser.JUnitXml.fromstring(formatted("junit", **fields).encode())
+    suite = junitparser.JUnitXml.fromstring(format_findings("junit", **fields).encode())
     results = {case.name: case.result for case in suite}
     assert len(results) == len(formats.TESTS) + 2
     failed, skipped = ([name for name, it in results.items() if it and isinstance(it[0], kind)]
@@ -334,7 +334,7 @@ def test_junit_is_read_by_its_library(fields, others):
 
 
 def test_json():
-    reported = json.loads(formatted("json", different=4, ended_early="x"))
+    reported = json.loads(format_findings("json", different=4, ended_early="x"))
     findings, rule = reported.pop("findings"), RULES["text"]
     assert reported == {"version": 2, "seed": "# \x1b]]>&", "streams": 9, "different": 4,
                     "unassigned": 1, "ended_early": "x", "new": 1}

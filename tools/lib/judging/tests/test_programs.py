@@ -23,10 +23,10 @@ def toy(fault=None, chunks=True, once=False):
 @pytest.fixture
 def judge_toy(judge):
     """Runs tools/judge on the toy parser, and on forty streams if no other words say so."""
-    def judged(wanted, *words, **how):
+    def run_judge(wanted, *words, **how):
         few = ["--timeout", 120, "--streams", "random", "--count", 40]
         return judge(wanted, *few, *words, *toy(**how))
-    return judged
+    return run_judge
 
 
 def processes(word):
@@ -168,7 +168,7 @@ def test_known_differences_are_passed(judge_toy, tmp_path):
     ("--house x=1 cat", "unknown house"), ("--leave-out x cat", "unknown class"),
     ("--leave-out largest/numbers cat", "unknown class"), ("--untold x cat", "unknown word"),
     ("--streams x cat", "unknown kind"), ("--known /no/file cat", "No such file"),
-    ("--case 6 cat", "invalid case"), ("--vtlog /no/vtlog cat", "judge: not a program"),
+    ("--case 6 cat", "invalid case: '6'"), ("--vtlog /no/vtlog cat", "judge: not a program"),
     ("--vtlog /usr/bin/cat cat", "judge: /usr/bin/cat isn't vtlog"),
     ("--write-known /no/file cat", "No such file")])
 def test_usage(judge, words, message):

@@ -95,7 +95,7 @@ def language(request):
     return request.param
 
 
-def built(folder, suffix, changes=()):
+def build_example(folder, suffix, changes=()):
     """Builds a runner and its example in a folder, with some texts replaced."""
     for name in (f"run.{suffix}", "events.json"):
         shutil.copy(VECTORS / name, folder)
@@ -111,7 +111,7 @@ def built(folder, suffix, changes=()):
 def test_a_runner_tries_each_way(language, tmp_path):
     """A vector as it is, in one chunk and byte by byte: it is wrong if chunks of one of these
     lengths are ignored, and this cut is printed. One that fails is named."""
-    built(tmp_path, language, RUNNERS[language][2])
+    build_example(tmp_path, language, RUNNERS[language][2])
     vector = dict(EVENTS[0], id="abcd", pieces=["6162", [{"repeat": "63", "times": 2}]],
                   events=["print 0061", "print 0062", {"repeat": "print 0063", "times": 2}])
     text = '{"vectors": [\n],\n"long": [\n' + json.dumps(vector) + "\n]}\n"
@@ -130,7 +130,7 @@ LEFT_OUT = {"py": "delete", "c": "differs", "js": "colon", "go": "should"}
 
 def test_a_runner_counts_what_is_wrong(language, tmp_path):
     """The example gets all vectors wrong but those of text and C0. It fails if none is tried."""
-    built(tmp_path, language)
+    build_example(tmp_path, language)
     levels = {name: rule["level"] for name, rule in FILES[0]["rules"].items()}
 
     def words_of(vector):
